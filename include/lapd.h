@@ -168,7 +168,8 @@ enum {
     LAPD_BAD_SLOTS = 40,
     LAPD_BAD_N201 = 41,
     LAPD_BAD_N200 = 42,
-    LAPD_BAD_SIDE = 43 /* of lapd_frame_text, too */
+    LAPD_BAD_SIDE = 43, /* of lapd_frame_text, too */
+    LAPD_BAD_SAPI = 44
 };
 
 /* ---- The configuration of a card -------------------------------------------------------------------------------- */
@@ -186,6 +187,7 @@ typedef struct lapd_config {
     uint16_t n201;       /* octets of an information field at most: 8 to 260 (clause 5.9.3) */
     uint16_t n200;       /* how often a command is repeated: 0 to 10 (clause 5.9.2) */
     uint16_t side;       /* which side of its lines the card is: LAPD_NETWORK or LAPD_USER */
+    uint16_t sapi;       /* the SAPI of the second service, LAPD_PACKET: 1 to 62; 0 means 16 (clause 3.3.3) */
 } lapd_config;
 
 enum {
@@ -197,7 +199,7 @@ enum {
 
 enum {
     LAPD_CALL = 0,   /* the service of SAPI 0: call control */
-    LAPD_PACKET = 16 /* the service of SAPI 16: packet mode */
+    LAPD_PACKET = 16 /* the second service, whatever its SAPI: packet mode with SAPI 16, if it has no other */
 };
 
 enum {
@@ -327,7 +329,7 @@ typedef struct lapd_card {
 #define LAPD_CARD_NONE { false, LAPD_NULL }
 
 /* Starts a card of octets, on which no TEI is on any line. Takes memory, as only the starts of a card do.
- * LAPD_SECOND_START, the first bad field (LAPD_BAD_LINES to LAPD_BAD_SIDE) or LAPD_NO_MEMORY: there is no other card than
+ * LAPD_SECOND_START, the first bad field (LAPD_BAD_LINES to LAPD_BAD_SAPI) or LAPD_NO_MEMORY: there is no other card than
  * before. */
 LAPD_STATUS lapd_card_start(lapd_card *card, const lapd_config *config);
 
@@ -879,6 +881,7 @@ LAPD_INLINE const char *lapd_status_text(uint32_t status) {
     case LAPD_BAD_N201: return "n201 is out of range";
     case LAPD_BAD_N200: return "n200 is out of range";
     case LAPD_BAD_SIDE: return "side is out of range";
+    case LAPD_BAD_SAPI: return "sapi is out of range";
     default: return "unknown status";
     }
 }

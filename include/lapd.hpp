@@ -133,7 +133,8 @@ enum class [[nodiscard]] status : uint32_t {
     bad_slots = LAPD_BAD_SLOTS,
     bad_n201 = LAPD_BAD_N201,
     bad_n200 = LAPD_BAD_N200,
-    bad_side = LAPD_BAD_SIDE
+    bad_side = LAPD_BAD_SIDE,
+    bad_sapi = LAPD_BAD_SAPI
 };
 
 enum class service : uint8_t { call = LAPD_CALL, packet = LAPD_PACKET };

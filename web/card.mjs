@@ -61,9 +61,12 @@ export class Card {
       Object.assign(it, { type: "number", min: least, max: most, name, inputMode: "numeric" });
       return it;
     });
+    this.sapi = document.createElement("input");
+    Object.assign(this.sapi, { type: "number", min: 1, max: 62, name: "SAPI", inputMode: "numeric" });
     this.field("between card and lines", "whether octets or whole frames go", this.kind);
     this.field("side", "whose side of its lines the card is", this.side);
     NUMBERS.forEach(([name, least, most, words], at) => this.field(name, `${words}: ${least} to ${most}`, this.numbers[at]));
+    this.field("SAPI", "the SAPI of packet links: 1 to 62; where it is left out, it is 16", this.sapi);
     form.addEventListener("change", () => onChanged(this.text()));
     form.addEventListener("submit", (event) => event.preventDefault());
   }
@@ -79,14 +82,17 @@ export class Card {
   text() {
     const numbers = this.numbers.map((it) => it.value || "0");
     if (!this.numbers.at(-1).value) numbers.pop();
-    return [this.kind.value, ...numbers, this.side.value].filter((it) => it !== "").join(" ");
+    const sapi = this.sapi.value ? `sapi ${this.sapi.value}` : "";
+    return [this.kind.value, ...numbers, this.side.value, sapi].filter((it) => it !== "").join(" ");
   }
 
   /** Shows the card line of a script. */
   show(found) {
     this.form.classList.toggle("is-none", !found);
-    const words = found ? found.words : USUAL.split(" ");
+    const words = found ? [...found.words] : USUAL.split(" ");
     this.kind.value = words[0];
+    const sapi = words.at(-2) === "sapi" ? words.splice(-2)[1] : "";
+    if (document.activeElement !== this.sapi) this.sapi.value = /^[0-9]+$/.test(sapi) ? String(Number(sapi)) : "";
     this.side.value = words.at(-1) === "user" ? "user" : "";
     const numbers = words.slice(1).filter((it) => it !== "user");
     this.numbers.forEach((it, at) => {

@@ -63,7 +63,7 @@ export class Line {
   /** Whether it is a card line whose card is the user's side. */
   isOfUser() {
     const words = this.words();
-    return ["card", "frames"].includes(words[0]) && words.at(-1) === "user";
+    return ["card", "frames"].includes(words[0]) && words.slice(-3).includes("user");
   }
 
   /** Of `wait` the milliseconds; else null. */

@@ -80,6 +80,7 @@ class Status(enum.IntEnum):
     BAD_N201 = 41
     BAD_N200 = 42
     BAD_SIDE = 43
+    BAD_SAPI = 44
 
     @classmethod
     def _missing_(cls, value: Any) -> Optional["Status"]:
@@ -176,7 +177,7 @@ COUNTERS = 76
 
 class _Config(ctypes.Structure):
     _fields_ = [(name, ctypes.c_uint16) for name in ("lines", "terminals", "k", "k16", "queue", "unit_queue", "control",
-                                                     "slots", "n201", "n200", "side")]
+                                                     "slots", "n201", "n200", "side", "sapi")]
 
 
 class _Note(ctypes.Structure):
@@ -359,6 +360,7 @@ class Config:
     n201: int
     n200: int
     side: Side = Side.NETWORK
+    sapi: int = 0  # of the second service: 1 to 62; 0 means 16
 
     def _raw(self) -> _Config:
         """A number that no field of the C struct holds is told as the largest, which is in no range."""

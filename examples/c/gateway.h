@@ -43,7 +43,7 @@ struct gateway {
 #define GATEWAY_NONE { NULL, LAPD_CARD_NONE, 0, NULL }
 
 /* Starts the card, at moment 0. LAPD_SECOND_START, the first bad field of the configuration (LAPD_BAD_LINES to
- * LAPD_BAD_SIDE), LAPD_WRONG_TIME of a length, or LAPD_NO_MEMORY: none that was not there before is there. */
+ * LAPD_BAD_SAPI), LAPD_WRONG_TIME of a length, or LAPD_NO_MEMORY: none that was not there before is there. */
 LAPD_STATUS gateway_start(gateway *own, const lapd_config *config, const lapd_lengths *lengths);
 
 /* Gives back what the start took; the gateway can be started again. Where it was not started nothing happens. */

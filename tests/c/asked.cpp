@@ -12,7 +12,7 @@ namespace {
 using lapd::service;
 using lapd::status;
 
-const lapd_config config = {2, 8, 7, 7, 8, 4, 4, 64, 260, 3, LAPD_NETWORK};
+const lapd_config config = {2, 8, 7, 7, 8, 4, 4, 64, 260, 3, LAPD_NETWORK, 0};
 const uint8_t sabme[] = {0x00, 0x81, 0x7F};
 bool is_good = true;
 

@@ -13,7 +13,7 @@
 
 enum { PLACES = 254, LINES = 2 };
 
-static const lapd_config config = {LINES, 8, 7, 7, 8, 4, 4, 8, 260, 3, LAPD_NETWORK};
+static const lapd_config config = {LINES, 8, 7, 7, 8, 4, 4, 8, 260, 3, LAPD_NETWORK, 0};
 static const lapd_lengths lengths_of = {.t200 = 1000, .t203 = 10000, .t201 = 1000};
 static lapd_card card;
 static lapd_report report;

@@ -12,9 +12,9 @@
 
 enum { LINES = 2, ROUNDS = 40000 };
 
-static const lapd_config config = {LINES, 8, 7, 7, 8, 4, 4, 8, 260, 3, LAPD_NETWORK};
-static const lapd_config narrow = {1, 1, 1, 1, 1, 1, 2, 1, 8, 0, LAPD_NETWORK};
-static const lapd_config primary = {1, 1, 7, 7, 8, 4, 4, 20, 260, 3, LAPD_NETWORK};
+static const lapd_config config = {LINES, 8, 7, 7, 8, 4, 4, 8, 260, 3, LAPD_NETWORK, 0};
+static const lapd_config narrow = {1, 1, 1, 1, 1, 1, 2, 1, 8, 0, LAPD_NETWORK, 0};
+static const lapd_config primary = {1, 1, 7, 7, 8, 4, 4, 20, 260, 3, LAPD_NETWORK, 0};
 static const uint8_t sabme[] = {0x00, 0x81, 0x7F}, ua[] = {0x00, 0x81, 0x73}, from_terminal[] = {0x02, 0x81, 0x73};
 static int failed;
 
@@ -61,6 +61,29 @@ static bool is_dropped(lapd_card *card, const uint8_t *frame, size_t count, uint
            && report.order_count == 0 && report.lost == 0 && report.begun == 0 && report.delivered == 0;
 }
 
+/* ---- The SAPI of the second service ------------------------------------------------------------------------------- */
+
+/* SABME of the packet link of TEI 64 goes with the SAPI of the configuration, and one with SAPI 16 is dropped if that is another. */
+static void by_sapi(uint16_t sapi, uint8_t first) {
+    lapd_card card = LAPD_CARD_NONE;
+    lapd_config abis = config;
+    abis.sapi = sapi;
+    const uint8_t sent[] = {first, 0x81, 0x7F}, of_16[] = {0x40, 0x81, 0x7F};
+    wants(lapd_card_start_frames(&card, &abis) == LAPD_OK, "a SAPI");
+    wants(lapd_request(&card, 0, LAPD_ASSIGN, LAPD_CALL, 64, NULL, 0, &report) == LAPD_OK, "a TEI");
+    wants(lapd_request(&card, 0, LAPD_ESTABLISH, LAPD_PACKET, 64, NULL, 0, &report) == LAPD_OK, "a packet link");
+    wants(is_next(&card, sent, sizeof sent), "SABME with the SAPI of the configuration");
+    wants(lapd_frame(&card, 0, of_16, sizeof of_16, &report) == LAPD_OK, "a frame of SAPI 16");
+    wants((report.cause == LAPD_SAPI) == (sapi == 62), "the cause of SAPI 16");
+    wants(lapd_card_free(&card) == LAPD_OK, "the end");
+}
+
+static void the_second_service(void) {
+    by_sapi(0, 0x42);
+    by_sapi(16, 0x42);
+    by_sapi(62, 0xFA);
+}
+
 /* ---- Wrong calls -------------------------------------------------------------------------------------------------- */
 
 static void of_no_card(void) {
@@ -77,6 +100,9 @@ static void of_no_card(void) {
     wants(lapd_card_start_frames(&none, &bad) == LAPD_BAD_N201, "a bad field");
     bad.lines = 0;
     wants(lapd_card_start_frames(&none, &bad) == LAPD_BAD_LINES, "the first bad field");
+    bad = config;
+    bad.sapi = 63;
+    wants(lapd_card_start_frames(&none, &bad) == LAPD_BAD_SAPI, "a SAPI of management");
     wants(lapd_card_free(&none) == LAPD_NO_CARD && !none.started && none.at == NULL, "a card after a bad start");
 }
 
@@ -435,6 +461,7 @@ static void first_trunk(void) {
 int main(void) {
     lapd_card frames = LAPD_CARD_NONE, octets = LAPD_CARD_NONE;
     of_no_card();
+    the_second_service();
     of_narrow();
     first_try();
     first_trunk();

@@ -91,7 +91,8 @@ static fault start(station *b, const command *c) {
     lapd_config config = {.lines = (uint16_t)n[0], .terminals = (uint16_t)n[1], .k = (uint16_t)n[2],
                           .k16 = (uint16_t)n[9], .queue = (uint16_t)n[3], .unit_queue = (uint16_t)n[4],
                           .control = (uint16_t)n[5], .slots = (uint16_t)n[6], .n201 = (uint16_t)n[7],
-                          .n200 = (uint16_t)n[8], .side = c->user ? LAPD_USER : LAPD_NETWORK};
+                          .n200 = (uint16_t)n[8], .side = c->user ? LAPD_USER : LAPD_NETWORK,
+                          .sapi = (uint16_t)(c->sapi != 0 ? c->sapi : UINT16_MAX)}; /* 0 would mean 16 */
     b->for_frames = c->for_frames;
     uint32_t status = start_card(b, &config);
     if (status >= LAPD_BAD_LINES)

@@ -61,8 +61,9 @@ def read(text: bytes) -> Line:
     """A line of a script, before a card is asked."""
     word, *words = text.split(b" ")
     if word in (b"card", b"frames"):
+        *words, sapi = [*words[:-2], words[-1:]] if words[-2:-1] == [b"sapi"] else [*words, [b"16"]]
         last = words.pop() if len(words) in (10, 11) and words[-1] == b"user" else b""
-        return Line(word.decode(), [number(it) for it in counted(words, 9, 10)], last=last)
+        return Line(word.decode(), [number(it) for it in counted(words, 9, 10) + sapi], last=last)
     if word == b"timers":
         return Line("timers", [number(it, 1, MOST_WAIT) for it in counted(words, 3)])
     if word == b"failed":
@@ -100,8 +101,10 @@ class Station:
     def start(self, line: Line) -> None:
         if self.card:
             raise Faulty("second card")
-        numbers = dict(zip(FIELDS, line.numbers))
-        config = lapd.Config(**{"k16": numbers["k"], **numbers}, side=lapd.Side.USER if line.last else lapd.Side.NETWORK)
+        *numbers_read, sapi = line.numbers
+        numbers = dict(zip(FIELDS, numbers_read))
+        config = lapd.Config(**{"k16": numbers["k"], **numbers}, side=lapd.Side.USER if line.last else lapd.Side.NETWORK,
+                             sapi=sapi or MOST_NUMBER)  # 0 would mean 16
         try:
             self.card = KINDS[line.word, self.is_timed](config)
         except lapd.Error:

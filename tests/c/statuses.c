@@ -10,7 +10,7 @@
 #include "lapd.h"
 #include "lapd_memory.h"
 
-enum { TURNS = 1000000, MOST_CALLS = 48, MOST_STATUSES = 64, FIELDS = 11 };
+enum { TURNS = 1000000, MOST_CALLS = 48, MOST_STATUSES = 64, FIELDS = 12 };
 
 static struct {
     const char *name;
@@ -73,10 +73,10 @@ static lapd_timer timer(void) {
 }
 
 static lapd_config config(void) {
-    lapd_config it = {2, 2, 1, 1, 1, 1, 2, 2, 8, 1, LAPD_NETWORK};
+    lapd_config it = {2, 2, 1, 1, 1, 1, 2, 2, 8, 1, LAPD_NETWORK, 0};
     uint16_t fields[FIELDS];
     memcpy(fields, &it, sizeof fields);
-    fields[FIELDS - 1] = (uint16_t)below(2);
+    fields[FIELDS - 2] = (uint16_t)below(2);
     if (below(2))
         fields[below(FIELDS)] = 0xFFFF;
     memcpy(&it, fields, sizeof it);

@@ -109,12 +109,15 @@ static bool read_octets(word w, command *read) {
 }
 
 /* Nine numbers, or ten; the tenth is the window of packet links, which else is that of call control. The word user may stand
- * behind them. */
+ * after them, and then sapi with a number. */
 static fault read_card(const word *words, size_t count, bool for_frames, command *read) {
     read->verb = CARD;
     read->for_frames = for_frames;
+    bool has_sapi = count >= 2 && count < MOST_WORDS && is_word(words[count - 2], "sapi");
+    count -= has_sapi ? 2 : 0;
+    const word *sapi = &words[count + 1];
     read->user = (count == 10 || count == 11) && is_word(words[count - 1], "user");
-    count -= read->user;
+    count -= read->user ? 1 : 0;
     if (count != 9 && count != 10)
         return BAD_NUMBER_OF_WORDS;
     for (size_t i = 0; i < count; i++)
@@ -122,7 +125,8 @@ static fault read_card(const word *words, size_t count, bool for_frames, command
             return BAD_NUMBER;
     if (count == 9)
         read->numbers[9] = read->numbers[2];
-    return NO_FAULT;
+    read->sapi = LAPD_PACKET;
+    return has_sapi && !read_number(*sapi, 0, ANY, &read->sapi) ? BAD_NUMBER : NO_FAULT;
 }
 
 /* T200, T203 and T201, each of them a millisecond to an hour. */

@@ -52,7 +52,7 @@ class Line(NamedTuple):
     def is_of_user(self) -> bool:
         """Whether it is a card line whose card is the user's side."""
         words = self.words()
-        return words[0] in ("card", "frames") and words[-1] == "user"
+        return words[0] in ("card", "frames") and "user" in words[-3:]
 
     def waits(self) -> Optional[int]:
         """Of `wait` the milliseconds."""

@@ -1,6 +1,7 @@
 -- The timers of a card as it begins.
-use Rattle.lapd_c.proofs.Vocabulary.{◌≡◌, ℕ, Result, Ok, IfOk, IfSome, refl, sym, subst, Config, IsInRange, card_in}
+use Rattle.lapd_c.proofs.Vocabulary.{◌≡◌, ℕ, Result, Ok, IfOk, IfSome, Option, Some, None, refl, sym, ap, subst, ◌∙◌, Config, IsInRange, card_in}
 use Rattle.std.specs.Prelude.{Err}
+use Rattle.std.proofs.Common.{IsOkAnd}
 use Rattle.std.specs.Result.{result_ok}
 use Rattle.lapd_card.specs.declared.kinds.CardKind.{CardKind}
 use Rattle.lapd_card.specs.declared.kinds.CardKind.TheVariants as kinds
@@ -20,3 +21,18 @@ pub timers-begun : {E : Type 0} (config : Config) (lines terminals : ℕ) (clock
     → config.lines ≡ lines → config.terminals ≡ terminals → IsInRange config → IfSome (result_ok r) (λ timers. (kind : CardKind) → TimersStand timers (card_in (fresh kind config)) clock)
 timers-begun config lines terminals clock (Ok t) h of_lines of_terminals ranged = λ kind. subst (λ m. TimersStand t m clock) (sym (fresh-card kind config)) (h config of_lines of_terminals ranged)
 timers-begun config lines terminals clock (Err e) h of_lines of_terminals ranged = tt
+
+abbrev the-read : {A E : Type 0} → A → Result A E → A
+the-read a (Ok b) = b
+the-read a (Err e) = a
+
+-- what is read, if it is, is what the fields say
+pub read-is : {A E : Type 0} (wrong : Option E) (r : Result A E) (a b : A) → IfSome wrong (λ w. r ≡ Err w) → (wrong ≡ None → r ≡ Ok a) → r ≡ Ok b → b ≡ a
+read-is None r a b _ ok is = ap (the-read a) (sym is ∙ ok refl)
+read-is (Some w) r a b err _ is = ap (the-read a) (sym is ∙ err)
+
+-- what is read, if it is, meets what a reading in range meets
+pub read-meets : {A E B : Type 0} (P : A → Type 0) (wrong : Option B) (r : Result A E) (a : A) (e : E)
+    → IfSome wrong (λ _. r ≡ Err e) → (wrong ≡ None → IsOkAnd r P) → r ≡ Ok a → P a
+read-meets P None r a e _ ok is = subst (λ x. IsOkAnd x P) is (ok refl)
+read-meets P (Some w) r a e err _ is = subst (λ x. IfOk x P) (sym err ∙ is) tt

@@ -12,6 +12,10 @@ use Rattle.lapd_c.specs.declared.plain.config.PlainConfig.{PlainConfig}
 abbrev pub side_in : ℕ → Side
 side_in side = if side == 0 then Network else User
 
+-- The SAPI of the second service: 16 where 0 is given.
+abbrev pub sapi_in : ℕ → ℕ
+sapi_in sapi = if sapi == 0 then 16 else sapi
+
 abbrev pub config_in : PlainConfig → Config
 config_in p = record {
   lines = p.lines;
@@ -25,6 +29,7 @@ config_in p = record {
   n201 = p.n201;
   n200 = p.n200;
   side = side_in p.side;
+  sapi = sapi_in p.sapi;
 }
 
 -- The status of a start where a field is out of range: that of the first; the side, which is 0 or 1, comes last.

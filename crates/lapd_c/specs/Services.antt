@@ -1,4 +1,4 @@
--- The service of a number, its SAPI.
+-- The service of a number: 0, or 16 for the second service, whatever its SAPI.
 use Rattle.std.specs.Prelude.{ℕ, Option, Some, None, Result, Ok, Err}
 use Rattle.lapd_frame.specs.declared.services.Service.{Service}
 use Rattle.lapd_frame.specs.Services.{service_of}

@@ -3,7 +3,7 @@ use Rattle.std.specs.Prelude.{ℕ}
 use Rattle.lapd_frame.specs.declared.refusals.Refusal.{Refusal}
 use Rattle.lapd_frame.specs.declared.refusals.Refusal.TheVariants.{BadTei, NoLink, WrongState, TooLong, QueueFull, PoolFull, TeiTaken, TableFull, CheckRunning, ControlFull, WrongSide}
 use Rattle.model_line.specs.declared.config.Field.{Field}
-use Rattle.model_line.specs.declared.config.Field.TheVariants.{Lines, Terminals, K, K16, Queue, UnitQueue, Control, Slots, N201, N200}
+use Rattle.model_line.specs.declared.config.Field.TheVariants.{Lines, Terminals, K, K16, Queue, UnitQueue, Control, Slots, N201, N200, Sapi}
 
 abbrev pub ok : ℕ
 ok = 0
@@ -65,6 +65,9 @@ no_frame = 28
 abbrev pub bad_side : ℕ
 bad_side = 43
 
+abbrev pub bad_sapi : ℕ
+bad_sapi = 44
+
 -- Why a request was refused.
 abbrev pub refusal_status : Refusal → ℕ
 refusal_status BadTei = 1
@@ -91,3 +94,4 @@ field_status Control = 39
 field_status Slots = 40
 field_status N201 = 41
 field_status N200 = 42
+field_status Sapi = bad_sapi

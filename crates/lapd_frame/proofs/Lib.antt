@@ -4,3 +4,4 @@ pub mod AddressField
 pub mod ControlField
 pub mod Spelling
 pub mod Written
+pub mod Naming

@@ -4,6 +4,7 @@ pub mod Faults
 pub mod Grammar
 pub mod Overlong
 pub mod Reading
+pub mod Senders
 pub mod Services
 pub mod ShortLists
 -- the words of the contracts, from where they are defined

@@ -9,7 +9,9 @@
 //! - `faults`, `headers`, `reading`: `read`, from octets to a frame or the first `ReadFault`; `is_short`; `octet_at`.
 //! - `overlong`: `read_long`, what the first four octets tell of a frame that is too long to keep.
 //! - `writing`: `write`, from a frame to octets.
-//! - `laws`: `one_spelling`, what holds of the grammar itself.
+//! - `senders`: `Sender`, a side of a line on which the second service has a SAPI of its own; its `read`, `read_long`
+//!   and `write`.
+//! - `laws`: `one_spelling`, what holds of the grammar itself, and `senders_agree`, of what senders read and write.
 //! - `services`, `timers`, `notes`, `refusals`, `short_lists`: the types that links, lines and their users share.
 //!
 //! The grammar stands in `specs/Grammar.antt`, one equation for each row of table 5. No call takes
@@ -30,6 +32,7 @@ mod notes;
 mod overlong;
 mod reading;
 mod refusals;
+mod senders;
 mod services;
 mod short_lists;
 mod timers;
@@ -40,11 +43,12 @@ pub use controls::Control;
 pub use faults::ReadFault;
 pub use frames::Frame;
 pub use headers::is_short;
-pub use laws::one_spelling;
+pub use laws::{one_spelling, senders_agree};
 pub use notes::{ErrorCode, Note};
 pub use overlong::{Long, read_long};
 pub use reading::{octet_at, read};
 pub use refusals::Refusal;
+pub use senders::Sender;
 pub use services::Service;
 pub use short_lists::ShortList;
 pub use timers::{Order, Timer};

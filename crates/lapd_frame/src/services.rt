@@ -9,12 +9,12 @@ ghost use Rattle.lapd_frame.specs.Services.{sapi_of, service_of};
 pub enum Service {
     /// SAPI 0: call control.
     Call,
-    /// SAPI 16: packet mode by X.25 layer 3.
+    /// The second service: SAPI 16, packet mode by X.25 layer 3, unless a card has another SAPI for it.
     Packet,
 }
 
 impl Service {
-    /// The service's SAPI.
+    /// The service's number: its SAPI, or 16 for the second service, whatever its SAPI on a line.
     pub fn sapi(self) -> u8
         ensures { result ≡ sapi_of self }
     {
@@ -24,7 +24,7 @@ impl Service {
         }
     }
 
-    /// The service with this SAPI, 0 or 16; `None` for any other.
+    /// The service with this number, 0 or 16; `None` for any other.
     pub fn with_sapi(sapi: u8) -> Option<Service>
         ensures { result ≡ service_of sapi }
     {

@@ -1,7 +1,14 @@
 -- Which message of TEI management a frame has that is taken.
-use Rattle.lapd_line.proofs.Vocabulary.{◌≡◌, ℕ, Bool, true, false, List, [], ◌∷◌, ◌++◌, get_or, Option, Some, None, option_map, option_map_or, option_or, slice_get, refl, sym, ap, ◌∙◌, subst, cond, head_of, head_shown, begun_shown, message_shown, type_shown, has_message, type_of, Side, Network, User, Service, Call, Packet, Control, Ui, unwrap_or, spelling, sapi_of, Config, Taken, taken, none-some}
+use Rattle.lapd_line.proofs.Vocabulary.{◌≡◌, ℕ, Bool, true, false, List, [], ◌∷◌, ◌++◌, get_or, Option, Some, None, option_map, option_map_or, option_or, slice_get, refl, sym, ap, ◌∙◌, subst, cond, head_of, head_shown, begun_shown, message_shown, type_shown, has_message, type_of, Side, Network, User, Service, Control, Ui, unwrap_or, spelling, sapi_of, Config, Taken, taken, none-some}
 use Rattle.lapd_line.proofs.Vocabulary.{same_Some, More, Begun, Head, Message, IdentityAssigned, IdentityDenied, IdentityCheckRequest, IdentityRemove, Line, UnitData, terms_at, link_at, unit_taken, link_taken, first_taken, with_message, with_unit, with_given_frame, round, Given}
+use Rattle.std.proofs.Common.{arith, ◌+◌, ◌*◌, ◌/◌, ◌≤◌, ◌==◌}
+use Rattle.std.proofs.lemmas.Bool.{ne_eqb}
+use Rattle.lapd_frame.specs.Grammar.{cr_bit}
+use Rattle.lapd_frame.specs.Senders.{exchanged}
+use Rattle.lapd_frame.proofs.AddressField.{cr_bit-small}
+use Rattle.lapd_frame.proofs.Naming.{service-below}
 use Rattle.lapd_tei.specs.Messages.{frame_of}
+use Rattle.lapd_line.proofs.Vocabulary.{Sender, own_side}
 use Rattle.model_link.specs.Machine as links
 
 -- What a message shows, if there is one.
@@ -19,17 +26,18 @@ of_message User (IdentityDenied ri) = refl
 of_message User (IdentityCheckRequest tei) = refl
 of_message User (IdentityRemove tei) = refl
 
--- one of a link has none, nor has unit data
-of_service : (side : Side) (service : Service) (command : Bool) (tei : ℕ) (control : Control) (info : List ℕ)
-    → has_message (spelling side (record { address = record { sapi = sapi_of service; command = command; tei = tei }; control = control; info = info })) ≡ false
-of_service Network Call true tei control info = refl
-of_service Network Call false tei control info = refl
-of_service Network Packet true tei control info = refl
-of_service Network Packet false tei control info = refl
-of_service User Call true tei control info = refl
-of_service User Call false tei control info = refl
-of_service User Packet true tei control info = refl
-of_service User Packet false tei control info = refl
+-- one of a link has none, nor has unit data: it has the SAPI of a service
+no_message : (octets : List ℕ) → (get_or octets 0 0 / 4 == 63) ≡ false → has_message octets ≡ false
+no_message octets none = rw none refl
+
+not_management : (sapi bit : ℕ) → sapi ≤ 62 → bit ≤ 1 → ((4 * sapi + 2 * bit) / 4 == 63) ≡ false
+not_management sapi bit low small = ne_eqb _ _ (λ h. omega (arith, h, low, small))
+
+of_service : (sender : Sender) (service : Service) (command : Bool) (tei : ℕ) (control : Control) (info : List ℕ)
+    → has_message (spelling sender (record { address = record { sapi = sapi_of service; command = command; tei = tei }; control = control; info = info })) ≡ false
+of_service sender service command tei control info =
+    no_message (spelling sender (record { address = record { sapi = sapi_of service; command = command; tei = tei }; control = control; info = info }))
+    (not_management (exchanged sender.sapi (sapi_of service)) (cr_bit sender.side command) (service-below sender.sapi service) (cr_bit-small sender.side command))
 
 abbrev IsOfService : Taken → Type 0
 IsOfService k = has_message k.frame ≡ false
@@ -42,14 +50,14 @@ of_unit c m {k} is = go (slice_get m.units 0) is
   where
     go : (o : Option UnitData) → option_map (with_unit c m) o ≡ Some k → IsOfService k
     go None is = absurd (none-some _ is)
-    go (Some u) is = subst IsOfService (same_Some _ _ is) (of_service c.side u.service true u.tei (Ui false) u.contents)
+    go (Some u) is = subst IsOfService (same_Some _ _ is) (of_service (own_side c) u.service true u.tei (Ui false) u.contents)
 
 of_link : (c : Config) (m : Line) (number : ℕ) {k : Taken} → link_taken c m number ≡ Some k → IsOfService k
 of_link c m number {k} is = go (links.given (terms_at c number m) (link_at number m)) is
   where
     go : (o : Option Given) → option_map (with_given_frame c m number (terms_at c number m)) o ≡ Some k → IsOfService k
     go None is = absurd (none-some _ is)
-    go (Some g) is = subst IsOfService (same_Some _ _ is) (of_service c.side (terms_at c number m).service g.frame.command (terms_at c number m).tei g.frame.control (unwrap_or g.contents []))
+    go (Some g) is = subst IsOfService (same_Some _ _ is) (of_service (own_side c) (terms_at c number m).service g.frame.command (terms_at c number m).tei g.frame.control (unwrap_or g.contents []))
 
 of_links : (c : Config) (m : Line) (numbers : List ℕ) {k : Taken} → first_taken c m numbers ≡ Some k → IsOfService k
 of_links c m [] is = absurd (none-some _ is)

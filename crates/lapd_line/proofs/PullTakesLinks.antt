@@ -1,7 +1,7 @@
 -- What a pull takes of the links.
 use Rattle.lapd_line.proofs.Vocabulary.{◌≡◌, ◌⊎◌, inl, inr, Bool, true, false, ℕ, zero, suc, ◌+◌, ◌-◌, ◌≤◌, ◌<◌, List, [], ◌∷◌, ◌++◌, length, take, drop, get_or, slice_get, Option, Some, None, option_map, IfSome, refl, ap, sym, ◌∙◌, subst, arith, none-some, slice_get_cases, slice_get-map, range_with_len, option_or, unwrap_or, Order, IsFrame, spelling, listed, Owned, Store, IsUsed, Link, Offer}
 use Rattle.lapd_line.proofs.Vocabulary.{contents_in, HasMessage, terms_of, Terms, frame_of, given, Given, Config, Line, link_at, link_count, place_at, service_at, tei_at, terms, terms_at, Taken, with_given_frame, link_taken, first_taken, round, IsSoundAt, fresh_gives_nothing, TakesSoundly, link_sound, ranges_of, is_some, false≢true, ShortList, orders_taken, IsMark, Sets, TellsOf, given_by}
-use Rattle.lapd_line.proofs.Vocabulary.{LinkLayer, LayerStands, Standing, HasTerms, IsGiven, Offers, terms_in, Loading, Loads, room_in, reference_in, IsFree, HasTaken, Took, Takes, contents_of}
+use Rattle.lapd_line.proofs.Vocabulary.{LinkLayer, LayerStands, Standing, HasTerms, IsGiven, Offers, terms_in, Loading, Loads, room_in, reference_in, IsFree, HasTaken, Took, Takes, contents_of, own_side}
 use Rattle.model_link.specs.Machine.{after}
 use Rattle.lapd_line.proofs.AwakeSteps.{awake_set, awake_gives}
 use Rattle.lapd_line.proofs.LayerSteps.{beside_links, links_part, links_turned}
@@ -107,7 +107,7 @@ can_send e s number new o info few (others, m, st) offers is =
 pub link_sent : (e : LinkLayer) (s : Store) (f g : Loading) (number : ℕ) (new : List Link) (o : Offer) (info : List ℕ) (after : LinkLayer) → number < link_count e.config
     → (looked : Bool) × TellsOf number new looked × Sets number looked e.has_frame after.has_frame → after ≡ record e { links = new; has_frame = after.has_frame; turn = number + 1 }
     → Offers number e.links new (Some o) → info ≡ unwrap_or (contents_in s o.contents) [] → room_in g ≡ room_in f → reference_in g ≡ reference_in f
-    → ((t : Terms) → HasTerms new number t → Loads (spelling e.config.side (record (frame_of t o.frame) { info = info })) f g)
+    → ((t : Terms) → HasTerms new number t → Loads (spelling (own_side e.config) (record (frame_of t o.frame) { info = info })) f g)
     → Takes (λ c m. link_taken c m number) e s f after s g (Some (listed o.orders))
 link_sent e s f g number new o info after few (looked, looks, sets) rest offers is room reference loaded =
     subst (λ l. Takes (λ c m. link_taken c m number) e s f l s g (Some (listed o.orders))) (sym rest) (record {
@@ -128,7 +128,7 @@ link_sent e s f g number new o info after few (looked, looks, sets) rest offers 
           let has : HasTaken (with_given_frame e.config m number t what) (listed o.orders) (record e { links = new; has_frame = after.has_frame; turn = number + 1 }) s others f g = record {
             orders = refl;
             stands = links_turned e s s others m new _ after.has_frame (number + 1) (number + 1) st offers.terms (record { slots = refl; width = refl }) sound.line stand are_awake refl;
-            loaded = subst (λ x. Loads (spelling e.config.side (record (frame_of t o.frame) { info = x })) f g) is (loaded t has_t);
+            loaded = subst (λ x. Loads (spelling (own_side e.config) (record (frame_of t o.frame) { info = x })) f g) is (loaded t has_t);
           } in
           subst (λ x. Took x (Some (listed o.orders)) m (record e { links = new; has_frame = after.has_frame; turn = number + 1 }) s others f g) (sym same) has;
     })

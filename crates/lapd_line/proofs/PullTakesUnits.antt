@@ -1,6 +1,6 @@
 -- What a pull takes of the unit data that waits.
 use Rattle.lapd_line.proofs.Vocabulary.{◌≡◌, ℕ, ◌≤◌, ◌<◌, List, [], ◌∷◌, ◌++◌, length, drop, slice_get, Some, None, option_map, true, false, refl, ap, sym, ◌∙◌, subst, arith, length-drop, All-head, All-drop, none-some, same_Some, Ui, Service, IsFrame, spelling, sapi_of, Owned, Holds, Keeps, Store, SameLimits, IsUsed, without, Part, second_part, Keeps-used, Keeps-at, Keeps-release, Config, Line}
-use Rattle.lapd_line.proofs.Vocabulary.{UnitData, with_unit, unit_taken, IsUnitData, LinkLayer, QueuedUnit, LayerStands, links_pairs, AreFor, messages_of, unit_pairs, without_oldest, Loading, Loads, room_in, reference_in, HasTaken, Took, Takes, contents_of}
+use Rattle.lapd_line.proofs.Vocabulary.{UnitData, with_unit, unit_taken, IsUnitData, LinkLayer, QueuedUnit, LayerStands, links_pairs, AreFor, messages_of, unit_pairs, without_oldest, Loading, Loads, room_in, reference_in, HasTaken, Took, Takes, contents_of, own_side}
 use Rattle.std.specs.Prelude.{All}
 use Rattle.lapd_line.specs.Units.{slots_of}
 use Rattle.lapd_line.proofs.LayerSteps.{stands_as}
@@ -87,7 +87,7 @@ no_unit e s f none = grind (arith, option_map, none_for)
 
 pub unit_loaded : (e : LinkLayer) (s t : Store) (f g : Loading) (u : QueuedUnit) (sapi : ℕ) (octets : List ℕ) → slice_get e.units.waiting 0 ≡ Some u
     → sapi ≡ sapi_of u.service → contents_of s u.slot ≡ Some octets → t ≡ without s u.slot → SameLimits s t → room_in g ≡ room_in f → reference_in g ≡ reference_in f
-    → Loads (spelling e.config.side (record { address = record { sapi = sapi; command = true; tei = u.tei }; control = Ui false; info = octets })) f g
+    → Loads (spelling (own_side e.config) (record { address = record { sapi = sapi; command = true; tei = u.tei }; control = Ui false; info = octets })) f g
     → Takes (λ c m. unit_taken c m) e s f (record e { units = without_oldest e.units }) t g (Some [])
 unit_loaded e s t f g u sapi octets is sapi_is contents free limits room reference loaded = record {
   config = refl;
@@ -103,9 +103,9 @@ unit_loaded e s t f g u sapi octets is sapi_is contents free limits room referen
         orders = refl;
         stands = without_unit e s t others m u st is free;
         loaded =
-            subst (λ x. Loads (spelling e.config.side (record { address = record { sapi = x; command = true; tei = o.unit.tei }; control = Ui false; info = o.unit.contents })) f g) number
-            (subst (λ x. Loads (spelling e.config.side (record { address = record { sapi = sapi; command = true; tei = x }; control = Ui false; info = o.unit.contents })) f g) o.tei
-            (subst (λ x. Loads (spelling e.config.side (record { address = record { sapi = sapi; command = true; tei = u.tei }; control = Ui false; info = x })) f g) info loaded));
+            subst (λ x. Loads (spelling (own_side e.config) (record { address = record { sapi = x; command = true; tei = o.unit.tei }; control = Ui false; info = o.unit.contents })) f g) number
+            (subst (λ x. Loads (spelling (own_side e.config) (record { address = record { sapi = sapi; command = true; tei = x }; control = Ui false; info = o.unit.contents })) f g) o.tei
+            (subst (λ x. Loads (spelling (own_side e.config) (record { address = record { sapi = sapi; command = true; tei = u.tei }; control = Ui false; info = x })) f g) info loaded));
       } in
       subst (λ x. Took x (Some []) m (record e { units = without_oldest e.units }) t others f g) (sym same) has;
 }

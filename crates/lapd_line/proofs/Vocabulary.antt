@@ -22,8 +22,10 @@ pub use Rattle.lapd_count.specs.Counters.{More, with_all, with_more}
 pub use Rattle.lapd_count.specs.Messages.{has_message}
 pub use Rattle.lapd_count.specs.Shown.{begun_shown, head_shown, heard_shown, message_shown, told_shown, type_shown}
 pub use Rattle.lapd_count.specs.declared.counters.Counters.{Counters}
-pub use Rattle.lapd_frame.specs.Grammar.{IsFrame, Parts, parts_of, spelling}
-pub use Rattle.lapd_frame.specs.Reading.{long_reading, reading}
+pub use Rattle.lapd_frame.specs.Grammar.{IsFrame, Parts, parts_of}
+pub use Rattle.lapd_frame.specs.Senders.{long_reading, spelling}
+unfoldable pub use Rattle.lapd_frame.specs.Senders.{reading}
+pub use Rattle.lapd_frame.specs.declared.senders.Sender.{Sender}
 pub use Rattle.lapd_frame.specs.Services.{sapi_of, service_of}
 pub use Rattle.lapd_frame.specs.ShortLists.{listed}
 pub use Rattle.lapd_frame.specs.declared.addresses.Address.{Address}
@@ -113,7 +115,7 @@ pub use Rattle.model_line.specs.Line.{Line, UnitData, fresh_line, has_tei, link_
 pub use Rattle.model_line.specs.Machine.{unless_refused, unless_refused_told}
 unfoldable pub use Rattle.model_line.specs.Machine.{after, answer}
 pub use Rattle.model_line.specs.Heard.{addressed, aim_of_long, aim_of_reading, at_place, drop_for, group_tei, heard_side, message_of, to_service, unless_at_link}
-pub use Rattle.model_line.specs.Taken.{Taken, first_taken, line_of, link_taken, message_taken, next_of, round, taken, unit_taken, with_given_frame, with_message, with_unit}
+pub use Rattle.model_line.specs.Taken.{Taken, first_taken, line_of, link_taken, message_taken, next_of, own_side, round, taken, unit_taken, with_given_frame, with_message, with_unit}
 pub use Rattle.model_line.specs.Refusal.{Row, bad_tei, bad_tei_or_group, first_that_holds, no_link, no_link_nor_group, pool_full, queue_full, refusal, too_long, unit_queue_full, wrong_state}
 pub use Rattle.model_line.specs.Request.{Assign, Check, ClearBusy, Data, Deactivate, Disown, Down, Establish, Release, Remove, Request, SetBusy, Unit, request_of}
 pub use Rattle.model_line.specs.Requested.{aim_of_request, at_deactivated, at_requested}

@@ -25,8 +25,9 @@ pub mod Octets
 pub use Rattle.lapd_bits.specs.Ended.{without_octets}
 pub use Rattle.lapd_count.specs.Counters.{none_counted, with_all}
 pub use Rattle.lapd_count.specs.Shown.{told_shown}
-pub use Rattle.lapd_frame.specs.Grammar.{IsFrame, parts_of, spelling}
-pub use Rattle.lapd_frame.specs.Reading.{long_reading, start_of}
+pub use Rattle.lapd_frame.specs.Grammar.{IsFrame, parts_of}
+pub use Rattle.lapd_frame.specs.Reading.{start_of}
+pub use Rattle.lapd_frame.specs.Senders.{long_reading, spelling}
 pub use Rattle.lapd_frame.specs.ShortLists.{listed}
 pub use Rattle.lapd_frame.specs.declared.services.Service.{Service}
 pub use Rattle.lapd_link.specs.Events.{info_of, received_of}
@@ -60,7 +61,7 @@ pub use Rattle.model_line.specs.Requested.{aim_of_request, at_deactivated, at_re
 pub use Rattle.model_line.specs.Sides.{has_management, last_unit_tei, told_at}
 pub use Rattle.model_line.specs.Sound.{IsInRange}
 pub use Rattle.model_line.specs.Stored.{held_by_link, held_in, sum_of_links}
-pub use Rattle.model_line.specs.Taken.{first_taken, link_taken, message_taken, round, taken, unit_taken}
+pub use Rattle.model_line.specs.Taken.{first_taken, link_taken, message_taken, own_side, round, taken, unit_taken}
 pub use Rattle.model_line.specs.declared.config.Config.{Config}
 pub use Rattle.model_link.specs.Link.{address_at, frame_of}
 pub use Rattle.model_link.specs.Rises.{held}

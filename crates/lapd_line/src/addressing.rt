@@ -8,7 +8,6 @@ use crate::link_layer::LinkLayer;
 use crate::reports::tell_drop;
 use lapd_frame::{
     Address, Control, Frame, GROUP, Long, MANAGEMENT, Note, ReadFault, Service, ShortList, Side,
-    read, read_long,
 };
 use lapd_link::{BareReport, Received};
 use lapd_store::Shelf;
@@ -59,7 +58,7 @@ impl LinkLayer {
             Heard::Frame(octets) => octets,
             Heard::Overlong(head) => return self.overlong(&head, report, shelf),
         };
-        let frame = match read(self.config.side.other(), octets) {
+        let frame = match self.config.heard_side().read(octets) {
             Ok(frame) => frame,
             Err(fault) => return self.faulty(fault, octets.len(), report, shelf),
         };
@@ -153,7 +152,7 @@ impl LinkLayer {
         requires clear { IsClear report.old }
         ensures { Serves (λ m. aim_of_long m (long_reading (heard_side self.old.config) head.now)) [] self.old (S.store shelf.old) self.new (S.store shelf.new) report.new }
     {
-        match read_long(self.config.side.other(), head) {
+        match self.config.heard_side().read_long(head) {
             Ok(Long::Information(address)) => self.malformed(
                 address,
                 Received::Overlong,

@@ -1,23 +1,23 @@
 //! What a call for the next frame takes: a message of TEI management, unit data, or a frame of a link.
 
 ghost use Rattle.std.specs.Prelude.{◌≡◌, ◌+◌, ◌<◌, ◌≤◌, Bool, true, [], length, IsSome};
-ghost use Rattle.lapd_line.specs.{IsFrame, spelling, Store, frame_of, Terms, link_count, message_taken, unit_taken, link_taken, first_taken, round, taken, TellsOf, HasTerms, IsMark, Sets, IsFree, Loads, room_in, reference_in, Takes, orders_taken, Standing};
+ghost use Rattle.lapd_line.specs.{IsFrame, spelling, own_side, Store, frame_of, Terms, link_count, message_taken, unit_taken, link_taken, first_taken, round, taken, TellsOf, HasTerms, IsMark, Sets, IsFree, Loads, room_in, reference_in, Takes, orders_taken, Standing};
 
 use crate::link_layer::LinkLayer;
 use crate::outlet::Outlet;
-use lapd_frame::{Address, Control, Frame, Order, ShortList, Side, write};
+use lapd_frame::{Address, Control, Frame, Order, Sender, ShortList};
 use lapd_store::Shelf;
 use model_link::ControlFrame;
 
-/// Loads a frame of a side, whose information is apart from it.
+/// Loads a frame of a sender, whose information is apart from it.
 #[inline(always)]
-fn load<O: Outlet>(out: &mut O, side: Side, address: Address, control: Control, info: &[u8])
+fn load<O: Outlet>(out: &mut O, sender: Sender, address: Address, control: Control, info: &[u8])
     requires free { IsFree (O.loading out.old) }
     requires frame { IsFrame (record { address = address; control = control; info = [] }) }
     requires info { length info.now ≤ room_in (O.loading out.old) }
     ensures room { room_in (O.loading out.new) ≡ room_in (O.loading out.old) }
     ensures reference { reference_in (O.loading out.new) ≡ reference_in (O.loading out.old) }
-    ensures loaded { Loads (spelling side (record { address = address; control = control; info = info.now })) (O.loading out.old) (O.loading out.new) }
+    ensures loaded { Loads (spelling sender (record { address = address; control = control; info = info.now })) (O.loading out.old) (O.loading out.new) }
 {
     let mut head = [0; 4];
     let frame = Frame {
@@ -25,7 +25,7 @@ fn load<O: Outlet>(out: &mut O, side: Side, address: Address, control: Control, 
         control,
         info: &[],
     };
-    let len = write(side, &frame, &mut head);
+    let len = sender.write(&frame, &mut head);
     out.load(&head[..len], info);
 }
 
@@ -108,11 +108,11 @@ impl LinkLayer {
         ensures room { room_in (O.loading out.new) ≡ room_in (O.loading out.old) }
         ensures reference { reference_in (O.loading out.new) ≡ reference_in (O.loading out.old) }
         ensures loaded { (terms : Terms) → HasTerms self.old.links number terms
-            → Loads (spelling self.old.config.side (record (frame_of terms frame) { info = info.now })) (O.loading out.old) (O.loading out.new) }
+            → Loads (spelling (own_side self.old.config) (record (frame_of terms frame) { info = info.now })) (O.loading out.old) (O.loading out.new) }
     {
         let address = self.links.address(number, frame.command);
         self.has_frame.set(number, self.links.has_frame(number));
-        load(out, self.config.side, address, frame.control, info);
+        load(out, self.config.own_side(), address, frame.control, info);
         self.turn = number + 1;
     }
 
@@ -146,7 +146,7 @@ impl LinkLayer {
         };
         load(
             out,
-            self.config.side,
+            self.config.own_side(),
             address,
             Control::Ui { pf: false },
             shelf.get(&unit.slot),

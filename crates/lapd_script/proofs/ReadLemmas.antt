@@ -1,5 +1,9 @@
 -- What is read of words that stand in references, and of lines with too many.
 use Rattle.lapd_script.proofs.Vocabulary.{◌≡◌, ℕ, Bool, true, false, cond, List, [], ◌∷◌, length, take, drop, get_or, Some, None, Ok, Err, Result, Option, refl, sym, ap, ◌∙◌, Bor, arith, IsErr, IsErrAnd, false≢true, Network, FaultKind, BadNumberOfWords, Config, Word, Ask, texts, word_named, carries_octets, read_words, read_after, read_as, card_numbers, nine_numbers, three_numbers, ten_numbers}
+use Rattle.lapd_script.proofs.Vocabulary.{side_numbers, for_sapi, names_sapi}
+use Rattle.std.specs.Prelude.{◌-◌, ◌&&◌, nat_le, bytes_eq, codes, zero, suc}
+use Rattle.lapd_script.specs.declared.word.Word.TheVariants.{Card}
+use Rattle.lapd_script.specs.Meaning.{card}
 use Rattle.lapd_script.proofs.Vocabulary.{for_user, is_user, ◌>>=◌}
 
 abbrev pub nowhere : Bor (List ℕ)
@@ -8,12 +12,41 @@ nowhere = record { ref_ptr = (0, 0); now = [] }
 abbrev pub at : List (Bor (List ℕ)) → ℕ → List ℕ
 at words i = (get_or words i nowhere).now
 
+-- words in references, counted and parted
+pub texts_at : (words : List (Bor (List ℕ))) (i : ℕ) → get_or (texts words) i [] ≡ at words i
+texts_at [] i = refl
+texts_at (w ∷ words) zero = refl
+texts_at (w ∷ words) (suc i) = texts_at words i
+
+pub texts_length : (words : List (Bor (List ℕ))) → length (texts words) ≡ length words
+texts_length [] = refl
+texts_length (w ∷ words) = ap suc (texts_length words)
+
+pub texts_front : (n : ℕ) (words : List (Bor (List ℕ))) → take n (texts words) ≡ texts (take n words)
+texts_front zero words = refl
+texts_front (suc n) [] = refl
+texts_front (suc n) (w ∷ words) = ap (λ rest. w.now ∷ rest) (texts_front n words)
+
+-- the last word but one of a card line may be `sapi`, with a number behind it
+pub sapi_given : (words : List (Bor (List ℕ))) (count : ℕ) → count ≡ length words
+    → card_numbers (texts words) ≡ cond (nat_le 2 count && bytes_eq (at words (count - 2)) (codes "sapi"))
+    (for_sapi (side_numbers (texts (take (count - 2) words))) (at words (count - 1))) (side_numbers (texts words))
+sapi_given words count is =
+    ap (λ n. cond (nat_le 2 n && bytes_eq (get_or (texts words) (n - 2) []) (codes "sapi"))
+    (for_sapi (side_numbers (take (n - 2) (texts words))) (get_or (texts words) (n - 1) [])) (side_numbers (texts words))) (texts_length words ∙ sym is)
+    ∙ ap (λ word. cond (nat_le 2 count && bytes_eq word (codes "sapi"))
+    (for_sapi (side_numbers (take (count - 2) (texts words))) (get_or (texts words) (count - 1) [])) (side_numbers (texts words))) (texts_at words (count - 2))
+    ∙ ap (λ front. cond (nat_le 2 count && bytes_eq (at words (count - 2)) (codes "sapi"))
+    (for_sapi (side_numbers front) (get_or (texts words) (count - 1) [])) (side_numbers (texts words))) (texts_front (count - 2) words)
+    ∙ ap (λ last. cond (nat_le 2 count && bytes_eq (at words (count - 2)) (codes "sapi"))
+    (for_sapi (side_numbers (texts (take (count - 2) words))) last) (side_numbers (texts words))) (texts_at words (count - 1))
+
 abbrev grouped : Result (ℕ × ℕ × ℕ) FaultKind → Result (ℕ × ℕ × ℕ) FaultKind → Result (ℕ × ℕ × ℕ) FaultKind → Result Config FaultKind
 grouped ra rb rc = do
   a ← ra
   b ← rb
   c ← rc
-  Ok (record { lines = a.0; terminals = a.1; k = a.2; queue = b.0; unit_queue = b.1; control = b.2; slots = c.0; n201 = c.1; n200 = c.2; k16 = a.2; side = Network })
+  Ok (record { lines = a.0; terminals = a.1; k = a.2; queue = b.0; unit_queue = b.1; control = b.2; slots = c.0; n201 = c.1; n200 = c.2; k16 = a.2; side = Network; sapi = 16 })
 
 -- nine words,
 pub nine_given : (words : List (Bor (List ℕ))) → length words ≡ 9
@@ -28,18 +61,18 @@ nine_grouped words ra rb rc n ea eb ec = grind (arith, nine_given)
 
 -- ten words: the last is a tenth number, or says that the card is the user's side;
 pub with_tenth : (words : List (Bor (List ℕ))) → length words ≡ 10
-    → card_numbers (texts words) ≡ cond (is_user (at words 9)) (for_user (nine_numbers (texts (take 9 words)))) (ten_numbers (texts (take 9 words)) (at words 9))
+    → side_numbers (texts words) ≡ cond (is_user (at words 9)) (for_user (nine_numbers (texts (take 9 words)))) (ten_numbers (texts (take 9 words)) (at words 9))
 with_tenth (a ∷ b ∷ c ∷ d ∷ e ∷ f ∷ g ∷ h ∷ i ∷ j ∷ []) n = refl
 with_tenth _ n = absurd (omega (arith, n))
 
 -- eleven words: the last says that;
 pub with_eleventh : (words : List (Bor (List ℕ))) → length words ≡ 11
-    → card_numbers (texts words) ≡ cond (is_user (at words 10)) (for_user (ten_numbers (texts (take 9 words)) (at words 9))) (Err BadNumberOfWords)
+    → side_numbers (texts words) ≡ cond (is_user (at words 10)) (for_user (ten_numbers (texts (take 9 words)) (at words 9))) (Err BadNumberOfWords)
 with_eleventh (a ∷ b ∷ c ∷ d ∷ e ∷ f ∷ g ∷ h ∷ i ∷ j ∷ k ∷ []) n = refl
 with_eleventh _ n = absurd (omega (arith, n))
 
 -- and else they are nine numbers, or too few, or too many.
-pub without : (words : List (Bor (List ℕ))) → (length words ≡ 10 → ⊥) → (length words ≡ 11 → ⊥) → nine_numbers (texts words) ≡ card_numbers (texts words)
+pub without : (words : List (Bor (List ℕ))) → (length words ≡ 10 → ⊥) → (length words ≡ 11 → ⊥) → nine_numbers (texts words) ≡ side_numbers (texts words)
 without (a ∷ b ∷ c ∷ d ∷ e ∷ f ∷ g ∷ h ∷ i ∷ j ∷ []) n m = absurd (n refl)
 without (a ∷ b ∷ c ∷ d ∷ e ∷ f ∷ g ∷ h ∷ i ∷ j ∷ k ∷ []) n m = absurd (m refl)
 without _ n m = refl
@@ -48,21 +81,33 @@ either : {A : Type 0} (t : Bool) (x : A) → cond t x x ≡ x
 either true x = refl
 either false x = refl
 
--- twelve words are too many for each first word, and so are more
-too_many : (word : Word) (a b c d e f g h i j k l : List ℕ) (more : List (List ℕ)) → read_as word (a ∷ b ∷ c ∷ d ∷ e ∷ f ∷ g ∷ h ∷ i ∷ j ∷ k ∷ l ∷ more) ≡ Err BadNumberOfWords
-too_many (Ask what) a b c d e f g h i j k l more = either (carries_octets what) (Err BadNumberOfWords)
-too_many _ a b c d e f g h i j k l more = refl
+-- so many words are too many for each first word, and so are more
+too_many : (word : Word) (a b c d e f g h i j k l m n : List ℕ) (more : List (List ℕ))
+    → read_as word (a ∷ b ∷ c ∷ d ∷ e ∷ f ∷ g ∷ h ∷ i ∷ j ∷ k ∷ l ∷ m ∷ n ∷ more) ≡ Err BadNumberOfWords
+too_many (Ask what) a b c d e f g h i j k l m n more = either (carries_octets what) (Err BadNumberOfWords)
+too_many (Card kind) a b c d e f g h i j k l m n more = go (names_sapi words)
+  where
+    words : List (List ℕ)
+    words = a ∷ b ∷ c ∷ d ∷ e ∷ f ∷ g ∷ h ∷ i ∷ j ∷ k ∷ l ∷ m ∷ n ∷ more
 
-pub taken_words : (word : Word) (words : List (List ℕ)) → read_as word (take 12 words) ≡ read_as word words
-taken_words word (a ∷ b ∷ c ∷ d ∷ e ∷ f ∷ g ∷ h ∷ i ∷ j ∷ k ∷ l ∷ more) = too_many word a b c d e f g h i j k l [] ∙ sym (too_many word a b c d e f g h i j k l more)
+    shorter : length words - 2 ≡ suc (suc (suc (suc (suc (suc (suc (suc (suc (suc (suc (suc (length more))))))))))))
+    shorter = omega arith
+
+    go : (b : Bool) → (cond b (for_sapi (side_numbers (take (length words - 2) words)) (get_or words (length words - 1) [])) (side_numbers words) >>= (λ numbers. Ok (card kind numbers))) ≡ Err BadNumberOfWords
+    go true = ap (λ n. for_sapi (side_numbers (take n words)) (get_or words (length words - 1) []) >>= (λ numbers. Ok (card kind numbers))) shorter
+    go false = refl
+too_many _ a b c d e f g h i j k l m n more = refl
+
+pub taken_words : (word : Word) (words : List (List ℕ)) → read_as word (take 14 words) ≡ read_as word words
+taken_words word (a ∷ b ∷ c ∷ d ∷ e ∷ f ∷ g ∷ h ∷ i ∷ j ∷ k ∷ l ∷ m ∷ n ∷ more) = too_many word a b c d e f g h i j k l m n [] ∙ sym (too_many word a b c d e f g h i j k l m n more)
 taken_words word _ = refl
 
 abbrev first_word : List (List ℕ) → List ℕ
 first_word [] = []
 first_word (name ∷ more) = name
 
--- where the first thirteen words are these, they say what all the words say
-pub read_taken : (all : List (List ℕ)) (name : List ℕ) (words : List (List ℕ)) (word : Option Word) → name ∷ words ≡ take 13 all → word ≡ word_named name → read_after word words ≡ read_words all
+-- where the first fifteen words are these, they say what all the words say
+pub read_taken : (all : List (List ℕ)) (name : List ℕ) (words : List (List ℕ)) (word : Option Word) → name ∷ words ≡ take 15 all → word ≡ word_named name → read_after word words ≡ read_words all
 read_taken all name words word e w = grind (arith, taken_words)
 
 -- the exit of a `?`

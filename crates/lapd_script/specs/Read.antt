@@ -1,5 +1,5 @@
 -- How a line of a script is read: what each first word takes, and what can be wrong with the words by themselves.
-use Rattle.std.specs.Prelude.{ℕ, ◌==◌, Bool, if◌then◌else◌, List, [], ◌∷◌, take, drop, codes, bytes_eq, Option, Some, None, Result, Ok, Err}
+use Rattle.std.specs.Prelude.{ℕ, ◌-◌, ◌==◌, ◌&&◌, nat_le, Bool, if◌then◌else◌, List, [], ◌∷◌, length, get_or, take, drop, codes, bytes_eq, Option, Some, None, Result, Ok, Err}
 use Rattle.lapd_frame.specs.declared.addresses.Side.TheVariants.{User, Network}
 use Rattle.lapd_script.specs.declared.kind.FaultKind.{FaultKind}
 use Rattle.lapd_script.specs.declared.kind.FaultKind.TheVariants.{UnknownWord, BadNumberOfWords}
@@ -39,7 +39,7 @@ nine_numbers (lines ∷ terminals ∷ k ∷ queue ∷ unit_queue ∷ control ∷
   a ← three_numbers lines terminals k
   b ← three_numbers queue unit_queue control
   c ← three_numbers slots n201 n200
-  Ok (record { lines = a.0; terminals = a.1; k = a.2; queue = b.0; unit_queue = b.1; control = b.2; slots = c.0; n201 = c.1; n200 = c.2; k16 = a.2; side = Network })
+  Ok (record { lines = a.0; terminals = a.1; k = a.2; queue = b.0; unit_queue = b.1; control = b.2; slots = c.0; n201 = c.1; n200 = c.2; k16 = a.2; side = Network; sapi = 16 })
 nine_numbers _ = Err BadNumberOfWords
 
 -- nine numbers, or ten: the tenth is the window of packet links; and the word `user` behind them, if the card is the user's
@@ -70,8 +70,27 @@ more_numbers nine (last ∷ []) = if is_user last then for_user (nine_numbers ni
 more_numbers nine (k16 ∷ last ∷ []) = if is_user last then for_user (ten_numbers nine k16) else Err BadNumberOfWords
 more_numbers nine (k16 ∷ last ∷ third ∷ words) = Err BadNumberOfWords
 
+abbrev pub side_numbers : List (List ℕ) → Result Config FaultKind
+side_numbers words = more_numbers (take 9 words) (drop 9 words)
+
+-- and behind these the word `sapi` with a number, if the second service has another SAPI than 16
+abbrev pub with_sapi : ℕ → Config → Config
+with_sapi sapi numbers = record numbers { sapi = sapi }
+
+abbrev pub for_sapi : Result Config FaultKind → List ℕ → Result Config FaultKind
+for_sapi read sapi = do
+  numbers ← read
+  sapi ← number 0 65535 sapi
+  Ok (with_sapi sapi numbers)
+
+abbrev pub names_sapi : List (List ℕ) → Bool
+names_sapi words = nat_le 2 (length words) && bytes_eq (get_or words (length words - 2) []) (codes "sapi")
+
 abbrev pub card_numbers : List (List ℕ) → Result Config FaultKind
-card_numbers words = more_numbers (take 9 words) (drop 9 words)
+card_numbers words =
+    if names_sapi words
+    then for_sapi (side_numbers (take (length words - 2) words)) (get_or words (length words - 1) [])
+    else side_numbers words
 
 -- T200, T203 and T201 in milliseconds: each a millisecond to an hour
 abbrev pub lengths : List (List ℕ) → Result (ℕ × ℕ × ℕ) FaultKind

@@ -24,17 +24,32 @@ empty = refl
 comment : read (codes "# anything") ≡ Ok skip
 comment = refl
 
-nine : read (codes "card 1 8 7 8 4 4 64 260 3") ≡ Ok (card Octets (record { lines = 1; terminals = 8; k = 7; queue = 8; unit_queue = 4; control = 4; slots = 64; n201 = 260; n200 = 3; k16 = 7; side = Network }))
+nine : read (codes "card 1 8 7 8 4 4 64 260 3") ≡ Ok (card Octets (record { lines = 1; terminals = 8; k = 7; queue = 8; unit_queue = 4; control = 4; slots = 64; n201 = 260; n200 = 3; k16 = 7; side = Network; sapi = 16 }))
 nine = refl
 
-ten : read (codes "card 1 8 7 8 4 4 64 260 3 015") ≡ Ok (card Octets (record { lines = 1; terminals = 8; k = 7; queue = 8; unit_queue = 4; control = 4; slots = 64; n201 = 260; n200 = 3; k16 = 15; side = Network }))
+ten : read (codes "card 1 8 7 8 4 4 64 260 3 015") ≡ Ok (card Octets (record { lines = 1; terminals = 8; k = 7; queue = 8; unit_queue = 4; control = 4; slots = 64; n201 = 260; n200 = 3; k16 = 15; side = Network; sapi = 16 }))
 ten = refl
 
-of_user : read (codes "card 1 8 7 8 4 4 64 260 3 user") ≡ Ok (card Octets (record { lines = 1; terminals = 8; k = 7; queue = 8; unit_queue = 4; control = 4; slots = 64; n201 = 260; n200 = 3; k16 = 7; side = User }))
+of_user : read (codes "card 1 8 7 8 4 4 64 260 3 user") ≡ Ok (card Octets (record { lines = 1; terminals = 8; k = 7; queue = 8; unit_queue = 4; control = 4; slots = 64; n201 = 260; n200 = 3; k16 = 7; side = User; sapi = 16 }))
 of_user = refl
 
-ten_of_user : read (codes "card 1 8 7 8 4 4 64 260 3 15 user") ≡ Ok (card Octets (record { lines = 1; terminals = 8; k = 7; queue = 8; unit_queue = 4; control = 4; slots = 64; n201 = 260; n200 = 3; k16 = 15; side = User }))
+ten_of_user : read (codes "card 1 8 7 8 4 4 64 260 3 15 user") ≡ Ok (card Octets (record { lines = 1; terminals = 8; k = 7; queue = 8; unit_queue = 4; control = 4; slots = 64; n201 = 260; n200 = 3; k16 = 15; side = User; sapi = 16 }))
 ten_of_user = refl
+
+with_sapi : read (codes "card 1 8 7 8 4 4 64 260 3 sapi 62") ≡ Ok (card Octets (record { lines = 1; terminals = 8; k = 7; queue = 8; unit_queue = 4; control = 4; slots = 64; n201 = 260; n200 = 3; k16 = 7; side = Network; sapi = 62 }))
+with_sapi = refl
+
+all_words : read (codes "frames 1 8 7 8 4 4 64 260 3 15 user sapi 63") ≡ Ok (card Frames (record { lines = 1; terminals = 8; k = 7; queue = 8; unit_queue = 4; control = 4; slots = 64; n201 = 260; n200 = 3; k16 = 15; side = User; sapi = 63 }))
+all_words = refl
+
+no_sapi : read (codes "card 1 8 7 8 4 4 64 260 3 sapi 65536") ≡ Err BadNumber
+no_sapi = refl
+
+sapi_without_number : read (codes "card 1 8 7 8 4 4 64 260 3 15 sapi") ≡ Err BadNumberOfWords
+sapi_without_number = refl
+
+sapi_before_user : read (codes "card 1 8 7 8 4 4 64 260 3 sapi 62 user") ≡ Err BadNumberOfWords
+sapi_before_user = refl
 
 user_too_soon : read (codes "card 1 8 7 8 4 4 64 260 user") ≡ Err BadNumber
 user_too_soon = refl
@@ -58,7 +73,7 @@ a_frame : read (codes "in 63 00817F") ≡ Ok (into 63 (0 ∷ 129 ∷ 127 ∷ [])
 unfolding decode_pairs
 a_frame = refl
 
-for_frames : read (codes "frames 1 8 7 8 4 4 64 260 3") ≡ Ok (card Frames (record { lines = 1; terminals = 8; k = 7; queue = 8; unit_queue = 4; control = 4; slots = 64; n201 = 260; n200 = 3; k16 = 7; side = Network }))
+for_frames : read (codes "frames 1 8 7 8 4 4 64 260 3") ≡ Ok (card Frames (record { lines = 1; terminals = 8; k = 7; queue = 8; unit_queue = 4; control = 4; slots = 64; n201 = 260; n200 = 3; k16 = 7; side = Network; sapi = 16 }))
 for_frames = refl
 
 no_frame : read (codes "failed 0 ragged") ≡ Ok (failed 0 Ragged)

@@ -1,7 +1,7 @@
 //! Reads a line of a script.
 
-ghost use Rattle.std.specs.Prelude.{◌≡◌, ◌*◌, ◌/◌, ◌≤◌, ℕ, List, take, drop, length, All, Ok, Err, IfOk, MatchResult};
-ghost use Rattle.lapd_script.specs.{texts, rx, into, meant_by, IsCounted, read, read_words, read_as, lengths, card_numbers, for_user, is_user, nine_numbers, ten_numbers, three_numbers, Rx, In, Failed, Pull, Ask};
+ghost use Rattle.std.specs.Prelude.{◌≡◌, ◌*◌, ◌/◌, ◌≤◌, ℕ, List, take, drop, length, codes, bytes_eq, All, Ok, Err, IfOk, MatchResult};
+ghost use Rattle.lapd_script.specs.{texts, rx, into, meant_by, IsCounted, read, read_words, read_as, lengths, card_numbers, for_sapi, for_user, is_user, nine_numbers, side_numbers, ten_numbers, three_numbers, Rx, In, Failed, Pull, Ask};
 
 use crate::command::{Asked, Command};
 use crate::kind::FaultKind;
@@ -34,10 +34,10 @@ pub fn read_line(line: &[u8], room: &mut [u8]) -> Result<Command, FaultKind>
     read_words(words.as_slice(), room)
 }
 
-/// What the words of a line say, of which those past the thirteenth may be left out.
+/// What the words of a line say, of which those past the fifteenth may be left out.
 fn read_words(words: &[&[u8]], room: &mut [u8]) -> Result<Command, FaultKind>
     requires room { All (λ word. length word.now ≤ 2 * length room.old) words.now }
-    ensures read { (all : List (List ℕ)) → texts words.now ≡ take 13 all → meant_by room.new result ≡ read_words all }
+    ensures read { (all : List (List ℕ)) → texts words.now ≡ take 15 all → meant_by room.new result ≡ read_words all }
     ensures counted { IfOk result (IsCounted (length room.new)) }
     ensures rest { (n : ℕ) → All (λ word. length word.now ≤ n) words.now → drop (n / 2) room.new ≡ drop (n / 2) room.old }
 {
@@ -166,9 +166,36 @@ fn lengths(words: &[&[u8]]) -> Result<(u32, u32, u32), FaultKind>
     Ok((t200, t203, t201))
 }
 
-/// The nine or ten numbers of a card line, and `user` behind them if the card is the user's side.
+/// The numbers of a card line, `user` behind them if the card is the user's side, and `sapi` with the SAPI of the second
+/// service if that is not 16.
 fn card_numbers(words: &[&[u8]]) -> Result<Config, FaultKind>
     ensures read { result ≡ card_numbers (texts words.now) }
+{
+    let count = words.len();
+    if count >= 2 && is_sapi(words[count - 2]) {
+        return for_sapi(side_numbers(&words[..count - 2]), words[count - 1]);
+    }
+    side_numbers(words)
+}
+
+fn is_sapi(word: &[u8]) -> bool
+    ensures { result ≡ bytes_eq word.now (codes "sapi") }
+{
+    word == b"sapi".as_slice()
+}
+
+/// The same with another SAPI.
+fn for_sapi(numbers: Result<Config, FaultKind>, sapi: &[u8]) -> Result<Config, FaultKind>
+    ensures { result ≡ for_sapi numbers sapi.now }
+{
+    let mut numbers = numbers?;
+    numbers.sapi = short(sapi)?;
+    Ok(numbers)
+}
+
+/// The nine or ten numbers of a card line, and `user` behind them if the card is the user's side.
+fn side_numbers(words: &[&[u8]]) -> Result<Config, FaultKind>
+    ensures read { result ≡ side_numbers (texts words.now) }
 {
     match words.len() {
         10 if is_user(words[9]) => for_user(nine_numbers(&words[..9])),
@@ -225,6 +252,7 @@ fn nine_numbers(words: &[&[u8]]) -> Result<Config, FaultKind>
         n200: third.2,
         k16: first.2,
         side: Side::Network,
+        sapi: 16,
     })
 }
 

@@ -1,6 +1,6 @@
 -- What waits on a link stays in its order, until it is taken.
 use Rattle.laws_line.proofs.Vocabulary.{◌≡◌, ℕ, ◌<◌, List, [], ◌∷◌, ◌++◌, slice_get, Option, Some, refl, ap, ◌∙◌, ◌⊎◌, inl, inr, ⊎_elim, arith, IfSome, option_or, unwrap_or, cases_eq, get_or-set_same, get_or-set_other, spelling, ControlFrame, Terms, Link, Given, Goes, GoesWhole, after_offers, in-turn, Config, next, Line, UnitData, link_count, service_at, place_at, tei_at, terms, terms_at, link_at}
-use Rattle.laws_line.proofs.Vocabulary.{Taken, with_unit, with_given_frame, link_taken, first_taken, taken, IsInRange, next_walk, option_map, link_frame_of as frame_of, begun as course_begun, after, IsSound, control_text, link_offer, link_given, link_after}
+use Rattle.laws_line.proofs.Vocabulary.{Taken, with_unit, with_given_frame, link_taken, first_taken, taken, IsInRange, next_walk, option_map, link_frame_of as frame_of, begun as course_begun, after, IsSound, control_text, link_offer, link_given, link_after, own_side}
 use Rattle.model_link.specs.Offers
 use Rattle.model_line.specs.Taken as taking
 
@@ -59,4 +59,4 @@ not-empty (b ∷ bs) f behind e = cc
 
 module _ (c : Config) (ranged : IsInRange c) (number tei : ℕ) (few : number < link_count c) where
   pub text-is : (l : Line) (f : ControlFrame) (g : Given) → tei_at (place_at number) l ≡ Some tei → Goes f g → taking.frame_of c (terms_at c number l) g ≡ control_text c number tei f
-  text-is l f g at h = (grind arith) ∙ ap (λ t. spelling c.side (frame_of t f)) (ap (λ o. terms c (service_at number) (unwrap_or o 0)) at)
+  text-is l f g at h = (grind arith) ∙ ap (λ t. spelling (own_side c) (frame_of t f)) (ap (λ o. terms c (service_at number) (unwrap_or o 0)) at)

@@ -1,6 +1,10 @@
 -- How what an event aims at is tied to the event.
 use Rattle.laws_line.proofs.Vocabulary.{arith, ◌≡◌, ℕ, true, List, Option, Some, Result, Ok, refl, inr, Address, ReadFault, Service, Timer, Parts, reading, service_of, Config, hears, request, Answer, Aim, at_link, aim_of_expiry, Line, addressed, aim_of_reading, heard_side, aim_of_heard, side_aims, Request, aim_of_request, Event, expiry, at_place, is_granted, IsTooLong, BringsMalformed, IsBy, IsOf}
 use Rattle.laws_line.proofs.Vocabulary.{LinkReceived, link_received, stream_overlong, bits_dropped, stream_frame, StreamEvent}
+use Rattle.laws_line.proofs.Vocabulary.{Err, BadExtension, Undefined, WrongSize, Short, Unserved, long_reading, aim_of_long, unless_at_link, drop_for, link_undefined, link_wrong_size}
+use Rattle.lapd_frame.specs.declared.overlong.Long.{Long}
+use Rattle.lapd_frame.specs.declared.overlong.Long.TheVariants as long
+use Rattle.model_link.specs.Events.{overlong as link_overlong}
 
 abbrev pub Ties : Config → Event → Answer → Aim → Type 0
 Ties c e answer (at_link service tei place event) = IsOf c e answer service tei event
@@ -28,9 +32,23 @@ module _ (c : Config) (l : Line) (answer : Answer) where
       → (service : Service) → service_of address.sapi ≡ Some service → BringsMalformed c (hears (stream_overlong head)) service address.tei what
   too-long head address what is service sapi = record { octets = head; address = address; by = inr (refl, is); sapi = sapi; tei_is = refl }
 
+  long-ties : (head : List ℕ) (r : Result Long ReadFault) → long_reading (heard_side c) head ≡ r → Ties c (hears (stream_overlong head)) answer (aim_of_long l r)
+  long-ties head (Ok (long.Information address)) read =
+      by-address c l (hears (stream_overlong head)) answer address link_overlong (drop_for Unserved) tt (too-long head address link_overlong read)
+  long-ties head (Ok (long.Unnumbered address)) read = no-link (addressed l address link_overlong (drop_for Unserved))
+    where
+      no-link : (aim : Aim) → Ties c (hears (stream_overlong head)) answer (unless_at_link aim)
+      no-link aim = grind arith
+  long-ties head (Err BadExtension) read = tt
+  long-ties head (Err (Undefined address)) read =
+      by-address c l (hears (stream_overlong head)) answer address link_undefined (drop_for Unserved) tt (too-long head address link_undefined read)
+  long-ties head (Err (WrongSize address)) read =
+      by-address c l (hears (stream_overlong head)) answer address link_wrong_size (drop_for Unserved) tt (too-long head address link_wrong_size read)
+  long-ties head (Err Short) read = tt
+
 pub heard-ties : (c : Config) (l : Line) (e : StreamEvent) (answer : Answer) → Ties c (hears e) answer (aim_of_heard c l e)
 heard-ties c l (stream_frame octets) answer = read-ties c l answer octets (reading (heard_side c) octets) refl
-heard-ties c l (stream_overlong head) answer = grind (arith, by-address, too-long)
+heard-ties c l (stream_overlong head) answer = long-ties c l answer head (long_reading (heard_side c) head) refl
 heard-ties c l (bits_dropped cause) answer = tt
 
 -- An expiry.

@@ -16,10 +16,12 @@ pub use Rattle.model_bits.specs.declared.heard.Cause.{Cause}
 pub use Rattle.model_bits.specs.declared.heard.Cause.TheVariants.{Extension, Fcs, Sapi, Tei, Unserved}
 pub use Rattle.model_bits.specs.Stream.{dropped as bits_dropped, Event as StreamEvent, frame as stream_frame, overlong as stream_overlong}
 pub use Rattle.model_bits.specs.StuffingLaws.{AreOctets}
-pub use Rattle.lapd_frame.proofs.Spelling.{reading-found}
-pub use Rattle.lapd_frame.specs.Grammar.{Parts, head_of, row, second_octet, spelling}
-pub use Rattle.lapd_frame.specs.Reading.{long_reading}
-unfoldable pub use Rattle.lapd_frame.specs.Reading.{control_of, header_of, reading, supervisory_of, unnumbered_of}
+pub use Rattle.lapd_frame.proofs.Naming.{reading-found}
+pub use Rattle.lapd_frame.specs.Grammar.{Parts, head_of, row, second_octet}
+unfoldable pub use Rattle.lapd_frame.specs.Reading.{control_of, header_of, reading as side_reading, supervisory_of, unnumbered_of}
+pub use Rattle.lapd_frame.specs.Senders.{long_reading, spelling}
+unfoldable pub use Rattle.lapd_frame.specs.Senders.{reading}
+unfoldable pub use Rattle.lapd_frame.specs.Senders.{exchanged}
 pub use Rattle.lapd_frame.specs.Services.{same_service, sapi_of, service_of}
 pub use Rattle.lapd_frame.specs.declared.addresses.Address.{Address}
 pub use Rattle.lapd_frame.specs.declared.addresses.Side.{Side}
@@ -107,7 +109,7 @@ pub use Rattle.model_line.specs.Requested.{aim_of_request, at_deactivated, at_re
 pub use Rattle.model_line.specs.Sides.{IsToGroup, at_side, group_tei as line_group_tei, group_told, told_at}
 pub use Rattle.model_line.specs.Sound.{IsInRange, IsSound, IsSoundAt, IsUnitData}
 pub use Rattle.model_line.specs.Stored.{sum_of_links}
-pub use Rattle.model_line.specs.Taken.{Taken, first_taken, line_of, link_taken, message_taken, next_of, round, round_from, taken, unit_taken, with_given_frame, with_message, with_unit}
+pub use Rattle.model_line.specs.Taken.{Taken, first_taken, line_of, link_taken, message_taken, next_of, own_side, round, round_from, taken, unit_taken, with_given_frame, with_message, with_unit}
 pub use Rattle.model_line.specs.declared.config.Config.{Config}
 pub use Rattle.model_line.proofs.SoundParts.{with_units}
 pub use Rattle.model_card.proofs.CardSound.{after_is_sound, always_sound}

@@ -1,6 +1,6 @@
 -- What calls for the next frame alone come to.
 use Rattle.std.specs.Prelude.{◌≡◌, ℕ, zero, suc, ◌+◌, ◌-◌, ◌*◌, ◌&&◌, not, max, min, List, length, None, nat_le, if◌then◌else◌}
-use Rattle.lapd_frame.specs.Grammar.{spelling}
+use Rattle.lapd_frame.specs.Senders.{spelling}
 use Rattle.model_link.specs.declared.frames.ControlFrame.{ControlFrame}
 use Rattle.model_link.specs.declared.terms.Terms.{Terms}
 use Rattle.model_link.specs.Link.{Link, frame_of, outstanding, unsent}
@@ -9,7 +9,7 @@ use Rattle.model_line.specs.declared.config.Config.{Config}
 use Rattle.model_line.specs.Event.{next}
 use Rattle.model_line.specs.Line.{Line, link_count, service_at, link_at, terms, terms_at}
 use Rattle.model_line.specs.Machine.{after}
-use Rattle.model_line.specs.Taken.{taken}
+use Rattle.model_line.specs.Taken.{taken, own_side}
 use Rattle.model_line.specs.Stored.{sum_of_links}
 use Rattle.laws_line.specs.Served.{HasNothing}
 
@@ -47,7 +47,7 @@ frames_before c l number others =
 
 -- A control frame of a link as it goes, with the SAPI of its service and its TEI.
 abbrev pub control_text : Config → ℕ → ℕ → ControlFrame → List ℕ
-control_text c number tei f = spelling c.side (frame_of (terms c (service_at number) tei) f)
+control_text c number tei f = spelling (own_side c) (frame_of (terms c (service_at number) tei) f)
 
 -- After n calls nothing waits that may go, the next one takes no frame, and the line is as it was.
 pub record IsIdling (c : Config) (n : ℕ) (l : Line) : Type 0 where

@@ -19,6 +19,7 @@ pub mod WorkedLine
 pub mod WorkedSides
 pub mod WorkedCame
 pub mod Worked
+pub mod WorkedSapi
 pub mod WorkedServed
 pub mod WorkedHeard
 pub mod WorkedOneEvent

@@ -4,7 +4,7 @@ use Rattle.std.specs.List.{range_with_len}
 use Rattle.std.specs.Option.{unwrap_or}
 use Rattle.lapd_frame.specs.declared.controls.Control.{Control}
 use Rattle.lapd_frame.specs.declared.controls.Control.TheVariants.{Ui}
-use Rattle.lapd_frame.specs.Grammar.{spelling}
+use Rattle.lapd_frame.specs.Senders.{spelling}
 use Rattle.lapd_frame.specs.Services.{sapi_of}
 use Rattle.model_link.specs.declared.terms.Terms.{Terms}
 use Rattle.model_link.specs.Link.{Link}
@@ -19,7 +19,7 @@ use Rattle.model_line.specs.Machine.{after}
 use Rattle.model_line.specs.Event.{Event, hears, expiry, request, next, Answer}
 use Rattle.model_line.specs.Request.{Request, Down}
 use Rattle.laws_line.specs.Share.{is_granted}
-use Rattle.model_line.specs.Taken.{taken}
+use Rattle.model_line.specs.Taken.{taken, own_side}
 
 -- What is taken is the message of TEI management that has waited longest, which waits no more, and all else stays;
 pub record IsMessage (c : Config) (before after : Line) (frame : List ℕ) : Type 0 where
@@ -34,7 +34,7 @@ pub record IsUnit (c : Config) (before after : Line) (frame : List ℕ) : Type 0
   pub no_message : before.management.waiting ≡ []
   pub unit : UnitData
   pub oldest : slice_get before.units 0 ≡ Some unit
-  pub spelled : frame ≡ spelling c.side (record {
+  pub spelled : frame ≡ spelling (own_side c) (record {
     address = record { sapi = sapi_of unit.service; command = true; tei = unit.tei };
     control = Ui false;
     info = unit.contents;
@@ -77,7 +77,7 @@ pub record IsOfLink (c : Config) (contents : ℕ → List (List ℕ)) (before af
   pub command : Bool
   pub control : Control
   pub information : Option (List ℕ)
-  pub spelled : frame ≡ spelling c.side (record {
+  pub spelled : frame ≡ spelling (own_side c) (record {
     address = record { sapi = sapi_of (service_at number); command = command; tei = tei };
     control = control;
     info = unwrap_or information [];

@@ -4,7 +4,7 @@ use Rattle.laws_line.specs.WorkedWords.{Network, Packet, request, told, nothing,
 use Rattle.model_bits.specs.Stream as stream
 
 abbrev pub usual : Config
-usual = record { lines = 1; terminals = 8; k = 7; k16 = 7; queue = 8; unit_queue = 4; control = 4; slots = 64; n201 = 260; n200 = 3; side = Network }
+usual = record { lines = 1; terminals = 8; k = 7; k16 = 7; queue = 8; unit_queue = 4; control = 4; slots = 64; n201 = 260; n200 = 3; side = Network; sapi = 16 }
 
 -- TEI 64 on the line, and its SABME of both services
 abbrev pub heard : List ℕ → Line → Line

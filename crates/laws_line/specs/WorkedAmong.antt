@@ -1,6 +1,6 @@
 -- Worked values: a control frame that waits while other events of its line are between the calls for the next frame.
 use Rattle.std.specs.Prelude.{◌≡◌, List, [], ◌∷◌, replicate, refl}
-use Rattle.laws_line.specs.WorkedWords.{bits_dropped as dropped, Fcs, Call, reading, header_of, control_of, unnumbered_of, supervisory_of, seq, distance_of, named, LineEvent as Event, hears, request, next, after, frames_before}
+use Rattle.laws_line.specs.WorkedWords.{bits_dropped as dropped, Fcs, Call, exchanged, read_by, reading, header_of, control_of, unnumbered_of, supervisory_of, seq, distance_of, named, LineEvent as Event, hears, request, next, after, frames_before}
 use Rattle.lapd_tei.specs.Events as teis
 use Rattle.model_line.specs.Request
 use Rattle.laws_line.specs.WorkedPolled.{small, asked}
@@ -11,5 +11,5 @@ abbrev pub events : List Event
 events = hears (dropped Fcs) ∷ request (Request.Unit Call 127 (0xAB ∷ [])) ∷ replicate 4 next
 
 pub frames_first : frames_before small asked 0 1 ≡ 2
-unfolding after reading header_of control_of unnumbered_of supervisory_of teis.course teis.refusal seq distance_of named
+unfolding after exchanged read_by reading header_of control_of unnumbered_of supervisory_of teis.course teis.refusal seq distance_of named
 frames_first = refl

@@ -1,6 +1,6 @@
 -- Worked values: what calls for the next frame alone come to.
 use Rattle.std.specs.Prelude.{◌≡◌, [], ◌∷◌, length, refl}
-use Rattle.laws_line.specs.WorkedWords.{reading, header_of, control_of, unnumbered_of, supervisory_of, seq, distance_of, named, Line, fresh_line, link_at, of_request, Assign, frames_to_go, way_round, frames_before, most_frames, most_frames_before}
+use Rattle.laws_line.specs.WorkedWords.{exchanged, read_by, reading, header_of, control_of, unnumbered_of, supervisory_of, seq, distance_of, named, Line, fresh_line, link_at, of_request, Assign, frames_to_go, way_round, frames_before, most_frames, most_frames_before}
 use Rattle.lapd_tei.specs.Events as teis
 use Rattle.laws_line.specs.Worked.{usual, heard}
 
@@ -21,14 +21,14 @@ abbrev polled : Line
 polled = heard (0x00 ∷ 0x81 ∷ 0x01 ∷ 0x01 ∷ []) (heard (0x00 ∷ 0x81 ∷ 0x7F ∷ []) (of_request usual (Assign 64) (fresh_line usual)).line)
 
 two_wait : length (link_at 0 polled).waiting ≡ 2
-unfolding reading header_of control_of unnumbered_of supervisory_of teis.course teis.refusal seq distance_of named
+unfolding exchanged read_by reading header_of control_of unnumbered_of supervisory_of teis.course teis.refusal seq distance_of named
 two_wait = refl
 
 -- Two frames are to go; before the answer at most the UA, and one of each other link.
 to_go : frames_to_go usual polled ≡ 2
-unfolding reading header_of control_of unnumbered_of supervisory_of teis.course teis.refusal seq distance_of named
+unfolding exchanged read_by reading header_of control_of unnumbered_of supervisory_of teis.course teis.refusal seq distance_of named
 to_go = refl
 
 frames_first : frames_before usual polled 0 1 ≡ 16
-unfolding reading header_of control_of unnumbered_of supervisory_of teis.course teis.refusal seq distance_of named
+unfolding exchanged read_by reading header_of control_of unnumbered_of supervisory_of teis.course teis.refusal seq distance_of named
 frames_first = refl

@@ -1,6 +1,6 @@
 -- Worked values of a line: each computes.
 use Rattle.std.specs.Prelude.{◌≡◌, ℕ, zero, suc, false, List, [], ◌∷◌, ◌++◌, replicate, Some, None, refl}
-use Rattle.laws_line.specs.WorkedWords.{Sapi, Tei, BadTei, NoLink, WrongState, TeiTaken, CheckRunning, ControlFull, Call, Packet, Start, Stop, T203, reading, header_of, control_of, unnumbered_of, nothing, dropped, Data, Unit, Assign, Remove, Check, Disown, IdentityRemove, Line, state_of, Effect, of_aim, aim_of_heard, refusal, of_request, taken}
+use Rattle.laws_line.specs.WorkedWords.{Sapi, Tei, BadTei, NoLink, WrongState, TeiTaken, CheckRunning, ControlFull, Call, Packet, Start, Stop, T203, exchanged, read_by, reading, header_of, control_of, unnumbered_of, nothing, dropped, Data, Unit, Assign, Remove, Check, Disown, IdentityRemove, Line, state_of, Effect, of_aim, aim_of_heard, refusal, of_request, taken}
 use Rattle.model_bits.specs.Stream as stream
 use Rattle.lapd_frame.specs.declared.notes.Note.TheVariants as notes
 use Rattle.lapd_frame.specs.declared.notes.ErrorCode.TheVariants as code
@@ -30,18 +30,18 @@ sabme_of_65 = 0x00 ∷ 0x83 ∷ 0x7F ∷ []
 establishment :
     (hearing sabme_of_64 with_64).told
     ≡ record nothing { notes = notes.EstablishIndication Call 64 ∷ []; orders = Start (T203 Call 64) ∷ [] }
-unfolding reading header_of control_of unnumbered_of teis.course teis.refusal
+unfolding exchanged read_by reading header_of control_of unnumbered_of teis.course teis.refusal
 establishment = refl
 
 state_after_establishment : state_of Call 64 (heard sabme_of_64 with_64) ≡ Some 7
-unfolding reading header_of control_of unnumbered_of teis.course teis.refusal
+unfolding exchanged read_by reading header_of control_of unnumbered_of teis.course teis.refusal
 state_after_establishment = refl
 
 -- links are served in turn, and not one to its end
 served_in_turn :
     frames_taken 4 (heard sabme_of_65 (heard sabme_of_64 (heard sabme_of_64 with_64_and_65)))
     ≡ (0x00 ∷ 0x81 ∷ 0x73 ∷ []) ∷ (0x00 ∷ 0x83 ∷ 0x73 ∷ []) ∷ (0x00 ∷ 0x81 ∷ 0x73 ∷ []) ∷ []
-unfolding reading header_of control_of unnumbered_of teis.course teis.refusal frames_taken
+unfolding exchanged read_by reading header_of control_of unnumbered_of teis.course teis.refusal frames_taken
 served_in_turn = refl
 
 -- a management message goes before unit data, and both before the links
@@ -50,35 +50,35 @@ management_first :
     (heard sabme_of_65 (heard sabme_of_64 (heard sabme_of_64 with_64_and_65)))))
     ≡ (0xFE ∷ 0xFF ∷ 0x03 ∷ 0x0F ∷ 0x00 ∷ 0x00 ∷ 0x04 ∷ 0x83 ∷ []) ∷ (0x02 ∷ 0xFF ∷ 0x03 ∷ 0xAB ∷ [])
     ∷ (0x00 ∷ 0x81 ∷ 0x73 ∷ []) ∷ (0x00 ∷ 0x83 ∷ 0x73 ∷ []) ∷ (0x00 ∷ 0x81 ∷ 0x73 ∷ []) ∷ []
-unfolding reading header_of control_of unnumbered_of teis.course teis.refusal frames_taken
+unfolding exchanged read_by reading header_of control_of unnumbered_of teis.course teis.refusal frames_taken
 management_first = refl
 
 -- frames for a TEI that is not on the line, and for the management of another than the group
 unknown_tei : (hearing (0x00 ∷ 0xFF ∷ 0x03 ∷ 0xAB ∷ []) with_64).told ≡ dropped Tei
-unfolding reading header_of control_of unnumbered_of teis.course teis.refusal
+unfolding exchanged read_by reading header_of control_of unnumbered_of teis.course teis.refusal
 unknown_tei = refl
 
 not_the_group : (hearing (0xFC ∷ 0x81 ∷ 0x03 ∷ 0xAB ∷ []) with_64).told ≡ dropped Tei
-unfolding reading header_of control_of unnumbered_of teis.course teis.refusal
+unfolding exchanged read_by reading header_of control_of unnumbered_of teis.course teis.refusal
 not_the_group = refl
 
 -- a SAPI that is not served, before its TEI
 unknown_sapi : (hearing (0x04 ∷ 0xFF ∷ 0x7F ∷ []) with_64).told ≡ dropped Sapi
-unfolding reading header_of control_of unnumbered_of teis.course teis.refusal
+unfolding exchanged read_by reading header_of control_of unnumbered_of teis.course teis.refusal
 unknown_sapi = refl
 
 -- a packet link is a link of its own
 packet_link :
     (hearing (0x40 ∷ 0x81 ∷ 0x7F ∷ []) (heard sabme_of_64 with_64)).told
     ≡ record nothing { notes = notes.EstablishIndication Packet 64 ∷ []; orders = Start (T203 Packet 64) ∷ [] }
-unfolding reading header_of control_of unnumbered_of teis.course teis.refusal
+unfolding exchanged read_by reading header_of control_of unnumbered_of teis.course teis.refusal
 packet_link = refl
 
 abbrev both_up : Line
 both_up = heard (0x40 ∷ 0x81 ∷ 0x7F ∷ []) (heard sabme_of_64 with_64)
 
 packet_frames : frames_taken 3 both_up ≡ (0x00 ∷ 0x81 ∷ 0x73 ∷ []) ∷ (0x40 ∷ 0x81 ∷ 0x73 ∷ []) ∷ []
-unfolding reading header_of control_of unnumbered_of teis.course teis.refusal frames_taken
+unfolding exchanged read_by reading header_of control_of unnumbered_of teis.course teis.refusal frames_taken
 packet_frames = refl
 
 -- a TEI that leaves the line clears its call control link, then its packet link
@@ -88,18 +88,18 @@ removal :
       notes = notes.ReleaseIndication Call 64 ∷ notes.ReleaseIndication Packet 64 ∷ [];
       orders = Stop (T203 Call 64) ∷ Stop (T203 Packet 64) ∷ [];
     }
-unfolding reading header_of control_of unnumbered_of teis.course teis.refusal
+unfolding exchanged read_by reading header_of control_of unnumbered_of teis.course teis.refusal
 removal = refl
 
 -- unit data stays where its TEI leaves the line
 unit_of_removed_tei :
     frames_taken 3 (asked (Remove 64) (asked (Unit Call 64 (0xAB ∷ [])) with_64))
     ≡ (0xFE ∷ 0xFF ∷ 0x03 ∷ 0x0F ∷ 0x00 ∷ 0x00 ∷ 0x06 ∷ 0x81 ∷ []) ∷ (0x02 ∷ 0x81 ∷ 0x03 ∷ 0xAB ∷ []) ∷ []
-unfolding teis.course teis.refusal frames_taken
+unfolding exchanged teis.course teis.refusal frames_taken
 unit_of_removed_tei = refl
 
 packet_unit : frames_taken 2 (asked (Unit Packet 127 (0xAB ∷ [])) with_64) ≡ (0x42 ∷ 0xFF ∷ 0x03 ∷ 0xAB ∷ []) ∷ []
-unfolding teis.course teis.refusal frames_taken
+unfolding exchanged teis.course teis.refusal frames_taken
 packet_unit = refl
 
 -- control frames that find no place are lost
@@ -107,7 +107,7 @@ lost_frame :
     (hearing (0x00 ∷ 0x81 ∷ 0x6F ∷ []) (heard (0x00 ∷ 0x81 ∷ 0x6F ∷ []) (heard (0x00 ∷ 0x81 ∷ 0x6F ∷ [])
     (heard (0x00 ∷ 0x81 ∷ 0x6F ∷ []) (heard sabme_of_64 with_64))))).told
     ≡ record nothing { notes = notes.Error Call 64 code.F ∷ []; orders = Start (T203 Call 64) ∷ []; lost = 1 }
-unfolding reading header_of control_of unnumbered_of teis.course teis.refusal
+unfolding exchanged read_by reading header_of control_of unnumbered_of teis.course teis.refusal
 lost_frame = refl
 
 -- Refusals: the first that holds.

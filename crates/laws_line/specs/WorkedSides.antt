@@ -1,6 +1,6 @@
 -- Worked values of the user's side of a line: each computes.
 use Rattle.std.specs.Prelude.{◌≡◌, ℕ, false, List, [], ◌∷◌, replicate, Option, Some, None, refl}
-use Rattle.laws_line.specs.WorkedWords.{Tei, Unserved, User, BadTei, WrongSide, Call, Packet, Start, Stop, T200, T203, reading, header_of, control_of, unnumbered_of, Config, nothing, dropped, Request, Establish, Unit, Assign, Remove, Check, Disown, Line, fresh_line, state_of, Effect, of_aim, aim_of_heard, refusal, of_request, Taken, taken}
+use Rattle.laws_line.specs.WorkedWords.{Tei, Unserved, User, BadTei, WrongSide, Call, Packet, Start, Stop, T200, T203, exchanged, read_by, reading, header_of, control_of, unnumbered_of, Config, nothing, dropped, Request, Establish, Unit, Assign, Remove, Check, Disown, Line, fresh_line, state_of, Effect, of_aim, aim_of_heard, refusal, of_request, Taken, taken}
 use Rattle.model_bits.specs.Stream as stream
 use Rattle.lapd_frame.specs.declared.notes.Note.TheVariants as notes
 use Rattle.lapd_tei.specs.Events as teis
@@ -26,58 +26,58 @@ with_0 = asked (Assign 0) (fresh_line trunk)
 
 -- a command of the user's side has C/R 0, and a response of the network too
 sabme_goes : text_of (taken trunk (asked (Establish Call 0) with_0)) ≡ 0x00 ∷ 0x01 ∷ 0x7F ∷ []
-unfolding teis.course teis.refusal
+unfolding exchanged teis.course teis.refusal
 sabme_goes = refl
 
 ua_comes :
     (hearing (0x00 ∷ 0x01 ∷ 0x73 ∷ []) (asked (Establish Call 0) with_0)).told
     ≡ record nothing { notes = notes.EstablishConfirm Call 0 ∷ []; orders = Stop (T200 Call 0) ∷ Start (T203 Call 0) ∷ [] }
-unfolding reading header_of control_of unnumbered_of teis.course teis.refusal
+unfolding exchanged read_by reading header_of control_of unnumbered_of teis.course teis.refusal
 ua_comes = refl
 
 -- a command of the network has C/R 1, and its answer too
 sabme_comes :
     (hearing (0x02 ∷ 0x01 ∷ 0x7F ∷ []) with_0).told
     ≡ record nothing { notes = notes.EstablishIndication Call 0 ∷ []; orders = Start (T203 Call 0) ∷ [] }
-unfolding reading header_of control_of unnumbered_of teis.course teis.refusal
+unfolding exchanged read_by reading header_of control_of unnumbered_of teis.course teis.refusal
 sabme_comes = refl
 
 ua_goes : text_of (taken trunk (hearing (0x02 ∷ 0x01 ∷ 0x7F ∷ []) with_0).line) ≡ 0x02 ∷ 0x01 ∷ 0x73 ∷ []
-unfolding reading header_of control_of unnumbered_of teis.course teis.refusal
+unfolding exchanged read_by reading header_of control_of unnumbered_of teis.course teis.refusal
 ua_goes = refl
 
 -- a SABME with the user's own C/R bit is no frame of the network: SABME is no response
 own_sabme : state_of Call 0 (hearing (0x00 ∷ 0x01 ∷ 0x7F ∷ []) with_0).line ≡ Some 4
-unfolding reading header_of control_of unnumbered_of teis.course teis.refusal
+unfolding exchanged read_by reading header_of control_of unnumbered_of teis.course teis.refusal
 own_sabme = refl
 
 -- what the network sends to the group is unit data with its TEI, of each service, whatever its P bit
 group_unit :
     (hearing (0x02 ∷ 0xFF ∷ 0x03 ∷ 0xAB ∷ []) with_0).told
     ≡ record nothing { notes = notes.Unit Call 127 ∷ []; contents = Some (0xAB ∷ []) }
-unfolding reading header_of control_of unnumbered_of teis.course teis.refusal
+unfolding exchanged read_by reading header_of control_of unnumbered_of teis.course teis.refusal
 group_unit = refl
 
 packet_group_unit :
     (hearing (0x42 ∷ 0xFF ∷ 0x13 ∷ []) with_0).told
     ≡ record nothing { notes = notes.Unit Packet 127 ∷ []; contents = Some [] }
-unfolding reading header_of control_of unnumbered_of teis.course teis.refusal
+unfolding exchanged read_by reading header_of control_of unnumbered_of teis.course teis.refusal
 packet_group_unit = refl
 
 -- but not more than N201 octets, and no other frame
 long_group_unit : (hearing (0x02 ∷ 0xFF ∷ 0x03 ∷ replicate 261 0xAB) with_0).told ≡ dropped Tei
-unfolding reading header_of control_of unnumbered_of teis.course teis.refusal
+unfolding exchanged read_by reading header_of control_of unnumbered_of teis.course teis.refusal
 long_group_unit = refl
 
 group_sabme : (hearing (0x02 ∷ 0xFF ∷ 0x7F ∷ []) with_0).told ≡ dropped Tei
-unfolding reading header_of control_of unnumbered_of teis.course teis.refusal
+unfolding exchanged read_by reading header_of control_of unnumbered_of teis.course teis.refusal
 group_sabme = refl
 
 -- a check of TEI 0 by the network is not served, and changes nothing
 check_comes :
     hearing (0xFE ∷ 0xFF ∷ 0x03 ∷ 0x0F ∷ 0x00 ∷ 0x00 ∷ 0x04 ∷ 0x01 ∷ []) with_0
     ≡ record { line = with_0; told = dropped Unserved }
-unfolding reading header_of control_of unnumbered_of teis.course teis.refusal
+unfolding exchanged read_by reading header_of control_of unnumbered_of teis.course teis.refusal
 check_comes = refl
 
 -- Refusals: the group's unit data is the network's, and so is TEI management.

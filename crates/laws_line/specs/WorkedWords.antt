@@ -5,6 +5,7 @@ pub use Rattle.model_bits.specs.Stream.{dropped as bits_dropped, frame, overlong
 pub use Rattle.model_bits.specs.declared.heard.Cause.TheVariants.{Fcs, Sapi, Short, Tei, Unserved}
 pub use Rattle.lapd_frame.specs.Grammar.{Parts}
 unfoldable pub use Rattle.lapd_frame.specs.Reading.{control_of, header_of, reading, supervisory_of, unnumbered_of}
+unfoldable pub use Rattle.lapd_frame.specs.Senders.{exchanged, reading as read_by}
 pub use Rattle.lapd_frame.specs.declared.addresses.Side.TheVariants.{Network, User}
 pub use Rattle.lapd_frame.specs.declared.controls.Control.TheVariants.{Information, ReceiveNotReady, ReceiveReady, Sabme, Ua, Ui}
 pub use Rattle.lapd_frame.specs.declared.notes.Note.TheVariants.{Error, ReleaseIndication, Removed}
@@ -25,6 +26,7 @@ pub use Rattle.lapd_tei.specs.declared.messages.Message.TheVariants.{IdentityAss
 pub use Rattle.lapd_tei.specs.declared.outcome.Change.TheVariants.{Left}
 pub use Rattle.model_line.specs.Came.{came}
 pub use Rattle.model_line.specs.Config.{first_fault}
+unfoldable pub use Rattle.model_line.specs.Config.{sapi_fault}
 pub use Rattle.model_line.specs.Effect.{Effect, of_aim}
 pub use Rattle.model_line.specs.Event.{Answer, Event as LineEvent, LineTold, dropped, expiry, gave, hears, next, nothing, refused, request, told}
 pub use Rattle.model_line.specs.Heard.{aim_of_heard}

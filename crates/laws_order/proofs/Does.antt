@@ -2,13 +2,14 @@
 use Rattle.laws_order.proofs.Vocabulary.{arith, ◌≡◌, ℕ, ◌==◌, ◌&&◌, ◌||◌, not, Bool, true, false, cond, IsTrue, List, [], ◌∷◌, ◌++◌, Ok, refl, sym, ap, ◌∙◌, subst, eq-eqb, true≢false, ◌⊎◌, inl, inr, All, fold, option_to_list, unwrap_or, list_any, All-head, All-tail, Ui, Note, Service, Parts, reading, sapi_of, information_of, State, Terms, Link, is_multiple_frame, address_at, Config, hears, expiry}
 use Rattle.laws_order.proofs.Vocabulary.{request, next, Answer, heard_side, Line, link_of, terms, aim_of, accepted, is_up_in, notes_of, contents_in, up_by_note, is_up_of, of_link, is_granted, IsBy, timer_of, link-grants, not-refused, same-sapi, sapi-is, known-up, frame_in, is_own, seen, is_ui, unless, granted-data, data-noted, no-data, frames_given, is_at_link, HasOne, IsForeign, HasNone}
 use Rattle.laws_order.proofs.Vocabulary.{event-goes, read-again, frames_by, fresh, Event, is_of_link, of_link_in, data_noted, data_granted, ends_by_note, ends_by, of_link_on, stream_frame, link_frame, LinkEvent, Release, cleared, requested, overlong, undefined, wrong_size, offer, expired, received, NoteEstablishIndication, NoteData, NoteReleaseIndication, NoteRemoved, NoteEstablishConfirm}
-use Rattle.laws_order.proofs.Vocabulary.{NoteError, NoteXid, NoteAssigned, NoteReleaseConfirm, NoteDoubled, NoteUnit, or-true, event-follows}
+use Rattle.laws_order.proofs.Vocabulary.{NoteError, NoteXid, NoteAssigned, NoteReleaseConfirm, NoteDoubled, NoteUnit, or-true, event-follows, own_side}
 use Rattle.laws_trace.proofs.DataAsked.{elsewhere}
 use Rattle.model_link.specs.Machine as links
 use Rattle.model_line.specs.Machine as lines
 use Rattle.model_line.specs.Sound as line_sound
 use Rattle.laws_order.proofs.LinkEnds.{Ended, own, Leaves, IsNoRelease, event-leaves, Fallen, undefined-falls, wrong-size-falls, overlong-falls, unit-data-stays}
 use Rattle.laws_order.proofs.Shown.{fits, same-frames, noted-is, asked_in, granted-is, ends-is, request-ends}
+use Rattle.laws_trace.proofs.ReadAgain.{message-text}
 
 -- Where the notes of a link that was up say that it is down, one of them ends it.
 module _ (service : Service) (tei : ℕ) where
@@ -51,28 +52,28 @@ module _ (c : Config) (service : Service) (tei : ℕ) where
   Own = terms c service tei
 
   -- Frames of other links and of TEI management, and unit data, are none of the link.
-  foreign : (frame : List ℕ) → IsForeign c service tei frame → of_link_in service tei (reading c.side frame) ≡ []
+  foreign : (frame : List ℕ) → IsForeign c service tei frame → of_link_in service tei (reading (own_side c) frame) ≡ []
   foreign frame (inl x) =
-      ap (λ o. of_link_in service tei (reading c.side o)) x.1
-      ∙ read-again c.side (λ r. of_link_in service tei r ≡ []) (record { sapi = 63; command = true; tei = 127 }) (Ui false)
+      ap (λ o. of_link_in service tei (reading (own_side c) o)) (x.1 ∙ message-text c x.0)
+      ∙ read-again (own_side c) (λ r. of_link_in service tei r ≡ []) (record { sapi = 63; command = true; tei = 127 }) (Ui false)
       (λ info. grind arith) (λ fault. refl) (information_of x.0)
   foreign frame (inr (inl x)) =
-      ap (λ o. of_link_in service tei (reading c.side o)) x.1
-      ∙ read-again c.side (λ r. of_link_in service tei r ≡ []) (record { sapi = sapi_of x.0.service; command = true; tei = x.0.tei }) (Ui false)
+      ap (λ o. of_link_in service tei (reading (own_side c) o)) x.1
+      ∙ read-again (own_side c) (λ r. of_link_in service tei r ≡ []) (record { sapi = sapi_of x.0.service; command = true; tei = x.0.tei }) (Ui false)
       (λ info. grind arith) (λ fault. refl) x.0.contents
   foreign frame (inr (inr x)) =
       let t = x.0 in
       let g = x.1 in
       let away : (sapi_of t.service == sapi_of service && t.tei == tei) ≡ false = ap (λ b. b && t.tei == tei) (same-sapi t.service service) ∙ x.3 in
-      ap (λ o. of_link_in service tei (reading c.side o)) x.2
-      ∙ read-again c.side (λ r. of_link_in service tei r ≡ []) (address_at t g.frame.command) g.frame.control
+      ap (λ o. of_link_in service tei (reading (own_side c) o)) x.2
+      ∙ read-again (own_side c) (λ r. of_link_in service tei r ≡ []) (address_at t g.frame.command) g.frame.control
       (λ info. ap (λ b. cond {A = List Parts} (b && not (is_ui g.frame.control)) (record { address = address_at t g.frame.command; control = g.frame.control; info = info } ∷ []) []) away)
       (λ fault. refl) (unwrap_or g.contents [])
 
-  pub all-foreign : (frames : List (List ℕ)) → All (IsForeign c service tei) frames → of_link_on service tei c.side frames ≡ []
+  pub all-foreign : (frames : List (List ℕ)) → All (IsForeign c service tei) frames → of_link_on service tei (own_side c) frames ≡ []
   all-foreign [] h = refl
   all-foreign (x ∷ xs) h =
-      ap (λ fs. fs ++ of_link_on service tei c.side xs) (foreign x (All-head (IsForeign c service tei) x xs h))
+      ap (λ fs. fs ++ of_link_on service tei (own_side c) xs) (foreign x (All-head (IsForeign c service tei) x xs h))
       ∙ all-foreign xs (All-tail (IsForeign c service tei) x xs h)
 
   -- Which event of the line an event of the link is.
@@ -98,7 +99,7 @@ module _ (c : Config) (service : Service) (tei : ℕ) where
     pub is : k' ≡ k
     pub noted : data_noted service tei (seen e a) ≡ []
     pub granted : data_granted service tei (seen e a) ≡ []
-    pub frames : of_link_on service tei c.side (frames_by a) ≡ []
+    pub frames : of_link_on service tei (own_side c) (frames_by a) ≡ []
 
   -- or it ends it, and leaves it in state 4, 5 or 6
   abbrev pub IsOver : Link → Event → Answer → Type 0
@@ -158,7 +159,7 @@ module _ (c : Config) (service : Service) (tei : ℕ) where
           noted = noted-is service tei e a (fits c e l)
               ∙ ap (λ b. cond b (option_to_list (contents_in a)) []) (sym (unless _ (no-data c ranged l s e service tei k.r (λ up. refl) x)));
           granted = granted-is service tei e a ∙ asked-none e x.aims;
-          frames = ap (of_link_on service tei c.side) (same-frames a) ∙ all-foreign (frame_in a) x.begins;
+          frames = ap (of_link_on service tei (own_side c)) (same-frames a) ∙ all-foreign (frame_in a) x.begins;
         }))
         go (inr new) = ended-does new
 

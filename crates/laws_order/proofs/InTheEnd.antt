@@ -1,7 +1,7 @@
 -- A release is told in the end: to the end that releases, whose RC counts the expiries of T200, and to the other before that.
 use Rattle.laws_order.proofs.Vocabulary.{◌≡◌, ℕ, ◌≤◌, Bool, true, false, List, [], ◌∷◌, ◌++◌, refl, sym, ap, ◌∙◌, arith, append-nil, true≢false, ◌⊎◌, inl, inr, All, list_any, All-nil, All-cons, All-head, All-tail, Service, other_side, AwaitingRelease, Link, is_multiple_frame, came, hears, expiry, request, next, Line, has_tei, terms, deactivates, Seen, Endpoint, Wire, requests, expires, sends}
 use Rattle.laws_order.proofs.Vocabulary.{receives, turned, Event, line_of, AnyStep, step, disturbed, befalling, AnyStepAt, by_near, by_far, IsPossible, IsPossibleAt, happening, happening_all, events_here, seen_by, seen_at_near, seen_near, seen_far, t200s, IsToldAtLast, ReleasesAreTold, StaysThere, IsNotDeactivated, BothAreTold, ends_by, StaysEstablished, news, IsToldOfRelease, flat_map-append}
-use Rattle.laws_order.proofs.Vocabulary.{news_in}
+use Rattle.laws_order.proofs.Vocabulary.{news_in, own_side, heard_side}
 use Rattle.laws_order.proofs.Beginning.{past-well, six-here, six-runs, on-here, begins-pair}
 use Rattle.laws_order.proofs.Down.{Speaks}
 use Rattle.laws_order.proofs.Leading.{NotHeard, near-led, not-heard}
@@ -77,7 +77,7 @@ module _ (service : Service) (tei : ℕ) where
   over-six w is (inr x) = x.0
 
   -- nothing that happens at the near end confirms its release
-  first-confirmless : (near far : Endpoint) (way : List (List ℕ)) (l : Line) → far.card.config.side ≡ other_side near.card.config.side
+  first-confirmless : (near far : Endpoint) (way : List (List ℕ)) (l : Line) → own_side far.card.config ≡ heard_side near.card.config
       → Each Speaks (on_line service tei (record far { way = way })) → has_tei tei l ≡ true
       → All (λ e. Confirmless service tei near.card.config e l) (events_here (step receives) (record { near = near; far = record far { way = way } }))
   first-confirmless near far [] l sides speech on = All-nil (λ e. Confirmless service tei near.card.config e l)

@@ -1,7 +1,7 @@
 -- Two cards whose links face each other: where anything that happens at one of them leads.
 use Rattle.laws_order.proofs.Vocabulary.{arith, ◌≡◌, ℕ, Bool, true, false, cond, List, [], ◌∷◌, ◌++◌, drop, Result, Ok, Err, refl, sym, ap, ◌∙◌, subst, append-nil, ◌⊎◌, inl, inr, get_or-set_other, ReadFault, Service, Parts, other_side, reading, Link, LinkEndpoint, Joined, joined-turned, done-at, came, Config, hears, expiry, request, next, heard_side, link_of, line_at, after_is_sound, by_room}
 use Rattle.laws_order.proofs.Vocabulary.{Seen, seen, Endpoint, Wire, requests, expires, sends, receives, loses, answered, happens, without_first, Event, is_of_link, of_link_in, of_link_at, AnyStep, step, disturbed, elsewhere, IsNotOf, IsElsewhere, IsPossibleAt, elsewhere_on, befalling, seen_by, data_noted, data_granted, of_link_on, stream_frame, StreamEvent, FramesEvent, link_frame, LinkEvent}
-use Rattle.laws_order.proofs.Vocabulary.{requested, offer, expired, received, nat_lt, at, frame_comes}
+use Rattle.laws_order.proofs.Vocabulary.{requested, offer, expired, received, nat_lt, at, frame_comes, own_side}
 use Rattle.model_link.specs.TwoEnds as two
 use Rattle.model_card.specs.Machine.{after}
 use Rattle.laws_order.proofs.Does.{Has, Does, IsKind}
@@ -75,18 +75,18 @@ module _ (service : Service) (tei : ℕ) where
     less = record s { way = rest }
 
     abbrev its : List Parts
-    its = of_link_at service tei s.card.config.side octets
+    its = of_link_at service tei (own_side s.card.config) octets
 
     abbrev others : List Parts
-    others = of_link_on service tei s.card.config.side rest
+    others = of_link_on service tei (own_side s.card.config) rest
 
     same-rest : (way : List Parts) → way ≡ others → record (facing service tei less dm) { way = way } ≡ facing service tei less dm
     same-rest way e = λ i. record (facing service tei less dm) { way = e i }
 
     pub gone : Joined n (facing service tei full dm) → Joined n (facing service tei less dm)
-    gone h = go (read (reading s.card.config.side octets))
+    gone h = go (read (reading (own_side s.card.config) octets))
       where
-        go : Read (reading s.card.config.side octets) → Joined n (facing service tei less dm)
+        go : Read (reading (own_side s.card.config) octets) → Joined n (facing service tei less dm)
         go (none_of_it none) = subst (λ y. Joined n y) (same-rest (its ++ others) (ap (λ xs. xs ++ others) none)) h
         go (one_of_it f one) =
             subst (λ y. Joined n y) (same-rest (drop 1 (its ++ others)) (ap (λ xs. drop 1 (xs ++ others)) one))
@@ -128,10 +128,10 @@ module _ (service : Service) (tei : ℕ) where
 
       -- one of the link
       taken-so : (x : Has near.card.config service tei (link_here service tei near) (link_here service tei (frame_comes octets near)) heard (answered heard near)) (f : Parts)
-          → x.event ≡ received (link_frame f) → of_link_at service tei far.card.config.side octets ≡ f ∷ [] → Led service tei before later dn dm shown
+          → x.event ≡ received (link_frame f) → of_link_at service tei (own_side far.card.config) octets ≡ f ∷ [] → Led service tei before later dn dm shown
       taken-so x f is one =
           let ev = received (link_frame f) in
-          let others = of_link_on service tei far.card.config.side rest in
+          let others = of_link_on service tei (own_side far.card.config) rest in
           let first : LinkEndpoint = record now { way = f ∷ others } in
           let same : there ≡ first = λ i. record now { way = (ap (λ xs. xs ++ others) one) i } in
           let h' : Joined (facing service tei near dn) first = subst (λ y. Joined (facing service tei near dn) y) same h.joined in
@@ -149,8 +149,8 @@ module _ (service : Service) (tei : ℕ) where
           → (ev : LinkEvent) → x.event ≡ ev → IsKind near.card.config service tei heard ev → Led service tei before later dn dm shown
       by-it x (received (link_frame f)) is kind =
           let same : kind.0 ≡ octets = grind (arith, nat_lt) in
-          let read-so : reading far.card.config.side octets ≡ Ok f =
-          ap (λ side. reading side octets) h.sides ∙ ap (reading (other_side near.card.config.side)) (sym same) ∙ kind.2 in
+          let read-so : reading (own_side far.card.config) octets ≡ Ok f =
+          ap (λ sender. reading sender octets) h.sides ∙ ap (reading (heard_side near.card.config)) (sym same) ∙ kind.2 in
           taken-so x f is (ap (of_link_in service tei) read-so ∙ ap (λ b. cond {A = List Parts} b (f ∷ []) []) kind.3)
       by-it x ev is kind = grind arith
 

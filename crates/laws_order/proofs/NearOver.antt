@@ -1,6 +1,6 @@
 -- The far end lasts in its establishment, and that of the near end is over: what happens at the near end.
 use Rattle.laws_order.proofs.Vocabulary.{arith, ◌≡◌, ℕ, ◌+◌, ◌≤◌, false, IsTrue, List, [], ◌∷◌, ◌++◌, length, take, sym, ap, ◌∙◌, subst, true≢false, ◌⊎◌, Control, Service, Parts, other_side, reading, State, Link, is_multiple_frame, frames_of, came, Config, hears, expiry, request, next, heard_side, link_of, terms, after_is_sound, Endpoint, Wire, requests, expires, sends, receives, loses, happens}
-use Rattle.laws_order.proofs.Vocabulary.{Event, of_link_at, AnyStep, step, disturbed, elsewhere, IsElsewhere, IsPossibleAt, elsewhere_on, befalling, of_link_on, stream_frame, FramesEvent, at}
+use Rattle.laws_order.proofs.Vocabulary.{Event, of_link_at, AnyStep, step, disturbed, elsewhere, IsElsewhere, IsPossibleAt, elsewhere_on, befalling, of_link_on, stream_frame, FramesEvent, at, own_side}
 use Rattle.laws_order.proofs.Down.{Speaks}
 use Rattle.laws_order.proofs.Lasting.{Calls, calls-report, calls-plain, speaks-answered, speaks-unheeded, Brought, brought-tail, brought-front, brought-more, brought-plain}
 use Rattle.laws_order.proofs.Leading.{Read, read, none_of_it, one_of_it, NotHeard, not-heard, other-line}
@@ -17,30 +17,30 @@ module _ (service : Service) (tei : ℕ) where
 
   -- The first frame on the way of a station is one of the link, or not.
   pub data IsFirst (s : Endpoint) (octets : List ℕ) (rest : List (List ℕ)) : Type 0 where
-    other_first : of_link_at service tei s.card.config.side octets ≡ [] → line_of (record s { way = octets ∷ rest }) ≡ line_of (record s { way = rest }) → IsFirst s octets rest
-    its_first : (f : Parts) → of_link_at service tei s.card.config.side octets ≡ f ∷ [] → line_of (record s { way = octets ∷ rest }) ≡ f ∷ line_of (record s { way = rest }) → IsFirst s octets rest
+    other_first : of_link_at service tei (own_side s.card.config) octets ≡ [] → line_of (record s { way = octets ∷ rest }) ≡ line_of (record s { way = rest }) → IsFirst s octets rest
+    its_first : (f : Parts) → of_link_at service tei (own_side s.card.config) octets ≡ f ∷ [] → line_of (record s { way = octets ∷ rest }) ≡ f ∷ line_of (record s { way = rest }) → IsFirst s octets rest
 
   pub first-is : (s : Endpoint) (octets : List ℕ) (rest : List (List ℕ)) → IsFirst s octets rest
   first-is s octets rest =
-      let others = of_link_on service tei s.card.config.side rest in
+      let others = of_link_on service tei (own_side s.card.config) rest in
       let waits = frames_of (terms s.card.config service tei) (link_here service tei s).waiting in
-      go others waits (read service tei (reading s.card.config.side octets))
+      go others waits (read service tei (reading (own_side s.card.config) octets))
     where
-      go : (others waits : List Parts) → Read service tei (reading s.card.config.side octets) → IsFirst s octets rest
-      go others waits (none_of_it none) = other_first none (ap (λ xs. (xs ++ of_link_on service tei s.card.config.side rest) ++ frames_of (terms s.card.config service tei) (link_here service tei s).waiting) none)
-      go others waits (one_of_it f one) = its_first f one (ap (λ xs. (xs ++ of_link_on service tei s.card.config.side rest) ++ frames_of (terms s.card.config service tei) (link_here service tei s).waiting) one)
+      go : (others waits : List Parts) → Read service tei (reading (own_side s.card.config) octets) → IsFirst s octets rest
+      go others waits (none_of_it none) = other_first none (ap (λ xs. (xs ++ of_link_on service tei (own_side s.card.config) rest) ++ frames_of (terms s.card.config service tei) (link_here service tei s).waiting) none)
+      go others waits (one_of_it f one) = its_first f one (ap (λ xs. (xs ++ of_link_on service tei (own_side s.card.config) rest) ++ frames_of (terms s.card.config service tei) (link_here service tei s).waiting) one)
 
   -- A frame of the link that is heard as a frame comes is the one that comes.
-  pub comes-so : (s u : Endpoint) → u.card.config.side ≡ other_side s.card.config.side → (octets octets' : List ℕ) (f : Parts)
+  pub comes-so : (s u : Endpoint) → own_side u.card.config ≡ heard_side s.card.config → (octets octets' : List ℕ) (f : Parts)
       → hears (came s.card.config.n201 octets) ≡ hears (stream_frame octets') → of_link_at service tei (heard_side s.card.config) octets' ≡ f ∷ []
-      → of_link_at service tei u.card.config.side octets ≡ f ∷ []
+      → of_link_at service tei (own_side u.card.config) octets ≡ f ∷ []
   comes-so s u sides octets octets' f is its = grind arith
 
   pub none-heard : (c : Config) (Q : Control → Type 0) (e : Event) → NotHeard service tei c e → HeardIs c service tei Q e
   none-heard c Q e none octets f is its = let wrong : [] ≡ f ∷ [] = sym (none octets is) ∙ its in absurd (cc wrong)
 
   -- Where the far end says nothing but what an end that is up says, the near end hears nothing else.
-  pub first-speaks : (near far : Endpoint) → far.card.config.side ≡ other_side near.card.config.side → (octets : List ℕ) (rest : List (List ℕ))
+  pub first-speaks : (near far : Endpoint) → own_side far.card.config ≡ heard_side near.card.config → (octets : List ℕ) (rest : List (List ℕ))
       → Each Speaks (line_of (record far { way = octets ∷ rest }))
       → Each Speaks (line_of (record far { way = rest })) × HeardIs near.card.config service tei Speaks (hears (came near.card.config.n201 octets))
   first-speaks near far sides octets rest speech = go (first-is far octets rest)
@@ -58,7 +58,7 @@ module _ (service : Service) (tei : ℕ) where
     pub record Lasts (w : Wire) (dm : List (List ℕ)) : Type 0 where
       pub near : IsWell w.near
       pub far : IsWell w.far
-      pub sides : w.far.card.config.side ≡ other_side w.near.card.config.side
+      pub sides : own_side w.far.card.config ≡ heard_side w.near.card.config
       pub up : IsTrue (is_multiple_frame (link_here service tei w.far).state)
       pub line : Brought contents (a + k) (link_here service tei w.far).r (line_of w.near)
       pub low : a ≤ (link_here service tei w.far).r

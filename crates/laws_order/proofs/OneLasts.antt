@@ -1,7 +1,7 @@
 -- The far end lasts in its establishment, and that of the near end is over: what happens at the far end.
 use Rattle.laws_order.proofs.Vocabulary.{◌≡◌, ℕ, ◌+◌, ◌≤◌, cond, IsTrue, List, [], ◌∷◌, ◌++◌, length, take, Option, None, refl, sym, ap, ◌∙◌, subst, append-nil, true≢false, inl, inr, arith, option_to_list, Seq, seq, is_seq, Control, Information, ReceiveReady, ReceiveNotReady, Reject, Service, Parts, other_side, State, Terms, Link, is_multiple_frame, frames_of, Means, frame-taken, came, hears}
-use Rattle.laws_order.proofs.Vocabulary.{expiry, request, next, link_of, terms, after_is_sound, Seen, seen, offer-tells_nothing, frames_given, Endpoint, Wire, requests, expires, sends, receives, loses, answered, happens, frames_by, turned, twice-other, flat_map-append, Event, of_link_in, of_link_at, AnyStep, step, disturbed, elsewhere, IsElsewhere, IsPossibleAt, elsewhere_on, befalling, seen_by}
-use Rattle.laws_order.proofs.Vocabulary.{data_noted, StaysEstablished, of_link_on, FramesEvent, link_frame, LinkEvent, cleared, requested, offer, expired, received, after, course, told, at, event-delivers, none-delivered, timer-delivers}
+use Rattle.laws_order.proofs.Vocabulary.{expiry, request, next, link_of, terms, after_is_sound, Seen, seen, offer-tells_nothing, frames_given, Endpoint, Wire, requests, expires, sends, receives, loses, answered, happens, frames_by, turned, sides-turned, flat_map-append, Event, of_link_in, of_link_at, AnyStep, step, disturbed, elsewhere, IsElsewhere, IsPossibleAt, elsewhere_on, befalling, seen_by}
+use Rattle.laws_order.proofs.Vocabulary.{data_noted, StaysEstablished, of_link_on, FramesEvent, link_frame, LinkEvent, cleared, requested, offer, expired, received, after, course, told, at, event-delivers, none-delivered, timer-delivers, own_side, heard_side}
 use Rattle.laws_order.proofs.Does.{Has, Does, IsKind}
 use Rattle.laws_order.proofs.Down.{Speaks}
 use Rattle.laws_order.proofs.Lasting.{speaks-report, speaks-plain, speaks-answered, Brings, Brought, brought-lower, brought-tail, Takes, takes-so}
@@ -68,8 +68,8 @@ module _ (service : Service) (tei : ℕ) where
           accepted = x.took.accepted;
         }
 
-        way-then : way_here service tei (happens e far) ≡ way_here service tei far ++ of_link_on service tei far.card.config.side (frames_by (answered e far))
-        way-then = flat_map-append (of_link_at service tei far.card.config.side) far.way (frames_by (answered e far))
+        way-then : way_here service tei (happens e far) ≡ way_here service tei far ++ of_link_on service tei (own_side far.card.config) (frames_by (answered e far))
+        way-then = flat_map-append (of_link_at service tei (own_side far.card.config)) far.way (frames_by (answered e far))
 
         still : Brought contents (a + k) l.r (line_of (record near { way = way })) → l'.r ≡ l.r → After None
         still line same = record { top = l.r; took = grind (arith, option_to_list, append-nil); rest = line }
@@ -187,10 +187,10 @@ module _ (service : Service) (tei : ℕ) where
         r : ℕ
         r = (link_here service tei far).r
 
-        sides : near.card.config.side ≡ other_side far.card.config.side
-        sides = sym (ap other_side h.sides ∙ twice-other near.card.config.side)
+        sides : own_side near.card.config ≡ heard_side far.card.config
+        sides = sides-turned near.card.config far.card.config h.sides
 
-        reads : (f : Parts) → IsKind far.card.config service tei e (received (link_frame f)) → of_link_at service tei near.card.config.side octets ≡ f ∷ []
+        reads : (f : Parts) → IsKind far.card.config service tei e (received (link_frame f)) → of_link_at service tei (own_side near.card.config) octets ≡ f ∷ []
         reads f kind = comes-so service tei far near sides octets kind.0 f kind.1 (ap (of_link_in service tei) kind.2 ∙ ap (λ b. cond {A = List Parts} b (f ∷ []) []) kind.3)
 
         go : StaysEstablished service tei (seen e (answered e far)) → IsFirst service tei near octets rest

@@ -1,5 +1,5 @@
 -- Whole runs of two cards whose links face each other.
-use Rattle.laws_order.proofs.Vocabulary.{arith, ◌≡◌, ℕ, suc, ◌≤◌, false, List, [], ◌∷◌, ◌++◌, take, drop, refl, sym, ap, ◌∙◌, subst, append-nil, append_assoc, true≢false, ◌⊎◌, inl, inr, All, list_any, All-nil, All-cons, All-head, All-tail, list_any-append, Service, other_side, Link, is_multiple_frame, joined-turned, rising-low, terms, Seen, IsFront, Endpoint, Wire, turned, twice-other}
+use Rattle.laws_order.proofs.Vocabulary.{arith, ◌≡◌, ℕ, suc, ◌≤◌, false, List, [], ◌∷◌, ◌++◌, take, drop, refl, sym, ap, ◌∙◌, subst, append-nil, append_assoc, true≢false, ◌⊎◌, inl, inr, All, list_any, All-nil, All-cons, All-head, All-tail, list_any-append, Service, other_side, Link, is_multiple_frame, joined-turned, rising-low, terms, Seen, IsFront, Endpoint, Wire, turned, sides-turned}
 use Rattle.laws_order.proofs.Vocabulary.{flat_map-append, AnyStep, befalling, AnyStepAt, by_near, by_far, IsPossible, seen_by, seen_near, seen_far, noted_in, data_noted, data_granted, ends_by, StaysEstablished, Past, known, FaceInStep, kept_by, DeliveredInOrder, or_parts}
 use Rattle.model_link.proofs.Direction.{line_of}
 use Rattle.laws_order.proofs.Beginning.{had, begins-pair, kept-is}
@@ -41,7 +41,7 @@ module _ (service : Service) (tei : ℕ) where
       (all-possible w w' near far hs (All-tail (IsOpen w) h hs all))
 
   pub turned-pair : (w : Wire) (dn dm : List (List ℕ)) → Pair service tei w dn dm → Pair service tei (turned w) dm dn
-  turned-pair w dn dm h = grind (arith, twice-other, joined-turned, facing)
+  turned-pair w dn dm h = record { near = h.far; far = h.near; sides = sides-turned w.near.card.config w.far.card.config h.sides; joined = joined-turned _ _ h.joined }
 
   abbrev contents_at : Endpoint → List (List ℕ)
   contents_at s = (link_here service tei s).contents
@@ -229,7 +229,7 @@ module _ (service : Service) (tei : ℕ) where
       let kept = kept_by (known service tei w.far q) (known service tei w.near p) in
       subst (λ t. IsFront (data_noted service tei t) (kept ++ data_granted service tei (seen_far hs w))) (sym (near-is hs w))
       (subst (λ t. IsFront (data_noted service tei (seen_far (all_swapped hs) (turned w))) (kept ++ data_granted service tei t)) (sym (far-is hs w))
-      (told-far (all_swapped hs) (turned w) q p ((h.1, h.0, sym (ap other_side h.2 ∙ twice-other w.near.card.config.side))) (possible-swapped w hs all) (subst (StaysEstablished service tei) (near-is hs w) near)))
+      (told-far (all_swapped hs) (turned w) q p ((h.1, h.0, sides-turned w.near.card.config w.far.card.config h.2)) (possible-swapped w hs all) (subst (StaysEstablished service tei) (near-is hs w) near)))
 
 pub delivered-in-order : DeliveredInOrder
 delivered-in-order service tei w p q hs h all = (told-near service tei hs w p q h all, told-far service tei hs w p q h all)

@@ -2,7 +2,7 @@
 use Rattle.laws_order.proofs.Vocabulary.{◌≡◌, ℕ, ◌<◌, ◌==◌, ◌&&◌, not, Bool, true, false, cond, IsTrue, List, [], ◌∷◌, ◌++◌, map, get_or, set, Option, Some, None, IfSome, refl, sym, ap, ◌∙◌, subst, arith, append-nil, eq-eqb, true≢false, inl, inr, All, option_to_list, unwrap_or, list_any, option_map_or, get_or-set_same, All-nil, All-cons, All-head, PoolFull, Service, Parts, other_side, sapi_of}
 use Rattle.laws_order.proofs.Vocabulary.{reading-again, place_of-is, Terms, LinkTimer, Link, is_multiple_frame, frame_of, Given, LinkEndpoint, with_link, with_sent, frame_given, frames_of, given_is_frame, Joined, done-at, Means, Rising, Config, Line, fresh_line, link_in, link_of, place_in, terms, sound_in, terms_in_range, line_at, has_lines, by_room, accepted, Seen, seen, is_ui}
 use Rattle.laws_order.proofs.Vocabulary.{offer-tells_nothing, frames_given, Endpoint, Wire, answered, happens, frames_by, flat_map-append, fresh, Event, at, is_of_link, of_link_in, of_link_at, data_noted, data_granted, ends_by, of_link_on, line_of, is_some, Refusal, State, Release, SetBusy, ClearBusy, received, expired, requested, offer, Course, Up, still, set_busy_up, clear_busy_up, at-first}
-use Rattle.laws_order.proofs.Vocabulary.{offer-gave, frame-taken, after, begun, contents_asked, LinkEvent, LinkRequest, told, link_given}
+use Rattle.laws_order.proofs.Vocabulary.{offer-gave, frame-taken, after, begun, contents_asked, LinkEvent, LinkRequest, told, link_given, own_side, heard_side}
 use Rattle.model_link.specs.Sound as link_sound
 use Rattle.model_link.specs.TwoEnds as two
 use Rattle.model_line.specs.Machine as lines
@@ -74,15 +74,15 @@ amid (x ∷ xs) ys zs a r (m, up, means, h) = amid xs ys zs m r h
 -- The frame that an offer gives is one of the link.
 module _ (c : Config) (service : Service) (tei : ℕ) where
   pub given-again : (o : Option Given) → IfSome o (λ g. link_sound.IsGiven (terms c service tei) g.frame g.contents) → All IsPlain (frame_given (terms c service tei) o)
-      → of_link_on service tei c.side (map (taken.frame_of c (terms c service tei)) (option_to_list o)) ≡ frame_given (terms c service tei) o
+      → of_link_on service tei (own_side c) (map (taken.frame_of c (terms c service tei)) (option_to_list o)) ≡ frame_given (terms c service tei) o
   given-again None whole plain = refl
   given-again (Some g) whole plain =
       let f : Parts = record (frame_of (terms c service tei) g.frame) { info = unwrap_or g.contents [] } in
       let its : is_of_link service tei f ≡ true =
       ap (λ b. (b && tei == tei) && not (is_ui f.control)) (eq-eqb (sapi_of service) (sapi_of service) refl)
       ∙ ap (λ b. b && not (is_ui f.control)) (eq-eqb tei tei refl) ∙ ap not (All-head IsPlain f [] plain) in
-      append-nil (of_link_at service tei c.side (taken.frame_of c (terms c service tei) g))
-      ∙ ap (of_link_in service tei) (reading-again c.side f (taken.frame_of c (terms c service tei) g) (record { is_frame = whole.whole; octets_are = refl }))
+      append-nil (of_link_at service tei (own_side c) (taken.frame_of c (terms c service tei) g))
+      ∙ ap (of_link_in service tei) (reading-again (own_side c) f (taken.frame_of c (terms c service tei) g) (record { is_frame = whole.whole; octets_are = refl }))
       ∙ ap (λ b. cond {A = List Parts} b (f ∷ []) []) its
 
 pub record IsWell (s : Endpoint) : Type 0 where
@@ -115,7 +115,7 @@ module _ (service : Service) (tei : ℕ) (s : Endpoint) (well : IsWell s) where
 
 module _ (service : Service) (tei : ℕ) where
   abbrev pub way_here : Endpoint → List Parts
-  way_here s = of_link_on service tei s.card.config.side s.way
+  way_here s = of_link_on service tei (own_side s.card.config) s.way
 
   -- The end of the two links that a station is, of which this was delivered.
   abbrev pub facing : Endpoint → List (List ℕ) → LinkEndpoint
@@ -124,7 +124,7 @@ module _ (service : Service) (tei : ℕ) where
   pub record Pair (w : Wire) (dn dm : List (List ℕ)) : Type 0 where
     pub near : IsWell w.near
     pub far : IsWell w.far
-    pub sides : w.far.card.config.side ≡ other_side w.near.card.config.side
+    pub sides : own_side w.far.card.config ≡ heard_side w.near.card.config
     pub joined : Joined (facing w.near dn) (facing w.far dm)
 
   -- What something that happens at the near end makes of them, and what is seen there.
@@ -158,8 +158,8 @@ module _ (service : Service) (tei : ℕ) where
         (λ room. subst (λ x. Does c service tei k (link_of service tei x) e (lines.answer c e l)) (sym now)
         (line-does c service tei well.sound.config l (line_sound_at s.card s.line (has_lines s.card well.sound) well.within) e up))
 
-    way-then : way_here (happens e s) ≡ way_here s ++ of_link_on service tei c.side (frames_by (answered e s))
-    way-then = flat_map-append (of_link_at service tei c.side) s.way (frames_by (answered e s))
+    way-then : way_here (happens e s) ≡ way_here s ++ of_link_on service tei (own_side c) (frames_by (answered e s))
+    way-then = flat_map-append (of_link_at service tei (own_side c)) s.way (frames_by (answered e s))
 
     abbrev t : List Seen
     t = seen e (answered e s)
@@ -227,7 +227,7 @@ module _ (service : Service) (tei : ℕ) where
             subst (λ n. Joined n m)
                 (sym (same-end dn (after Own ev k) (way_here s ++ frame_given Own given) dn
                 (x.is ∙ ap (λ ev. after Own ev k) is)
-                (way-then ∙ ap (λ fs. way_here s ++ of_link_on service tei c.side fs) (x.frames ∙ ap (λ ev. frames_given c Own ev k) is) ∙ ap (λ fs. way_here s ++ fs) again)
+                (way-then ∙ ap (λ fs. way_here s ++ of_link_on service tei (own_side c) fs) (x.frames ∙ ap (λ ev. frames_given c Own ev k) is) ∙ ap (λ fs. way_here s ++ fs) again)
                 (ap (λ ds. dn ++ ds) (x.noted ∙ ap (λ ev. option_to_list (told Own ev k).delivered) is ∙ ap option_to_list (offer-tells_nothing Own k).1) ∙ append-nil dn))) sent,
             granted-by ev is ((offer-same Own k h.near_ranges h.near_sound).0 ∙ sym (append-nil k.contents)),
           )

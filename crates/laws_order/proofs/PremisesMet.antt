@@ -1,7 +1,9 @@
 -- The premises of the law are met by the worked run.
-use Rattle.laws_order.proofs.Vocabulary.{◌≡◌, ℕ, ◌<◌, true, List, [], ◌∷◌, ◌++◌, refl, sym, ap, ◌∙◌, arith, All, list_any, leb-true, All-nil, All-cons, User, Network, Service, Call, Packet, other_side, reading, header_of, control_of, unnumbered_of, supervisory_of, distance_of, named, seq, Assign, request, IsFront, calling, Wire, requests, at, step, IsElsewhere, AnyStepAt, by_near, by_far}
-use Rattle.laws_order.proofs.Vocabulary.{IsPossible, happening_all, seen_near, seen_far, t200s, IsToldAtLast, IsNotDeactivated, data_noted, data_granted, ends_by, known, IsInStep, FaceInStep, kept_by, StaysEstablished, IsToldOfRelease, news, tei_refusal, tei_course, releases, released, takes_two, far_lasts, awaits, both_release, both_begin_nothing}
+use Rattle.laws_order.proofs.Vocabulary.{◌≡◌, ℕ, ◌<◌, true, List, [], ◌∷◌, ◌++◌, refl, sym, ap, ◌∙◌, arith, All, list_any, leb-true, All-nil, All-cons, User, Network, Service, Call, Packet, other_side, exchanged, reading, side_reading, header_of, control_of, unnumbered_of, supervisory_of, distance_of, named, seq, Assign, request, IsFront, calling, Wire, requests, at, step, IsElsewhere, AnyStepAt}
+use Rattle.laws_order.proofs.Vocabulary.{by_near, by_far}
+use Rattle.laws_order.proofs.Vocabulary.{IsPossible, happening_all, seen_near, seen_far, t200s, IsToldAtLast, IsNotDeactivated, data_noted, data_granted, ends_by, known, IsInStep, FaceInStep, kept_by, StaysEstablished, IsToldOfRelease, news, tei_refusal, tei_course, releases, released, takes_two, far_lasts, awaits, both_release, both_begin_nothing, own_side, heard_side}
 use Rattle.laws_wire.specs.Wire.{acting, at_far, doing, doing_all}
+use Rattle.model_line.specs.Config.{sapi_fault}
 use Rattle.model_line.specs.Machine as lines
 use Rattle.model_line.specs.Request.{SetBusy}
 use Rattle.laws_order.specs.Worked.{network, user, faces, calls_both, others_speak, both_send, is_busy, goes_again, busy_run, call_far as far_stays, owes, sends_one, sends_more, more_far_stays, busy_waits, clears, cleared_stays, enquires, asks_state, recovers, recovered_stays, early, loses_first, early_stays}
@@ -12,6 +14,7 @@ use Rattle.laws_order.proofs.Beginning.{Pasts, past-acted, past-done, past-all, 
 use Rattle.laws_order.proofs.Released.{releases-end}
 
 called : Pasts (calling Call 0 user 0 network 0)
+unfolding sapi_fault
 called = past-calling Call 0 user 0 network 0 refl (omega arith) refl (omega arith)
 
 pasts : Pasts faces
@@ -25,21 +28,20 @@ FarInOrder w h hs = IsFront (data_noted Call 0 (seen_far hs w)) (kept_by (known 
 record Looks (service : Service) (w : Wire) : Type 0 where
   near : IsInStep service 0 w.near (link_known service 0 w.near) (link_known service 0 w.far)
   far : IsInStep service 0 w.far (link_known service 0 w.far) (link_known service 0 w.near)
-  near_side : w.near.card.config.side ≡ User
-  far_side : w.far.card.config.side ≡ Network
+  sides : own_side w.far.card.config ≡ heard_side w.near.card.config
 
 looks-so : (service : Service) (w : Wire) (h : Pasts w) → Looks service w → FaceInStep service 0 w (known service 0 w.near h.near) (known service 0 w.far h.far)
-looks-so service w h x = step-known service 0 w h.near h.far (x.near, x.far, x.far_side ∙ sym (ap other_side x.near_side))
+looks-so service w h x = step-known service 0 w h.near h.far (x.near, x.far, x.sides)
 
 told-in-order : (w : Wire) (h : Pasts w) (hs : List AnyStepAt) → Looks Call w → All (IsPossible Call 0 w) hs → StaysEstablished Call 0 (seen_far hs w) → FarInOrder w h hs
 told-in-order w h hs x all stays = (delivered-in-order Call 0 w h.near h.far hs (looks-so Call w h x) all).1 stays
 
 call-looks : Looks Call faces
-unfolding lines.after lines.answer lines.takes_slot reading header_of control_of unnumbered_of supervisory_of tei_course tei_refusal seq distance_of named doing_all
+unfolding lines.after lines.answer lines.takes_slot exchanged reading side_reading header_of control_of unnumbered_of supervisory_of tei_course tei_refusal seq distance_of named doing_all
 call-looks = grind (arith, leb-true)
 
 packet-looks : Looks Packet faces
-unfolding lines.after lines.answer lines.takes_slot reading header_of control_of unnumbered_of supervisory_of tei_course tei_refusal seq distance_of named doing_all
+unfolding lines.after lines.answer lines.takes_slot exchanged reading side_reading header_of control_of unnumbered_of supervisory_of tei_course tei_refusal seq distance_of named doing_all
 packet-looks = grind (arith, leb-true)
 
 packet-in-step : FaceInStep Packet 0 faces (known Packet 0 faces.near pasts.near) (known Packet 0 faces.far pasts.far)
@@ -57,11 +59,11 @@ all-of w [] h = All-nil (IsOpen w)
 all-of w (x ∷ hs) h = All-cons (IsOpen w) x hs h.0 (all-of w hs h.1)
 
 at-the-other-line : IsElsewhere faces.far (at 1 (request (Assign 5)))
-unfolding lines.after lines.answer lines.takes_slot reading header_of control_of unnumbered_of supervisory_of tei_course tei_refusal seq distance_of named doing_all
+unfolding lines.after lines.answer lines.takes_slot exchanged reading side_reading header_of control_of unnumbered_of supervisory_of tei_course tei_refusal seq distance_of named doing_all
 at-the-other-line = (leb-true 2 2 refl, λ same. let e : ◌≡◌ {A = ℕ} 1 0 = same in absurd (omega (arith, e)))
 
 others-are : ArePossible faces others_speak
-unfolding lines.after lines.answer lines.takes_slot reading header_of control_of unnumbered_of supervisory_of tei_course tei_refusal seq distance_of named doing_all
+unfolding lines.after lines.answer lines.takes_slot exchanged reading side_reading header_of control_of unnumbered_of supervisory_of tei_course tei_refusal seq distance_of named doing_all
 others-are = (refl, (refl, (refl, tt)))
 
 both : (w : Wire) (hs ks : List AnyStepAt) → ArePossible w hs → ArePossible w ks → ArePossible w (hs ++ ks)
@@ -100,7 +102,7 @@ acts-possible w other only = absurd only
 
 -- and in the midst of data: where something is received that is not acknowledged, and the N(R) on the other way is from before
 owing-looks : Looks Call owes
-unfolding lines.after lines.answer lines.takes_slot reading header_of control_of unnumbered_of supervisory_of tei_course tei_refusal seq distance_of named doing_all happening_all
+unfolding lines.after lines.answer lines.takes_slot exchanged reading side_reading header_of control_of unnumbered_of supervisory_of tei_course tei_refusal seq distance_of named doing_all happening_all
 owing-looks = grind (arith, leb-true)
 
 more-in-order : FarInOrder owes (all-happened sends_one tt faces pasts) sends_more
@@ -111,7 +113,7 @@ abbrev own_busy : List AnyStepAt
 own_busy = by_far (step (requests (SetBusy Call 0))) ∷ []
 
 busy-looks : Looks Call busy_waits
-unfolding lines.after lines.answer lines.takes_slot reading header_of control_of unnumbered_of supervisory_of tei_course tei_refusal seq distance_of named doing_all happening_all
+unfolding lines.after lines.answer lines.takes_slot exchanged reading side_reading header_of control_of unnumbered_of supervisory_of tei_course tei_refusal seq distance_of named doing_all happening_all
 busy-looks = grind (arith, leb-true)
 
 cleared-in-order : FarInOrder busy_waits (all-happened own_busy tt faces pasts) clears
@@ -119,7 +121,7 @@ cleared-in-order = told-in-order busy_waits (all-happened own_busy tt faces past
 
 -- and where one end recovers, in state 8
 asking-looks : Looks Call enquires
-unfolding lines.after lines.answer lines.takes_slot reading header_of control_of unnumbered_of supervisory_of tei_course tei_refusal seq distance_of named doing_all happening_all
+unfolding lines.after lines.answer lines.takes_slot exchanged reading side_reading header_of control_of unnumbered_of supervisory_of tei_course tei_refusal seq distance_of named doing_all happening_all
 asking-looks = grind (arith, leb-true)
 
 asked-in-order : FarInOrder enquires (all-happened asks_state tt faces pasts) recovers
@@ -127,7 +129,7 @@ asked-in-order = told-in-order enquires (all-happened asks_state tt faces pasts)
 
 -- and where I-frames are on their way behind UA
 early-looks : Looks Call early
-unfolding lines.after lines.answer lines.takes_slot reading header_of control_of unnumbered_of supervisory_of tei_course tei_refusal seq distance_of named doing_all happening_all
+unfolding lines.after lines.answer lines.takes_slot exchanged reading side_reading header_of control_of unnumbered_of supervisory_of tei_course tei_refusal seq distance_of named doing_all happening_all
 early-looks = grind (arith, leb-true)
 
 early-pasts : Pasts early
@@ -161,7 +163,7 @@ all-active [] h = All-nil (IsNotDeactivated Call 0)
 all-active (x ∷ hs) h = All-cons (IsNotDeactivated Call 0) x hs h.0 (all-active hs h.1)
 
 first-lasts : StaysEstablished Call 0 (seen_far releases faces)
-unfolding lines.after lines.answer lines.takes_slot reading header_of control_of unnumbered_of supervisory_of tei_course tei_refusal seq distance_of named doing_all happening_all seen_far
+unfolding lines.after lines.answer lines.takes_slot exchanged reading side_reading header_of control_of unnumbered_of supervisory_of tei_course tei_refusal seq distance_of named doing_all happening_all seen_far
 first-lasts = refl
 
 both-told : list_any (ends_by Call 0) (seen_far goes_on_to_the_end released) ≡ true

@@ -2,7 +2,7 @@
 -- state of the link.
 use Rattle.laws_order.proofs.Vocabulary.{◌≡◌, ℕ, ◌==◌, ◌&&◌, not, Bool, true, false, cond, IsTrue, List, [], ◌∷◌, ◌++◌, get_or, set, refl, sym, ap, ◌∙◌, subst, arith, append-nil, append_assoc, eq-eqb, ◌⊎◌, inl, inr, All, option_map_or, get_or-set_same, All-nil, All-cons, Seq, Control, Information, Service, Parts, sapi_of, place_of-is, Terms, Link, is_multiple_frame, frame_given, frames_of}
 use Rattle.laws_order.proofs.Vocabulary.{frames-append, given_is_frame, Config, hears, Answer, heard_side, Line, fresh_line, link_in, link_of, terms, sound_in, terms_in_range, line_at, has_lines, by_room, event-follows, IsBy, sapi-is, is_for, is_ui, frames_given, Goes, event-goes, Endpoint, answered, happens, frames_by, flat_map-append, fresh, Event, at, is_of_link, of_link_in, of_link_at}
-use Rattle.laws_order.proofs.Vocabulary.{of_link_on, stream_frame, link_frame, LinkEvent, cleared, offer, received, after, link_given}
+use Rattle.laws_order.proofs.Vocabulary.{of_link_on, stream_frame, link_frame, LinkEvent, cleared, offer, received, after, link_given, own_side}
 use Rattle.model_link.specs.Sound as link_sound
 use Rattle.model_line.specs.Machine as lines
 use Rattle.model_line.specs.Sound as line_sound
@@ -38,7 +38,7 @@ module _ (c : Config) (service : Service) (tei : ℕ) where
   Own = terms c service tei
 
   abbrev Ours : List (List ℕ) → List Parts
-  Ours frames = of_link_on service tei c.side frames
+  Ours frames = of_link_on service tei (own_side c) frames
 
   abbrev line_on : List Parts → Link → List Parts
   line_on way k = way ++ frames_of Own k.waiting
@@ -165,12 +165,12 @@ module _ (service : Service) (tei : ℕ) where
       abbrev pub Speaking-on : Type 0
       Speaking-on = Grown P (on_line s) (on_line (happens e s)) ⊎ (on_line (happens e s) ≡ way_here service tei s)
 
-      way-then : way_here service tei (happens e s) ≡ way_here service tei s ++ of_link_on service tei c.side (frames_by (answered e s))
-      way-then = flat_map-append (of_link_at service tei c.side) s.way (frames_by (answered e s))
+      way-then : way_here service tei (happens e s) ≡ way_here service tei s ++ of_link_on service tei (own_side c) (frames_by (answered e s))
+      way-then = flat_map-append (of_link_at service tei (own_side c)) s.way (frames_by (answered e s))
 
       abbrev At : Link → Answer → Type 0
       At x a =
-          let line = (way_here service tei s ++ of_link_on service tei c.side (frames_by a)) ++ frames_of (terms c service tei) x.waiting in
+          let line = (way_here service tei s ++ of_link_on service tei (own_side c) (frames_by a)) ++ frames_of (terms c service tei) x.waiting in
           Grown P (on_line s) line ⊎ (line ≡ way_here service tei s)
 
       pub station-goes : HeardIs c service tei (Answered P) e → Awaited P (link_here service tei (happens e s)).state

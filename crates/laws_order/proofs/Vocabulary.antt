@@ -2,8 +2,8 @@
 -- vocabulary, the others from where they are defined.
 pub use Rattle.laws_wire.proofs.Vocabulary.{All-append, All-cons, All-head, All-nil, All-tail, Assign, AwaitingEstablishment, AwaitingRelease, Call, Card, Config, Control, ControlFrame, Course, Data, LinkEndpoint, ErrorCode, Establish, Given, Joined, LinkTimer, Note, Packet, Parts, PoolFull, Refusal, Request, Seq, Service, State, T200, TeiAssigned, Terms, TimerRecovery, and_parts, at-first, begun}
 pub use Rattle.laws_wire.proofs.Vocabulary.{came, done-at, event-delivers, event-follows, flat_map-append, frame_given, given_is_frame, heard_side, is_granted, joined-turned, le-ltb, leb-true, line_at, link-grants, list_any, list_any-append, ltb-false, ltb-true, network, next_of, offer-gave, option_map_or, or_parts, other_side, place_of-is, reading-again, sapi_of, sound_in, taken, terms_in_range}
-pub use Rattle.laws_wire.proofs.Vocabulary.{user, with_link, with_sent}
-unfoldable pub use Rattle.laws_wire.proofs.Vocabulary.{control_of, distance_of, header_of, named, reading, seq, supervisory_of, tei_course, tei_refusal, unnumbered_of}
+pub use Rattle.laws_wire.proofs.Vocabulary.{Sender, own_side, user, with_link, with_sent}
+unfoldable pub use Rattle.laws_wire.proofs.Vocabulary.{control_of, distance_of, exchanged, header_of, named, reading, side_reading, seq, supervisory_of, tei_course, tei_refusal, unnumbered_of}
 pub use Rattle.std.proofs.Common.{Bool, Err, IfSome, IsTrue, List, None, Ok, Option, Result, Some, [], ap, append-nil, append_assoc, arith, cond, drop, eq-eqb, eqb-true, false, get_or, inl, inr, is_some, length, length-append, length-drop, map, nat_lt, not, option_and_then, option_map, option_to_list, refl, reverse, set, subst, suc, sym, take, true, true≢false, zero, ℕ, ◌%◌, ◌&&◌, ◌*◌, ◌++◌, ◌+◌}
 pub use Rattle.std.proofs.Common.{◌-◌, ◌<◌, ◌==◌, ◌||◌, ◌∙◌, ◌∷◌, ◌≡◌, ◌≤◌, ◌⊎◌}
 pub use Rattle.std.proofs.lemmas.List.{append_cancel_left, drop-drop, get_or-replicate, get_or-set_other, get_or-set_same, length-map, length-take, length-take-le, map-append}
@@ -64,7 +64,7 @@ pub use Rattle.laws_wire.proofs.Answered.{asks-way, gives-taken, takes-way}
 pub use Rattle.laws_wire.proofs.Delivering.{calls-face, is-established, is-quiet, is-sound}
 pub use Rattle.laws_wire.proofs.RestedRounds.{doing-append}
 pub use Rattle.laws_wire.proofs.Run.{calls-come-through, or-both}
-pub use Rattle.laws_wire.proofs.Spelled.{came-whole, twice-other}
+pub use Rattle.laws_wire.proofs.Spelled.{came-whole, sides-turned, twice-other}
 pub use Rattle.laws_wire.specs.Call.{CanCall, IsCall, assigned, calling, confirmed, data_told, endpoint, told_first, ComesThrough as CallComesThrough}
 unfoldable pub use Rattle.laws_wire.specs.Call.{both_call as call_both_call}
 pub use Rattle.laws_wire.specs.Facing.{Face, Speaks, line_of}

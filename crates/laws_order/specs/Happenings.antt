@@ -1,11 +1,11 @@
 -- All that can happen to two cards on one wire, at any of their lines.
 use Rattle.std.specs.Prelude.{◌≡◌, ◌≢◌, ◌<◌, ℕ, Bool, ◌&&◌, not, List, [], ◌∷◌, ◌++◌, flat_map, Result, Ok, Err, if◌then◌else◌}
 use Rattle.model_bits.specs.Stream as stream
-use Rattle.lapd_frame.specs.declared.addresses.Side.{Side}
 use Rattle.lapd_frame.specs.declared.faults.ReadFault.{ReadFault}
+use Rattle.lapd_frame.specs.declared.senders.Sender.{Sender}
 use Rattle.lapd_frame.specs.declared.services.Service.{Service}
 use Rattle.lapd_frame.specs.Grammar.{Parts}
-use Rattle.lapd_frame.specs.Reading.{reading}
+use Rattle.lapd_frame.specs.Senders.{reading}
 use Rattle.model_line.specs.Came.{came}
 use Rattle.model_line.specs.declared.config.Config.{Config}
 use Rattle.model_line.specs.Event.{Event, hears, expiry, request, next}
@@ -25,8 +25,8 @@ abbrev pub of_link_in : Service → ℕ → Result Parts ReadFault → List Part
 of_link_in service tei (Ok f) = if is_of_link service tei f then f ∷ [] else []
 of_link_in service tei (Err fault) = []
 
-abbrev pub of_link_at : Service → ℕ → Side → List ℕ → List Parts
-of_link_at service tei side octets = of_link_in service tei (reading side octets)
+abbrev pub of_link_at : Service → ℕ → Sender → List ℕ → List Parts
+of_link_at service tei sender octets = of_link_in service tei (reading sender octets)
 
 -- Any step at an endpoint: one that `Wire` of `laws_wire` has, so that layer 3 or management requests anything, any timer of the line
 -- expires, and frames are sent, received or lost; something else is heard on the wire; or anything happens at another line of the card.

@@ -2,20 +2,22 @@
 use Rattle.std.specs.Prelude.{◌≡◌, ◌≤◌, ◌<◌, ℕ, ◌+◌, ◌-◌, ◌==◌, ◌&&◌, not, Bool, true, false, List, [], ◌∷◌, ◌++◌, length, map, take, drop, fold, flat_map, slice_get, Option, Some, All, option_to_list, if◌then◌else◌}
 use Rattle.std.specs.List.{list_any}
 use Rattle.std.specs.Option.{option_map_or}
-use Rattle.lapd_frame.specs.declared.addresses.Side.{Side}
 use Rattle.lapd_frame.specs.declared.controls.Control.{Control}
 use Rattle.lapd_frame.specs.declared.controls.Control.TheVariants.{Information, ReceiveReady, ReceiveNotReady, Reject}
 use Rattle.lapd_frame.specs.declared.notes.Note.{Note}
 use Rattle.lapd_frame.specs.declared.notes.Note.TheVariants.{EstablishIndication, EstablishConfirm, ReleaseIndication, ReleaseConfirm, Error}
+use Rattle.lapd_frame.specs.declared.senders.Sender.{Sender}
 use Rattle.lapd_frame.specs.declared.services.Service.{Service}
-use Rattle.lapd_frame.specs.Grammar.{Parts, other_side}
+use Rattle.lapd_frame.specs.Grammar.{Parts}
 use Rattle.lapd_seq.specs.Numbers.{seq}
 use Rattle.lapd_seq.specs.declared.numbers.Seq.{Seq}
 use Rattle.model_link.specs.declared.frames.ControlFrame.{ControlFrame}
 use Rattle.model_link.specs.Link.{frame_of}
 use Rattle.model_line.specs.declared.config.Config.{Config}
+use Rattle.model_line.specs.Heard.{heard_side}
 use Rattle.model_line.specs.Line.{state_of, terms, window}
 use Rattle.model_line.specs.Request.{Request, Release}
+use Rattle.model_line.specs.Taken.{own_side}
 use Rattle.model_card.specs.Card.{fresh}
 use Rattle.model_card.specs.Event as card
 use Rattle.model_card.specs.Run.{Moment, moments, after_all, AreAtLines}
@@ -116,11 +118,11 @@ abbrev pub known : Service → ℕ → (s : Endpoint) → Past s → Known
 known service tei s p = known_by s.card.config service tei s.line p.events
 
 -- What is on its way of a link, and, behind it, what waits.
-abbrev pub of_link_on : Service → ℕ → Side → List (List ℕ) → List Parts
-of_link_on service tei side way = flat_map (of_link_at service tei side) way
+abbrev pub of_link_on : Service → ℕ → Sender → List (List ℕ) → List Parts
+of_link_on service tei sender way = flat_map (of_link_at service tei sender) way
 
 abbrev pub said_by : Service → ℕ → Endpoint → Known → List Parts
-said_by service tei s n = of_link_on service tei s.card.config.side s.way ++ map (frame_of (terms s.card.config service tei)) n.waiting
+said_by service tei s n = of_link_on service tei (own_side s.card.config) s.way ++ map (frame_of (terms s.card.config service tei)) n.waiting
 
 -- A frame is in step: N(R) means r, and an I-frame carries contents that are kept, of the number that N(S) means, within the window.
 abbrev pub IsKept : ℕ → Known → Seq → List ℕ → Type 0
@@ -153,7 +155,7 @@ pub record IsInStep (service : Service) (tei : ℕ) (s : Endpoint) (n m : Known)
 -- already, and whatever waits; or later, also in the midst of data.
 abbrev pub FaceInStep : Service → ℕ → Wire → Known → Known → Type 0
 FaceInStep service tei w n m =
-    IsInStep service tei w.near n m × IsInStep service tei w.far m n × (w.far.card.config.side ≡ other_side w.near.card.config.side)
+    IsInStep service tei w.near n m × IsInStep service tei w.far m n × (own_side w.far.card.config ≡ heard_side w.near.card.config)
 
 -- The contents that the link at the first end keeps, sent or not, and that the other was not told of.
 abbrev pub kept_by : Known → Known → List (List ℕ)

@@ -7,6 +7,7 @@ use Rattle.lapd_frame.specs.declared.addresses.Side.TheVariants.{User, Network}
 use Rattle.lapd_frame.specs.declared.services.Service.TheVariants.{Call, Packet}
 use Rattle.lapd_frame.specs.declared.timers.Timer.TheVariants.{T200, T203}
 use Rattle.lapd_frame.specs.Reading.{reading, header_of, control_of, unnumbered_of, supervisory_of}
+use Rattle.lapd_frame.specs.Senders.{exchanged, reading as read_by}
 use Rattle.lapd_seq.specs.Circle.{distance_of, named}
 use Rattle.lapd_seq.specs.Numbers.{seq}
 use Rattle.lapd_tei.specs.Events as teis
@@ -24,7 +25,7 @@ use Rattle.laws_order.specs.Happenings.{step, disturbed, elsewhere, AnyStepAt, b
 use Rattle.laws_order.specs.Order.{data_noted, StaysEstablished, Known, known_by, kept_by}
 
 abbrev pub network : Config
-network = record { lines = 2; terminals = 1; k = 7; k16 = 3; queue = 8; unit_queue = 4; control = 4; slots = 16; n201 = 260; n200 = 3; side = Network }
+network = record { lines = 2; terminals = 1; k = 7; k16 = 3; queue = 8; unit_queue = 4; control = 4; slots = 16; n201 = 260; n200 = 3; side = Network; sapi = 16 }
 
 abbrev pub user : Config
 user = record network { side = User }
@@ -70,32 +71,32 @@ abbrev pub busy_run : List AnyStepAt
 busy_run = others_speak ++ both_send ++ is_busy ++ goes_again
 
 both_far : data_noted Call 0 (seen_far both_send faces) ≡ (1 ∷ []) ∷ (3 ∷ []) ∷ []
-unfolding lines.after lines.answer lines.takes_slot reading header_of control_of unnumbered_of supervisory_of teis.course teis.refusal seq distance_of named doing_all happening_all seen_near seen_far
+unfolding lines.after lines.answer lines.takes_slot exchanged read_by reading header_of control_of unnumbered_of supervisory_of teis.course teis.refusal seq distance_of named doing_all happening_all seen_near seen_far
 both_far = refl
 
 packet_far : data_noted Packet 0 (seen_far both_send faces) ≡ (2 ∷ []) ∷ []
-unfolding lines.after lines.answer lines.takes_slot reading header_of control_of unnumbered_of supervisory_of teis.course teis.refusal seq distance_of named doing_all happening_all seen_near seen_far
+unfolding lines.after lines.answer lines.takes_slot exchanged read_by reading header_of control_of unnumbered_of supervisory_of teis.course teis.refusal seq distance_of named doing_all happening_all seen_near seen_far
 packet_far = refl
 
 both_near : data_noted Call 0 (seen_near both_send faces) ≡ (4 ∷ []) ∷ []
-unfolding lines.after lines.answer lines.takes_slot reading header_of control_of unnumbered_of supervisory_of teis.course teis.refusal seq distance_of named doing_all happening_all seen_near seen_far
+unfolding lines.after lines.answer lines.takes_slot exchanged read_by reading header_of control_of unnumbered_of supervisory_of teis.course teis.refusal seq distance_of named doing_all happening_all seen_near seen_far
 both_near = refl
 
 is_dropped : data_noted Call 0 (seen_far (both_send ++ is_busy) faces) ≡ (1 ∷ []) ∷ (3 ∷ []) ∷ []
-unfolding lines.after lines.answer lines.takes_slot reading header_of control_of unnumbered_of supervisory_of teis.course teis.refusal seq distance_of named doing_all happening_all seen_near seen_far
+unfolding lines.after lines.answer lines.takes_slot exchanged read_by reading header_of control_of unnumbered_of supervisory_of teis.course teis.refusal seq distance_of named doing_all happening_all seen_near seen_far
 is_dropped = refl
 
 goes_again_far : data_noted Call 0 (seen_far busy_run faces) ≡ (1 ∷ []) ∷ (3 ∷ []) ∷ (5 ∷ []) ∷ []
-unfolding lines.after lines.answer lines.takes_slot reading header_of control_of unnumbered_of supervisory_of teis.course teis.refusal seq distance_of named doing_all happening_all seen_near seen_far
+unfolding lines.after lines.answer lines.takes_slot exchanged read_by reading header_of control_of unnumbered_of supervisory_of teis.course teis.refusal seq distance_of named doing_all happening_all seen_near seen_far
 goes_again_far = refl
 
 -- The establishments last.
 pub call_near : StaysEstablished Call 0 (seen_near busy_run faces)
-unfolding lines.after lines.answer lines.takes_slot reading header_of control_of unnumbered_of supervisory_of teis.course teis.refusal seq distance_of named doing_all happening_all seen_near seen_far
+unfolding lines.after lines.answer lines.takes_slot exchanged read_by reading header_of control_of unnumbered_of supervisory_of teis.course teis.refusal seq distance_of named doing_all happening_all seen_near seen_far
 call_near = refl
 
 pub call_far : StaysEstablished Call 0 (seen_far busy_run faces)
-unfolding lines.after lines.answer lines.takes_slot reading header_of control_of unnumbered_of supervisory_of teis.course teis.refusal seq distance_of named doing_all happening_all seen_near seen_far
+unfolding lines.after lines.answer lines.takes_slot exchanged read_by reading header_of control_of unnumbered_of supervisory_of teis.course teis.refusal seq distance_of named doing_all happening_all seen_near seen_far
 call_far = refl
 
 -- What happened at the lines of the two ends up to where both links are established; and so what is known of an end there.
@@ -109,11 +110,11 @@ far_begins =
     at 0 (request (Assign 0)) ∷ at 0 (hears (frame (0x00 ∷ 0x01 ∷ 0x7F ∷ []))) ∷ at 0 next ∷ at 0 (hears (frame (0x40 ∷ 0x01 ∷ 0x7F ∷ []))) ∷ at 0 next ∷ []
 
 near_is : faces.near.card ≡ after_all (fresh user) near_begins
-unfolding lines.after lines.answer lines.takes_slot reading header_of control_of unnumbered_of supervisory_of teis.course teis.refusal seq distance_of named doing_all happening_all moments after_all
+unfolding lines.after lines.answer lines.takes_slot exchanged read_by reading header_of control_of unnumbered_of supervisory_of teis.course teis.refusal seq distance_of named doing_all happening_all moments after_all
 near_is = refl
 
 far_is : faces.far.card ≡ after_all (fresh network) far_begins
-unfolding lines.after lines.answer lines.takes_slot reading header_of control_of unnumbered_of supervisory_of teis.course teis.refusal seq distance_of named doing_all happening_all moments after_all
+unfolding lines.after lines.answer lines.takes_slot exchanged read_by reading header_of control_of unnumbered_of supervisory_of teis.course teis.refusal seq distance_of named doing_all happening_all moments after_all
 far_is = refl
 
 abbrev pub near_known : List Event → Known
@@ -136,29 +137,29 @@ abbrev pub sends_more : List AnyStepAt
 sends_more = by_near (step (requests (Data Call 0 (3 ∷ [])))) ∷ by_near (step receives) ∷ by_near (step sends) ∷ by_far (step receives) ∷ []
 
 is_kept : near_known (at 0 (request (Data Call 0 (1 ∷ []))) ∷ at 0 next ∷ []) ≡ record { told = 0; acknowledged = 0; kept = (1 ∷ []) ∷ []; waiting = [] }
-unfolding lines.after lines.answer lines.takes_slot reading header_of control_of unnumbered_of supervisory_of teis.course teis.refusal seq distance_of named doing_all happening_all moments after_all
+unfolding lines.after lines.answer lines.takes_slot exchanged read_by reading header_of control_of unnumbered_of supervisory_of teis.course teis.refusal seq distance_of named doing_all happening_all moments after_all
 is_kept = refl
 
 has_told : far_known (at 0 (request (Data Call 0 (2 ∷ []))) ∷ at 0 next ∷ at 0 (hears (frame (0x00 ∷ 0x01 ∷ 0x00 ∷ 0x00 ∷ 1 ∷ []))) ∷ [])
     ≡ record { told = 1; acknowledged = 0; kept = (2 ∷ []) ∷ []; waiting = [] }
-unfolding lines.after lines.answer lines.takes_slot reading header_of control_of unnumbered_of supervisory_of teis.course teis.refusal seq distance_of named doing_all happening_all moments after_all
+unfolding lines.after lines.answer lines.takes_slot exchanged read_by reading header_of control_of unnumbered_of supervisory_of teis.course teis.refusal seq distance_of named doing_all happening_all moments after_all
 has_told = refl
 
 not_missing : kept_by (record { told = 0; acknowledged = 0; kept = (1 ∷ []) ∷ []; waiting = [] }) (record { told = 1; acknowledged = 0; kept = (2 ∷ []) ∷ []; waiting = [] }) ≡ []
 not_missing = refl
 
 more_far : data_noted Call 0 (seen_far sends_more owes) ≡ (3 ∷ []) ∷ []
-unfolding lines.after lines.answer lines.takes_slot reading header_of control_of unnumbered_of supervisory_of teis.course teis.refusal seq distance_of named doing_all happening_all seen_near seen_far moments after_all
+unfolding lines.after lines.answer lines.takes_slot exchanged read_by reading header_of control_of unnumbered_of supervisory_of teis.course teis.refusal seq distance_of named doing_all happening_all seen_near seen_far moments after_all
 more_far = refl
 
 pub more_far_stays : StaysEstablished Call 0 (seen_far sends_more owes)
-unfolding lines.after lines.answer lines.takes_slot reading header_of control_of unnumbered_of supervisory_of teis.course teis.refusal seq distance_of named doing_all happening_all seen_near seen_far moments after_all
+unfolding lines.after lines.answer lines.takes_slot exchanged read_by reading header_of control_of unnumbered_of supervisory_of teis.course teis.refusal seq distance_of named doing_all happening_all seen_near seen_far moments after_all
 more_far_stays = refl
 
 -- V(A) is counted on: it is 1 where RR 1 has come, and nothing is kept.
 is_gone : near_known (at 0 (request (Data Call 0 (1 ∷ []))) ∷ at 0 next ∷ at 0 (hears (frame (0x00 ∷ 0x01 ∷ 0x01 ∷ 0x02 ∷ []))) ∷ [])
     ≡ record { told = 0; acknowledged = 1; kept = []; waiting = [] }
-unfolding lines.after lines.answer lines.takes_slot reading header_of control_of unnumbered_of supervisory_of teis.course teis.refusal seq distance_of named doing_all happening_all moments after_all
+unfolding lines.after lines.answer lines.takes_slot exchanged read_by reading header_of control_of unnumbered_of supervisory_of teis.course teis.refusal seq distance_of named doing_all happening_all moments after_all
 is_gone = refl
 
 -- Moments in step at which not all is at rest: an RNR of the far end waits.
@@ -171,11 +172,11 @@ clears =
     ∷ by_far (step sends) ∷ by_near (step receives) ∷ by_near (step sends) ∷ by_far (step receives) ∷ []
 
 cleared_far : data_noted Call 0 (seen_far clears busy_waits) ≡ (1 ∷ []) ∷ []
-unfolding lines.after lines.answer lines.takes_slot reading header_of control_of unnumbered_of supervisory_of teis.course teis.refusal seq distance_of named doing_all happening_all seen_near seen_far
+unfolding lines.after lines.answer lines.takes_slot exchanged read_by reading header_of control_of unnumbered_of supervisory_of teis.course teis.refusal seq distance_of named doing_all happening_all seen_near seen_far
 cleared_far = refl
 
 pub cleared_stays : StaysEstablished Call 0 (seen_far clears busy_waits)
-unfolding lines.after lines.answer lines.takes_slot reading header_of control_of unnumbered_of supervisory_of teis.course teis.refusal seq distance_of named doing_all happening_all seen_near seen_far
+unfolding lines.after lines.answer lines.takes_slot exchanged read_by reading header_of control_of unnumbered_of supervisory_of teis.course teis.refusal seq distance_of named doing_all happening_all seen_near seen_far
 cleared_stays = refl
 
 -- One end is in state 8, and its enquiry waits.
@@ -191,11 +192,11 @@ recovers =
     ∷ by_near (step sends) ∷ by_far (step receives) ∷ []
 
 recovered_far : data_noted Call 0 (seen_far recovers enquires) ≡ (1 ∷ []) ∷ []
-unfolding lines.after lines.answer lines.takes_slot reading header_of control_of unnumbered_of supervisory_of teis.course teis.refusal seq distance_of named doing_all happening_all seen_near seen_far moments after_all
+unfolding lines.after lines.answer lines.takes_slot exchanged read_by reading header_of control_of unnumbered_of supervisory_of teis.course teis.refusal seq distance_of named doing_all happening_all seen_near seen_far moments after_all
 recovered_far = refl
 
 pub recovered_stays : StaysEstablished Call 0 (seen_far recovers enquires)
-unfolding lines.after lines.answer lines.takes_slot reading header_of control_of unnumbered_of supervisory_of teis.course teis.refusal seq distance_of named doing_all happening_all seen_near seen_far moments after_all
+unfolding lines.after lines.answer lines.takes_slot exchanged read_by reading header_of control_of unnumbered_of supervisory_of teis.course teis.refusal seq distance_of named doing_all happening_all seen_near seen_far moments after_all
 recovered_stays = refl
 
 -- And the near end has just taken UA, behind which the far end has sent two I-frames already; the first of them is lost.
@@ -211,13 +212,13 @@ loses_first =
 
 both_kept : known_by network Call 0 0 (at 0 (request (Assign 0)) ∷ at 0 (hears (frame (0x00 ∷ 0x01 ∷ 0x7F ∷ []))) ∷ at 0 (request (Data Call 0 (1 ∷ [])))
     ∷ at 0 (request (Data Call 0 (2 ∷ []))) ∷ at 0 next ∷ at 0 next ∷ at 0 next ∷ []) ≡ record { told = 0; acknowledged = 0; kept = (1 ∷ []) ∷ (2 ∷ []) ∷ []; waiting = [] }
-unfolding lines.after lines.answer lines.takes_slot reading header_of control_of unnumbered_of supervisory_of teis.course teis.refusal seq distance_of named doing_all happening_all moments after_all
+unfolding lines.after lines.answer lines.takes_slot exchanged read_by reading header_of control_of unnumbered_of supervisory_of teis.course teis.refusal seq distance_of named doing_all happening_all moments after_all
 both_kept = refl
 
 early_near : data_noted Call 0 (seen_near loses_first early) ≡ (1 ∷ []) ∷ (2 ∷ []) ∷ []
-unfolding lines.after lines.answer lines.takes_slot reading header_of control_of unnumbered_of supervisory_of teis.course teis.refusal seq distance_of named doing_all happening_all seen_near seen_far
+unfolding lines.after lines.answer lines.takes_slot exchanged read_by reading header_of control_of unnumbered_of supervisory_of teis.course teis.refusal seq distance_of named doing_all happening_all seen_near seen_far
 early_near = refl
 
 pub early_stays : StaysEstablished Call 0 (seen_near loses_first early)
-unfolding lines.after lines.answer lines.takes_slot reading header_of control_of unnumbered_of supervisory_of teis.course teis.refusal seq distance_of named doing_all happening_all seen_near seen_far
+unfolding lines.after lines.answer lines.takes_slot exchanged read_by reading header_of control_of unnumbered_of supervisory_of teis.course teis.refusal seq distance_of named doing_all happening_all seen_near seen_far
 early_stays = refl

@@ -4,6 +4,7 @@ use Rattle.std.specs.List.{list_any}
 use Rattle.model_bits.specs.Stream.{frame}
 use Rattle.lapd_frame.specs.declared.services.Service.TheVariants.{Call}
 use Rattle.lapd_frame.specs.Reading.{reading, header_of, control_of, unnumbered_of, supervisory_of}
+use Rattle.lapd_frame.specs.Senders.{exchanged, reading as read_by}
 use Rattle.lapd_seq.specs.Circle.{distance_of, named}
 use Rattle.lapd_seq.specs.Numbers.{seq}
 use Rattle.lapd_tei.specs.Events as teis
@@ -29,15 +30,15 @@ abbrev comes_late : List AnyStepAt
 comes_late = by_far (step receives) ∷ []
 
 told_of_old : data_noted Call 0 (seen_far comes_late with_old) ≡ (0x99 ∷ []) ∷ []
-unfolding lines.after lines.answer lines.takes_slot reading header_of control_of unnumbered_of supervisory_of teis.course teis.refusal seq distance_of named doing_all happening_all seen_near seen_far
+unfolding lines.after lines.answer lines.takes_slot exchanged read_by reading header_of control_of unnumbered_of supervisory_of teis.course teis.refusal seq distance_of named doing_all happening_all seen_near seen_far
 told_of_old = refl
 
 never_granted : kept_by (near_known []) (far_known []) ++ data_granted Call 0 (seen_near comes_late with_old) ≡ []
-unfolding lines.after lines.answer lines.takes_slot reading header_of control_of unnumbered_of supervisory_of teis.course teis.refusal seq distance_of named doing_all happening_all seen_near seen_far moments after_all
+unfolding lines.after lines.answer lines.takes_slot exchanged read_by reading header_of control_of unnumbered_of supervisory_of teis.course teis.refusal seq distance_of named doing_all happening_all seen_near seen_far moments after_all
 never_granted = refl
 
 no_end : StaysEstablished Call 0 (seen_far comes_late with_old)
-unfolding lines.after lines.answer lines.takes_slot reading header_of control_of unnumbered_of supervisory_of teis.course teis.refusal seq distance_of named doing_all happening_all seen_near seen_far
+unfolding lines.after lines.answer lines.takes_slot exchanged read_by reading header_of control_of unnumbered_of supervisory_of teis.course teis.refusal seq distance_of named doing_all happening_all seen_near seen_far
 no_end = refl
 
 abbrev nothing : List (List ℕ)
@@ -56,15 +57,15 @@ skips =
     ∷ by_near (step (requests (Data Call 0 (6 ∷ [])))) ∷ by_near (step sends) ∷ by_far (step receives) ∷ []
 
 told_six : data_noted Call 0 (seen_far skips ahead) ≡ (6 ∷ []) ∷ []
-unfolding lines.after lines.answer lines.takes_slot reading header_of control_of unnumbered_of supervisory_of teis.course teis.refusal seq distance_of named doing_all happening_all seen_near seen_far
+unfolding lines.after lines.answer lines.takes_slot exchanged read_by reading header_of control_of unnumbered_of supervisory_of teis.course teis.refusal seq distance_of named doing_all happening_all seen_near seen_far
 told_six = refl
 
 granted_both : kept_by (near_known []) (far_known (at 0 (hears (frame old_frame)) ∷ [])) ++ data_granted Call 0 (seen_near skips ahead) ≡ (5 ∷ []) ∷ (6 ∷ []) ∷ []
-unfolding lines.after lines.answer lines.takes_slot reading header_of control_of unnumbered_of supervisory_of teis.course teis.refusal seq distance_of named doing_all happening_all seen_near seen_far moments after_all
+unfolding lines.after lines.answer lines.takes_slot exchanged read_by reading header_of control_of unnumbered_of supervisory_of teis.course teis.refusal seq distance_of named doing_all happening_all seen_near seen_far moments after_all
 granted_both = refl
 
 both_last : list_any (ends_by Call 0) (seen_near skips ahead ++ seen_far skips ahead) ≡ false
-unfolding lines.after lines.answer lines.takes_slot reading header_of control_of unnumbered_of supervisory_of teis.course teis.refusal seq distance_of named doing_all happening_all seen_near seen_far
+unfolding lines.after lines.answer lines.takes_slot exchanged read_by reading header_of control_of unnumbered_of supervisory_of teis.course teis.refusal seq distance_of named doing_all happening_all seen_near seen_far
 both_last = refl
 
 five_left_out : IsFront {X = List ℕ} ((6 ∷ []) ∷ []) ((5 ∷ []) ∷ (6 ∷ []) ∷ []) → ⊥
@@ -85,15 +86,15 @@ renews =
     ∷ by_far (step sends) ∷ by_far (step sends) ∷ by_far (step sends) ∷ by_near (step receives) ∷ by_near (step receives) ∷ by_near (step receives) ∷ []
 
 told_nine : data_noted Call 0 (seen_near renews with_call) ≡ (7 ∷ []) ∷ (9 ∷ []) ∷ []
-unfolding lines.after lines.answer lines.takes_slot reading header_of control_of unnumbered_of supervisory_of teis.course teis.refusal seq distance_of named doing_all happening_all seen_near seen_far
+unfolding lines.after lines.answer lines.takes_slot exchanged read_by reading header_of control_of unnumbered_of supervisory_of teis.course teis.refusal seq distance_of named doing_all happening_all seen_near seen_far
 told_nine = refl
 
 granted_all : kept_by (far_known []) (near_known []) ++ data_granted Call 0 (seen_far renews with_call) ≡ (7 ∷ []) ∷ (8 ∷ []) ∷ (9 ∷ []) ∷ []
-unfolding lines.after lines.answer lines.takes_slot reading header_of control_of unnumbered_of supervisory_of teis.course teis.refusal seq distance_of named doing_all happening_all seen_near seen_far moments after_all
+unfolding lines.after lines.answer lines.takes_slot exchanged read_by reading header_of control_of unnumbered_of supervisory_of teis.course teis.refusal seq distance_of named doing_all happening_all seen_near seen_far moments after_all
 granted_all = refl
 
 near_lasts : StaysEstablished Call 0 (seen_near renews with_call)
-unfolding lines.after lines.answer lines.takes_slot reading header_of control_of unnumbered_of supervisory_of teis.course teis.refusal seq distance_of named doing_all happening_all seen_near seen_far
+unfolding lines.after lines.answer lines.takes_slot exchanged read_by reading header_of control_of unnumbered_of supervisory_of teis.course teis.refusal seq distance_of named doing_all happening_all seen_near seen_far
 near_lasts = refl
 
 eight_left_out : IsFront {X = List ℕ} ((7 ∷ []) ∷ (9 ∷ []) ∷ []) ((7 ∷ []) ∷ (8 ∷ []) ∷ (9 ∷ []) ∷ []) → ⊥

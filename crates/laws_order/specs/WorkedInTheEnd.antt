@@ -5,6 +5,7 @@ use Rattle.lapd_frame.specs.declared.notes.Note.TheVariants.{ReleaseConfirm, Err
 use Rattle.lapd_frame.specs.declared.services.Service.TheVariants.{Call}
 use Rattle.lapd_frame.specs.declared.timers.Timer.TheVariants.{T200}
 use Rattle.lapd_frame.specs.Reading.{reading, header_of, control_of, unnumbered_of, supervisory_of}
+use Rattle.lapd_frame.specs.Senders.{exchanged, reading as read_by}
 use Rattle.lapd_seq.specs.Circle.{distance_of, named}
 use Rattle.lapd_seq.specs.Numbers.{seq}
 use Rattle.lapd_tei.specs.Events as teis
@@ -26,23 +27,23 @@ abbrev pub gives_up : List AnyStepAt
 gives_up = is_lost ++ is_lost ++ is_lost ++ is_lost
 
 pub repeats_three : released.near.card.config.n200 ≡ 3
-unfolding lines.after lines.answer lines.takes_slot reading header_of control_of unnumbered_of supervisory_of teis.course teis.refusal seq distance_of named doing_all happening_all
+unfolding lines.after lines.answer lines.takes_slot exchanged read_by reading header_of control_of unnumbered_of supervisory_of teis.course teis.refusal seq distance_of named doing_all happening_all
 repeats_three = refl
 
 three_are_few : news Call 0 (seen_near (is_lost ++ is_lost ++ is_lost) released) ≡ []
-unfolding lines.after lines.answer lines.takes_slot reading header_of control_of unnumbered_of supervisory_of teis.course teis.refusal seq distance_of named doing_all happening_all seen_near
+unfolding lines.after lines.answer lines.takes_slot exchanged read_by reading header_of control_of unnumbered_of supervisory_of teis.course teis.refusal seq distance_of named doing_all happening_all seen_near
 three_are_few = refl
 
 told_at_last : news Call 0 (seen_near gives_up released) ≡ Error Call 0 H ∷ ReleaseConfirm Call 0 ∷ []
-unfolding lines.after lines.answer lines.takes_slot reading header_of control_of unnumbered_of supervisory_of teis.course teis.refusal seq distance_of named doing_all happening_all seen_near
+unfolding lines.after lines.answer lines.takes_slot exchanged read_by reading header_of control_of unnumbered_of supervisory_of teis.course teis.refusal seq distance_of named doing_all happening_all seen_near
 told_at_last = refl
 
 pub four_expire : t200s Call 0 gives_up released ≡ 4
-unfolding lines.after lines.answer lines.takes_slot reading header_of control_of unnumbered_of supervisory_of teis.course teis.refusal seq distance_of named doing_all happening_all t200s
+unfolding lines.after lines.answer lines.takes_slot exchanged read_by reading header_of control_of unnumbered_of supervisory_of teis.course teis.refusal seq distance_of named doing_all happening_all t200s
 four_expire = refl
 
 pub gives_up_quietly : BeginsNothing Call 0 (seen_near gives_up released)
-unfolding lines.after lines.answer lines.takes_slot reading header_of control_of unnumbered_of supervisory_of teis.course teis.refusal seq distance_of named doing_all happening_all seen_near
+unfolding lines.after lines.answer lines.takes_slot exchanged read_by reading header_of control_of unnumbered_of supervisory_of teis.course teis.refusal seq distance_of named doing_all happening_all seen_near
 gives_up_quietly = refl
 
 -- Where DISC comes, and UA, the near end is told the confirm, and the TEI stays there.
@@ -50,15 +51,15 @@ abbrev pub goes_on_to_the_end : List AnyStepAt
 goes_on_to_the_end = takes_two ++ takes_disc
 
 pub comes_quietly : BeginsNothing Call 0 (seen_near goes_on_to_the_end released)
-unfolding lines.after lines.answer lines.takes_slot reading header_of control_of unnumbered_of supervisory_of teis.course teis.refusal seq distance_of named doing_all happening_all seen_near
+unfolding lines.after lines.answer lines.takes_slot exchanged read_by reading header_of control_of unnumbered_of supervisory_of teis.course teis.refusal seq distance_of named doing_all happening_all seen_near
 comes_quietly = refl
 
 pub comes_confirmed : news Call 0 (seen_near goes_on_to_the_end released) ≡ ReleaseConfirm Call 0 ∷ []
-unfolding lines.after lines.answer lines.takes_slot reading header_of control_of unnumbered_of supervisory_of teis.course teis.refusal seq distance_of named doing_all happening_all seen_near
+unfolding lines.after lines.answer lines.takes_slot exchanged read_by reading header_of control_of unnumbered_of supervisory_of teis.course teis.refusal seq distance_of named doing_all happening_all seen_near
 comes_confirmed = refl
 
 pub comes_there : StaysThere Call 0 goes_on_to_the_end released
-unfolding lines.after lines.answer lines.takes_slot reading header_of control_of unnumbered_of supervisory_of teis.course teis.refusal seq distance_of named doing_all happening_all StaysThere
+unfolding lines.after lines.answer lines.takes_slot exchanged read_by reading header_of control_of unnumbered_of supervisory_of teis.course teis.refusal seq distance_of named doing_all happening_all StaysThere
 comes_there = (refl, (refl, (refl, (refl, (refl, (refl, (refl, refl)))))))
 
 abbrev asks : List AnyStepAt
@@ -73,19 +74,19 @@ abbrev deactivates : List AnyStepAt
 deactivates = by_near (step (requests (Deactivate Call 0))) ∷ []
 
 removed_near : news Call 0 (seen_near removes (happening_all asks (turned faces))) ≡ ReleaseConfirm Call 0 ∷ []
-unfolding lines.after lines.answer lines.takes_slot reading header_of control_of unnumbered_of supervisory_of teis.course teis.refusal seq distance_of named doing_all happening_all seen_near
+unfolding lines.after lines.answer lines.takes_slot exchanged read_by reading header_of control_of unnumbered_of supervisory_of teis.course teis.refusal seq distance_of named doing_all happening_all seen_near
 removed_near = refl
 
 removed_far : StaysEstablished Call 0 (seen_far (asks ++ removes) (turned faces))
-unfolding lines.after lines.answer lines.takes_slot reading header_of control_of unnumbered_of supervisory_of teis.course teis.refusal seq distance_of named doing_all happening_all seen_far
+unfolding lines.after lines.answer lines.takes_slot exchanged read_by reading header_of control_of unnumbered_of supervisory_of teis.course teis.refusal seq distance_of named doing_all happening_all seen_far
 removed_far = refl
 
 deactivated_near : news Call 0 (seen_near deactivates released) ≡ ReleaseConfirm Call 0 ∷ []
-unfolding lines.after lines.answer lines.takes_slot reading header_of control_of unnumbered_of supervisory_of teis.course teis.refusal seq distance_of named doing_all happening_all seen_near
+unfolding lines.after lines.answer lines.takes_slot exchanged read_by reading header_of control_of unnumbered_of supervisory_of teis.course teis.refusal seq distance_of named doing_all happening_all seen_near
 deactivated_near = refl
 
 deactivated_far : StaysEstablished Call 0 (seen_far (releases ++ deactivates) faces)
-unfolding lines.after lines.answer lines.takes_slot reading header_of control_of unnumbered_of supervisory_of teis.course teis.refusal seq distance_of named doing_all happening_all seen_far
+unfolding lines.after lines.answer lines.takes_slot exchanged read_by reading header_of control_of unnumbered_of supervisory_of teis.course teis.refusal seq distance_of named doing_all happening_all seen_far
 deactivated_far = refl
 
 -- Where the two did not face each other at rest: UA from before is on its way to the near end, and confirms its release.
@@ -99,9 +100,9 @@ abbrev ua_comes : List AnyStepAt
 ua_comes = by_near (step receives) ∷ []
 
 ua_near : news Call 0 (seen_near ua_comes (happening_all asks with_ua)) ≡ ReleaseConfirm Call 0 ∷ []
-unfolding lines.after lines.answer lines.takes_slot reading header_of control_of unnumbered_of supervisory_of teis.course teis.refusal seq distance_of named doing_all happening_all seen_near
+unfolding lines.after lines.answer lines.takes_slot exchanged read_by reading header_of control_of unnumbered_of supervisory_of teis.course teis.refusal seq distance_of named doing_all happening_all seen_near
 ua_near = refl
 
 ua_far : StaysEstablished Call 0 (seen_far (asks ++ ua_comes) with_ua)
-unfolding lines.after lines.answer lines.takes_slot reading header_of control_of unnumbered_of supervisory_of teis.course teis.refusal seq distance_of named doing_all happening_all seen_far
+unfolding lines.after lines.answer lines.takes_slot exchanged read_by reading header_of control_of unnumbered_of supervisory_of teis.course teis.refusal seq distance_of named doing_all happening_all seen_far
 ua_far = refl

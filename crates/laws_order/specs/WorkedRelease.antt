@@ -6,6 +6,7 @@ use Rattle.lapd_frame.specs.declared.notes.Note.TheVariants.{ReleaseIndication, 
 use Rattle.lapd_frame.specs.declared.services.Service.TheVariants.{Call}
 use Rattle.lapd_frame.specs.declared.timers.Timer.TheVariants.{T200}
 use Rattle.lapd_frame.specs.Reading.{reading, header_of, control_of, unnumbered_of, supervisory_of}
+use Rattle.lapd_frame.specs.Senders.{exchanged, reading as read_by}
 use Rattle.lapd_seq.specs.Circle.{distance_of, named}
 use Rattle.lapd_seq.specs.Numbers.{seq}
 use Rattle.lapd_tei.specs.Events as teis
@@ -36,24 +37,24 @@ abbrev pub takes_disc : List AnyStepAt
 takes_disc = by_far (step receives) ∷ by_far (step sends) ∷ by_near (step receives) ∷ []
 
 pub awaits : state_here Call 0 released.near ≡ Some 6
-unfolding lines.after lines.answer lines.takes_slot reading header_of control_of unnumbered_of supervisory_of teis.course teis.refusal seq distance_of named doing_all happening_all
+unfolding lines.after lines.answer lines.takes_slot exchanged read_by reading header_of control_of unnumbered_of supervisory_of teis.course teis.refusal seq distance_of named doing_all happening_all
 awaits = refl
 
 two_told : data_noted Call 0 (seen_far (releases ++ takes_two) faces) ≡ (1 ∷ []) ∷ (2 ∷ []) ∷ []
-unfolding lines.after lines.answer lines.takes_slot reading header_of control_of unnumbered_of supervisory_of teis.course teis.refusal seq distance_of named doing_all happening_all seen_far
+unfolding lines.after lines.answer lines.takes_slot exchanged read_by reading header_of control_of unnumbered_of supervisory_of teis.course teis.refusal seq distance_of named doing_all happening_all seen_far
 two_told = refl
 
 -- So long its establishment lasts; that of the near end does not.
 pub far_lasts : StaysEstablished Call 0 (seen_far (releases ++ takes_two) faces)
-unfolding lines.after lines.answer lines.takes_slot reading header_of control_of unnumbered_of supervisory_of teis.course teis.refusal seq distance_of named doing_all happening_all seen_far
+unfolding lines.after lines.answer lines.takes_slot exchanged read_by reading header_of control_of unnumbered_of supervisory_of teis.course teis.refusal seq distance_of named doing_all happening_all seen_far
 far_lasts = refl
 
 near_confirmed : news Call 0 (seen_near (takes_two ++ takes_disc) released) ≡ ReleaseConfirm Call 0 ∷ []
-unfolding lines.after lines.answer lines.takes_slot reading header_of control_of unnumbered_of supervisory_of teis.course teis.refusal seq distance_of named doing_all happening_all seen_near
+unfolding lines.after lines.answer lines.takes_slot exchanged read_by reading header_of control_of unnumbered_of supervisory_of teis.course teis.refusal seq distance_of named doing_all happening_all seen_near
 near_confirmed = refl
 
 far_indicated : news Call 0 (seen_far (takes_two ++ takes_disc) released) ≡ ReleaseIndication Call 0 ∷ []
-unfolding lines.after lines.answer lines.takes_slot reading header_of control_of unnumbered_of supervisory_of teis.course teis.refusal seq distance_of named doing_all happening_all seen_far
+unfolding lines.after lines.answer lines.takes_slot exchanged read_by reading header_of control_of unnumbered_of supervisory_of teis.course teis.refusal seq distance_of named doing_all happening_all seen_far
 far_indicated = refl
 
 -- Both release, and DISC of the near end goes twice: each is told the confirm, and then the near end error C of the second UA.
@@ -75,17 +76,17 @@ all_notes [] = []
 all_notes (s ∷ t) = notes_in s ++ all_notes t
 
 pub both_begin_nothing : BeginsNothing Call 0 (seen_near both_release released)
-unfolding lines.after lines.answer lines.takes_slot reading header_of control_of unnumbered_of supervisory_of teis.course teis.refusal seq distance_of named doing_all happening_all seen_near
+unfolding lines.after lines.answer lines.takes_slot exchanged read_by reading header_of control_of unnumbered_of supervisory_of teis.course teis.refusal seq distance_of named doing_all happening_all seen_near
 both_begin_nothing = refl
 
 near_told : all_notes (seen_near both_release released) ≡ ReleaseConfirm Call 0 ∷ Error Call 0 C ∷ []
-unfolding lines.after lines.answer lines.takes_slot reading header_of control_of unnumbered_of supervisory_of teis.course teis.refusal seq distance_of named doing_all happening_all seen_near
+unfolding lines.after lines.answer lines.takes_slot exchanged read_by reading header_of control_of unnumbered_of supervisory_of teis.course teis.refusal seq distance_of named doing_all happening_all seen_near
 near_told = refl
 
 far_told : all_notes (seen_far both_release released) ≡ ReleaseConfirm Call 0 ∷ []
-unfolding lines.after lines.answer lines.takes_slot reading header_of control_of unnumbered_of supervisory_of teis.course teis.refusal seq distance_of named doing_all happening_all seen_far
+unfolding lines.after lines.answer lines.takes_slot exchanged read_by reading header_of control_of unnumbered_of supervisory_of teis.course teis.refusal seq distance_of named doing_all happening_all seen_far
 far_told = refl
 
 then_down : state_here Call 0 (happening_all both_release released).near ≡ Some 4
-unfolding lines.after lines.answer lines.takes_slot reading header_of control_of unnumbered_of supervisory_of teis.course teis.refusal seq distance_of named doing_all happening_all
+unfolding lines.after lines.answer lines.takes_slot exchanged read_by reading header_of control_of unnumbered_of supervisory_of teis.course teis.refusal seq distance_of named doing_all happening_all
 then_down = refl

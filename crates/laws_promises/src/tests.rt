@@ -21,6 +21,7 @@ pub(crate) const USUAL: Config = Config {
     n201: 260,
     n200: 3,
     side: Side::Network,
+    sapi: 16,
 };
 
 fn usual_card(alloc: Global) -> Result<Card<SlabShelf>, Fail>

@@ -5,6 +5,7 @@ use Rattle.lapd_frame.specs.declared.notes.Note.TheVariants.{Error}
 use Rattle.lapd_frame.specs.declared.notes.ErrorCode.TheVariants.{I}
 use Rattle.lapd_frame.specs.declared.services.Service.TheVariants.{Call}
 use Rattle.lapd_frame.specs.Reading.{reading, header_of, control_of, unnumbered_of, supervisory_of}
+use Rattle.lapd_frame.specs.Senders.{exchanged, reading as read_by}
 use Rattle.lapd_seq.specs.Circle.{distance_of, named}
 use Rattle.lapd_seq.specs.Numbers.{seq}
 use Rattle.lapd_clock.specs.Timer.{Lengths}
@@ -40,16 +41,16 @@ abbrev pub until_g : List (Step Event)
 until_g = until_i ++ (time 110 ∷ falls_due ∷ time 120 ∷ falls_due ∷ time 130 ∷ falls_due ∷ time 140 ∷ falls_due ∷ [])
 
 in_7 : state 0 Call 64 begun.card ≡ Some 7
-unfolding lines.after lines.answer lines.takes_slot reading header_of control_of unnumbered_of supervisory_of teis.course teis.refusal seq distance_of named after_all
+unfolding lines.after lines.answer lines.takes_slot exchanged read_by reading header_of control_of unnumbered_of supervisory_of teis.course teis.refusal seq distance_of named after_all
 in_7 = refl
 
 -- So error I is told at 100, which is T203 and five times T200 later, and the release at 140: no sooner bound holds.
 told_i : news of_frames Call 64 0 until_i begun ≡ Error Call 64 I ∷ []
-unfolding lines.after lines.answer lines.takes_slot reading header_of control_of unnumbered_of supervisory_of teis.course teis.refusal seq distance_of named after_all news
+unfolding lines.after lines.answer lines.takes_slot exchanged read_by reading header_of control_of unnumbered_of supervisory_of teis.course teis.refusal seq distance_of named after_all news
 told_i = refl
 
 told_g : news of_frames Call 64 0 until_g begun ≡ told_in 7 Call 64
-unfolding lines.after lines.answer lines.takes_slot reading header_of control_of unnumbered_of supervisory_of teis.course teis.refusal seq distance_of named after_all news
+unfolding lines.after lines.answer lines.takes_slot exchanged read_by reading header_of control_of unnumbered_of supervisory_of teis.course teis.refusal seq distance_of named after_all news
 told_g = refl
 
 first_100 : first_in 7 0 usual lengths ≡ 100
@@ -60,9 +61,9 @@ all_140 = refl
 
 -- The premises are met.
 prompt : ArePrompt frames 0 up (fresh usual lengths)
-unfolding lines.after lines.answer lines.takes_slot reading header_of control_of unnumbered_of supervisory_of teis.course teis.refusal seq distance_of named ArePrompt
+unfolding lines.after lines.answer lines.takes_slot exchanged read_by reading header_of control_of unnumbered_of supervisory_of teis.course teis.refusal seq distance_of named ArePrompt
 prompt = ((omega arith, tt), ((omega arith, tt), ((omega arith, tt), tt)))
 
 still : AreStill of_frames usual Call 64 0 until_g begun
-unfolding lines.after lines.answer lines.takes_slot reading header_of control_of unnumbered_of supervisory_of teis.course teis.refusal seq distance_of named after_all AreStill
+unfolding lines.after lines.answer lines.takes_slot exchanged read_by reading header_of control_of unnumbered_of supervisory_of teis.course teis.refusal seq distance_of named after_all AreStill
 still = (λ e. refl, refl, (tt, refl, (λ e. refl, refl, (tt, refl, (tt, refl, (tt, refl, (tt, refl, (tt, refl, (tt, refl, (tt, refl, (tt, refl, (tt, refl, (tt, refl, (tt, refl, (tt, refl, (tt, refl, (tt, refl, (tt, refl, (tt, refl, (tt, refl, (tt, refl, (tt, refl, tt))))))))))))))))))))))

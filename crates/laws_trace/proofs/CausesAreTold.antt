@@ -4,7 +4,7 @@ use Rattle.laws_trace.proofs.Vocabulary.{Received, received, frame, undefined, w
 use Rattle.laws_trace.proofs.Vocabulary.{unless_refused, unless_refused_told, refusal, Refusal, Request, Timer, LinkTimer, Aim, addressed, aim_of_reading, aim_of_long, heard_side, message_of, at_side, IsToGroup, group-read, IsSound as IsSoundLine, Card, line_at, is_full, at, always_sound, fresh_is_sound, has_lines, by_room, config-stays, fresh, CardEvent as Event, card_answer, after_all, IsAtLine}
 use Rattle.laws_trace.proofs.Vocabulary.{CardIsSound as IsSound, line_sound as sound-at, nothing_due, stream_frame, Managed, managed_after, view_of, is_unit_taken, IfSome, Always, is_ui, is_up, Management, Change, of_change, told_of_management, tei_after, not, tei_begun, tei_told, tei_message, TeiEvent, heard_in, heard_of_type, Check, Checked, may_check, tei_course, tei_refusal, no_room, lose_one}
 use Rattle.laws_trace.proofs.Vocabulary.{free_place, told, dropped, none-some}
-use Rattle.lapd_frame.specs.Reading.{long_reading}
+use Rattle.lapd_frame.specs.Senders.{long_reading}
 use Rattle.lapd_tei.specs.Rows as rows
 use Rattle.lapd_tei.specs.Table as table
 use Rattle.lapd_tei.specs.Events.{down as tei_down}

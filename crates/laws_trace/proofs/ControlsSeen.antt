@@ -1,14 +1,14 @@
 -- What is seen of the control frames of a link, and which are due by it.
 use Rattle.laws_trace.proofs.Vocabulary.{arith, ◌≡◌, ℕ, ◌==◌, ◌&&◌, true, false, cond, List, [], ◌∷◌, ◌++◌, map, drop, Some, None, refl, sym, ap, ◌∙◌, inl, inr, eq-eqb, append-nil, Result, Ok, Err, All, IfSome, flat_map, option_to_list, nat_lt, length, All-head, All-tail, Ui, ReadFault, Service, Parts, reading, sapi_of, reading-again, event-follows, ControlFrame, Terms, Link, address_at, IsGiven}
 use Rattle.laws_trace.proofs.Vocabulary.{Given, orders_for, given_is_frame, Config, hears, Answer, Line, place_in, terms, aim_of, message_of, aim_of_reading, at_side, is_granted, IsBy, Brings, sapi-is, same-sapi, both-true, eqb-true, unwrap_or, information_of, begun as course_begun, Event, answer, line_frame_of as frame_of, Request, trace_frame_in as frame_in, Seen, heard, seen, seen_told}
-use Rattle.laws_trace.proofs.Vocabulary.{seen_granted, drop-nil, link_after as after, link_given_of as given_of, offer_among, LinkIsInRange as IsInRange, LinkIsSound as IsSound, trace_begun as begun, service-same, StreamEvent}
+use Rattle.laws_trace.proofs.Vocabulary.{seen_granted, drop-nil, link_after as after, link_given_of as given_of, offer_among, LinkIsInRange as IsInRange, LinkIsSound as IsSound, trace_begun as begun, service-same, StreamEvent, own_side}
 use Rattle.model_link.specs.Events as link
 use Rattle.laws_trace.proofs.ControlsWatched.{of_link, control_in, controls_at, while_up, answer_to, changed, answers_at, answers_to_frame}
 use Rattle.laws_trace.proofs.DeliveriesWatched.{Standing}
 use Rattle.laws_trace.proofs.Addressed.{addressed-is}
 use Rattle.laws_trace.proofs.ControlsDue.{controls, answers_of}
 use Rattle.laws_trace.proofs.OneLink.{frames_given, IsForeign, is_at_link}
-use Rattle.laws_trace.proofs.ReadAgain.{read-again}
+use Rattle.laws_trace.proofs.ReadAgain.{read-again, message-text}
 use Rattle.laws_trace.proofs.Spelled.{whole-parts}
 use Rattle.laws_trace.proofs.Facts.{either-none}
 
@@ -17,7 +17,7 @@ control_of f = control_in f.command f.control
 
 module _ (c : Config) (service : Service) (tei : ℕ) where
   abbrev pub begun_of : List ℕ → List ControlFrame
-  begun_of octets = of_link service tei control_in (reading c.side octets)
+  begun_of octets = of_link service tei control_in (reading (own_side c) octets)
 
   abbrev pub controls_begun : List Seen → List ControlFrame
   controls_begun t = flat_map (controls_at c service tei) t
@@ -33,18 +33,18 @@ module _ (c : Config) (service : Service) (tei : ℕ) where
   -- Frames of others are no control frames of this link.
   foreign : (frame : List ℕ) → IsForeign c service tei frame → begun_of frame ≡ []
   foreign frame (inl x) =
-      ap begun_of x.1
-      ∙ read-again c.side (λ r. of_link service tei control_in r ≡ []) (record { sapi = 63; command = true; tei = 127 }) (Ui false)
+      ap begun_of (x.1 ∙ message-text c x.0)
+      ∙ read-again (own_side c) (λ r. of_link service tei control_in r ≡ []) (record { sapi = 63; command = true; tei = 127 }) (Ui false)
       (λ info. either-none (63 == sapi_of service && 127 == tei)) (λ fault. refl) (information_of x.0)
   foreign frame (inr (inl x)) =
       ap begun_of x.1
-      ∙ read-again c.side (λ r. of_link service tei control_in r ≡ []) (record { sapi = sapi_of x.0.service; command = true; tei = x.0.tei }) (Ui false)
+      ∙ read-again (own_side c) (λ r. of_link service tei control_in r ≡ []) (record { sapi = sapi_of x.0.service; command = true; tei = x.0.tei }) (Ui false)
       (λ info. either-none (sapi_of x.0.service == sapi_of service && x.0.tei == tei)) (λ fault. refl) x.0.contents
   foreign frame (inr (inr x)) =
       let t = x.0 in
       let g = x.1 in
       let away : (sapi_of t.service == sapi_of service && t.tei == tei) ≡ false = ap (λ b. b && t.tei == tei) (same-sapi t.service service) ∙ x.3 in
-      ap begun_of x.2 ∙ read-again c.side (λ r. of_link service tei control_in r ≡ []) (address_at t g.frame.command) g.frame.control
+      ap begun_of x.2 ∙ read-again (own_side c) (λ r. of_link service tei control_in r ≡ []) (address_at t g.frame.command) g.frame.control
       (λ info. ap (λ b. cond b (control_of g.frame) []) away) (λ fault. refl) (unwrap_or g.contents [])
 
   pub all-foreign : (frames : List (List ℕ)) → All (IsForeign c service tei) frames → flat_map begun_of frames ≡ []
@@ -58,7 +58,7 @@ module _ (c : Config) (service : Service) (tei : ℕ) where
 
   pub given-read : (g : Given) → IsGiven its g.frame g.contents → begun_of (frame_of c its g) ≡ control_of g.frame
   given-read g h =
-      ap (of_link service tei control_in) (reading-again c.side (whole-parts its g) (frame_of c its g) (record { is_frame = h.whole; octets_are = refl }))
+      ap (of_link service tei control_in) (reading-again (own_side c) (whole-parts its g) (frame_of c its g) (record { is_frame = h.whole; octets_are = refl }))
       ∙ ap (λ b. cond b (control_of g.frame) []) (ap (λ b. b && tei == tei) (eq-eqb (sapi_of service) (sapi_of service) refl) ∙ eq-eqb tei tei refl)
 
   -- So it is the first that begins, and the others wait on.

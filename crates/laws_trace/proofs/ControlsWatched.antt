@@ -1,6 +1,6 @@
 -- The control frames of a link that go are those that are due.
 use Rattle.laws_trace.proofs.Vocabulary.{ℕ, ◌-◌, ◌==◌, ◌&&◌, ◌||◌, not, Bool, true, false, List, [], ◌∷◌, ◌++◌, length, take, flat_map, Option, Result, Ok, Err, nat_lt, if◌then◌else◌, option_map_or, seq, Information, ReceiveReady, ReceiveNotReady, Reject, Sabme, Disc, Ui, Ua, Dm, ReadFault, Service, Parts, reading, sapi_of, ControlFrame, Config, heard_side, as_response, as_command, lost_in}
-use Rattle.laws_trace.proofs.Vocabulary.{Control, Moment, is_up, Seen, heard, trace_begun as begun, granted, seen_in, stream_frame}
+use Rattle.laws_trace.proofs.Vocabulary.{Control, Moment, is_up, Seen, heard, trace_begun as begun, granted, seen_in, stream_frame, own_side}
 use Rattle.laws_trace.proofs.DeliveriesWatched.{Standing}
 use Rattle.laws_trace.proofs.States.{expired_of, one_more, is_state, state_before, state_after, differ}
 
@@ -17,7 +17,7 @@ control_in command (Ui p) = []
 control_in command other = record { command = command; control = other } ∷ []
 
 abbrev pub controls_at : Config → Service → ℕ → Seen → List ControlFrame
-controls_at c service tei (begun octets) = of_link service tei control_in (reading c.side octets)
+controls_at c service tei (begun octets) = of_link service tei control_in (reading (own_side c) octets)
 controls_at c service tei other = []
 
 -- A receipt is RNR while layer 3 is busy, and RR while it is not; its N(R) is the number of contents told of the link

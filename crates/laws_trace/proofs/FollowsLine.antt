@@ -1,19 +1,19 @@
 -- What is due of TEI management by one event of a line is what its answer shows, and the observer follows it.
 use Rattle.laws_trace.proofs.Vocabulary.{◌≡◌, ℕ, ◌==◌, Bool, true, false, cond, List, [], ◌∷◌, map, take, drop, slice_get, filter, Option, Some, None, IfSome, option_map, refl, sym, ap, ◌∙◌, subst, append-nil, true≢false, ◌⊎◌, inl, inr, arith, option_map_or, none-some, filter-append, Ui, Service, Timer, Parts, reading, Result, ReadFault, sapi_of, reading-again, Management, Message, Config, Aim}
 use Rattle.laws_trace.proofs.Vocabulary.{at_none, at_link, at_management, of_aim, hears, expiry, next, Answer, LineTold, gave, orders_in, Line, link_at, terms, service_at, aim_of, aim_of_heard, management_sapi, Taken, taken, next_of, line_of, at_requested, at_deactivated, heard_aims, lost_in, IsOwed, IsIdle, contents_of_link, IsOne, taken-one, served, unwrap_or, TimerT200 as T200}
-use Rattle.laws_trace.proofs.Vocabulary.{message_frame as frame_of, information_of, Event, told, line_after as after, answer, IsSound, result_ok, Managed, by_message, managing_by_event as by_event, is_of_teis, is_of_t201, IsAsDue, trace_frame_in as frame_in, offer, LinkEvent, LinkRequest, received, StreamEvent, link_told, tei_message, TeiEvent, tei_refusal, tei_course}
+use Rattle.laws_trace.proofs.Vocabulary.{message_frame as frame_of, information_of, Event, told, line_after as after, answer, IsSound, result_ok, Managed, by_message, managing_by_event as by_event, is_of_teis, is_of_t201, IsAsDue, trace_frame_in as frame_in, offer, LinkEvent, LinkRequest, received, StreamEvent, link_told, tei_message, TeiEvent, tei_refusal, tei_course, own_side}
 use Rattle.laws_trace.proofs.Follows.{Follows, Leads, InOrder, as_seen, serve-leads, expire-leads}
 use Rattle.laws_trace.proofs.ManagingTables.{AreOn}
 use Rattle.laws_trace.proofs.ManagingNotes.{none-of-teis, link-others, told-orders, Cases, is_management, message_in, message-is-read, heard-cases}
 use Rattle.laws_trace.proofs.OneLink.{given-orders}
-use Rattle.laws_trace.proofs.ReadAgain.{read-again}
+use Rattle.laws_trace.proofs.ReadAgain.{read-again, message-text}
 
 -- Frames with SAPI 63.
 abbrev of_management : Result Parts ReadFault → Bool
 of_management r = option_map_or (λ (f : Parts). f.address.sapi == management_sapi) (result_ok r) false
 
 abbrev is_message : Config → List ℕ → Bool
-is_message c octets = of_management (reading c.side octets)
+is_message c octets = of_management (reading (own_side c) octets)
 
 -- What an answer shows, and what is known behind it. What is lost is so many messages, or is none of them, where the event
 -- is one of a link.
@@ -104,7 +104,7 @@ module _ (c : Config) (l : Line) (s : IsSound c l) (on : List ℕ) (h : AreOn on
   message-is : (message : Message) → is_message c (frame_of c.side message) ≡ true
   message-is message =
       let parts : Parts = record { address = record { sapi = 63; command = true; tei = 127 }; control = Ui false; info = information_of message } in
-      ap of_management (reading-again c.side parts (frame_of c.side message) (record { is_frame = record { sapi = omega arith; tei = omega arith; kind = refl; size = refl }; octets_are = refl }))
+      ap of_management (reading-again (own_side c) parts (frame_of c.side message) (record { is_frame = record { sapi = omega arith; tei = omega arith; kind = refl; size = refl }; octets_are = message-text c message }))
 
   abbrev later : Managed
   later = record w { owed = drop 1 m.waiting; begins = take 1 m.waiting }
@@ -123,13 +123,13 @@ module _ (c : Config) (l : Line) (s : IsSound c l) (on : List ℕ) (h : AreOn on
   goes new (Some t) (inl x) = grind (arith, message-is, first-goes)
   goes new (Some t) (inr (inl x)) = (
     (ap (λ false. cond false (t.frame ∷ []) []) (ap (is_message c) x.spelled
-        ∙ read-again c.side (λ r. of_management r ≡ false) (record { sapi = sapi_of x.unit.service; command = true; tei = x.unit.tei }) (Ui false) (λ info. grind arith) (λ fault. refl) x.unit.contents))
+        ∙ read-again (own_side c) (λ r. of_management r ≡ false) (record { sapi = sapi_of x.unit.service; command = true; tei = x.unit.tei }) (Ui false) (λ info. grind arith) (λ fault. refl) x.unit.contents))
         ∙ none-goes x.no_message,
     stays new (ap (λ (l : Line). l.management) x.line) x.no_message,
   )
   goes new (Some t) (inr (inr x)) = (
     (ap (λ false. cond false (t.frame ∷ []) []) (ap (is_message c) x.spelled
-        ∙ read-again c.side (λ r. of_management r ≡ false) (record { sapi = sapi_of (service_at x.number); command = x.command; tei = x.tei }) x.control (λ info. grind arith) (λ fault. refl)
+        ∙ read-again (own_side c) (λ r. of_management r ≡ false) (record { sapi = sapi_of (service_at x.number); command = x.command; tei = x.tei }) x.control (λ info. grind arith) (λ fault. refl)
         (unwrap_or x.information []))) ∙ none-goes x.its_turn.no_message,
     stays new (ap (λ (l : Line). l.management) x.line) x.its_turn.no_message,
   )

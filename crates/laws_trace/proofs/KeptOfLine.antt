@@ -20,6 +20,7 @@ use Rattle.laws_trace.proofs.PlacesSeen.{is_release_of, granted_in, lost_in, tol
 use Rattle.laws_trace.proofs.TimersOfEvent.{off-fresh}
 use Rattle.laws_trace.proofs.TimersWatched as known
 use Rattle.laws_trace.proofs.Facts.{number-up}
+use Rattle.laws_trace.proofs.Vocabulary.{inl, inr}
 
 either-false : (b : Bool) → cond b false false ≡ false
 either-false b = grind arith
@@ -175,7 +176,9 @@ module _ (c : Config) (ranged : IsInRange c) (l : Line) (s : IsSound c l) (servi
   left-so p q on there = go (event-goes c e l service tei s)
     where
       go : Goes c service tei e l new a → Left
-      go other = grind (arith, none-left-so, one-left, granted_in, lost_in, asked-loses, own-is)
+      go (inl x) = none-left-so x p q on there
+      go (inr (inl x)) = one-left x
+      go (inr (inr x)) = grind (arith, granted_in, lost_in, asked-loses, own-is)
 
   -- A TEI that comes to the line has a link that begins.
   pub comes-so : place_in l tei ≡ None → k' ≡ fresh_link

@@ -95,6 +95,7 @@ pub mod OwedOfEvent
 pub mod NewsOfEvent
 pub mod News
 pub mod OtherSide
+pub mod Sapis
 pub mod OwedOfLink
 pub mod OwedAtLine
 pub mod LossesAtLine

@@ -9,6 +9,14 @@ use Rattle.laws_trace.proofs.TimersWatched.{Known}
 use Rattle.laws_trace.proofs.MovesOfLink.{expected, ticks}
 use Rattle.laws_trace.proofs.Deliveries.{heard-by}
 use Rattle.laws_trace.proofs.OneLink.{is_at_link}
+use Rattle.model_bits.specs.Stream.{frame as stream_frame}
+use Rattle.model_bits.specs.Stream.{overlong as stream_overlong}
+use Rattle.lapd_frame.specs.Senders.{long_reading}
+use Rattle.model_line.specs.Heard.{aim_of_long}
+use Rattle.lapd_frame.specs.declared.overlong.Long.{Long}
+use Rattle.laws_trace.specs.LinkFrames.{faulty_long}
+use Rattle.model_line.specs.Heard.{heard_side}
+use Rattle.laws_trace.proofs.Vocabulary.{reading}
 
 pub own-is : (service : Service) (tei : ℕ) → is_own service tei service tei ≡ true
 own-is service tei = ap (λ b. b && tei == tei) (service-same service) ∙ eq-eqb tei tei refl
@@ -61,8 +69,13 @@ module _ (c : Config) (service : Service) (tei : ℕ) (k : Known) where
             absurd (true≢false (sym (own-is service tei) ∙ sym (ap (λ aim. is_at_link service tei (at_side c f aim)) is) ∙ aims))
     read-none x r aims = grind (arith, no-fault, addressed-none)
 
+    long-none : (x : ℕ) (r : Result Long ReadFault) → is_at_link service tei (aim_of_long l r) ≡ false → cond (is_up x && is_some (faulty_long service tei r)) 5 x ≡ x
+    long-none x r aims = grind (arith, no-fault, addressed-none)
+
     heard-none : (x : ℕ) (e : StreamEvent) → is_at_link service tei (aim_of_heard c l e) ≡ false → by_heard x e ≡ x
-    heard-none x e aims = grind (arith, read-none, no-fault, addressed-none)
+    heard-none x (stream_frame octets) aims = read-none x (reading (heard_side c) octets) aims
+    heard-none x (stream_overlong head) aims = long-none x (long_reading (heard_side c) head) aims
+    heard-none x e aims = grind (arith, no-fault)
 
     -- an expiry, or a request, of another link
     pub elsewhere : (its : Service) (by : ℕ) (what : link.Event) (to : Option ℕ → Aim) → ((p : ℕ) → to (Some p) ≡ at_link its by p what)

@@ -1,19 +1,19 @@
 -- The links of the frames that begin.
-use Rattle.laws_trace.proofs.Vocabulary.{◌≡◌, ℕ, ◌/◌, Bool, cond, not, List, map, filter, slice_index, Some, arith, eqb-false, Call, Packet, sapi_of, Side, Parts, Config, Line, service_at, place_at, tei_at, eqb-true, IsSound, reads, Seen, frames_begun, is_ui}
+use Rattle.laws_trace.proofs.Vocabulary.{◌≡◌, ℕ, ◌/◌, Bool, cond, not, List, map, filter, slice_index, Some, arith, eqb-false, Call, Packet, sapi_of, Side, Parts, Config, Line, service_at, place_at, tei_at, eqb-true, IsSound, reads, Seen, frames_begun, is_ui, own_side, Sender, exchanged}
 
--- All that are no UI are of a link, by the address, whether command or response.
+-- All that are no UI are of a link, by the address, whether command or response. It is named by its service.
 pub record LinkName : Type 0 where
   pub sapi : ℕ
   pub tei : ℕ
 
-abbrev pub named_in : List ℕ → LinkName
-named_in octets = record { sapi = slice_index octets 0 / 4; tei = slice_index octets 1 / 2 }
+abbrev pub named_in : ℕ → List ℕ → LinkName
+named_in own octets = record { sapi = exchanged own (slice_index octets 0 / 4); tei = slice_index octets 1 / 2 }
 
-abbrev pub is_of_a_link : Side → List ℕ → Bool
-is_of_a_link side octets = not (reads side (λ (f : Parts). is_ui f.control) octets)
+abbrev pub is_of_a_link : Sender → List ℕ → Bool
+is_of_a_link sender octets = not (reads sender (λ (f : Parts). is_ui f.control) octets)
 
 abbrev pub links_begun : Config → List Seen → List LinkName
-links_begun c t = map named_in (filter (is_of_a_link c.side) (frames_begun t))
+links_begun c t = map (named_in c.sapi) (filter (is_of_a_link (own_side c)) (frames_begun t))
 
 abbrev pub named : ℕ → ℕ → LinkName
 named number tei = record { sapi = sapi_of (service_at number); tei = tei }

@@ -3,7 +3,7 @@
 use Rattle.laws_trace.proofs.Vocabulary.{◌≡◌, ℕ, zero, suc, ◌<◌, ◌≤◌, Bool, true, false, cond, List, [], ◌∷◌, ◌++◌, drop, get_or, replicate, slice_get, Option, Some, None, IfSome, option_map, refl, sym, ap, ◌∙◌, subst, arith, ◌⊎◌, inl, inr, All, option_or, option_map_or, flat_map-append, get_or-replicate, All-nil, All-head, All-tail, All-append, All-drop, AreOctets, Address, Side, Service}
 use Rattle.laws_trace.proofs.Vocabulary.{action_of, Message, accepted, share, IsOffered, Carries, number_sent, kept-after, given-is-offered, Seq, Link, queue_of, address_at, Given, Terms, Config, request, next, Answer, gave, Line, UnitData, service_at, place_at, place_in, tei_at, link_at, link_in, link_of, terms, fresh_line, Taken, with_unit, unit_frame, first_taken, round, taken, next_of}
 use Rattle.laws_trace.proofs.Vocabulary.{line_of, IsInRange, IsSoundAt, IsUnitData, round_below, units_asked, is_granted, IsBy, OfLink, of-links, IsOne, taken-one, has-place, units-wait, number-is, fresh_is_sound, head, unwrap_or, Control, head_of, message_frame, fresh_link, Event, line_after as after, answer, with_message, Request, IsSound, fresh, all-left as all-front, all-right as all-back}
-use Rattle.laws_trace.proofs.Vocabulary.{contents_given, GivesOctets, FramesAreOctets, trace_frame_in as frame_in, Seen, seen_told, seen, frames_begun, Always, units_left, frame_begun, seen_granted, LinkEvent, sapi-small}
+use Rattle.laws_trace.proofs.Vocabulary.{contents_given, GivesOctets, FramesAreOctets, trace_frame_in as frame_in, Seen, seen_told, seen, frames_begun, Always, units_left, frame_begun, seen_granted, LinkEvent, sapi-small, Sender, spelling, renamed, exchanged-small, own_side, sapi_of, Ui}
 use Rattle.model_link.specs.Machine as links
 use Rattle.model_link.specs.Sound as link_sound
 use Rattle.laws_trace.proofs.OneLink.{Goes, event-goes}
@@ -26,6 +26,10 @@ record AreKept (l : Line) : Type 0 where
 -- What begins: a head, and information of octets.
 whole-octets : (side : Side) (a : Address) (c : Control) (info : List ℕ) → a.sapi < 64 → a.tei < 128 → AreOctets info → AreOctets (head_of side a c ++ info)
 whole-octets side a c info sapi tei h = All-append (λ octet. octet < 256) (head_of side a c) info (head side a c sapi tei) h
+
+named-octets : (sender : Sender) (a : Address) (c : Control) (info : List ℕ) → a.sapi < 64 → a.tei < 128 → AreOctets info
+    → AreOctets (spelling sender (record { address = a; control = c; info = info }))
+named-octets sender a c info sapi tei h = whole-octets sender.side (renamed sender.sapi a) c info (exchanged-small sender.sapi a.sapi sapi) tei h
 
 -- the contents at V(S) are among those that are kept
 at-any : (xs : List (List ℕ)) (i : ℕ) (x : List ℕ) → All AreOctets xs → slice_get xs i ≡ Some x → AreOctets x
@@ -53,7 +57,7 @@ module _ (c : Config) (ranged : IsInRange c) (l : Line) (s : IsSound c l) (k : A
   message-exact m small low = grind (arith, whole-octets)
 
   unit-exact : (u : UnitData) → u.tei ≤ 127 → IsUnit u → AreOctets (unit_frame c u)
-  unit-exact u low h = grind (arith, whole-octets, sapi-small)
+  unit-exact u low h = named-octets (own_side c) (record { sapi = sapi_of u.service; command = true; tei = u.tei }) (Ui false) u.contents (sapi-small u.service) (omega (arith, low)) h
 
   -- the link at its number is that of its service with its TEI
   kept-at : (number tei : ℕ) → tei_at (place_at number) l ≡ Some tei → All AreOctets (queue_of (link_at number l))
@@ -73,7 +77,7 @@ module _ (c : Config) (ranged : IsInRange c) (l : Line) (s : IsSound c l) (k : A
       let range = s.management.table.range (place_at x.number) x.tei x.on_line in
       let offered = from-offered own own-link (links.given own own-link) x.what x.given (given-is-offered own own-link sound) in
       subst IsExact (sym x.is)
-      (whole-octets c.side (address_at own x.what.frame.command) x.what.frame.control (unwrap_or x.what.contents []) (sapi-small (service_at x.number)) (omega (arith, range))
+      (named-octets (own_side c) (address_at own x.what.frame.command) x.what.frame.control (unwrap_or x.what.contents []) (sapi-small (service_at x.number)) (omega (arith, range))
       (offered-octets own-link.contents own-link.a own-link.s (number_sent x.what.frame.control) x.what.contents (kept-at x.number x.tei x.on_line) sound.ordered offered))
 
   first-exact : (o : Option Taken) → IfSome o (OfLink c l) → IfSome o IsExact

@@ -1,5 +1,5 @@
 -- Whose frames a card hears, and whose it sends: the law.
-use Rattle.laws_trace.proofs.Vocabulary.{arith, ◌≡◌, ℕ, ◌==◌, true, List, slice_index, Result, Ok, ap, ◌∙◌, subst, IfOk, Address, Side, Network, User, ReadFault, Parts, cr_bit, other_side, header_of, completed, reading, heard_side, Control}
+use Rattle.laws_trace.proofs.Vocabulary.{arith, ◌≡◌, ℕ, ◌==◌, true, List, slice_index, Result, Ok, ap, ◌∙◌, subst, IfOk, Address, Side, Network, User, ReadFault, Parts, cr_bit, other_side, header_of, completed, side_reading, reading, Sender, parts_named, named-ok, own_side, heard_side, Control}
 use Rattle.laws_trace.specs.OtherSide.{bit_in, TheOtherSideIsHeard}
 
 -- A frame that is read is a command by its C/R bit.
@@ -23,21 +23,23 @@ module _ (side : Side) (octets : List ℕ) where
   unfolding header_of
   header-told second third fourth = grind arith
 
-  told : Reads (reading side octets)
-  unfolding reading
+  told : Reads (side_reading side octets)
+  unfolding side_reading
   told = grind (arith, slice_index, whole, header-told)
 
-  pub by-bit : (frame : Parts) → reading side octets ≡ Ok frame → frame.address.command ≡ (bit_in octets == cr_bit side true)
+  pub by-bit : (frame : Parts) → side_reading side octets ≡ Ok frame → frame.address.command ≡ (bit_in octets == cr_bit side true)
   by-bit frame read = subst Reads read told
 
 -- That of commands, by the side whose frames are read.
-of-side : (side is : Side) (octets : List ℕ) (frame : Parts) → side ≡ is → reading side octets ≡ Ok frame → frame.address.command ≡ (bit_in octets == cr_bit is true)
-of-side side is octets frame same read = by-bit side octets frame read ∙ ap (λ side. bit_in octets == cr_bit side true) same
+of-side : (sender : Sender) (is : Side) (octets : List ℕ) (frame : Parts) → sender.side ≡ is → reading sender octets ≡ Ok frame → frame.address.command ≡ (bit_in octets == cr_bit is true)
+unfolding reading
+of-side sender is octets frame same read =
+    by-bit sender.side octets (parts_named sender.sapi frame) (named-ok sender.sapi (side_reading sender.side octets) frame read) ∙ ap (λ side. bit_in octets == cr_bit side true) same
 
 pub the-other-side-is-heard : TheOtherSideIsHeard
 the-other-side-is-heard = record {
   by_network = λ c octets frame side read. of-side (heard_side c) User octets frame (ap other_side side) read;
   by_user = λ c octets frame side read. of-side (heard_side c) Network octets frame (ap other_side side) read;
-  of_network = λ c octets frame side read. of-side c.side Network octets frame side read;
-  of_user = λ c octets frame side read. of-side c.side User octets frame side read;
+  of_network = λ c octets frame side read. of-side (own_side c) Network octets frame side read;
+  of_user = λ c octets frame side read. of-side (own_side c) User octets frame side read;
 }

@@ -1,6 +1,6 @@
 -- The messages of TEI management that wait stay small: what it hears are octets.
 use Rattle.laws_trace.proofs.Vocabulary.{arith, ◌≡◌, ℕ, ◌<◌, List, [], ◌∷◌, ◌++◌, length, drop, Option, IfSome, refl, subst, Ok, All, option_map_or, All-drop, All-head, AreOctets, Parts, reading, reading-found, Config, Aim, at_management, of_aim, hears, Answer, Line, aim_of_heard, heard_side, Taken, taken, line_of, side_aims, IsOne, taken-one, head_of, Event, line_after as after, IsSound}
-use Rattle.laws_trace.proofs.Vocabulary.{HasOctets, GivesOctets, seen, by-down, heard, seen_told, StreamEvent}
+use Rattle.laws_trace.proofs.Vocabulary.{HasOctets, GivesOctets, seen, by-down, heard, seen_told, StreamEvent, other_side, renamed}
 use Rattle.laws_trace.proofs.SmallMessages.{IsSmall, IsOfOctets, after-small}
 
 -- What TEI management hears are octets.
@@ -12,7 +12,7 @@ module _ (c : Config) (l : Line) where
   info-octets : (octets : List ℕ) (parts : Parts) → AreOctets octets → reading (heard_side c) octets ≡ Ok parts → AreOctets parts.info
   info-octets octets parts h is =
       let all = subst AreOctets ((reading-found (heard_side c) octets parts h is).octets_are) h in
-      subst AreOctets (drop-head (head_of (heard_side c) parts.address parts.control) parts.info) (All-drop (λ octet. octet < 256) (length (head_of (heard_side c) parts.address parts.control)) (head_of (heard_side c) parts.address parts.control ++ parts.info) all)
+      subst AreOctets (drop-head (head_of (other_side c.side) (renamed c.sapi parts.address) parts.control) parts.info) (All-drop (λ octet. octet < 256) (length (head_of (other_side c.side) (renamed c.sapi parts.address) parts.control)) (head_of (other_side c.side) (renamed c.sapi parts.address) parts.control ++ parts.info) all)
     where
       drop-head : (front back : List ℕ) → drop (length front) (front ++ back) ≡ back
       drop-head [] back = refl

@@ -7,12 +7,13 @@ use Rattle.model_card.specs.Sound as card_sound
 use Rattle.laws_trace.proofs.Runs.{run-shows}
 use Rattle.laws_trace.proofs.Units.{given-frames, none-told, none-requested}
 use Rattle.laws_trace.proofs.OfOctets.Seen.{begun_given}
+use Rattle.laws_trace.proofs.ReadAgain.{message-text}
 
 -- messages of TEI management, and unit data
 message-spelled : (c : Config) (m : Message) → IsSpelled c (message_frame c.side m)
 message-spelled c m =
     let parts : Parts = record { address = record { sapi = 63; command = true; tei = 127 }; control = Ui false; info = information_of m } in
-    (parts, record { is_frame = record { sapi = omega arith; tei = omega arith; kind = refl; size = refl }; octets_are = refl }, refl)
+    (parts, record { is_frame = record { sapi = omega arith; tei = omega arith; kind = refl; size = refl }; octets_are = message-text c m }, refl)
 
 unit-spelled : (c : Config) (u : UnitData) → u.tei ≤ 127 → IsSpelled c (unit_frame c u)
 unit-spelled c u small =

@@ -1,7 +1,7 @@
 -- How the turn goes round the links of a line while whatever happens there: one keeps its place, and another has something to send.
 use Rattle.laws_trace.proofs.Vocabulary.{◌≡◌, ◌≢◌, ℕ, ◌+◌, ◌<◌, ◌≤◌, ◌==◌, ◌⊎◌, ⊎_elim, Bool, true, false, cond, List, [], ◌∷◌, ◌++◌, get_or, map, Option, Some, None, option_map, refl, sym, ap, ◌∙◌, subst, inl, inr, arith, eq-eqb, true≢false, All, filter, and_parts, flat_map-append, get_or-set_same, map-append, filter-append, Address, sapi_of, Config, request, next, Answer, gave, Line, fresh_line}
 use Rattle.laws_trace.proofs.Vocabulary.{link_count, service_at, place_at, tei_at, Taken, taken, next_of, way_round, in_turn, IsSilentAt, IsOfLink, IsOwed, IsIdle, contents_of_link, comes-first, served, turn-stays, Card, line_at, is_full, by_room, eqb-true, unwrap_or, information_of, CardEvent as Event, after, card_answer as answer, IsAtLine, CardIsSound as IsSound, trace_frame_in as frame_in}
-use Rattle.laws_trace.proofs.Vocabulary.{Seen, seen, frames_begun, IsAmong, sapi-small}
+use Rattle.laws_trace.proofs.Vocabulary.{Seen, seen, frames_begun, IsAmong, sapi-small, own_side}
 use Rattle.model_line.specs.Event as line_event
 use Rattle.model_line.specs.Machine as lines
 use Rattle.model_line.specs.Sound as line
@@ -11,6 +11,7 @@ use Rattle.laws_trace.proofs.Units.{NoneWaits, plain-order, first-of, none-told,
 use Rattle.laws_trace.proofs.LinkNames.{LinkName, named_in, is_of_a_link, links_begun, named as name_of, same-number}
 use Rattle.laws_trace.proofs.NamedFrames.{names}
 use Rattle.model_line.proofs.Following.{some-same}
+use Rattle.laws_trace.proofs.ReadAgain.{message-text}
 
 -- A link that would begin a frame has something to send.
 pub record Speaks (c : Config) (l : Line) (number tei : ℕ) : Type 0 where
@@ -87,12 +88,12 @@ module _ (c : Config) (one tei other its : ℕ) where
   -- One event.
   module _ (ranged : line.IsInRange c) (l : Line) (h : Meets l) (plain : NoneWaits c l) where
     abbrev names-in : List (List ℕ) → List LinkName
-    names-in frames = map named_in (filter (is_of_a_link c.side) frames)
+    names-in frames = map (named_in c.sapi) (filter (is_of_a_link (own_side c)) frames)
 
-    no-name : (frame : List ℕ) (names : List LinkName) → is_of_a_link c.side frame ≡ false → Walk l names → Walk l (names-in (frame ∷ []) ++ names)
-    no-name frame names none walk = subst (λ b. Walk l (map named_in (cond b (frame ∷ []) []) ++ names)) (sym none) walk
+    no-name : (frame : List ℕ) (names : List LinkName) → is_of_a_link (own_side c) frame ≡ false → Walk l names → Walk l (names-in (frame ∷ []) ++ names)
+    no-name frame names none walk = subst (λ b. Walk l (map (named_in c.sapi) (cond b (frame ∷ []) []) ++ names)) (sym none) walk
 
-    a-name : (frame : List ℕ) (name : LinkName) (names : List LinkName) → is_of_a_link c.side frame ≡ true → named_in frame ≡ name → Walk l (name ∷ names) → Walk l (names-in (frame ∷ []) ++ names)
+    a-name : (frame : List ℕ) (name : LinkName) (names : List LinkName) → is_of_a_link (own_side c) frame ≡ true → named_in c.sapi frame ≡ name → Walk l (name ∷ names) → Walk l (names-in (frame ∷ []) ++ names)
     a-name frame name names is named walk = grind (arith, named_in)
 
     abbrev new : Line
@@ -101,8 +102,8 @@ module _ (c : Config) (one tei other its : ℕ) where
     of-link : (frame : List ℕ) (x : IsOfLink c (contents_of_link l) l new frame) (names : List LinkName) → Walk new names → Walk l (names-in (frame ∷ []) ++ names)
     of-link frame x names walk =
         let a : Address = record { sapi = sapi_of (service_at x.number); command = x.command; tei = x.tei } in
-        a-name frame (name_of x.number x.tei) names (ap (is_of_a_link c.side) x.spelled ∙ link-frame c.side a x.control (plain-order c l new frame plain x) (unwrap_or x.information []))
-        (ap named_in x.spelled ∙ name-is c.side a x.control (unwrap_or x.information []))
+        a-name frame (name_of x.number x.tei) names (ap (is_of_a_link (own_side c)) x.spelled ∙ link-frame (own_side c) a x.control (plain-order c l new frame plain x) (unwrap_or x.information []))
+        (ap (named_in c.sapi) x.spelled ∙ name-is (own_side c) a x.control (unwrap_or x.information []))
         (goes l new x.number x.tei names h (record {
           on_line = x.on_line;
           passed = x.its_turn.passed;
@@ -117,11 +118,11 @@ module _ (c : Config) (one tei other its : ℕ) where
     by-next None x names walk = still l new names (ap (λ (l : Line). l.turn) x.line) walk
     by-next (Some t) (inl x) names walk =
         let a : Address = record { sapi = 63; command = true; tei = 127 } in
-        no-name t.frame names (ap (is_of_a_link c.side) x.spelled ∙ ui-frame c.side a (information_of x.message) (omega arith) (omega arith) refl) (still l new names (ap (λ (l : Line). l.turn) x.line) walk)
+        no-name t.frame names (ap (is_of_a_link (own_side c)) (x.spelled ∙ message-text c x.message) ∙ ui-frame (own_side c) a (information_of x.message) (omega arith) (omega arith) refl) (still l new names (ap (λ (l : Line). l.turn) x.line) walk)
     by-next (Some t) (inr (inl x)) names walk =
         let a : Address = record { sapi = sapi_of x.unit.service; command = true; tei = x.unit.tei } in
         let small = first-of c l.units x.unit x.oldest h.sound.units in
-        no-name t.frame names (ap (is_of_a_link c.side) x.spelled ∙ ui-frame c.side a x.unit.contents (sapi-small x.unit.service) (omega (arith, small)) refl) (still l new names (ap (λ (l : Line). l.turn) x.line) walk)
+        no-name t.frame names (ap (is_of_a_link (own_side c)) x.spelled ∙ ui-frame (own_side c) a x.unit.contents (sapi-small x.unit.service) (omega (arith, small)) refl) (still l new names (ap (λ (l : Line). l.turn) x.line) walk)
     by-next (Some t) (inr (inr x)) names walk = of-link t.frame x names walk
 
     none-begins : (e : line_event.Event) (a : Answer) (names : List LinkName) → frames_begun (seen e a) ≡ [] → (lines.after c e l).turn ≡ l.turn

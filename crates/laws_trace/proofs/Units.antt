@@ -1,10 +1,11 @@
 -- Unit data goes out in the order in which it was granted, over runs.
 use Rattle.laws_trace.proofs.Vocabulary.{arith, ◌≡◌, ℕ, ◌<◌, ◌≤◌, ◌==◌, ◌&&◌, Bool, true, false, cond, List, [], ◌∷◌, ◌++◌, drop, map, slice_get, Option, Some, None, option_map, refl, sym, ap, ◌∙◌, subst, inl, inr, append-nil, All, not, filter, get_or-replicate, map-append, All-nil, All-head, Ui, sapi_of, IsInOrder, Link, ControlFrame, Config, hears, expiry, request, next, NextFrame, Answer, gave}
 use Rattle.laws_trace.proofs.Vocabulary.{Line, UnitData, link_count, link_at, service_at, terms, fresh_line, management_sapi, Taken, taken, unit_frame, next_of, IsInRange, IsUnitData, IsOfLink, IsOwed, IsIdle, contents_of_link, units_asked, event-follows, event-happens, served, units-wait, fold, information_of, fresh_link as fresh, Event, line_after as after, answer, Request, IsSound}
-use Rattle.laws_trace.proofs.Vocabulary.{trace_frame_in as frame_in, Seen, seen_told, seen_granted, seen, frames_begun, IsFront, units_left, is_ui, is_down, is_unit, waits, trace_begun as begun, granted, fold-append, trace, seen_in, Moment}
+use Rattle.laws_trace.proofs.Vocabulary.{trace_frame_in as frame_in, Seen, seen_told, seen_granted, seen, frames_begun, IsFront, units_left, is_ui, is_down, is_unit, waits, trace_begun as begun, granted, fold-append, trace, seen_in, Moment, own_side}
 use Rattle.laws_trace.proofs.NoUi.{IsPlain, all-left}
 use Rattle.laws_trace.proofs.Reading.{other-frame, unit-is}
 use Rattle.laws_trace.specs.Units as units
+use Rattle.laws_trace.proofs.ReadAgain.{message-text}
 
 -- No UI waits on any link of a line.
 abbrev pub NoneWaits : Config → Line → Type 0
@@ -18,7 +19,7 @@ event-none c e l s h number few = grind (arith, event-happens, All-nil, event-fo
 
 -- The unit data that begins in a trace.
 abbrev pub units_begun : Config → List Seen → List (List ℕ)
-units_begun c t = filter (is_unit c.side) (frames_begun t)
+units_begun c t = filter (is_unit (own_side c)) (frames_begun t)
 
 -- What a trace is to the unit data that waits before it and after it: a UI that begins is the oldest, unit data that is granted
 -- waits behind, and where the line is down none waits.
@@ -33,7 +34,7 @@ abbrev pub left_by : Config → Request → List (List ℕ) → List (List ℕ)
 left_by c r waiting = cond (is_down r) [] (waiting ++ units.unit_asked c r)
 
 abbrev pub Step : Config → List (List ℕ) → Seen → List (List ℕ) → Type 0
-Step c waiting (begun octets) left = Begun (is_unit c.side octets) waiting octets left
+Step c waiting (begun octets) left = Begun (is_unit (own_side c) octets) waiting octets left
 Step c waiting (granted r) left = left ≡ left_by c r waiting
 Step c waiting other left = left ≡ waiting
 
@@ -93,12 +94,12 @@ plain-order c l new frame h x = by-order x.in_order
     by-order (inr (inl information)) = ap (λ (f : ControlFrame). is_ui f.control) information.is
     by-order (inr (inr acknowledgement)) = ap (λ (f : ControlFrame). is_ui f.control) acknowledgement.is
 
-of-link : (c : Config) (l new : Line) (frame : List ℕ) → NoneWaits c l → IsOfLink c (contents_of_link l) l new frame → is_unit c.side frame ≡ false
+of-link : (c : Config) (l new : Line) (frame : List ℕ) → NoneWaits c l → IsOfLink c (contents_of_link l) l new frame → is_unit (own_side c) frame ≡ false
 of-link c l new frame h x =
-    ap (is_unit c.side) x.spelled
-    ∙ other-frame c.side (record { sapi = sapi_of (service_at x.number); command = x.command; tei = x.tei }) x.control (ap (λ b. b && not (sapi_of (service_at x.number) == management_sapi)) (plain-order c l new frame h x)) _
+    ap (is_unit (own_side c)) x.spelled
+    ∙ other-frame (own_side c) (record { sapi = sapi_of (service_at x.number); command = x.command; tei = x.tei }) x.control (ap (λ b. b && not (sapi_of (service_at x.number) == management_sapi)) (plain-order c l new frame h x)) _
 
-begins : (c : Config) (waiting left : List (List ℕ)) (frame : List ℕ) (b : Bool) → is_unit c.side frame ≡ b → Begun b waiting frame left → Goes c waiting (begun frame ∷ []) left
+begins : (c : Config) (waiting left : List (List ℕ)) (frame : List ℕ) (b : Bool) → is_unit (own_side c) frame ≡ b → Begun b waiting frame left → Goes c waiting (begun frame ∷ []) left
 unfolding Goes
 begins c waiting left frame b is h = (left, subst (λ b. Begun b waiting frame left) (sym is) h, refl)
 
@@ -109,11 +110,11 @@ unfolding Goes
 next-passes c l new s h None x = ap (λ (l : Line). map (unit_frame c) l.units) x.line
 next-passes c l new s h (Some t) (inl x) =
     begins c (frames c l) (frames c new) t.frame false
-    (ap (is_unit c.side) x.spelled ∙ other-frame c.side (record { sapi = 63; command = true; tei = 127 }) (Ui false) refl (information_of x.message))
+    (ap (is_unit (own_side c)) (x.spelled ∙ message-text c x.message) ∙ other-frame (own_side c) (record { sapi = 63; command = true; tei = 127 }) (Ui false) refl (information_of x.message))
     (ap (λ (l : Line). map (unit_frame c) l.units) x.line)
 next-passes c l new s h (Some t) (inr (inl x)) =
     begins c (frames c l) (frames c new) t.frame true
-    (ap (is_unit c.side) x.spelled ∙ unit-is c x.unit (first-of c l.units x.unit x.oldest s.units))
+    (ap (is_unit (own_side c)) x.spelled ∙ unit-is c x.unit (first-of c l.units x.unit x.oldest s.units))
     (sym (ap (λ (l : Line). t.frame ∷ map (unit_frame c) l.units) x.line ∙ ap (λ f. f ∷ map (unit_frame c) (drop 1 l.units)) x.spelled
     ∙ first-goes c l.units x.unit x.oldest))
 next-passes c l new s h (Some t) (inr (inr x)) =
@@ -139,7 +140,7 @@ steps c ranged e l s h = (event-passes c e l s h, event-none c e l s h)
 -- So those that wait are as the observer has them, by what is seen;
 abbrev pub traced : Config → List (List ℕ) → Seen → List (List ℕ)
 traced c units (granted r) = left_by c r units
-traced c units (begun octets) = cond (is_unit c.side octets) (drop 1 units) units
+traced c units (begun octets) = cond (is_unit (own_side c) octets) (drop 1 units) units
 traced c units other = units
 
 pub left-is-waiting : (c : Config) (t : List Seen) (waiting left : List (List ℕ)) → Goes c waiting t left → fold (traced c) waiting t ≡ left
@@ -171,7 +172,7 @@ same-units c number (m ∷ ms) units =
     ∙ sym (fold-append (traced c) units (seen_in number m) (trace number ms))
 
 -- and of what begins the unit data is the first of them.
-pub begun-first : (c : Config) (fs : List (List ℕ)) (waiting left : List (List ℕ)) → Goes c waiting (map begun fs) left → IsFront (filter (is_unit c.side) fs) waiting
+pub begun-first : (c : Config) (fs : List (List ℕ)) (waiting left : List (List ℕ)) → Goes c waiting (map begun fs) left → IsFront (filter (is_unit (own_side c)) fs) waiting
 unfolding Goes
 begun-first c [] waiting left same = record { rest = waiting; whole_is = refl }
 begun-first c (f ∷ fs) waiting left (kept, step, more) = grind (arith, begun-first c fs kept left more)

@@ -17,10 +17,13 @@ pub use Rattle.std.specs.Result.{result_err, result_ok}
 pub use Rattle.lapd_count.specs.Counters.{More}
 pub use Rattle.lapd_frame.proofs.AddressField.{address-again}
 pub use Rattle.lapd_frame.proofs.ControlField.{control-again}
-pub use Rattle.lapd_frame.proofs.Spelling.{reading-again, reading-found}
-pub use Rattle.lapd_frame.specs.Grammar.{Parts, cr_bit, head_of, other_side, spelling}
+pub use Rattle.lapd_frame.proofs.Naming.{exchanged-back, exchanged-small, management-spelled, management-stays, named-ok, parts-back, reading-again, reading-found, renamed-back}
+pub use Rattle.lapd_frame.specs.Grammar.{Parts, cr_bit, head_of, other_side, spelling as side_spelling}
 pub use Rattle.lapd_frame.specs.Reading.{checked, completed}
-unfoldable pub use Rattle.lapd_frame.specs.Reading.{header_of, reading}
+unfoldable pub use Rattle.lapd_frame.specs.Reading.{header_of, reading as side_reading}
+unfoldable pub use Rattle.lapd_frame.specs.Senders.{exchanged, reading}
+pub use Rattle.lapd_frame.specs.Senders.{fault_named, named as named_by, parts_named, renamed, spelling}
+pub use Rattle.lapd_frame.specs.declared.senders.Sender.{Sender}
 pub use Rattle.lapd_frame.specs.Services.{same_service, sapi_of, service_of}
 pub use Rattle.lapd_frame.specs.declared.addresses.Address.{Address}
 pub use Rattle.lapd_frame.specs.declared.addresses.Side.{Side}
@@ -194,7 +197,7 @@ pub use Rattle.model_line.specs.Requested.{aim_of_request, at_deactivated, at_re
 pub use Rattle.model_line.specs.Room.{unless}
 pub use Rattle.model_line.specs.Sides.{IsToGroup, at_side, group_told, has_management, last_unit_tei}
 pub use Rattle.model_line.specs.Sound.{IsInRange, IsSound, IsSoundAt, IsUnitData}
-pub use Rattle.model_line.specs.Taken.{Taken, first_taken, frame_of as line_frame_of, line_of, next_of, round, taken, unit_frame, with_given_frame, with_message, with_unit}
+pub use Rattle.model_line.specs.Taken.{Taken, first_taken, frame_of as line_frame_of, line_of, next_of, own_side, round, taken, unit_frame, with_given_frame, with_message, with_unit}
 pub use Rattle.model_line.specs.declared.config.Config.{Config}
 pub use Rattle.model_link.proofs.Waits.{sapi-small}
 pub use Rattle.model_link.proofs.Delivering.{delivery, event-delivers}

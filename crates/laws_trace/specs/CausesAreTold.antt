@@ -12,13 +12,14 @@ use Rattle.lapd_frame.specs.declared.faults.ReadFault.TheVariants.{BadExtension,
 use Rattle.lapd_frame.specs.declared.overlong.Long.{Long}
 use Rattle.lapd_frame.specs.declared.overlong.Long.TheVariants as long
 use Rattle.lapd_frame.specs.declared.services.Service.{Service}
-use Rattle.lapd_frame.specs.Grammar.{Parts, other_side}
-use Rattle.lapd_frame.specs.Reading.{reading, long_reading}
+use Rattle.lapd_frame.specs.Grammar.{Parts}
+use Rattle.lapd_frame.specs.Senders.{reading, long_reading}
 use Rattle.lapd_frame.specs.Services.{service_of}
 use Rattle.model_line.specs.declared.config.Config.{Config}
 use Rattle.model_line.specs.Event as line_event
 use Rattle.model_line.specs.Event.{hears, told}
 use Rattle.model_line.specs.Laws.{cause_in}
+use Rattle.model_line.specs.Heard.{heard_side}
 use Rattle.model_card.specs.Event.{Event}
 use Rattle.laws_trace.specs.Deliveries.{is_unit_taken}
 use Rattle.laws_trace.specs.Managing.{Checked, Managed, is_on, may_check, managed_after, manages}
@@ -78,8 +79,8 @@ by_long w states (Err fault) = by_fault (by_address w states is_up false) fault
 -- else none.
 abbrev pub cause_due : Config → Managed → (Service → ℕ → ℕ) → line_event.Event → Option Cause
 cause_due c w states (hears (stream.dropped cause)) = Some cause
-cause_due c w states (hears (stream.frame octets)) = by_frame c w states (reading (other_side c.side) octets)
-cause_due c w states (hears (stream.overlong head)) = by_long w states (long_reading (other_side c.side) head)
+cause_due c w states (hears (stream.frame octets)) = by_frame c w states (reading (heard_side c) octets)
+cause_due c w states (hears (stream.overlong head)) = by_long w states (long_reading (heard_side c) head)
 cause_due c w states other = None
 
 -- After whatever happened to the card, the answer to an event of the line names the cause that is due, and where one is, nothing

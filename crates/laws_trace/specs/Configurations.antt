@@ -3,7 +3,7 @@ use Rattle.std.specs.Prelude.{◌≡◌, ◌≤◌, ◌↔◌, None, Some, refl}
 use Rattle.std.proofs.Common.{arith, lit≤}
 use Rattle.model_line.specs.declared.config.Config.{Config}
 use Rattle.model_line.specs.declared.config.Field.TheVariants as field
-use Rattle.model_line.specs.Config.{first_fault}
+use Rattle.model_line.specs.Config.{first_fault, sapi_fault}
 use Rattle.model_line.specs.Sound.{IsInRange}
 use Rattle.laws_line.specs.card.Worked.{usual}
 
@@ -19,6 +19,7 @@ pub record HasRanges (c : Config) : Type 0 where
   pub slots : (1 ≤ c.slots) × (c.slots ≤ 8192)
   pub n201 : (8 ≤ c.n201) × (c.n201 ≤ 260)
   pub n200 : c.n200 ≤ 10
+  pub sapi : (1 ≤ c.sapi) × (c.sapi ≤ 62)
 
 -- A card starts with each configuration within them, as far as its shelf and memory allow, and with no other: no fault is
 -- found in it.
@@ -38,9 +39,11 @@ usual_has_ranges = record {
   slots = (lit≤ tt, lit≤ tt);
   n201 = (lit≤ tt, lit≤ tt);
   n200 = lit≤ tt;
+  sapi = (lit≤ tt, lit≤ tt);
 }
 
 usual_starts : first_fault usual ≡ None
+unfolding sapi_fault
 usual_starts = refl
 
 too_wide : HasRanges (record usual { k = 128; queue = 127 }) → ⊥

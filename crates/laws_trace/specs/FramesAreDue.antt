@@ -4,12 +4,13 @@ use Rattle.lapd_seq.specs.Numbers.{seq}
 use Rattle.lapd_frame.specs.declared.controls.Control.{Control}
 use Rattle.lapd_frame.specs.declared.controls.Control.TheVariants.{Information, ReceiveReady}
 use Rattle.lapd_frame.specs.declared.services.Service.{Service}
-use Rattle.lapd_frame.specs.Grammar.{spelling}
+use Rattle.lapd_frame.specs.Senders.{spelling}
 use Rattle.lapd_frame.specs.Services.{sapi_of}
 use Rattle.model_link.specs.declared.frames.ControlFrame.{ControlFrame}
 use Rattle.model_line.specs.declared.config.Config.{Config}
 use Rattle.model_line.specs.Event.{next}
 use Rattle.model_line.specs.Line.{window}
+use Rattle.model_line.specs.Taken.{own_side}
 use Rattle.model_card.specs.Event.{Event}
 use Rattle.laws_trace.specs.LinkFrames.{is_frame_of}
 use Rattle.laws_trace.specs.Managing.{is_on}
@@ -20,7 +21,7 @@ use Rattle.laws_trace.specs.Trace.{frame_in, IsFront}
 -- A frame of the link, with its SAPI and TEI (Q.921 clause 3.3).
 abbrev pub text : Config → Service → ℕ → Bool → Control → List ℕ → List ℕ
 text c service tei command control info =
-    spelling c.side (record { address = record { sapi = sapi_of service; command = command; tei = tei }; control = control; info = info })
+    spelling (own_side c) (record { address = record { sapi = sapi_of service; command = command; tei = tei }; control = control; info = info })
 
 -- I-frames may go in state 7, while the terminal is not busy, and fewer than k are outstanding (clauses 5.6.1 and 5.6.5).
 abbrev pub may_go : Config → Service → Observed → Bool

@@ -2,11 +2,13 @@
 use Rattle.std.specs.Prelude.{◌≡◌, ℕ, ◌==◌, ◌||◌, Bool, true, List, [], All, is_some}
 use Rattle.model_bits.specs.StreamLaws.{HasOctets}
 use Rattle.model_bits.specs.StuffingLaws.{AreOctets}
-use Rattle.lapd_frame.specs.Grammar.{Parts, Spells}
+use Rattle.lapd_frame.specs.Grammar.{Parts}
+use Rattle.lapd_frame.specs.Senders.{Spells}
 use Rattle.lapd_frame.specs.Services.{service_of}
 use Rattle.model_line.specs.declared.config.Config.{Config}
 use Rattle.model_line.specs.Request as asked
 use Rattle.model_line.specs.Request.{Request}
+use Rattle.model_line.specs.Taken.{own_side}
 use Rattle.model_card.specs.Card.{fresh}
 use Rattle.model_card.specs.Event.{Event}
 use Rattle.model_card.specs.Run.{moments}
@@ -19,7 +21,7 @@ abbrev pub is_of_use : ℕ → Bool
 is_of_use sapi = sapi == 63 || is_some (service_of sapi)
 
 abbrev pub IsSpelled : Config → List ℕ → Type 0
-IsSpelled c octets = (parts : Parts) × Spells c.side parts octets × (is_of_use parts.address.sapi ≡ true)
+IsSpelled c octets = (parts : Parts) × Spells (own_side c) parts octets × (is_of_use parts.address.sapi ≡ true)
 
 abbrev pub FramesAreRead : Config → List Event → ℕ → Type 0
 FramesAreRead c events number = All (IsSpelled c) (frames_given number (moments (fresh c) events))

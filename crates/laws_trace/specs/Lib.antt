@@ -4,6 +4,7 @@ pub mod LinkFrames
 pub mod Observer
 pub mod Configurations
 pub mod OtherSide
+pub mod Sapis
 pub mod Units
 pub mod UnitsGoOut
 pub mod FramesAreRead
@@ -35,6 +36,7 @@ pub mod WorkedLoss
 pub mod WorkedAnswers
 pub mod WorkedManaging
 pub mod WorkedOtherSide
+pub mod WorkedSapis
 pub mod RoomsAreTold
 pub mod WorkedRooms
 pub mod WorkedGranted

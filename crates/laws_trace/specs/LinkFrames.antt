@@ -4,20 +4,22 @@ use Rattle.std.specs.Option.{option_map_or, option_and_then}
 use Rattle.std.specs.Result.{result_ok, result_err}
 use Rattle.model_bits.specs.Stream as stream
 use Rattle.lapd_frame.specs.declared.addresses.Address.{Address}
-use Rattle.lapd_frame.specs.declared.addresses.Side.{Side}
 use Rattle.lapd_frame.specs.declared.faults.ReadFault.{ReadFault}
 use Rattle.lapd_frame.specs.declared.faults.ReadFault.TheVariants.{Undefined, WrongSize}
 use Rattle.lapd_frame.specs.declared.notes.ErrorCode.{ErrorCode}
 use Rattle.lapd_frame.specs.declared.notes.ErrorCode.TheVariants.{L, N, O}
 use Rattle.lapd_frame.specs.declared.overlong.Long.{Long}
 use Rattle.lapd_frame.specs.declared.overlong.Long.TheVariants as long
+use Rattle.lapd_frame.specs.declared.senders.Sender.{Sender}
 use Rattle.lapd_frame.specs.declared.services.Service.{Service}
-use Rattle.lapd_frame.specs.Grammar.{Parts, other_side}
-use Rattle.lapd_frame.specs.Reading.{reading, long_reading}
+use Rattle.lapd_frame.specs.Grammar.{Parts}
+use Rattle.lapd_frame.specs.Senders.{reading, long_reading}
 use Rattle.lapd_frame.specs.Services.{sapi_of}
 use Rattle.model_line.specs.declared.config.Config.{Config}
 use Rattle.model_line.specs.Event as line_event
 use Rattle.model_line.specs.Event.{hears}
+use Rattle.model_line.specs.Taken.{own_side}
+use Rattle.model_line.specs.Heard.{heard_side}
 use Rattle.laws_trace.specs.Units.{is_ui}
 
 -- A frame that is heard, as the grammar reads it; it is for the link of a service with a TEI by its address (Q.921
@@ -25,12 +27,12 @@ use Rattle.laws_trace.specs.Units.{is_ui}
 abbrev pub is_for : Service → ℕ → Address → Bool
 is_for service tei address = address.sapi == sapi_of service && address.tei == tei
 
--- Octets are read as a frame of a side, of which this holds.
-abbrev pub reads : Side → (Parts → Bool) → List ℕ → Bool
-reads side holds octets = option_map_or holds (result_ok (reading side octets)) false
+-- Octets are read as a frame of a sender, of which this holds.
+abbrev pub reads : Sender → (Parts → Bool) → List ℕ → Bool
+reads sender holds octets = option_map_or holds (result_ok (reading sender octets)) false
 
 abbrev pub frame_of : Config → stream.Event → Option Parts
-frame_of c (stream.frame octets) = result_ok (reading (other_side c.side) octets)
+frame_of c (stream.frame octets) = result_ok (reading (heard_side c) octets)
 frame_of c other = None
 
 abbrev pub its_frame : Service → ℕ → Option Parts → Option Parts
@@ -55,10 +57,10 @@ faulty_long service tei (Ok (long.Unnumbered address)) = None
 faulty_long service tei (Err fault) = fault_of service tei fault
 
 abbrev pub malformed : Config → Service → ℕ → stream.Event → Option ErrorCode
-malformed c service tei (stream.frame octets) = option_and_then (fault_of service tei) (result_err (reading (other_side c.side) octets))
-malformed c service tei (stream.overlong head) = faulty_long service tei (long_reading (other_side c.side) head)
+malformed c service tei (stream.frame octets) = option_and_then (fault_of service tei) (result_err (reading (heard_side c) octets))
+malformed c service tei (stream.overlong head) = faulty_long service tei (long_reading (heard_side c) head)
 malformed c service tei (stream.dropped cause) = None
 
 -- A frame that begins is one of the link, and no unit data.
 abbrev pub is_frame_of : Config → Service → ℕ → List ℕ → Bool
-is_frame_of c service tei octets = option_map_or (λ (f : Parts). not (is_ui f.control)) (its_frame service tei (result_ok (reading c.side octets))) false
+is_frame_of c service tei octets = option_map_or (λ (f : Parts). not (is_ui f.control)) (its_frame service tei (result_ok (reading (own_side c) octets))) false

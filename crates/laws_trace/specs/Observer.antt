@@ -10,12 +10,13 @@ use Rattle.lapd_frame.specs.declared.services.Service.{Service}
 use Rattle.lapd_frame.specs.declared.timers.Timer.{Timer}
 use Rattle.lapd_frame.specs.declared.timers.Timer.TheVariants.{T200, T203}
 use Rattle.lapd_frame.specs.Grammar.{Parts}
-use Rattle.lapd_frame.specs.Reading.{reading}
+use Rattle.lapd_frame.specs.Senders.{reading}
 use Rattle.lapd_seq.specs.declared.numbers.Seq.{Seq}
 use Rattle.model_line.specs.declared.config.Config.{Config}
 use Rattle.model_line.specs.Event as line_event
 use Rattle.model_line.specs.Event.{hears, expiry, request, Answer}
 use Rattle.model_line.specs.Request.{Request, Establish, Release, Deactivate, SetBusy, ClearBusy}
+use Rattle.model_line.specs.Taken.{own_side}
 use Rattle.laws_line.specs.Share.{is_granted}
 use Rattle.model_card.specs.Card.{fresh}
 use Rattle.model_card.specs.Event.{Event, at}
@@ -154,7 +155,7 @@ sends o (Information ns nr p) = if is_up o.state then record o { next = (ns.valu
 sends o other = o
 
 abbrev pub by_frame_begun : Config → Service → ℕ → Observed → List ℕ → Observed
-by_frame_begun c service tei o octets = option_map_or (λ (f : Parts). sends o f.control) (its_frame service tei (result_ok (reading c.side octets))) o
+by_frame_begun c service tei o octets = option_map_or (λ (f : Parts). sends o f.control) (its_frame service tei (result_ok (reading (own_side c) octets))) o
 
 abbrev pub by_event : Config → Service → ℕ → line_event.Event → Answer → Observed → Observed
 by_event c service tei (hears e) a o = by_heard c service tei e o

@@ -11,6 +11,7 @@ use Rattle.model_line.specs.declared.config.Config.{Config}
 use Rattle.model_line.specs.Event as line_event
 use Rattle.model_line.specs.Event.{Answer}
 use Rattle.model_line.specs.Laws.{orders_in}
+use Rattle.model_line.specs.Taken.{own_side}
 use Rattle.laws_line.specs.Heard.{notes_of}
 use Rattle.laws_line.specs.Share.{is_granted}
 use Rattle.model_card.specs.Event.{Event}
@@ -35,7 +36,7 @@ is_of_t201 other = false
 pub record IsAsDue (c : Config) (due : Managed) (a : Answer) : Type 0 where
   pub notes : filter is_of_teis (notes_of a) ≡ due.notes
   pub orders : filter is_of_t201 (orders_in a) ≡ due.orders
-  pub begins : filter (reads c.side (λ (f : Parts). f.address.sapi == 63)) (frame_in a) ≡ map (frame_of c.side) due.begins
+  pub begins : filter (reads (own_side c) (λ (f : Parts). f.address.sapi == 63)) (frame_in a) ≡ map (frame_of c.side) due.begins
   pub granted : (so : Bool) → due.granted ≡ Some so → is_granted a ≡ so
 
 -- So it is of each event of the line, after whatever happened to the card.

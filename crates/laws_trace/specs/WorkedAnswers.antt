@@ -5,6 +5,7 @@ use Rattle.model_bits.specs.Stream as stream
 use Rattle.lapd_frame.specs.declared.controls.Control.TheVariants.{ReceiveReady, Ua}
 use Rattle.lapd_frame.specs.declared.services.Service.TheVariants.{Call}
 use Rattle.lapd_frame.specs.Reading.{reading, header_of, control_of, unnumbered_of, supervisory_of}
+use Rattle.lapd_frame.specs.Senders.{exchanged, reading as read_by}
 use Rattle.lapd_seq.specs.Circle.{named, distance_of}
 use Rattle.lapd_seq.specs.Numbers.{seq}
 use Rattle.lapd_tei.specs.Events as teis
@@ -48,15 +49,15 @@ polled = up ++ at 0 poll ∷ []
 
 -- The poll puts RR with F=1, which is not lost; the TEI stays, and nine calls are enough, and give it.
 rr_due : puts_by small 0 up poll Call 64 ≡ as_response (ReceiveReady (seq 0) true)
-unfolding moments after_all lines.after lines.answer lines.takes_slot teis.course teis.refusal seq distance_of named reading header_of control_of unnumbered_of supervisory_of
+unfolding moments after_all lines.after lines.answer lines.takes_slot teis.course teis.refusal seq distance_of named exchanged read_by reading header_of control_of unnumbered_of supervisory_of
 rr_due = refl
 
 none_lost : lost_in (moment_of small up 0 poll).answer ≡ 0
-unfolding after_all lines.after lines.answer lines.takes_slot teis.course teis.refusal seq distance_of named reading header_of control_of unnumbered_of supervisory_of
+unfolding after_all lines.after lines.answer lines.takes_slot teis.course teis.refusal seq distance_of named exchanged read_by reading header_of control_of unnumbered_of supervisory_of
 none_lost = refl
 
 tei_stays : Stays small 0 Call 64 polled (calls 9)
-unfolding Stays teis.course teis.refusal reading header_of control_of unnumbered_of supervisory_of
+unfolding Stays teis.course teis.refusal exchanged read_by reading header_of control_of unnumbered_of supervisory_of
 tei_stays = (refl, refl, (refl, refl, (refl, refl, (refl, refl, (refl, refl, (refl, refl, (refl, refl, (refl, refl, (refl, refl, refl)))))))))
 
 nine_enough : most_frames_before small + priority_added small 0 polled (calls 9) < takes_of 0 (calls 9)
@@ -64,15 +65,15 @@ unfolding priority_added
 nine_enough = omega arith
 
 rr_given : sent_during small 0 polled (calls 9) ≡ (0x00 ∷ 0x81 ∷ 0x01 ∷ 0x01 ∷ []) ∷ []
-unfolding moments after_all lines.after lines.answer lines.takes_slot teis.course teis.refusal seq distance_of named reading header_of control_of unnumbered_of supervisory_of
+unfolding moments after_all lines.after lines.answer lines.takes_slot teis.course teis.refusal seq distance_of named exchanged read_by reading header_of control_of unnumbered_of supervisory_of
 rr_given = refl
 
 rr_joins : JoinsQueue small 0 Call 64 up poll
-unfolding moments after_all lines.after lines.answer lines.takes_slot teis.course teis.refusal seq distance_of named reading header_of control_of unnumbered_of supervisory_of
+unfolding moments after_all lines.after lines.answer lines.takes_slot teis.course teis.refusal seq distance_of named exchanged read_by reading header_of control_of unnumbered_of supervisory_of
 rr_joins = record { earlier = []; queue_is = refl }
 
 rr_sent : AreAmong (texts small Call 64 (queue small 0 Call 64 polled)) (sent_during small 0 polled (calls 9))
-unfolding moments after_all lines.after lines.answer lines.takes_slot teis.course teis.refusal seq distance_of named reading header_of control_of unnumbered_of supervisory_of
+unfolding moments after_all lines.after lines.answer lines.takes_slot teis.course teis.refusal seq distance_of named exchanged read_by reading header_of control_of unnumbered_of supervisory_of
 rr_sent = ([], [], refl, tt)
 
 -- A second poll puts a second RR, which waits behind the first; so two are given.
@@ -80,24 +81,24 @@ abbrev polled_twice : List Event
 polled_twice = polled ++ at 0 poll ∷ []
 
 two_join : JoinsQueue small 0 Call 64 polled poll
-unfolding moments after_all lines.after lines.answer lines.takes_slot teis.course teis.refusal seq distance_of named reading header_of control_of unnumbered_of supervisory_of
+unfolding moments after_all lines.after lines.answer lines.takes_slot teis.course teis.refusal seq distance_of named exchanged read_by reading header_of control_of unnumbered_of supervisory_of
 two_join = record { earlier = as_response (ReceiveReady (seq 0) true); queue_is = refl }
 
 two_sent : AreAmong (texts small Call 64 (queue small 0 Call 64 polled_twice)) (sent_during small 0 polled_twice (calls 9))
-unfolding moments after_all lines.after lines.answer lines.takes_slot teis.course teis.refusal seq distance_of named reading header_of control_of unnumbered_of supervisory_of
+unfolding moments after_all lines.after lines.answer lines.takes_slot teis.course teis.refusal seq distance_of named exchanged read_by reading header_of control_of unnumbered_of supervisory_of
 two_sent = ([], (0x00 ∷ 0x81 ∷ 0x01 ∷ 0x01 ∷ []) ∷ [], refl, ([], [], refl, tt))
 
 -- SABME is answered by UA; unit data that is granted meanwhile goes first, and one call more is needed.
 ua_joins : JoinsQueue small 0 Call 64 on sabme
-unfolding moments after_all lines.after lines.answer lines.takes_slot teis.course teis.refusal seq distance_of named reading header_of control_of unnumbered_of supervisory_of
+unfolding moments after_all lines.after lines.answer lines.takes_slot teis.course teis.refusal seq distance_of named exchanged read_by reading header_of control_of unnumbered_of supervisory_of
 ua_joins = record { earlier = []; queue_is = refl }
 
 ua_sent : AreAmong (texts small Call 64 (queue small 0 Call 64 (on ++ at 0 sabme ∷ []))) (sent_during small 0 (on ++ at 0 sabme ∷ []) (calls 9))
-unfolding moments after_all lines.after lines.answer lines.takes_slot teis.course teis.refusal seq distance_of named reading header_of control_of unnumbered_of supervisory_of
+unfolding moments after_all lines.after lines.answer lines.takes_slot teis.course teis.refusal seq distance_of named exchanged read_by reading header_of control_of unnumbered_of supervisory_of
 ua_sent = ([], [], refl, tt)
 
 one_comes : priority_added small 0 (on ++ at 0 sabme ∷ []) (on_0 (Unit Call 127 (7 ∷ [])) ∷ calls 10) ≡ 1
-unfolding priority_added moments lines.after lines.answer lines.takes_slot teis.course teis.refusal reading header_of control_of unnumbered_of
+unfolding priority_added moments lines.after lines.answer lines.takes_slot teis.course teis.refusal exchanged read_by reading header_of control_of unnumbered_of
 one_comes = refl
 
 -- If no call gives a frame, the law is broken.
@@ -106,5 +107,5 @@ none_there x [] back e = cc e
 none_there x (y ∷ front) back e = cc e
 
 unanswered : AreAmong (texts small Call 64 (queue small 0 Call 64 (on ++ at 0 sabme ∷ []))) [] → ⊥
-unfolding moments after_all lines.after lines.answer lines.takes_slot teis.course teis.refusal seq distance_of named reading header_of control_of unnumbered_of supervisory_of
+unfolding moments after_all lines.after lines.answer lines.takes_slot teis.course teis.refusal seq distance_of named exchanged read_by reading header_of control_of unnumbered_of supervisory_of
 unanswered (front, back, is, rest) = none_there (0x00 ∷ 0x81 ∷ 0x73 ∷ []) front back is

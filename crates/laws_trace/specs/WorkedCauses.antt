@@ -8,6 +8,7 @@ use Rattle.lapd_count.specs.declared.counter.Counter.TheVariants.{Dropped}
 use Rattle.lapd_count.specs.Counters.{More}
 use Rattle.lapd_frame.specs.declared.addresses.Side.TheVariants.{User}
 use Rattle.lapd_frame.specs.Reading.{reading, header_of, control_of, unnumbered_of, supervisory_of}
+use Rattle.lapd_frame.specs.Senders.{exchanged, reading as read_by}
 use Rattle.lapd_seq.specs.Circle.{named, distance_of}
 use Rattle.lapd_seq.specs.Numbers.{seq}
 use Rattle.lapd_tei.specs.Events as teis
@@ -52,28 +53,28 @@ unfolding moments after_all lines.after lines.answer lines.takes_slot teis.cours
 aborted = refl
 
 extended : both usual on (frame (0x01 ∷ 0x81 ∷ 0x7F ∷ [])) ≡ twice Extension
-unfolding moments after_all lines.after lines.answer lines.takes_slot teis.course teis.refusal reading header_of control_of unnumbered_of
+unfolding moments after_all lines.after lines.answer lines.takes_slot teis.course teis.refusal exchanged read_by reading header_of control_of unnumbered_of
 extended = refl
 
 unknown_sapi : both usual on (frame (0x04 ∷ 0x83 ∷ 0x7F ∷ [])) ≡ twice Sapi
-unfolding moments after_all lines.after lines.answer lines.takes_slot teis.course teis.refusal reading header_of control_of unnumbered_of
+unfolding moments after_all lines.after lines.answer lines.takes_slot teis.course teis.refusal exchanged read_by reading header_of control_of unnumbered_of
 unknown_sapi = refl
 
 unknown_tei : both usual on (frame (0x00 ∷ 0x83 ∷ 0x7F ∷ [])) ≡ twice Tei
-unfolding moments after_all lines.after lines.answer lines.takes_slot teis.course teis.refusal reading header_of control_of unnumbered_of
+unfolding moments after_all lines.after lines.answer lines.takes_slot teis.course teis.refusal exchanged read_by reading header_of control_of unnumbered_of
 unknown_tei = refl
 
 -- RR to a link that is down, and to one that is up; and a UI to it that was too long to keep;
 rr_unserved : both usual on (frame (0x00 ∷ 0x81 ∷ 0x01 ∷ 0x00 ∷ [])) ≡ twice Unserved
-unfolding moments after_all lines.after lines.answer lines.takes_slot teis.course teis.refusal reading header_of control_of unnumbered_of supervisory_of seq
+unfolding moments after_all lines.after lines.answer lines.takes_slot teis.course teis.refusal exchanged read_by reading header_of control_of unnumbered_of supervisory_of seq
 rr_unserved = refl
 
 rr_served : both usual up (frame (0x00 ∷ 0x81 ∷ 0x01 ∷ 0x00 ∷ [])) ≡ neither
-unfolding moments after_all lines.after lines.answer lines.takes_slot teis.course teis.refusal reading header_of control_of unnumbered_of supervisory_of seq named distance_of
+unfolding moments after_all lines.after lines.answer lines.takes_slot teis.course teis.refusal exchanged read_by reading header_of control_of unnumbered_of supervisory_of seq named distance_of
 rr_served = refl
 
 long_unserved : both usual up (hears (stream.overlong (0x00 ∷ 0x81 ∷ 0x03 ∷ 0x00 ∷ []))) ≡ twice Unserved
-unfolding moments after_all lines.after lines.answer lines.takes_slot teis.course teis.refusal reading header_of control_of unnumbered_of
+unfolding moments after_all lines.after lines.answer lines.takes_slot teis.course teis.refusal exchanged read_by reading header_of control_of unnumbered_of
 long_unserved = refl
 
 -- a check response of TEI 64 while no check runs, and while one does; and an identity request at the user's side.
@@ -81,15 +82,15 @@ abbrev response : line_event.Event
 response = frame (0xFC ∷ 0xFF ∷ 0x03 ∷ 0x0F ∷ 0x12 ∷ 0x34 ∷ 0x05 ∷ 0x81 ∷ [])
 
 unasked : both usual on response ≡ twice Unserved
-unfolding moments after_all lines.after lines.answer lines.takes_slot teis.course teis.refusal reading header_of control_of unnumbered_of
+unfolding moments after_all lines.after lines.answer lines.takes_slot teis.course teis.refusal exchanged read_by reading header_of control_of unnumbered_of
 unasked = refl
 
 asked : both usual (on ++ on_0 (Check 64) ∷ []) response ≡ neither
-unfolding moments after_all lines.after lines.answer lines.takes_slot teis.course teis.refusal reading header_of control_of unnumbered_of
+unfolding moments after_all lines.after lines.answer lines.takes_slot teis.course teis.refusal exchanged read_by reading header_of control_of unnumbered_of
 asked = refl
 
 unmanaged : both (record usual { side = User }) [] (frame (0xFE ∷ 0xFF ∷ 0x03 ∷ 0x0F ∷ 0x12 ∷ 0x34 ∷ 0x01 ∷ 0xFF ∷ [])) ≡ twice Unserved
-unfolding moments after_all lines.answer lines.takes_slot teis.course teis.refusal reading header_of control_of unnumbered_of
+unfolding moments after_all lines.answer lines.takes_slot teis.course teis.refusal exchanged read_by reading header_of control_of unnumbered_of
 unmanaged = refl
 
 -- A request that is granted names none.
@@ -123,7 +124,7 @@ is_drop (Dropped cause, amount) = true
 is_drop other = false
 
 one_drop : filter is_drop (all_shown 0 (moments (fresh usual) (on ++ at 0 (frame (0x00 ∷ 0x81 ∷ 0x01 ∷ 0x00 ∷ [])) ∷ []))) ≡ (Dropped Unserved, 1) ∷ []
-unfolding moments lines.after lines.answer lines.takes_slot teis.course teis.refusal reading header_of control_of unnumbered_of supervisory_of seq
+unfolding moments lines.after lines.answer lines.takes_slot teis.course teis.refusal exchanged read_by reading header_of control_of unnumbered_of supervisory_of seq
 one_drop = refl
 
 -- To count it as a bad check would break the law.

@@ -6,6 +6,7 @@ use Rattle.lapd_frame.specs.declared.controls.Control.TheVariants.{ReceiveReady,
 use Rattle.lapd_frame.specs.declared.services.Service.TheVariants.{Call}
 use Rattle.lapd_frame.specs.declared.timers.Timer.TheVariants.{T200, T203}
 use Rattle.lapd_frame.specs.Reading.{reading, header_of, control_of, unnumbered_of, supervisory_of}
+use Rattle.lapd_frame.specs.Senders.{exchanged, reading as read_by}
 use Rattle.lapd_seq.specs.Circle.{named, distance_of}
 use Rattle.lapd_seq.specs.Numbers.{seq}
 use Rattle.lapd_tei.specs.Events as teis
@@ -28,21 +29,21 @@ waiting events = (outgoing_of usual Call 64 0 events).waiting
 
 -- SABME is heard, and UA waits, until it begins.
 ua_waits : waiting up ≡ as_response (Ua true)
-unfolding lines.after lines.answer lines.takes_slot teis.course teis.refusal moments reading header_of control_of unnumbered_of
+unfolding lines.after lines.answer lines.takes_slot teis.course teis.refusal moments exchanged read_by reading header_of control_of unnumbered_of
 ua_waits = refl
 
 none_waits : waiting (up ++ calls 1) ≡ []
-unfolding lines.after lines.answer lines.takes_slot teis.course teis.refusal moments reading header_of control_of unnumbered_of
+unfolding lines.after lines.answer lines.takes_slot teis.course teis.refusal moments exchanged read_by reading header_of control_of unnumbered_of
 none_waits = refl
 
 -- Where the TEI leaves the line before a call, and comes again, the UA that waited waits no more;
 gone_with_its_tei : waiting (up ++ (on_0 (Remove 64) ∷ on_0 (Assign 64) ∷ [])) ≡ []
-unfolding lines.after lines.answer lines.takes_slot teis.course teis.refusal moments reading header_of control_of unnumbered_of
+unfolding lines.after lines.answer lines.takes_slot teis.course teis.refusal moments exchanged read_by reading header_of control_of unnumbered_of
 gone_with_its_tei = refl
 
 -- nor does it where the line is down.
 gone_with_its_line : waiting (up ++ (on_0 (Deactivate Call 64) ∷ [])) ≡ []
-unfolding lines.after lines.answer lines.takes_slot teis.course teis.refusal moments reading header_of control_of unnumbered_of
+unfolding lines.after lines.answer lines.takes_slot teis.course teis.refusal moments exchanged read_by reading header_of control_of unnumbered_of
 gone_with_its_line = refl
 
 -- In state 6 SABME is answered by DM, and in state 4 DISC; XID by nothing.
@@ -61,7 +62,7 @@ abbrev changes : List Event
 changes = up ++ (on_0 (SetBusy Call 64) ∷ on_0 (ClearBusy Call 64) ∷ [])
 
 changes_wait : waiting changes ≡ as_response (Ua true) ++ as_response (ReceiveNotReady (seq 0) false) ++ as_response (ReceiveReady (seq 0) false)
-unfolding lines.after lines.answer lines.takes_slot teis.course teis.refusal moments seq distance_of named reading header_of control_of unnumbered_of supervisory_of
+unfolding lines.after lines.answer lines.takes_slot teis.course teis.refusal moments seq distance_of named exchanged read_by reading header_of control_of unnumbered_of supervisory_of
 changes_wait = refl
 
 -- SABME is due as layer 3 asks for it, and again as T200 expires; and an enquiry as T203 does, and DISC as the link is
@@ -72,7 +73,7 @@ two_wait = refl
 
 an_enquiry : waiting (up ++ at 0 (expiry (T203 Call 64)) ∷ on_0 (Release Call 64) ∷ [])
     ≡ as_response (Ua true) ++ as_command (ReceiveReady (seq 0) true) ++ as_command (Disc true)
-unfolding lines.after lines.answer lines.takes_slot teis.course teis.refusal moments seq reading header_of control_of unnumbered_of supervisory_of
+unfolding lines.after lines.answer lines.takes_slot teis.course teis.refusal moments seq exchanged read_by reading header_of control_of unnumbered_of supervisory_of
 an_enquiry = refl
 
 -- As T200 expires for the last time, which ends state 5, none is due.
@@ -89,7 +90,7 @@ abbrev five : List ControlFrame
 five = waiting (on_0 (Assign 64) ∷ on_0 (Establish Call 64) ∷ again ++ again ++ again ++ frame_comes (0x00 ∷ 0x81 ∷ 0x7F ∷ []) ∷ [])
 
 one_is_lost : five ≡ as_command (Sabme true) ++ as_command (Sabme true) ++ as_command (Sabme true) ++ as_command (Sabme true)
-unfolding lines.after lines.answer lines.takes_slot teis.course teis.refusal moments reading header_of control_of unnumbered_of
+unfolding lines.after lines.answer lines.takes_slot teis.course teis.refusal moments exchanged read_by reading header_of control_of unnumbered_of
 one_is_lost = refl
 
 -- An I-frame with N(S)=1 and P=0, of which nothing is told, is answered by REJ with N(R)=0 in state 7, and by nothing
@@ -104,11 +105,11 @@ abbrev answers_it : Observed → Observed → List ControlFrame
 answers_it was now = answers usual Call 64 was now out_of_sequence.what
 
 rej_due : answers_it (in_state 7) rejected ≡ as_response (Reject (seq 0) false)
-unfolding seq reading header_of control_of unnumbered_of supervisory_of
+unfolding seq exchanged read_by reading header_of control_of unnumbered_of supervisory_of
 rej_due = refl
 
 none_due : answers_it (in_state 5) (in_state 5) ++ answers_it rejected rejected ≡ []
-unfolding seq reading header_of control_of unnumbered_of supervisory_of
+unfolding seq exchanged read_by reading header_of control_of unnumbered_of supervisory_of
 none_due = refl
 
 -- One with P=1 is answered by RR where its information has N201 octets, and by nothing where it has more.
@@ -119,11 +120,11 @@ abbrev answers_poll : List ℕ → List ControlFrame
 answers_poll info = answers (record usual { n201 = 8 }) Call 64 (in_state 7) (in_state 7) (hears (stream.frame (0x00 ∷ 0x81 ∷ 0x00 ∷ 0x01 ∷ info)))
 
 eight_answered : answers_poll of_eight ≡ as_response (ReceiveReady (seq 0) true)
-unfolding seq reading header_of control_of unnumbered_of supervisory_of
+unfolding seq exchanged read_by reading header_of control_of unnumbered_of supervisory_of
 eight_answered = refl
 
 nine_unanswered : answers_poll (0 ∷ of_eight) ≡ []
-unfolding seq reading header_of control_of unnumbered_of supervisory_of
+unfolding seq exchanged read_by reading header_of control_of unnumbered_of supervisory_of
 nine_unanswered = refl
 
 -- A poll is answered by RNR while layer 3 is busy.

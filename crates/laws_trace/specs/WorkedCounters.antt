@@ -9,6 +9,7 @@ use Rattle.lapd_count.specs.declared.kinds.Kind.TheVariants.{Sabme, Ua}
 use Rattle.lapd_count.specs.declared.messages.MessageType.TheVariants.{IdentityRequest, IdentityAssigned, IdentityDenied}
 use Rattle.lapd_count.specs.Counters.{More, amount_in}
 use Rattle.lapd_frame.specs.Reading.{reading, header_of, control_of, unnumbered_of}
+use Rattle.lapd_frame.specs.Senders.{exchanged, reading as read_by}
 use Rattle.lapd_tei.specs.Events as teis
 use Rattle.model_line.specs.declared.config.Config.{Config}
 use Rattle.model_line.specs.Event as line_event
@@ -30,19 +31,19 @@ abbrev seen_of : Counter → ℕ
 seen_of counter = amount_in counter (named_of usual (up ++ calls 2))
 
 one_sabme : seen_of (Frames Heard Sabme) ≡ 1
-unfolding moments lines.after lines.answer lines.takes_slot teis.course teis.refusal reading header_of control_of unnumbered_of
+unfolding moments lines.after lines.answer lines.takes_slot teis.course teis.refusal exchanged read_by reading header_of control_of unnumbered_of
 one_sabme = refl
 
 one_ua : seen_of (Frames Begun Ua) ≡ 1
-unfolding moments lines.after lines.answer lines.takes_slot teis.course teis.refusal reading header_of control_of unnumbered_of
+unfolding moments lines.after lines.answer lines.takes_slot teis.course teis.refusal exchanged read_by reading header_of control_of unnumbered_of
 one_ua = refl
 
 its_octets : seen_of (Octets Begun) ≡ 3
-unfolding moments lines.after lines.answer lines.takes_slot teis.course teis.refusal reading header_of control_of unnumbered_of
+unfolding moments lines.after lines.answer lines.takes_slot teis.course teis.refusal exchanged read_by reading header_of control_of unnumbered_of
 its_octets = refl
 
 one_noted : seen_of EstablishIndications ≡ 1
-unfolding moments lines.after lines.answer lines.takes_slot teis.course teis.refusal reading header_of control_of unnumbered_of
+unfolding moments lines.after lines.answer lines.takes_slot teis.course teis.refusal exchanged read_by reading header_of control_of unnumbered_of
 one_noted = refl
 
 -- On a line with room for one TEI a terminal asks for one, and gets it; another asks, and is denied one.
@@ -56,15 +57,15 @@ abbrev managed : Counter → ℕ
 managed counter = amount_in counter (named_of small (asks 1 ∷ asks 2 ∷ calls 3))
 
 two_requests : managed (Messages Heard IdentityRequest) ≡ 2
-unfolding moments lines.after lines.answer lines.takes_slot teis.course teis.refusal reading header_of control_of unnumbered_of
+unfolding moments lines.after lines.answer lines.takes_slot teis.course teis.refusal exchanged read_by reading header_of control_of unnumbered_of
 two_requests = refl
 
 one_assigned : managed (Messages Begun IdentityAssigned) ≡ 1
-unfolding moments lines.after lines.answer lines.takes_slot teis.course teis.refusal reading header_of control_of unnumbered_of
+unfolding moments lines.after lines.answer lines.takes_slot teis.course teis.refusal exchanged read_by reading header_of control_of unnumbered_of
 one_assigned = refl
 
 one_denied : managed (Messages Begun IdentityDenied) ≡ 1
-unfolding moments lines.after lines.answer lines.takes_slot teis.course teis.refusal reading header_of control_of unnumbered_of
+unfolding moments lines.after lines.answer lines.takes_slot teis.course teis.refusal exchanged read_by reading header_of control_of unnumbered_of
 one_denied = refl
 
 -- Where SABME is heard, and the event shows nothing, the law is broken.

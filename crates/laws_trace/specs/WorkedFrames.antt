@@ -8,8 +8,9 @@ use Rattle.lapd_frame.specs.declared.addresses.Side.TheVariants.{Network}
 use Rattle.lapd_frame.specs.declared.controls.Control.{Control}
 use Rattle.lapd_frame.specs.declared.controls.Control.TheVariants as control
 use Rattle.lapd_frame.specs.declared.controls.Control.TheVariants.{Ui}
-use Rattle.lapd_frame.specs.Grammar.{Parts, spelling}
+use Rattle.lapd_frame.specs.Grammar.{Parts}
 use Rattle.lapd_frame.specs.Reading.{reading, header_of, control_of, unnumbered_of}
+use Rattle.lapd_frame.specs.Senders.{exchanged, reading as read_by, spelling}
 use Rattle.lapd_tei.specs.Events as teis
 use Rattle.model_line.specs.Machine as lines
 use Rattle.model_card.specs.Card.{fresh}
@@ -20,10 +21,11 @@ use Rattle.laws_line.specs.card.Worked.{usual, on_0}
 use Rattle.laws_trace.specs.FramesAreRead.{GivesOctets, IsSpelled}
 use Rattle.laws_trace.specs.Trace.{Seen, heard, begun, noted, granted, lost, trace_of, frames_begun}
 use Rattle.laws_trace.specs.WorkedUnits.{unit, calls, frame_comes, spelled}
+use Rattle.model_line.specs.Taken.{own_side}
 
 -- Two UI frames begin.
 two_begun : frames_given 0 (moments (fresh usual) (on_0 (unit 1) ∷ on_0 (unit 2) ∷ calls 2)) ≡ spelled 1 ∷ spelled 2 ∷ []
-unfolding moments lines.after lines.answer lines.takes_slot
+unfolding exchanged moments lines.after lines.answer lines.takes_slot
 two_begun = refl
 
 -- Each of the two is one of the grammar, and of octets.
@@ -31,7 +33,7 @@ unit_parts : ℕ → Parts
 unit_parts n = record { address = record { sapi = 0; command = true; tei = 127 }; control = Ui false; info = n ∷ [] }
 
 is_spelled : (n : ℕ) → IsSpelled usual (spelled n)
-unfolding unit_parts
+unfolding exchanged unit_parts
 is_spelled n = (unit_parts n, record { is_frame = record { sapi = lit< tt; tei = lit< tt; kind = refl; size = refl }; octets_are = refl }, refl)
 
 -- So it is where all that is granted and heard consists of octets.
@@ -51,7 +53,7 @@ abbrev last : List Seen
 last = begun (spelled 0xAB) ∷ []
 
 octets_seen : trace_of usual of_octets 0 ≡ heard (frame sabme) ∷ quiet (granted (unit 0xAB) ∷ quiet last)
-unfolding moments lines.after lines.answer lines.takes_slot teis.course teis.refusal reading header_of control_of unnumbered_of
+unfolding moments lines.after lines.answer lines.takes_slot teis.course teis.refusal exchanged read_by reading header_of control_of unnumbered_of
 octets_seen = refl
 
 sabme_octets : AreOctets sabme
@@ -75,14 +77,14 @@ octets_begin =
 -- Where a number is heard that is no octet, as that of a terminal that asks for a TEI, one may begin.
 one_begins : frames_begun (trace_of usual (frame_comes (0xFC ∷ 0xFF ∷ 0x03 ∷ 0x0F ∷ 300 ∷ 0x34 ∷ 0x01 ∷ 0xFF ∷ []) ∷ calls 1) 0)
     ≡ (0xFE ∷ 0xFF ∷ 0x03 ∷ 0x0F ∷ 300 ∷ 0x34 ∷ 0x02 ∷ 0x81 ∷ []) ∷ []
-unfolding moments lines.after lines.answer lines.takes_slot teis.course teis.refusal reading header_of control_of unnumbered_of
+unfolding moments lines.after lines.answer lines.takes_slot teis.course teis.refusal exchanged read_by reading header_of control_of unnumbered_of
 one_begins = refl
 
 -- Where two octets begin as a frame, or a number that is no octet, the laws are broken.
 no_frame : IsSpelled usual (0x02 ∷ 0xFF ∷ []) → ⊥
 no_frame (f, h, served) = none f.control h.octets_are
   where
-    none : (k : Control) → (0x02 ∷ 0xFF ∷ []) ≡ spelling Network (record { address = f.address; control = k; info = f.info }) → ⊥
+    none : (k : Control) → (0x02 ∷ 0xFF ∷ []) ≡ spelling (own_side usual) (record { address = f.address; control = k; info = f.info }) → ⊥
     none (control.Information ns nr p) e = cc e
     none (control.ReceiveReady nr pf) e = cc e
     none (control.ReceiveNotReady nr pf) e = cc e

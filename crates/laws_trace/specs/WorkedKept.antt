@@ -4,6 +4,7 @@ use Rattle.lapd_frame.specs.declared.notes.ErrorCode.TheVariants.{F}
 use Rattle.lapd_frame.specs.declared.notes.Note.TheVariants.{Error, ReleaseIndication}
 use Rattle.lapd_frame.specs.declared.services.Service.TheVariants.{Call, Packet}
 use Rattle.lapd_frame.specs.Reading.{reading, header_of, control_of, unnumbered_of, supervisory_of}
+use Rattle.lapd_frame.specs.Senders.{exchanged, reading as read_by}
 use Rattle.lapd_seq.specs.Circle.{named, distance_of}
 use Rattle.lapd_seq.specs.Numbers.{seq}
 use Rattle.lapd_tei.specs.Events as teis
@@ -21,7 +22,7 @@ use Rattle.laws_trace.specs.WorkedUnits.{frame_comes}
 
 -- SABME of TEI 64, and data: one place of eight is taken;
 one_taken : room 0 Call 64 (after_all (fresh usual) (up ++ on_0 (Data Call 64 (7 ∷ [])) ∷ [])) ≡ Ok (record { queue = 7; pool = 63; va = 0 })
-unfolding after_all lines.after lines.takes_slot teis.course teis.refusal seq distance_of named reading header_of control_of unnumbered_of supervisory_of
+unfolding after_all lines.after lines.takes_slot teis.course teis.refusal seq distance_of named exchanged read_by reading header_of control_of unnumbered_of supervisory_of
 one_taken = refl
 
 -- it was granted for its link, and for no other.
@@ -33,7 +34,7 @@ for_no_other = refl
 
 -- SABME again leaves it, as nothing is outstanding; error F says nothing of a loss, as a release indication does.
 still_taken : room 0 Call 64 (after_all (fresh usual) (up ++ on_0 (Data Call 64 (7 ∷ [])) ∷ up)) ≡ Ok (record { queue = 7; pool = 63; va = 0 })
-unfolding after_all lines.after lines.takes_slot teis.course teis.refusal seq distance_of named reading header_of control_of unnumbered_of supervisory_of
+unfolding after_all lines.after lines.takes_slot teis.course teis.refusal seq distance_of named exchanged read_by reading header_of control_of unnumbered_of supervisory_of
 still_taken = refl
 
 no_loss : loses Call 64 next (told (record nothing { notes = Error Call 64 F ∷ [] })) ≡ false
@@ -47,9 +48,9 @@ abbrev one_heard : List Event
 one_heard = two_gone ++ frame_comes (0x02 ∷ 0x81 ∷ 0x01 ∷ 0x02 ∷ []) ∷ []
 
 one_more : went_on false (link_after two_gone) (link_after one_heard) ≡ 1
-unfolding moments lines.after lines.answer lines.takes_slot teis.course teis.refusal seq distance_of named reading header_of control_of unnumbered_of supervisory_of
+unfolding moments lines.after lines.answer lines.takes_slot teis.course teis.refusal seq distance_of named exchanged read_by reading header_of control_of unnumbered_of supervisory_of
 one_more = refl
 
 none_more : went_on true (link_after one_heard) (link_after (one_heard ++ frame_comes (0x00 ∷ 0x81 ∷ 0x7F ∷ []) ∷ [])) ≡ 0
-unfolding moments lines.after lines.answer lines.takes_slot teis.course teis.refusal seq distance_of named reading header_of control_of unnumbered_of supervisory_of
+unfolding moments lines.after lines.answer lines.takes_slot teis.course teis.refusal seq distance_of named exchanged read_by reading header_of control_of unnumbered_of supervisory_of
 none_more = refl

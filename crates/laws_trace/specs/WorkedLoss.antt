@@ -2,6 +2,7 @@
 use Rattle.std.specs.Prelude.{◌≡◌, ℕ, ◌+◌, ◌-◌, List, length, [], ◌∷◌, ◌++◌, refl}
 use Rattle.lapd_frame.specs.declared.services.Service.TheVariants.{Call}
 use Rattle.lapd_frame.specs.Reading.{reading, header_of, control_of, unnumbered_of, supervisory_of}
+use Rattle.lapd_frame.specs.Senders.{exchanged, reading as read_by}
 use Rattle.lapd_seq.specs.Circle.{named, distance_of}
 use Rattle.lapd_seq.specs.Numbers.{seq}
 use Rattle.lapd_tei.specs.Events as teis
@@ -28,15 +29,15 @@ abbrev asks : Event
 asks = frame_comes (0xFC ∷ 0xFF ∷ 0x03 ∷ 0x0F ∷ 0x12 ∷ 0x34 ∷ 0x01 ∷ 0xFF ∷ [])
 
 one_is_lost : lost_in (answer asks (after_all (fresh usual) four)) ≡ 1
-unfolding after_all lines.after lines.answer lines.takes_slot teis.course teis.refusal reading header_of control_of unnumbered_of
+unfolding after_all lines.after lines.answer lines.takes_slot teis.course teis.refusal exchanged read_by reading header_of control_of unnumbered_of
 one_is_lost = refl
 
 one_is_due : (due usual asks.what (managed_after usual 0 four)).lost ≡ 1
-unfolding reading header_of control_of unnumbered_of
+unfolding exchanged read_by reading header_of control_of unnumbered_of
 one_is_due = refl
 
 none_is_due : (due usual asks.what (managed_after usual 0 [])).lost ≡ 0
-unfolding reading header_of control_of unnumbered_of
+unfolding exchanged read_by reading header_of control_of unnumbered_of
 none_is_due = refl
 
 -- UA and the answers to three polls wait: they are four control frames of one link.
@@ -47,16 +48,16 @@ abbrev full : List Event
 full = up ++ poll ∷ poll ∷ poll ∷ []
 
 four_wait : length (outgoing_of usual Call 64 0 full).waiting ≡ 4
-unfolding moments lines.after lines.answer lines.takes_slot teis.course teis.refusal seq distance_of named reading header_of control_of unnumbered_of supervisory_of
+unfolding moments lines.after lines.answer lines.takes_slot teis.course teis.refusal seq distance_of named exchanged read_by reading header_of control_of unnumbered_of supervisory_of
 four_wait = refl
 
 -- A fourth answer finds no place, and is told as lost;
 one_more : length (puts_by usual 0 full poll.what Call 64) ≡ 1
-unfolding moments after_all lines.after lines.answer lines.takes_slot teis.course teis.refusal seq distance_of named reading header_of control_of unnumbered_of supervisory_of
+unfolding moments after_all lines.after lines.answer lines.takes_slot teis.course teis.refusal seq distance_of named exchanged read_by reading header_of control_of unnumbered_of supervisory_of
 one_more = refl
 
 one_without_place : lost_in (answer poll (after_all (fresh usual) full)) ≡ 1
-unfolding after_all lines.after lines.answer lines.takes_slot teis.course teis.refusal seq distance_of named reading header_of control_of unnumbered_of supervisory_of
+unfolding after_all lines.after lines.answer lines.takes_slot teis.course teis.refusal seq distance_of named exchanged read_by reading header_of control_of unnumbered_of supervisory_of
 one_without_place = refl
 
 -- where it were told of a third one, or of none here, the law would be broken.

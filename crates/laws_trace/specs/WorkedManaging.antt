@@ -7,6 +7,7 @@ use Rattle.lapd_frame.specs.declared.timers.Order.{Order}
 use Rattle.lapd_frame.specs.declared.timers.Order.TheVariants.{Start, Stop}
 use Rattle.lapd_frame.specs.declared.timers.Timer.TheVariants.{T201}
 use Rattle.lapd_frame.specs.Reading.{reading, header_of, control_of, unnumbered_of}
+use Rattle.lapd_frame.specs.Senders.{exchanged, reading as read_by}
 use Rattle.lapd_tei.specs.declared.messages.Message.{Message}
 use Rattle.lapd_tei.specs.declared.messages.Message.TheVariants.{IdentityAssigned, IdentityDenied, IdentityCheckRequest, IdentityRemove}
 use Rattle.lapd_tei.specs.Events as teis
@@ -49,33 +50,33 @@ owed_after c events = (managed_after c 0 events).owed
 
 -- A terminal asks for a TEI: the lowest is told, and its answer begins with the next call, and no more then.
 assigned : (due_behind usual [] asks).notes ≡ Assigned 64 ∷ []
-unfolding reading header_of control_of unnumbered_of
+unfolding exchanged read_by reading header_of control_of unnumbered_of
 assigned = refl
 
 begins : (due_behind usual (asks ∷ []) (at 0 next)).begins ≡ IdentityAssigned 0x1234 64 ∷ []
-unfolding reading header_of control_of unnumbered_of
+unfolding exchanged read_by reading header_of control_of unnumbered_of
 begins = refl
 
 begins_once : (due_behind usual (asks ∷ calls 1) (at 0 next)).begins ≡ []
-unfolding reading header_of control_of unnumbered_of
+unfolding exchanged read_by reading header_of control_of unnumbered_of
 begins_once = refl
 
 -- It asks again, and gets the same; behind TEI 64, which was put on the line by hand, the next; and where the line has no
 -- room, none; and nothing on the user's side.
 asked_again : owed_after usual (asks ∷ asks ∷ []) ≡ IdentityAssigned 0x1234 64 ∷ IdentityAssigned 0x1234 64 ∷ []
-unfolding reading header_of control_of unnumbered_of
+unfolding exchanged read_by reading header_of control_of unnumbered_of
 asked_again = refl
 
 next_lowest : owed_after usual (on_0 (Assign 64) ∷ asks ∷ []) ≡ IdentityAssigned 0x1234 65 ∷ []
-unfolding reading header_of control_of unnumbered_of
+unfolding exchanged read_by reading header_of control_of unnumbered_of
 next_lowest = refl
 
 denied : owed_after (record usual { terminals = 1 }) (on_0 (Assign 64) ∷ asks ∷ []) ≡ IdentityDenied 0x1234 ∷ []
-unfolding reading header_of control_of unnumbered_of
+unfolding exchanged read_by reading header_of control_of unnumbered_of
 denied = refl
 
 unserved : owed_after (record usual { side = User }) (asks ∷ []) ≡ []
-unfolding reading header_of control_of unnumbered_of
+unfolding exchanged read_by reading header_of control_of unnumbered_of
 unserved = refl
 
 -- A check asks, and once more where T201 runs out; then TEI 64 is told as removed, or stays where a terminal answered.
@@ -95,29 +96,29 @@ stopped : (due_behind usual (checked ++ expires ∷ []) expires).orders ≡ Stop
 stopped = refl
 
 stays : (managed_after usual 0 (checked ++ responds ∷ expires ∷ expires ∷ [])).on ≡ 64 ∷ []
-unfolding reading header_of control_of unnumbered_of
+unfolding exchanged read_by reading header_of control_of unnumbered_of
 stays = refl
 
 -- Two answers in one period say that two terminals have it; one in each do not.
 doubled : (due_behind usual (checked ++ responds ∷ []) responds).notes ≡ Doubled 64 ∷ []
-unfolding reading header_of control_of unnumbered_of
+unfolding exchanged read_by reading header_of control_of unnumbered_of
 doubled = refl
 
 taken_from_both : owed_after usual (checked ++ responds ∷ responds ∷ []) ≡ IdentityCheckRequest 64 ∷ IdentityRemove 64 ∷ []
-unfolding reading header_of control_of unnumbered_of
+unfolding exchanged read_by reading header_of control_of unnumbered_of
 taken_from_both = refl
 
 one_in_each : (due_behind usual (checked ++ responds ∷ expires ∷ []) responds).notes ≡ []
-unfolding reading header_of control_of unnumbered_of
+unfolding exchanged read_by reading header_of control_of unnumbered_of
 one_in_each = refl
 
 -- A verify begins a check, and none while one runs.
 verified : (due_behind usual (on_0 (Assign 64) ∷ []) verifies).orders ≡ Start T201 ∷ []
-unfolding reading header_of control_of unnumbered_of
+unfolding exchanged read_by reading header_of control_of unnumbered_of
 verified = refl
 
 verified_again : (due_behind usual checked verifies).orders ≡ []
-unfolding reading header_of control_of unnumbered_of
+unfolding exchanged read_by reading header_of control_of unnumbered_of
 verified_again = refl
 
 -- A TEI that is not on the line is disowned: its terminals are owed a removal, and nothing else is due. All TEIs are, while none
@@ -155,7 +156,7 @@ abbrev four : List Event
 four = asks ∷ asks ∷ asks ∷ asks ∷ []
 
 one_lost : (due_behind usual four asks).lost ≡ 1
-unfolding reading header_of control_of unnumbered_of
+unfolding exchanged read_by reading header_of control_of unnumbered_of
 one_lost = refl
 
 -- The machine answers so.
@@ -181,14 +182,14 @@ runs_on : IsAsDue usual (due_behind usual (checked ++ expires ∷ []) expires) (
 runs_on h = cc h.orders
 
 anew : IsAsDue usual (due_behind usual checked verifies) (tells [] (Start T201 ∷ [])) → ⊥
-unfolding reading header_of control_of unnumbered_of
+unfolding exchanged read_by reading header_of control_of unnumbered_of
 anew h = cc h.orders
 
 abbrev frame : Answer
 frame = gave (Some (record { octets = frame_of usual.side (IdentityRemove 64); orders = [] }))
 
 not_owed : IsAsDue usual (due_behind usual [] (at 0 next)) frame → ⊥
-unfolding reading header_of control_of unnumbered_of
+unfolding exchanged read_by reading header_of control_of unnumbered_of
 not_owed h = cc h.begins
 
 passed_over : IsAsDue usual (due_behind usual checked (at 0 next)) (gave None) → ⊥
@@ -199,5 +200,5 @@ runs_while_down : IsAsDue usual (due_behind usual checked (on_0 Down)) (tells []
 runs_while_down h = cc h.orders
 
 kept_for_later : IsAsDue usual (due_behind usual (checked ++ on_0 Down ∷ []) (at 0 next)) (gave (Some (record { octets = frame_of usual.side (IdentityCheckRequest 64); orders = [] }))) → ⊥
-unfolding reading header_of control_of unnumbered_of
+unfolding exchanged read_by reading header_of control_of unnumbered_of
 kept_for_later h = cc h.begins

@@ -7,6 +7,7 @@ use Rattle.lapd_frame.specs.declared.notes.Note.TheVariants.{EstablishIndication
 use Rattle.lapd_frame.specs.declared.services.Service.TheVariants.{Call}
 use Rattle.lapd_frame.specs.declared.timers.Timer.TheVariants as timers
 use Rattle.lapd_frame.specs.Reading.{reading, header_of, control_of, unnumbered_of, supervisory_of}
+use Rattle.lapd_frame.specs.Senders.{exchanged, reading as read_by}
 use Rattle.lapd_seq.specs.Circle.{named, distance_of}
 use Rattle.lapd_seq.specs.Numbers.{seq}
 use Rattle.lapd_tei.specs.Events as teis
@@ -38,11 +39,11 @@ sabme = hears (stream.frame (0x00 ∷ 0x81 ∷ 0x7F ∷ []))
 
 -- SABME leads from state 4 to state 7: an indication.
 is_told : told on sabme ≡ EstablishIndication Call 64 ∷ []
-unfolding moments after_all lines.after lines.answer lines.takes_slot teis.course teis.refusal seq reading header_of control_of unnumbered_of supervisory_of
+unfolding moments after_all lines.after lines.answer lines.takes_slot teis.course teis.refusal seq exchanged read_by reading header_of control_of unnumbered_of supervisory_of
 is_told = refl
 
 is_due : said on sabme ≡ EstablishIndication Call 64 ∷ []
-unfolding moments after_all lines.after lines.answer lines.takes_slot teis.course teis.refusal seq reading header_of control_of unnumbered_of supervisory_of
+unfolding moments after_all lines.after lines.answer lines.takes_slot teis.course teis.refusal seq exchanged read_by reading header_of control_of unnumbered_of supervisory_of
 is_due = refl
 
 -- A request to release a link that is down is confirmed at once; and UA confirms the establishment that layer 3 asks for.
@@ -51,21 +52,21 @@ unfolding moments after_all lines.after lines.answer lines.takes_slot teis.cours
 released = refl
 
 confirmed : said (on ++ on_0 (Establish Call 64) ∷ []) (hears (stream.frame (0x02 ∷ 0x81 ∷ 0x73 ∷ []))) ≡ EstablishConfirm Call 64 ∷ []
-unfolding moments after_all lines.after lines.answer lines.takes_slot teis.course teis.refusal seq reading header_of control_of unnumbered_of supervisory_of
+unfolding moments after_all lines.after lines.answer lines.takes_slot teis.course teis.refusal seq exchanged read_by reading header_of control_of unnumbered_of supervisory_of
 confirmed = refl
 
 -- XID is told; and where the TEI of a link that is up leaves, its release is indicated.
 xid_due : said up (hears (stream.frame (0x00 ∷ 0x81 ∷ 0xAF ∷ []))) ≡ Xid Call 64 ∷ []
-unfolding moments after_all lines.after lines.answer lines.takes_slot teis.course teis.refusal seq reading header_of control_of unnumbered_of supervisory_of
+unfolding moments after_all lines.after lines.answer lines.takes_slot teis.course teis.refusal seq exchanged read_by reading header_of control_of unnumbered_of supervisory_of
 xid_due = refl
 
 is_due_then : said up (request (Remove 64)) ≡ ReleaseIndication Call 64 ∷ []
-unfolding moments after_all lines.after lines.answer lines.takes_slot teis.course teis.refusal seq reading header_of control_of unnumbered_of supervisory_of
+unfolding moments after_all lines.after lines.answer lines.takes_slot teis.course teis.refusal seq exchanged read_by reading header_of control_of unnumbered_of supervisory_of
 is_due_then = refl
 
 -- So it is where its line is down.
 is_due_where_down : said up (request (Deactivate Call 64)) ≡ ReleaseIndication Call 64 ∷ []
-unfolding moments after_all lines.after lines.answer lines.takes_slot teis.course teis.refusal seq reading header_of control_of unnumbered_of supervisory_of
+unfolding moments after_all lines.after lines.answer lines.takes_slot teis.course teis.refusal seq exchanged read_by reading header_of control_of unnumbered_of supervisory_of
 is_due_where_down = refl
 
 -- SABME comes again while an I-frame is outstanding: error F, and an indication.
@@ -73,11 +74,11 @@ abbrev one_gone : List card.Event
 one_gone = up ++ on_0 (Data Call 64 (7 ∷ [])) ∷ calls 2
 
 lost_is_told : told one_gone sabme ≡ Error Call 64 F ∷ EstablishIndication Call 64 ∷ []
-unfolding moments after_all lines.after lines.answer lines.takes_slot teis.course teis.refusal seq distance_of named reading header_of control_of unnumbered_of supervisory_of
+unfolding moments after_all lines.after lines.answer lines.takes_slot teis.course teis.refusal seq distance_of named exchanged read_by reading header_of control_of unnumbered_of supervisory_of
 lost_is_told = refl
 
 lost_is_due : said one_gone sabme ≡ Error Call 64 F ∷ EstablishIndication Call 64 ∷ []
-unfolding moments after_all lines.after lines.answer lines.takes_slot teis.course teis.refusal seq distance_of named reading header_of control_of unnumbered_of supervisory_of
+unfolding moments after_all lines.after lines.answer lines.takes_slot teis.course teis.refusal seq distance_of named exchanged read_by reading header_of control_of unnumbered_of supervisory_of
 lost_is_due = refl
 
 -- DM with F=0 leads to state 5, and is error E.
@@ -85,11 +86,11 @@ abbrev dm : Event
 dm = hears (stream.frame (0x02 ∷ 0x81 ∷ 0x0F ∷ []))
 
 error_e : said up dm ≡ Error Call 64 E ∷ []
-unfolding moments after_all lines.after lines.answer lines.takes_slot teis.course teis.refusal seq reading header_of control_of unnumbered_of supervisory_of
+unfolding moments after_all lines.after lines.answer lines.takes_slot teis.course teis.refusal seq exchanged read_by reading header_of control_of unnumbered_of supervisory_of
 error_e = refl
 
 is_noted : told up dm ≡ Error Call 64 E ∷ []
-unfolding moments after_all lines.after lines.answer lines.takes_slot teis.course teis.refusal reading header_of control_of unnumbered_of
+unfolding moments after_all lines.after lines.answer lines.takes_slot teis.course teis.refusal exchanged read_by reading header_of control_of unnumbered_of
 is_noted = refl
 
 -- RR 1 as a response with F=1, where nothing went, is errors A and J; RR with N(R) 0 is A alone, and, behind T203, none.
@@ -100,37 +101,37 @@ abbrev rr_0 : Event
 rr_0 = hears (stream.frame (0x02 ∷ 0x81 ∷ 0x01 ∷ 0x01 ∷ []))
 
 errors_a_j : said up rr_1 ≡ Error Call 64 A ∷ Error Call 64 J ∷ []
-unfolding moments after_all lines.after lines.answer lines.takes_slot teis.course teis.refusal seq distance_of named reading header_of control_of unnumbered_of supervisory_of
+unfolding moments after_all lines.after lines.answer lines.takes_slot teis.course teis.refusal seq distance_of named exchanged read_by reading header_of control_of unnumbered_of supervisory_of
 errors_a_j = refl
 
 are_noted : told up rr_1 ≡ Error Call 64 A ∷ Error Call 64 J ∷ []
-unfolding moments after_all lines.after lines.answer lines.takes_slot teis.course teis.refusal seq distance_of named reading header_of control_of unnumbered_of supervisory_of
+unfolding moments after_all lines.after lines.answer lines.takes_slot teis.course teis.refusal seq distance_of named exchanged read_by reading header_of control_of unnumbered_of supervisory_of
 are_noted = refl
 
 error_a : said up rr_0 ≡ Error Call 64 A ∷ []
-unfolding moments after_all lines.after lines.answer lines.takes_slot teis.course teis.refusal seq distance_of named reading header_of control_of unnumbered_of supervisory_of
+unfolding moments after_all lines.after lines.answer lines.takes_slot teis.course teis.refusal seq distance_of named exchanged read_by reading header_of control_of unnumbered_of supervisory_of
 error_a = refl
 
 answered : said (up ++ at 0 (expiry (timers.T203 Call 64)) ∷ []) rr_0 ≡ []
-unfolding moments after_all lines.after lines.answer lines.takes_slot teis.course teis.refusal seq distance_of named reading header_of control_of unnumbered_of supervisory_of
+unfolding moments after_all lines.after lines.answer lines.takes_slot teis.course teis.refusal seq distance_of named exchanged read_by reading header_of control_of unnumbered_of supervisory_of
 answered = refl
 
 -- A frame whose control field is none, and an I-frame without a second octet of control; of a link that is down neither is.
 error_l : said up (hears (stream.frame (0x00 ∷ 0x81 ∷ 0x0B ∷ []))) ≡ Error Call 64 L ∷ []
-unfolding moments after_all lines.after lines.answer lines.takes_slot teis.course teis.refusal seq reading header_of control_of unnumbered_of supervisory_of
+unfolding moments after_all lines.after lines.answer lines.takes_slot teis.course teis.refusal seq exchanged read_by reading header_of control_of unnumbered_of supervisory_of
 error_l = refl
 
 no_error : said on (hears (stream.frame (0x00 ∷ 0x81 ∷ 0x0B ∷ []))) ≡ []
-unfolding moments after_all lines.after lines.answer lines.takes_slot teis.course teis.refusal seq reading header_of control_of unnumbered_of supervisory_of
+unfolding moments after_all lines.after lines.answer lines.takes_slot teis.course teis.refusal seq exchanged read_by reading header_of control_of unnumbered_of supervisory_of
 no_error = refl
 
 -- UA that nothing asked for is error C, and of a TEI that is not on the line nothing is told.
 error_c : said up (hears (stream.frame (0x02 ∷ 0x81 ∷ 0x73 ∷ []))) ≡ Error Call 64 C ∷ []
-unfolding moments after_all lines.after lines.answer lines.takes_slot teis.course teis.refusal seq reading header_of control_of unnumbered_of supervisory_of
+unfolding moments after_all lines.after lines.answer lines.takes_slot teis.course teis.refusal seq exchanged read_by reading header_of control_of unnumbered_of supervisory_of
 error_c = refl
 
 off_line : said [] (hears (stream.frame (0x02 ∷ 0x81 ∷ 0x73 ∷ []))) ≡ []
-unfolding moments after_all lines.after lines.answer lines.takes_slot teis.course teis.refusal seq reading header_of control_of unnumbered_of supervisory_of
+unfolding moments after_all lines.after lines.answer lines.takes_slot teis.course teis.refusal seq exchanged read_by reading header_of control_of unnumbered_of supervisory_of
 off_line = refl
 
 -- T200 gives up state 5, which layer 3 asked for: error G, and the end is told.

@@ -7,6 +7,7 @@ use Rattle.lapd_frame.specs.declared.timers.Order.TheVariants.{Start, Stop}
 use Rattle.lapd_frame.specs.declared.timers.Timer.{Timer}
 use Rattle.lapd_frame.specs.declared.timers.Timer.TheVariants as timers
 use Rattle.lapd_frame.specs.Reading.{reading, header_of, control_of, unnumbered_of, supervisory_of}
+use Rattle.lapd_frame.specs.Senders.{exchanged, reading as read_by}
 use Rattle.lapd_seq.specs.Circle.{named, distance_of}
 use Rattle.lapd_seq.specs.Numbers.{seq}
 use Rattle.lapd_tei.specs.Events as teis
@@ -38,20 +39,20 @@ unfolding moments lines.after lines.answer lines.takes_slot teis.course teis.ref
 is_assigned = refl
 
 comes_up : link_after up ≡ in_state 7
-unfolding moments lines.after lines.answer lines.takes_slot teis.course teis.refusal seq reading header_of control_of unnumbered_of supervisory_of
+unfolding moments lines.after lines.answer lines.takes_slot teis.course teis.refusal seq exchanged read_by reading header_of control_of unnumbered_of supervisory_of
 comes_up = refl
 
 has_left : link_after (up ++ on_0 (Remove 64) ∷ []) ≡ in_state 1
-unfolding moments lines.after lines.answer lines.takes_slot teis.course teis.refusal seq reading header_of control_of unnumbered_of supervisory_of
+unfolding moments lines.after lines.answer lines.takes_slot teis.course teis.refusal seq exchanged read_by reading header_of control_of unnumbered_of supervisory_of
 has_left = refl
 
 -- Where its line is down, the link is in state 4, and one of another TEI stays.
 is_given_up : link_after (up ++ on_0 (Deactivate Call 64) ∷ []) ≡ in_state 4
-unfolding moments lines.after lines.answer lines.takes_slot teis.course teis.refusal seq reading header_of control_of unnumbered_of supervisory_of
+unfolding moments lines.after lines.answer lines.takes_slot teis.course teis.refusal seq exchanged read_by reading header_of control_of unnumbered_of supervisory_of
 is_given_up = refl
 
 none_of_it : link_after (up ++ on_0 (Deactivate Call 65) ∷ []) ≡ in_state 7
-unfolding moments lines.after lines.answer lines.takes_slot teis.course teis.refusal seq reading header_of control_of unnumbered_of supervisory_of
+unfolding moments lines.after lines.answer lines.takes_slot teis.course teis.refusal seq exchanged read_by reading header_of control_of unnumbered_of supervisory_of
 none_of_it = refl
 
 -- SABME that layer 3 asks for is repeated three times, N200; with the expiry behind these the link is down.
@@ -80,19 +81,19 @@ abbrev rej_comes : Event
 rej_comes = frame_comes (0x02 ∷ 0x81 ∷ 0x09 ∷ 0x02 ∷ [])
 
 two_known : link_after two_gone ≡ record (in_state 7) { next = 2 }
-unfolding moments lines.after lines.answer lines.takes_slot teis.course teis.refusal seq distance_of named reading header_of control_of unnumbered_of supervisory_of
+unfolding moments lines.after lines.answer lines.takes_slot teis.course teis.refusal seq distance_of named exchanged read_by reading header_of control_of unnumbered_of supervisory_of
 two_known = refl
 
 one_known : link_after (two_gone ++ rr_comes ∷ []) ≡ record (in_state 7) { acknowledged = 1; next = 2 }
-unfolding moments lines.after lines.answer lines.takes_slot teis.course teis.refusal seq distance_of named reading header_of control_of unnumbered_of supervisory_of
+unfolding moments lines.after lines.answer lines.takes_slot teis.course teis.refusal seq distance_of named exchanged read_by reading header_of control_of unnumbered_of supervisory_of
 one_known = refl
 
 is_to_go : link_after (two_gone ++ rej_comes ∷ []) ≡ record (in_state 7) { acknowledged = 1; next = 1 }
-unfolding moments lines.after lines.answer lines.takes_slot teis.course teis.refusal seq distance_of named reading header_of control_of unnumbered_of supervisory_of
+unfolding moments lines.after lines.answer lines.takes_slot teis.course teis.refusal seq distance_of named exchanged read_by reading header_of control_of unnumbered_of supervisory_of
 is_to_go = refl
 
 has_gone : link_after (two_gone ++ rej_comes ∷ calls 1) ≡ record (in_state 7) { acknowledged = 1; next = 2 }
-unfolding moments lines.after lines.answer lines.takes_slot teis.course teis.refusal seq distance_of named reading header_of control_of unnumbered_of supervisory_of
+unfolding moments lines.after lines.answer lines.takes_slot teis.course teis.refusal seq distance_of named exchanged read_by reading header_of control_of unnumbered_of supervisory_of
 has_gone = refl
 
 -- T200 runs where two are outstanding, and RR that acknowledges one starts it anew.
@@ -101,11 +102,11 @@ runs_after events =
     runs_at_callers 0 (timers.T200 Call 64) false (moments (fresh usual) events) ∷ runs_at_callers 0 (timers.T203 Call 64) false (moments (fresh usual) events) ∷ []
 
 t200_runs : runs_after two_gone ≡ true ∷ false ∷ []
-unfolding moments lines.after lines.answer lines.takes_slot teis.course teis.refusal seq distance_of named reading header_of control_of unnumbered_of supervisory_of
+unfolding moments lines.after lines.answer lines.takes_slot teis.course teis.refusal seq distance_of named exchanged read_by reading header_of control_of unnumbered_of supervisory_of
 t200_runs = refl
 
 started_anew : obeyed (timers.T200 Call 64) false (orders_in (answer rr_comes (after_all (fresh usual) two_gone))) ≡ true
-unfolding after_all lines.after lines.answer lines.takes_slot teis.course teis.refusal seq distance_of named reading header_of control_of unnumbered_of supervisory_of
+unfolding after_all lines.after lines.answer lines.takes_slot teis.course teis.refusal seq distance_of named exchanged read_by reading header_of control_of unnumbered_of supervisory_of
 started_anew = refl
 
 -- Where T203 takes a link down, DISC leaves it up, or SABME is given up after its second repeat, the law is broken.
@@ -113,7 +114,7 @@ by_t203 : 4 ≡ (by_expiry usual Call 64 (timers.T203 Call 64) (in_state 7)).sta
 by_t203 e = cc e
 
 by_disc : 7 ≡ (by_heard usual Call 64 (stream.frame (0x00 ∷ 0x81 ∷ 0x53 ∷ [])) (in_state 7)).state → ⊥
-unfolding reading header_of control_of unnumbered_of supervisory_of
+unfolding exchanged read_by reading header_of control_of unnumbered_of supervisory_of
 by_disc e = cc e
 
 too_soon : 4 ≡ (by_t200 3 (record (in_state 5) { expiries = 2 })).state → ⊥
@@ -134,15 +135,15 @@ abbrev due_of : LinkTimer → Timer → Observed → line_event.Event → List O
 due_of timer its o what = order_due usual Call 64 o o what timer its
 
 forgotten : [] ≡ due_of T200 (timers.T200 Call 64) two_out (rr 1) → ⊥
-unfolding seq reading header_of control_of unnumbered_of supervisory_of
+unfolding seq exchanged read_by reading header_of control_of unnumbered_of supervisory_of
 forgotten e = cc e
 
 by_unit_data : Start (timers.T203 Call 64) ∷ [] ≡ due_of T203 (timers.T203 Call 64) (in_state 7) unit_data → ⊥
-unfolding seq reading header_of control_of unnumbered_of supervisory_of
+unfolding seq exchanged read_by reading header_of control_of unnumbered_of supervisory_of
 by_unit_data e = cc e
 
 by_nothing_new : Start (timers.T200 Call 64) ∷ [] ≡ due_of T200 (timers.T200 Call 64) two_out (rr 0) → ⊥
-unfolding seq reading header_of control_of unnumbered_of supervisory_of
+unfolding seq exchanged read_by reading header_of control_of unnumbered_of supervisory_of
 by_nothing_new e = cc e
 
 -- As layer 3 establishes a link T200 is started, and T203, which did not run, is not stopped; and as it is deactivated T200 is.

@@ -5,6 +5,7 @@ use Rattle.std.proofs.lemmas.List.Elements.{All-nil, All-cons}
 use Rattle.lapd_frame.specs.declared.refusals.Refusal.TheVariants.{PoolFull, QueueFull}
 use Rattle.lapd_frame.specs.declared.services.Service.TheVariants.{Call, Packet}
 use Rattle.lapd_frame.specs.Reading.{reading, header_of, control_of, unnumbered_of}
+use Rattle.lapd_frame.specs.Senders.{exchanged, reading as read_by}
 use Rattle.lapd_tei.specs.Events as teis
 use Rattle.model_bits.specs.Stream.{frame}
 use Rattle.model_line.specs.declared.config.Config.{Config}
@@ -43,11 +44,11 @@ enough_calls : most_frames small ≤ takes_at 0 (calls 13)
 enough_calls = leb-true 13 13 refl
 
 then_none : answer (at 0 next) (after_all (fresh small) (both_up 0 ++ unit 0 ∷ calls 13)) ≡ gave None
-unfolding after_all lines.after lines.answer lines.takes_slot teis.course teis.refusal reading header_of control_of unnumbered_of
+unfolding after_all lines.after lines.answer lines.takes_slot teis.course teis.refusal exchanged read_by reading header_of control_of unnumbered_of
 then_none = refl
 
 some_still : answer (at 0 next) (after_all (fresh small) (both_up 0 ++ unit 0 ∷ calls 1)) ≡ gave None → ⊥
-unfolding after_all lines.after lines.answer lines.takes_slot teis.course teis.refusal reading header_of control_of unnumbered_of
+unfolding after_all lines.after lines.answer lines.takes_slot teis.course teis.refusal exchanged read_by reading header_of control_of unnumbered_of
 some_still none = cc none
 
 -- `never_full`: six slots are as many as the places of all queues. All are taken, and more data finds its queue full, and not the pool.
@@ -62,13 +63,13 @@ abbrev fills : ℕ → List Event
 fills line = both_up line ++ asks line (Data Call 64 (1 ∷ [])) ∷ asks line (Data Packet 64 (2 ∷ [])) ∷ unit line ∷ []
 
 all_taken : used (after_all (fresh roomy) (fills 0 ++ fills 1)) ≡ 6
-unfolding after_all lines.after lines.answer lines.takes_slot teis.course teis.refusal reading header_of control_of unnumbered_of
+unfolding after_all lines.after lines.answer lines.takes_slot teis.course teis.refusal exchanged read_by reading header_of control_of unnumbered_of
 all_taken = refl
 
 queue_full : answer (asks 0 (Data Call 64 (3 ∷ []))) (after_all (fresh roomy) (fills 0 ++ fills 1)) ≡ refused QueueFull
-unfolding after_all lines.after lines.answer lines.takes_slot teis.course teis.refusal reading header_of control_of unnumbered_of
+unfolding after_all lines.after lines.answer lines.takes_slot teis.course teis.refusal exchanged read_by reading header_of control_of unnumbered_of
 queue_full = refl
 
 pool_full : answer (unit 0) (after_all (fresh small) (both_up 0 ++ asks 0 (Data Call 64 (1 ∷ [])) ∷ asks 0 (Data Packet 64 (2 ∷ [])) ∷ [])) ≡ refused PoolFull
-unfolding after_all lines.after lines.answer lines.takes_slot teis.course teis.refusal reading header_of control_of unnumbered_of
+unfolding after_all lines.after lines.answer lines.takes_slot teis.course teis.refusal exchanged read_by reading header_of control_of unnumbered_of
 pool_full = refl

@@ -7,6 +7,7 @@ use Rattle.lapd_frame.specs.declared.refusals.Refusal.TheVariants.{NoLink, Wrong
 use Rattle.lapd_frame.specs.declared.services.Service.TheVariants.{Call}
 use Rattle.lapd_frame.specs.declared.timers.Timer.TheVariants.{T203}
 use Rattle.lapd_frame.specs.Reading.{reading, header_of, control_of, unnumbered_of, supervisory_of}
+use Rattle.lapd_frame.specs.Senders.{exchanged, reading as read_by}
 use Rattle.lapd_seq.specs.Numbers.{seq}
 use Rattle.lapd_tei.specs.Events as teis
 use Rattle.model_link.specs.Events as link
@@ -68,11 +69,11 @@ abbrev leaving : List Event
 leaving = up ++ on_0 (Release Call 64) ∷ []
 
 not_established : due usual leaving link.Establish ≡ Err WrongState
-unfolding moments lines.after lines.answer lines.takes_slot teis.course teis.refusal seq reading header_of control_of unnumbered_of supervisory_of
+unfolding moments lines.after lines.answer lines.takes_slot teis.course teis.refusal seq exchanged read_by reading header_of control_of unnumbered_of supervisory_of
 not_established = refl
 
 refused_establish : answers leaving (Establish Call 64) ≡ refused WrongState
-unfolding after_all lines.after lines.answer lines.takes_slot teis.course teis.refusal seq reading header_of control_of unnumbered_of supervisory_of
+unfolding after_all lines.after lines.answer lines.takes_slot teis.course teis.refusal seq exchanged read_by reading header_of control_of unnumbered_of supervisory_of
 refused_establish = refl
 
 -- In state 7, where UA waits, RNR waits behind it as layer 3 comes to be busy; and as it is so again, nothing more.
@@ -81,18 +82,18 @@ still_busy = up ++ on_0 (SetBusy Call 64) ∷ []
 
 busy_then : due usual up link.SetBusy
     ≡ Ok (record { link = record (in_state 7) { own_busy = true }; waiting = as_response (Ua true) ++ as_response (ReceiveNotReady (seq 0) false); kept = []; told = [] })
-unfolding moments lines.after lines.answer lines.takes_slot teis.course teis.refusal seq reading header_of control_of unnumbered_of supervisory_of
+unfolding moments lines.after lines.answer lines.takes_slot teis.course teis.refusal seq exchanged read_by reading header_of control_of unnumbered_of supervisory_of
 busy_then = refl
 
 busy_still : due usual still_busy link.SetBusy
     ≡ Ok (record { link = record (in_state 7) { own_busy = true }; waiting = as_response (Ua true) ++ as_response (ReceiveNotReady (seq 0) false); kept = []; told = [] })
-unfolding moments lines.after lines.answer lines.takes_slot teis.course teis.refusal seq reading header_of control_of unnumbered_of supervisory_of
+unfolding moments lines.after lines.answer lines.takes_slot teis.course teis.refusal seq exchanged read_by reading header_of control_of unnumbered_of supervisory_of
 busy_still = refl
 
 -- Where one control frame may wait it finds no place.
 busy_lost : due (record usual { control = 1 }) up link.SetBusy
     ≡ Ok (record { link = record (in_state 7) { own_busy = true }; waiting = as_response (Ua true); kept = []; told = [] })
-unfolding moments lines.after lines.answer lines.takes_slot teis.course teis.refusal seq reading header_of control_of unnumbered_of supervisory_of
+unfolding moments lines.after lines.answer lines.takes_slot teis.course teis.refusal seq exchanged read_by reading header_of control_of unnumbered_of supervisory_of
 busy_lost = refl
 
 -- Contents come behind those that are kept, while there is a place.
@@ -100,15 +101,15 @@ abbrev one_kept : List Event
 one_kept = up ++ on_0 (Data Call 64 (7 ∷ [])) ∷ []
 
 two_kept : due usual one_kept (link.Data (8 ∷ [])) ≡ Ok (record { link = in_state 7; waiting = as_response (Ua true); kept = (7 ∷ []) ∷ (8 ∷ []) ∷ []; told = [] })
-unfolding moments lines.after lines.answer lines.takes_slot teis.course teis.refusal seq reading header_of control_of unnumbered_of supervisory_of
+unfolding moments lines.after lines.answer lines.takes_slot teis.course teis.refusal seq exchanged read_by reading header_of control_of unnumbered_of supervisory_of
 two_kept = refl
 
 no_place : due (record usual { queue = 1 }) one_kept (link.Data (8 ∷ [])) ≡ Err QueueFull
-unfolding moments lines.after lines.answer lines.takes_slot teis.course teis.refusal seq reading header_of control_of unnumbered_of supervisory_of
+unfolding moments lines.after lines.answer lines.takes_slot teis.course teis.refusal seq exchanged read_by reading header_of control_of unnumbered_of supervisory_of
 no_place = refl
 
 too_long : due (record usual { n201 = 1 }) up (link.Data (8 ∷ 9 ∷ [])) ≡ Err TooLong
-unfolding moments lines.after lines.answer lines.takes_slot teis.course teis.refusal seq reading header_of control_of unnumbered_of supervisory_of
+unfolding moments lines.after lines.answer lines.takes_slot teis.course teis.refusal seq exchanged read_by reading header_of control_of unnumbered_of supervisory_of
 too_long = refl
 
 -- So they do in state 8, where an enquiry waits; and DISC waits behind that as the link is released.
@@ -117,12 +118,12 @@ enquiring = one_kept ++ at 0 (expiry (T203 Call 64)) ∷ []
 
 kept_too : due usual enquiring (link.Data (8 ∷ []))
     ≡ Ok (record { link = in_state 8; waiting = as_response (Ua true) ++ as_command (ReceiveReady (seq 0) true); kept = (7 ∷ []) ∷ (8 ∷ []) ∷ []; told = [] })
-unfolding moments lines.after lines.answer lines.takes_slot teis.course teis.refusal seq reading header_of control_of unnumbered_of supervisory_of
+unfolding moments lines.after lines.answer lines.takes_slot teis.course teis.refusal seq exchanged read_by reading header_of control_of unnumbered_of supervisory_of
 kept_too = refl
 
 released_too : due usual enquiring link.Release
     ≡ Ok (record { link = in_state 6; waiting = as_response (Ua true) ++ as_command (ReceiveReady (seq 0) true) ++ as_command (Disc true); kept = []; told = [] })
-unfolding moments lines.after lines.answer lines.takes_slot teis.course teis.refusal seq reading header_of control_of unnumbered_of supervisory_of
+unfolding moments lines.after lines.answer lines.takes_slot teis.course teis.refusal seq exchanged read_by reading header_of control_of unnumbered_of supervisory_of
 released_too = refl
 
 -- Where the card has one slot, its contents have it, and the pool is full, by the table and by the card.
@@ -130,22 +131,22 @@ abbrev one_slot : Config
 one_slot = record usual { slots = 1 }
 
 all_taken : slots_taken one_slot one_kept ≡ 1
-unfolding moments lines.after lines.answer lines.takes_slot teis.course teis.refusal seq reading header_of control_of unnumbered_of supervisory_of
+unfolding moments lines.after lines.answer lines.takes_slot teis.course teis.refusal seq exchanged read_by reading header_of control_of unnumbered_of supervisory_of
 all_taken = refl
 
 no_slot : effect one_slot true Call 64 (outgoing_of one_slot Call 64 0 one_kept) (link.Data (8 ∷ [])) ≡ Err PoolFull
-unfolding moments lines.after lines.answer lines.takes_slot teis.course teis.refusal seq reading header_of control_of unnumbered_of supervisory_of
+unfolding moments lines.after lines.answer lines.takes_slot teis.course teis.refusal seq exchanged read_by reading header_of control_of unnumbered_of supervisory_of
 no_slot = refl
 
 refused_data : (moment_of one_slot one_kept 0 (request (Data Call 64 (8 ∷ [])))).answer ≡ refused PoolFull
-unfolding after_all lines.after lines.answer lines.takes_slot teis.course teis.refusal seq reading header_of control_of unnumbered_of supervisory_of
+unfolding after_all lines.after lines.answer lines.takes_slot teis.course teis.refusal seq exchanged read_by reading header_of control_of unnumbered_of supervisory_of
 refused_data = refl
 
 -- A link that is deactivated gives its contents up, which is told: by an indication in state 7, and by a confirm in state 6.
 given_up : deactivated Call 64 (outgoing_of usual Call 64 0 one_kept).view.link ≡ record { link = in_state 4; waiting = []; kept = []; told = ReleaseIndication Call 64 ∷ [] }
-unfolding moments lines.after lines.answer lines.takes_slot teis.course teis.refusal seq reading header_of control_of unnumbered_of supervisory_of
+unfolding moments lines.after lines.answer lines.takes_slot teis.course teis.refusal seq exchanged read_by reading header_of control_of unnumbered_of supervisory_of
 given_up = refl
 
 ended : deactivated Call 64 (outgoing_of usual Call 64 0 leaving).view.link ≡ record { link = in_state 4; waiting = []; kept = []; told = ReleaseConfirm Call 64 ∷ [] }
-unfolding moments lines.after lines.answer lines.takes_slot teis.course teis.refusal seq reading header_of control_of unnumbered_of supervisory_of
+unfolding moments lines.after lines.answer lines.takes_slot teis.course teis.refusal seq exchanged read_by reading header_of control_of unnumbered_of supervisory_of
 ended = refl

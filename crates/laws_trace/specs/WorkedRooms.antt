@@ -3,6 +3,7 @@ use Rattle.std.specs.Prelude.{◌≡◌, List, [], ◌∷◌, ◌++◌, Ok, refl
 use Rattle.lapd_frame.specs.declared.refusals.Refusal.TheVariants.{PoolFull}
 use Rattle.lapd_frame.specs.declared.services.Service.TheVariants.{Call}
 use Rattle.lapd_frame.specs.Reading.{reading, header_of, control_of, unnumbered_of, supervisory_of}
+use Rattle.lapd_frame.specs.Senders.{exchanged, reading as read_by}
 use Rattle.lapd_seq.specs.Circle.{named, distance_of}
 use Rattle.lapd_seq.specs.Numbers.{seq}
 use Rattle.lapd_tei.specs.Events as teis
@@ -26,17 +27,17 @@ abbrev gone : List Event
 gone = up ++ on_0 (Data Call 64 (7 ∷ [])) ∷ on_0 (Data Call 64 (8 ∷ [])) ∷ calls 2
 
 two_kept : room 0 Call 64 (after_all (fresh usual) gone) ≡ Ok (record { queue = 6; pool = 62; va = 0 })
-unfolding after_all lines.after lines.takes_slot teis.course teis.refusal seq distance_of named reading header_of control_of unnumbered_of supervisory_of
+unfolding after_all lines.after lines.takes_slot teis.course teis.refusal seq distance_of named exchanged read_by reading header_of control_of unnumbered_of supervisory_of
 two_kept = refl
 
 -- behind RR 1 one place is.
 one_kept : room 0 Call 64 (after_all (fresh usual) (gone ++ frame_comes (0x02 ∷ 0x81 ∷ 0x01 ∷ 0x02 ∷ []) ∷ [])) ≡ Ok (record { queue = 7; pool = 63; va = 1 })
-unfolding after_all lines.after lines.takes_slot teis.course teis.refusal seq distance_of named reading header_of control_of unnumbered_of supervisory_of
+unfolding after_all lines.after lines.takes_slot teis.course teis.refusal seq distance_of named exchanged read_by reading header_of control_of unnumbered_of supervisory_of
 one_kept = refl
 
 -- Before it nothing was acknowledged, though V(S) is 1.
 none_heard : (link_after gone).acknowledged ≡ 0
-unfolding moments lines.after lines.answer lines.takes_slot teis.course teis.refusal seq distance_of named reading header_of control_of unnumbered_of supervisory_of
+unfolding moments lines.after lines.answer lines.takes_slot teis.course teis.refusal seq distance_of named exchanged read_by reading header_of control_of unnumbered_of supervisory_of
 none_heard = refl
 
 -- A link in state 4 keeps nothing, and all of eight places are left.
@@ -53,7 +54,7 @@ all_left = refl
 
 -- Two slots of 64 are taken, and one behind RR 1;
 two_taken : slots_taken usual gone ≡ 2
-unfolding moments lines.after lines.answer lines.takes_slot teis.course teis.refusal seq distance_of named reading header_of control_of unnumbered_of supervisory_of
+unfolding moments lines.after lines.answer lines.takes_slot teis.course teis.refusal seq distance_of named exchanged read_by reading header_of control_of unnumbered_of supervisory_of
 two_taken = refl
 
 -- and as many where unit data takes one of them.
@@ -64,12 +65,12 @@ abbrev full : List Event
 full = up ++ on_0 (Data Call 64 (7 ∷ [])) ∷ on_0 (unit 8) ∷ []
 
 both_taken : slots_taken two_slots full ≡ 2
-unfolding moments lines.after lines.answer lines.takes_slot teis.course teis.refusal seq distance_of named reading header_of control_of unnumbered_of supervisory_of
+unfolding moments lines.after lines.answer lines.takes_slot teis.course teis.refusal seq distance_of named exchanged read_by reading header_of control_of unnumbered_of supervisory_of
 both_taken = refl
 
 -- So a third finds the pool full. One that found it full while one slot is taken would break the law.
 third_refused : answer (on_0 (unit 9)) (after_all (fresh two_slots) full) ≡ refused PoolFull
-unfolding after_all lines.after lines.answer lines.takes_slot teis.course teis.refusal seq distance_of named reading header_of control_of unnumbered_of supervisory_of
+unfolding after_all lines.after lines.answer lines.takes_slot teis.course teis.refusal seq distance_of named exchanged read_by reading header_of control_of unnumbered_of supervisory_of
 third_refused = refl
 
 one_taken : slots_taken two_slots (on_0 (unit 8) ∷ []) ≡ 1

@@ -7,6 +7,7 @@ use Rattle.model_bits.specs.declared.heard.Cause.TheVariants.{Fcs}
 use Rattle.lapd_frame.specs.declared.services.Service.TheVariants.{Call, Packet}
 use Rattle.lapd_frame.specs.declared.timers.Timer.TheVariants.{T200}
 use Rattle.lapd_frame.specs.Reading.{reading, header_of, control_of, unnumbered_of}
+use Rattle.lapd_frame.specs.Senders.{exchanged, reading as read_by}
 use Rattle.lapd_tei.specs.Events as teis
 use Rattle.model_line.specs.Event.{hears, expiry}
 use Rattle.model_line.specs.Machine as lines
@@ -31,25 +32,25 @@ abbrev packet : List ℕ
 packet = 0x42 ∷ 0x81 ∷ 0x7F ∷ []
 
 turns_taken : frames_given 0 (moments (after_all (fresh usual) both_up) (calls 3)) ≡ call ∷ packet ∷ call ∷ []
-unfolding moments after_all lines.after lines.answer lines.takes_slot teis.course teis.refusal
+unfolding exchanged moments after_all lines.after lines.answer lines.takes_slot teis.course teis.refusal
 turns_taken = refl
 
 -- What is dropped meanwhile changes none of it.
 turns_taken_meanwhile : frames_given 0 (moments (after_all (fresh usual) both_up) (calls 1 ++ (at 0 (hears (stream.dropped Fcs)) ∷ calls 2))) ≡ call ∷ packet ∷ call ∷ []
-unfolding moments after_all lines.after lines.answer lines.takes_slot teis.course teis.refusal
+unfolding exchanged moments after_all lines.after lines.answer lines.takes_slot teis.course teis.refusal
 turns_taken_meanwhile = refl
 
 -- The packet link offers its SABME meanwhile; where that of call control goes twice, and it does not between, the law is broken.
 packet_waits : IsKeptWaiting usual 0 64 Packet 64 both_up
-unfolding moments after_all lines.after lines.answer lines.takes_slot teis.course teis.refusal reading header_of control_of unnumbered_of
+unfolding moments after_all lines.after lines.answer lines.takes_slot teis.course teis.refusal exchanged read_by reading header_of control_of unnumbered_of
 packet_waits = record { stays = refl; on_line = refl; offers_one = λ none. cc none }
 
 goes_between : list_any (is_frame_of usual Packet 64) (packet ∷ []) ≡ true
-unfolding reading header_of control_of unnumbered_of
+unfolding exchanged read_by reading header_of control_of unnumbered_of
 goes_between = refl
 
 passed_over : list_any (is_frame_of usual Packet 64) (call ∷ []) ≡ true → ⊥
-unfolding reading header_of control_of unnumbered_of
+unfolding exchanged read_by reading header_of control_of unnumbered_of
 passed_over other = cc other
 
 -- A run that meets all that the law asks for: that of packet sends its SABME again, too, so it offers one before each of three calls.
@@ -60,15 +61,15 @@ abbrev IsWaiting : List Event → Type 0
 IsWaiting so_far = IsKeptWaiting usual 0 64 Packet 64 (both_again ++ so_far)
 
 first_waits : IsWaiting []
-unfolding moments after_all lines.after lines.answer lines.takes_slot teis.course teis.refusal reading header_of control_of unnumbered_of
+unfolding moments after_all lines.after lines.answer lines.takes_slot teis.course teis.refusal exchanged read_by reading header_of control_of unnumbered_of
 first_waits = record { stays = refl; on_line = refl; offers_one = λ none. cc none }
 
 second_waits : IsWaiting (calls 1)
-unfolding moments after_all lines.after lines.answer lines.takes_slot teis.course teis.refusal reading header_of control_of unnumbered_of
+unfolding moments after_all lines.after lines.answer lines.takes_slot teis.course teis.refusal exchanged read_by reading header_of control_of unnumbered_of
 second_waits = record { stays = refl; on_line = refl; offers_one = λ none. cc none }
 
 third_waits : IsWaiting (calls 2)
-unfolding moments after_all lines.after lines.answer lines.takes_slot teis.course teis.refusal reading header_of control_of unnumbered_of
+unfolding moments after_all lines.after lines.answer lines.takes_slot teis.course teis.refusal exchanged read_by reading header_of control_of unnumbered_of
 third_waits = record { stays = refl; on_line = refl; offers_one = λ none. cc none }
 
 none_there : (e : Event) (front behind : List Event) → [] ≡ front ++ e ∷ behind → ⊥
@@ -82,5 +83,5 @@ waits_always (x ∷ y ∷ []) e behind is = let same : calls 2 ≡ x ∷ y ∷ [
 waits_always (x ∷ y ∷ z ∷ more) e behind is = absurd (none_there e more behind (cc is))
 
 its_turn : frames_given 0 (moments (after_all (fresh usual) both_again) (calls 3)) ≡ [] ++ call ∷ ((packet ∷ []) ++ call ∷ [])
-unfolding moments after_all lines.after lines.answer lines.takes_slot teis.course teis.refusal
+unfolding exchanged moments after_all lines.after lines.answer lines.takes_slot teis.course teis.refusal
 its_turn = refl

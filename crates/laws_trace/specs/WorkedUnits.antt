@@ -3,6 +3,7 @@ use Rattle.std.specs.Prelude.{◌≡◌, ℕ, List, [], ◌∷◌, ◌++◌, fol
 use Rattle.model_bits.specs.Stream as stream
 use Rattle.lapd_frame.specs.declared.services.Service.TheVariants.{Call}
 use Rattle.lapd_frame.specs.Reading.{reading, header_of, control_of, unnumbered_of}
+use Rattle.lapd_frame.specs.Senders.{exchanged, reading as read_by}
 use Rattle.lapd_tei.specs.Events as teis
 use Rattle.model_line.specs.Event as line_event
 use Rattle.model_line.specs.Event.{hears, request, next, Answer, told, gave, nothing}
@@ -30,7 +31,7 @@ spelled n = 0x02 ∷ 0xFF ∷ 0x03 ∷ n ∷ []
 
 unit_seen : trace_of usual (on_0 (unit 0xAB) ∷ calls 2) 0
     ≡ granted (unit 0xAB) ∷ noted [] None ∷ lost 0 ∷ begun (spelled 0xAB) ∷ []
-unfolding moments lines.after lines.answer lines.takes_slot
+unfolding exchanged moments lines.after lines.answer lines.takes_slot
 unit_seen = refl
 
 -- Another line shows none of it.
@@ -43,11 +44,11 @@ abbrev three_units : List Event
 three_units = on_0 (Assign 64) ∷ on_0 (Check 64) ∷ on_0 (unit 1) ∷ on_0 (unit 2) ∷ on_0 (unit 3) ∷ calls 3
 
 second_begins : frame_in (moment_of usual (on_0 (unit 1) ∷ on_0 (unit 2) ∷ calls 1) 0 next).answer ≡ spelled 2 ∷ []
-unfolding after_all lines.after lines.answer lines.takes_slot
+unfolding exchanged after_all lines.after lines.answer lines.takes_slot
 second_begins = refl
 
 third_waits : units_of usual three_units 0 ≡ spelled 3 ∷ []
-unfolding moments lines.after lines.answer lines.takes_slot teis.course teis.refusal reading header_of control_of unnumbered_of
+unfolding moments lines.after lines.answer lines.takes_slot teis.course teis.refusal exchanged read_by reading header_of control_of unnumbered_of
 third_waits = refl
 
 -- Where the line is down while the second waits, it is given up; the third is granted behind that, and waits alone.
@@ -55,7 +56,7 @@ abbrev down_between : List Event
 down_between = on_0 (unit 1) ∷ on_0 (unit 2) ∷ calls 1 ++ on_0 Down ∷ on_0 (unit 3) ∷ []
 
 third_alone : units_of usual down_between 0 ≡ spelled 3 ∷ []
-unfolding moments lines.after lines.answer lines.takes_slot teis.course teis.refusal reading header_of control_of unnumbered_of
+unfolding moments lines.after lines.answer lines.takes_slot teis.course teis.refusal exchanged read_by reading header_of control_of unnumbered_of
 third_alone = refl
 
 -- What waits once these events are answered so: a request that is granted, and a call that begins a frame.
@@ -73,12 +74,12 @@ abbrev two_wait : List (List ℕ)
 two_wait = waiting (grants (unit 1) ∷ grants (unit 2) ∷ grants (unit 3) ∷ begins (spelled 1) ∷ [])
 
 is_no_front : IsFront (spelled 3 ∷ []) two_wait → ⊥
-unfolding reading header_of control_of unnumbered_of
+unfolding exchanged read_by reading header_of control_of unnumbered_of
 is_no_front front = cc front.whole_is
 
 -- where one begins for the second time,
 once_more : IsFront (spelled 1 ∷ []) two_wait → ⊥
-unfolding reading header_of control_of unnumbered_of
+unfolding exchanged read_by reading header_of control_of unnumbered_of
 once_more front = cc front.whole_is
 
 -- and where one is kept for when the line is up again.

@@ -1,5 +1,6 @@
 //! The laws. Each is the contract of a call that does nothing.
 
+ghost use Rattle.laws_trace.specs.Sapis.{ServicesHaveTheirSapis};
 ghost use Rattle.laws_trace.specs.Trace.{Always};
 ghost use Rattle.laws_trace.specs.AnswersAreGiven.{AnswersAreSent, QueueIsSent};
 ghost use Rattle.laws_trace.specs.AnswersSuit.{AnswersSuit};
@@ -33,6 +34,13 @@ pub fn ranges_are_served()
 /// 3.3.2). This is of the words by which the other laws read frames: `heard_side` of a configuration, and its own side.
 pub fn the_other_side_is_heard()
     ensures { TheOtherSideIsHeard }
+{}
+
+/// Services have their SAPIs. As the other laws read frames, a frame is one of call control, of the second service, or of
+/// layer 2 management, exactly if its first octet has SAPI 0, the SAPI of the configuration, or 63 (Q.921 clause 3.3.3, and
+/// profile). So it is of what a card hears, and of what begins on its lines.
+pub fn services_have_their_sapis()
+    ensures { ServicesHaveTheirSapis }
 {}
 
 /// Unit data goes out. The UI frame that a call for the next frame gives, except those of TEI management, is that of the

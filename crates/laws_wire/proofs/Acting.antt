@@ -1,6 +1,6 @@
 -- What happens at one end of a wire whose link is up, where frames are lost and timers expire.
 use Rattle.laws_wire.proofs.Vocabulary.{arith, ◌≡◌, ℕ, IsTrue, List, [], ◌∷◌, ◌++◌, drop, refl, sym, ap, subst, ◌∙◌, ◌⊎◌, inl, inr, append-nil, Service, Timer, Parts, spelling, ControlFrame, LinkTimer, is_multiple_frame, course, IsInRange, LinkEndpoint, with_link, with_sent, frames_of, Config, LineTold, expiry, request, next, at_timer, aim_of_expiry, Line, place_in, event-follows, IsSound, Course}
-use Rattle.laws_wire.proofs.Vocabulary.{line_of, Data, Endpoint, happens, without_first, frame_comes, two_ends_without_first}
+use Rattle.laws_wire.proofs.Vocabulary.{line_of, Data, Endpoint, happens, without_first, frame_comes, two_ends_without_first, own_side}
 use Rattle.model_link.specs.Events as link
 use Rattle.laws_wire.proofs.Asking.{with_more}
 use Rattle.laws_wire.proofs.Fair.{Fine, frame-fair, timer-fair}
@@ -148,12 +148,12 @@ module _ (service : Service) (tei place : ℕ) (past : List LineTold) (c : Confi
   -- it takes the first frame of the other's line
   pub up-hears : (d : Config) → Face c d → (s : Endpoint) (n m : LinkEndpoint) (f : Parts) (first near far : List Parts) → UpAt s n m first near (f ∷ far) → IsCarried d service tei f
       → IsInRange m.terms
-      → Acted (frame_comes (spelling d.side f) s) (two_ends_without_first m) first far ⊎ Erred (frame_comes (spelling d.side f) s)
+      → Acted (frame_comes (spelling (own_side d) f) s) (two_ends_without_first m) first far ⊎ Erred (frame_comes (spelling (own_side d) f) s)
   up-hears d face s n m f first near far h from far-ranges =
       let meant : IsMeant f = first-means n m f near far h.joint in
       let e : link.Event = link.received (link.frame f) in
       let x : Course = course n.terms e n.link in
-      let s' : Endpoint = frame_comes (spelling d.side f) s in
+      let s' : Endpoint = frame_comes (spelling (own_side d) f) s in
       elim (frame-fair n.terms n.link h.up f meant.number meant.means).fair [
         | inl error ↦ inr (now-erred s s' x (taken-told service tei place past c s n h.held d face f from) error)
         | inr fine ↦

@@ -1,5 +1,6 @@
 -- The premises of the law on a call with losses are met by the worked call.
-use Rattle.laws_wire.proofs.Vocabulary.{◌≡◌, Bool, true, false, List, [], ◌∷◌, ◌++◌, refl, sym, subst, ◌∙◌, true≢false, All, Call, reading, header_of, control_of, unnumbered_of, supervisory_of, distance_of, named, seq, Data, SetBusy, ClearBusy, Wire, IsStill, requests, expires, sends, receives, loses, StepAt, at_near, at_far, doing, doing_all, turns, confirmed, indicated, data_told, heard_in}
+use Rattle.laws_wire.proofs.Vocabulary.{◌≡◌, Bool, true, false, List, [], ◌∷◌, ◌++◌, refl, sym, subst, ◌∙◌, true≢false, All, Call, exchanged, reading, side_reading, header_of, control_of, unnumbered_of, supervisory_of, distance_of, named, seq, Data, SetBusy, ClearBusy, Wire, IsStill, requests, expires, sends, receives, loses, StepAt, at_near, at_far, doing, doing_all, turns, confirmed, indicated}
+use Rattle.laws_wire.proofs.Vocabulary.{data_told, heard_in}
 use Rattle.laws_wire.proofs.Vocabulary.{round, awaits_reply, MayRepeat, user, network, begins, line_answer, line_takes_slot, line_after, tei_refusal, tei_course, IsFullTalk, StayPatient, uncalled, error_f, seen, ToldSo}
 use Rattle.lapd_frame.specs.declared.timers.Timer.TheVariants.{T200, T203}
 use Rattle.laws_wire.specs.WorkedAnswering.{loses_ua, is_busy, repeated, repeated_seen, repeated_still, repeated_rests, asks_early, rings_again, kept, kept_seen, kept_still, kept_rests, grants_early, dropped, dropped_seen, dropped_still, dropped_rests}
@@ -53,7 +54,7 @@ unfoldable pub ua-lost : Wire
 ua-lost = doing_all ua_goes begins
 
 pub lost-idle : IsStill ua-lost × MayRepeat Call 0 ua-lost.near
-unfolding line_after line_answer line_takes_slot reading header_of control_of unnumbered_of supervisory_of tei_course tei_refusal seq distance_of named doing_all turns ua-lost
+unfolding line_after line_answer line_takes_slot exchanged reading side_reading header_of control_of unnumbered_of supervisory_of tei_course tei_refusal seq distance_of named doing_all turns ua-lost
 lost-idle = (record { near = refl; far = refl; near_way = refl; far_way = refl }, none-told)
 
 pub patient-first : StayPatient loses_ua begins
@@ -75,7 +76,7 @@ expiring : Wire
 expiring = doing_all drops_one then
 
 in-7 : (awaits_reply Call 0 expiring.near ≡ false) × MayRepeat Call 0 expiring.near
-unfolding line_after line_answer line_takes_slot reading header_of control_of unnumbered_of supervisory_of tei_course tei_refusal seq distance_of named doing_all turns then expiring
+unfolding line_after line_answer line_takes_slot exchanged reading side_reading header_of control_of unnumbered_of supervisory_of tei_course tei_refusal seq distance_of named doing_all turns then expiring
 in-7 = (refl, none-told)
 
 patient-then : StayPatient is_busy then
@@ -95,7 +96,7 @@ so : ToldSo Call 0 (seen Call 0 (loses_ua ++ is_busy) begins uncalled) repeated
 so = lossy-calls-come-through Call user network 0 0 0 (loses_ua ++ is_busy) can full patient
 
 pub told : heard_in repeated.near ≡ confirmed Call 0 ∷ data_told Call 0 (2 ∷ []) ∷ []
-unfolding line_after line_answer line_takes_slot reading header_of control_of unnumbered_of supervisory_of tei_course tei_refusal seq distance_of named doing_all turns
+unfolding line_after line_answer line_takes_slot exchanged reading side_reading header_of control_of unnumbered_of supervisory_of tei_course tei_refusal seq distance_of named doing_all turns
 told = (subst (λ x. ToldSo Call 0 x repeated) repeated_seen so).near.1 (repeated_still, repeated_rests.0, repeated_rests.1)
 
 -- where it was asked, and its timer expired, before
@@ -103,7 +104,7 @@ early : Wire
 early = doing_all asks_early begins
 
 early-idle : IsStill early × MayRepeat Call 0 early.near
-unfolding line_after line_answer line_takes_slot reading header_of control_of unnumbered_of supervisory_of tei_course tei_refusal seq distance_of named doing_all turns early
+unfolding line_after line_answer line_takes_slot exchanged reading side_reading header_of control_of unnumbered_of supervisory_of tei_course tei_refusal seq distance_of named doing_all turns early
 early-idle = (record { near = refl; far = refl; near_way = refl; far_way = refl }, none-told)
 
 patient-early : StayPatient (asks_early ++ rings_again) begins
@@ -116,7 +117,7 @@ so-early : ToldSo Call 0 (seen Call 0 (asks_early ++ rings_again) begins uncalle
 so-early = lossy-calls-come-through Call user network 0 0 0 (asks_early ++ rings_again) can full-early patient-early
 
 pub told-early : heard_in kept.far ≡ indicated Call 0 ∷ error_f Call 0 ∷ []
-unfolding line_after line_answer line_takes_slot reading header_of control_of unnumbered_of supervisory_of tei_course tei_refusal seq distance_of named doing_all turns
+unfolding line_after line_answer line_takes_slot exchanged reading side_reading header_of control_of unnumbered_of supervisory_of tei_course tei_refusal seq distance_of named doing_all turns
 told-early = (subst (λ x. ToldSo Call 0 x kept) kept_seen so-early).far.1 (kept_still, kept_rests.0, kept_rests.1)
 
 -- and where an I-frame went before, so that contents are given up
@@ -128,7 +129,7 @@ given-up : Wire
 given-up = doing_all i_frame_goes begins
 
 given-up-idle : IsStill given-up × MayRepeat Call 0 given-up.near
-unfolding line_after line_answer line_takes_slot reading header_of control_of unnumbered_of supervisory_of tei_course tei_refusal seq distance_of named doing_all turns given-up
+unfolding line_after line_answer line_takes_slot exchanged reading side_reading header_of control_of unnumbered_of supervisory_of tei_course tei_refusal seq distance_of named doing_all turns given-up
 given-up-idle = (record { near = refl; far = refl; near_way = refl; far_way = refl }, none-told)
 
 patient-dropped : StayPatient grants_early begins
@@ -147,5 +148,5 @@ so-dropped : ToldSo Call 0 (seen Call 0 grants_early begins uncalled) dropped
 so-dropped = lossy-calls-come-through Call user network 0 0 0 grants_early can full-dropped patient-dropped
 
 pub told-dropped : heard_in dropped.near ≡ confirmed Call 0 ∷ []
-unfolding line_after line_answer line_takes_slot reading header_of control_of unnumbered_of supervisory_of tei_course tei_refusal seq distance_of named doing_all turns
+unfolding line_after line_answer line_takes_slot exchanged reading side_reading header_of control_of unnumbered_of supervisory_of tei_course tei_refusal seq distance_of named doing_all turns
 told-dropped = (subst (λ x. ToldSo Call 0 x dropped) dropped_seen so-dropped).near.1 (dropped_still, dropped_rests.0, dropped_rests.1)

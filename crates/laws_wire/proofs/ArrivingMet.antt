@@ -1,5 +1,6 @@
 -- The premises of the law on what arrives under traffic are met by the worked call.
-use Rattle.laws_wire.proofs.Vocabulary.{◌≡◌, ℕ, List, [], ◌∷◌, ◌++◌, refl, sym, ◌∙◌, inl, true≢false, All, leb-true, Call, reading, header_of, control_of, unnumbered_of, supervisory_of, distance_of, named, seq, Data, Wire, requests, expires, sends, receives, loses, at_near, at_far, doing_all, turns, confirmed, indicated, all_told, heard_in, IsRoughTalk, round, StayTimely, LosesNothing, GoesOn}
+use Rattle.laws_wire.proofs.Vocabulary.{◌≡◌, ℕ, List, [], ◌∷◌, ◌++◌, refl, sym, ◌∙◌, inl, true≢false, All, leb-true, Call, exchanged, reading, side_reading, header_of, control_of, unnumbered_of, supervisory_of, distance_of, named, seq, Data, Wire, requests, expires, sends, receives, loses, at_near, at_far, doing_all, turns, confirmed, indicated, all_told, heard_in, IsRoughTalk, round, StayTimely}
+use Rattle.laws_wire.proofs.Vocabulary.{LosesNothing, GoesOn}
 use Rattle.laws_wire.proofs.Vocabulary.{SendsOrReceives, HasCome, user, network, begins, MayRepeat, awaits_reply, false, ◌≤◌, ◌*◌, inr, arith, IsStill, granted_of, rounds, expiries, most_frames, most_left, line_answer, line_takes_slot, line_after, tei_refusal, tei_course}
 use Rattle.lapd_frame.specs.declared.timers.Timer.TheVariants.{T200}
 use Rattle.laws_wire.specs.WorkedArriving.{loses_two, goes_on, lossy, over, lossy_near, near_asked, over_still, waits, quiet, quiet_still, quiet_runs, asks, asked, asked_near, in_bulk, bulk_still}
@@ -42,7 +43,7 @@ as-it-is-lost =
     doing_all (round ++ at_near (requests (Data Call 0 (1 ∷ []))) ∷ at_near sends ∷ at_near loses ∷ at_far (requests (Data Call 0 (2 ∷ []))) ∷ at_far (requests (Data Call 0 (3 ∷ []))) ∷ at_far sends ∷ []) begins
 
 heard-then : heard_in as-it-is-lost.near ≡ confirmed Call 0 ∷ []
-unfolding line_after line_answer line_takes_slot reading header_of control_of unnumbered_of supervisory_of tei_course tei_refusal seq distance_of named doing_all turns as-it-is-lost
+unfolding line_after line_answer line_takes_slot exchanged reading side_reading header_of control_of unnumbered_of supervisory_of tei_course tei_refusal seq distance_of named doing_all turns as-it-is-lost
 heard-then = refl
 
 timely : StayTimely loses_two begins
@@ -57,7 +58,7 @@ as-it-expires : Wire
 as-it-expires = doing_all (at_near receives ∷ []) lossy
 
 in-7 : (awaits_reply Call 0 as-it-expires.near ≡ false) × MayRepeat Call 0 as-it-expires.near
-unfolding line_after line_answer line_takes_slot reading header_of control_of unnumbered_of supervisory_of tei_course tei_refusal seq distance_of named doing_all turns as-it-expires
+unfolding line_after line_answer line_takes_slot exchanged reading side_reading header_of control_of unnumbered_of supervisory_of tei_course tei_refusal seq distance_of named doing_all turns as-it-expires
 in-7 = (refl, none-told)
 
 timely-on : StayTimely goes_on lossy

@@ -3,7 +3,7 @@
 use Rattle.laws_wire.proofs.Vocabulary.{◌≡◌, ℕ, zero, suc, ◌<◌, Bool, true, false, cond, not, ◌||◌, IsTrue, List, [], ◌∷◌, ◌++◌, length, map, Option, None, Some, option_map, refl, sym, ap, subst, ◌∙◌, true≢false, All, flat_map, list_any, option_map_or, nat_lt, ltb-true, All-nil, All-cons, All-append, All-head, All-tail, Seq, Control, Information, ReceiveReady, Service, Parts, spelling}
 use Rattle.laws_wire.proofs.Vocabulary.{TeiAssigned, Established, ControlFrame, LinkTimer, Terms, Link, fresh, frame_of, state_number, is_multiple_frame, course, begun, given_of, is_running, Course, T200, LinkEndpoint, frame_given, with_sent, Config, next, link_in, state_in, state_of, terms, awaits_answer, HasNo, Endpoint, answered, happens, told_by, expiry, is_error, TellNoError, is_poll}
 use Rattle.laws_wire.proofs.Vocabulary.{is_final, giving, NoneGoes, IsNoneOpen, awaits_in, awaits_reply, IsLongEnough, MayRepeat, is_any_order, runs_t200, Answer, BadTei, NoLink, Refusal, Rests, arith, frames_by, gives_one, is_on-at, le-ltb, link_of, list_any_none, place_of-is, queue_of, told, told_of_link, of_aim, at_timer, place_in, ◌-◌, ◌≤◌, expired, timer_T200, line_answer, line_takes_slot}
-use Rattle.laws_wire.proofs.Vocabulary.{all-right, room_of, orders_for, orders_in, unless, free}
+use Rattle.laws_wire.proofs.Vocabulary.{all-right, room_of, orders_for, orders_in, unless, free, own_side}
 use Rattle.model_link.specs.Machine as links
 use Rattle.model_link.specs.Offers as offers
 use Rattle.laws_link.specs.two.Timely as two_links
@@ -70,10 +70,10 @@ two-pass : (a b : Bool) (x y : Refusal) → a ≡ false → b ≡ false → cond
 two-pass a b x y e e' = rw (e, e') refl
 
 -- its frames are read as what they are
-pub read-again : (service : Service) (tei : ℕ) (c : Config) (way : List Parts) → All (IsCarried c service tei) way → flat_map (read_as c) (map (spelling c.side) way) ≡ way
+pub read-again : (service : Service) (tei : ℕ) (c : Config) (way : List Parts) → All (IsCarried c service tei) way → flat_map (read_as c) (map (spelling (own_side c)) way) ≡ way
 read-again service tei c [] all = refl
 read-again service tei c (f ∷ fs) all =
-    ap (λ r. parts_of r ++ flat_map (read_as c) (map (spelling c.side) fs)) (All-head (IsCarried c service tei) f fs all).carried.read
+    ap (λ r. parts_of r ++ flat_map (read_as c) (map (spelling (own_side c)) fs)) (All-head (IsCarried c service tei) f fs all).carried.read
     ∙ ap (λ more. f ∷ more) (read-again service tei c fs (All-tail (IsCarried c service tei) f fs all))
 
 module _ (service : Service) (tei place : ℕ) where

@@ -1,6 +1,6 @@
 -- Both ends call, and SABMEs cross: how far each call has come, and what each step does.
 use Rattle.laws_wire.proofs.Vocabulary.{◌≡◌, ℕ, ◌+◌, ◌*◌, ◌<◌, ◌≤◌, false, List, [], ◌∷◌, ◌++◌, length, None, refl, sym, ap, subst, ◌∙◌, ◌⊎◌, inl, inr, append-nil, arith, if◌then◌else◌, lt-ltb, Service, Parts, spelling, ControlFrame, Terms, received, course, given, IsInRange, LinkEndpoint, with_link, with_sent, Config, terms, Request, next, Pair, frame, after, refusal, Endpoint, Wire, frames_by}
-use Rattle.laws_wire.proofs.Vocabulary.{with_first_of, without_first, EndStep, requests, sends, receives, acting, turned, is_turn_of, answered, frame_comes, IsTalkOf, confirmed, LinkData, two_ends_without_first}
+use Rattle.laws_wire.proofs.Vocabulary.{with_first_of, without_first, EndStep, requests, sends, receives, acting, turned, is_turn_of, answered, frame_comes, IsTalkOf, confirmed, LinkData, two_ends_without_first, own_side}
 use Rattle.laws_wire.proofs.Answered.{takes-granted, gives-granted}
 use Rattle.laws_wire.proofs.BothHalf as half
 use Rattle.laws_wire.proofs.BothHalf.{lower}
@@ -143,22 +143,22 @@ module _ (service : Service) (tei : ℕ) (c d : Config) (p q : ℕ) (face : Face
       abbrev s : Endpoint
       s = w.near
 
-      pub same : with_first_of w.far.way s ≡ frame_comes (spelling d.side f) s
+      pub same : with_first_of w.far.way s ≡ frame_comes (spelling (own_side d) f) s
       same = ap (λ way. with_first_of way s) (first-way service tei d q unheard w.far (crossing u other own) f fs first both.far).0
 
-      pub took : Took service tei p unheard c s (crossing t own other) (spelling d.side f) f
+      pub took : Took service tei p unheard c s (crossing t own other) (spelling (own_side d) f) f
       took = takes_frame service tei p unheard c d face s (crossing t own other) f both.near.stands (first-way service tei d q unheard w.far (crossing u other own) f fs first both.far).1
 
       pub taken-count : granted_of (acting receives w) ≡ granted_of w
-      taken-count = ap (λ (s' : Endpoint). length s'.granted + length w.far.granted) same ∙ ap (λ xs. length xs + length w.far.granted) (takes-granted (spelling d.side f) s)
+      taken-count = ap (λ (s' : Endpoint). length s'.granted + length w.far.granted) same ∙ ap (λ xs. length xs + length w.far.granted) (takes-granted (spelling (own_side d) f) s)
 
       -- it is told this, and stands for this end
       pub holds-then : (past : Past) (n' : LinkEndpoint) → with_link (received (frame f)) (crossing t own other) ≡ n' → n'.link.contents ≡ [] → past.had ≡ [] → n'.delivered ≡ []
           → said_by (course t (received (frame f)) (crossing t own other).link) ≡ past.told → Holds c service tei p past (with_first_of w.far.way s) n'
       holds-then past n' is empty had none said =
           subst (λ s'. Holds c service tei p past s' n') (sym same) (record {
-            stands = subst (StationStands c service tei p (frame_comes (spelling d.side f) s)) is took.stands;
-            granted = takes-granted (spelling d.side f) s ∙ both.near.granted ∙ sym empty;
+            stands = subst (StationStands c service tei p (frame_comes (spelling (own_side d) f) s)) is took.stands;
+            granted = takes-granted (spelling (own_side d) f) s ∙ both.near.granted ∙ sym empty;
             since = [];
             told =
                 took.told ∙ ap (λ ts. ts ++ said_by (course t (received (frame f)) (crossing t own other).link)) (none-told c service tei p [] s (crossing t own other) both.near refl)

@@ -1,6 +1,6 @@
 -- A call of which one end is up, and its UA waits or is on its way; and then both are up.
 use Rattle.laws_wire.proofs.Vocabulary.{◌≡◌, ℕ, ◌+◌, ◌*◌, ◌≤◌, false, List, [], ◌++◌, length, None, refl, sym, ap, subst, ◌∙◌, ◌⊎◌, inl, inr, arith, if◌then◌else◌, Service, spelling, Terms, course, is_down, IsInRange, LinkEndpoint, with_sent, Config, terms, LineTold, request, next, weight_at, Pair, refusal, Data, Endpoint, Wire, happens, frames_by, with_first_of, EndStep, requests, sends}
-use Rattle.laws_wire.proofs.Vocabulary.{receives, StepAt, at_near, at_far, acting, turned, doing, is_turn_of, is_turn, answered, frame_comes, IsTalkOf, IsTalk, confirmed, received, LinkData, frame}
+use Rattle.laws_wire.proofs.Vocabulary.{receives, StepAt, at_near, at_far, acting, turned, doing, is_turn_of, is_turn, answered, frame_comes, IsTalkOf, IsTalk, confirmed, received, LinkData, frame, own_side}
 use Rattle.laws_wire.proofs.Answered.{gives-granted, takes-granted}
 use Rattle.laws_wire.proofs.Asking.{with_more}
 use Rattle.laws_wire.proofs.BothAsking.{Refuses, refuses}
@@ -142,12 +142,12 @@ module _ (service : Service) (tei : ℕ) where
         let f = ua h.m.terms in
         let way = first-way service tei d q second w.far (with_ua_first h.m) f h.m.way refl h.both.far in
         let s = w.near in
-        let same : with_first_of w.far.way s ≡ frame_comes (spelling d.side f) s = ap (λ way. with_first_of way s) way.0 in
-        let x : Took service tei p unheard c s (end t awaiting []) (spelling d.side f) f = takes_frame service tei p unheard c d face s (end t awaiting []) f h.both.near.stands way.1 in
-        let near : Holds c service tei p (after_note (confirmed service tei)) (frame_comes (spelling d.side f) s) (end t caller []) =
+        let same : with_first_of w.far.way s ≡ frame_comes (spelling (own_side d) f) s = ap (λ way. with_first_of way s) way.0 in
+        let x : Took service tei p unheard c s (end t awaiting []) (spelling (own_side d) f) f = takes_frame service tei p unheard c d face s (end t awaiting []) f h.both.near.stands way.1 in
+        let near : Holds c service tei p (after_note (confirmed service tei)) (frame_comes (spelling (own_side d) f) s) (end t caller []) =
         record {
           stands = x.stands;
-          granted = takes-granted (spelling d.side f) s ∙ h.both.near.granted;
+          granted = takes-granted (spelling (own_side d) f) s ∙ h.both.near.granted;
           since = [];
           told = x.told ∙ ap (λ ts. ts ++ said_by (course t (received (frame f)) awaiting)) (none-told c service tei p [] s (end t awaiting []) h.both.near refl) ∙ refl;
           delivered = refl;
@@ -166,7 +166,7 @@ module _ (service : Service) (tei : ℕ) where
           }));
           price =
               lower _ weight (one_up h.m) (granted_of w) _ (one-at-most w.far.way) h.is
-              (ap (λ (s' : Endpoint). length s'.granted + length w.far.granted) same ∙ ap (λ xs. length xs + length w.far.granted) (takes-granted (spelling d.side f) s));
+              (ap (λ (s' : Endpoint). length s'.granted + length w.far.granted) same ∙ ap (λ xs. length xs + length w.far.granted) (takes-granted (spelling (own_side d) f) s));
         }
 
     from-awaited-near : (act : EndStep) → IsTalkOf service tei act → (w : Wire) (weight : ℕ) → IsAwaited w weight → Stepped w (acting act w) weight (if is_turn_of act w then 1 else 0)
@@ -198,7 +198,7 @@ module _ (service : Service) (tei : ℕ) where
     awaited-gives : (w : Wire) (weight : ℕ) → IsAwaited w weight → Stepped w (made w (happens next w.far)) weight (turn_of (frames_by (answered next w.far)))
     awaited-gives w weight h =
         let m = h.m in
-        let x = end-gives (spelling w.far.card.config.side) m (end t caller []) (turned-pair (end t caller []) m h.pair) in
+        let x = end-gives (spelling (own_side w.far.card.config)) m (end t caller []) (turned-pair (end t caller []) m h.pair) in
         let sent = holds-given service tei q second d w.far (with_ua_first m) h.both.far x.kept in
         let turn-is = ap turn_of (frames-are service tei d c q p second unheard (turned w) (with_ua_first m) (end t awaiting []) (turned-both service tei c d p q unheard second w _ _ h.both)) in
         record {

@@ -1,6 +1,6 @@
 -- A call from its beginning: the near end calls, and the far one may call back before SABME comes; each step of it.
 use Rattle.laws_wire.proofs.Vocabulary.{◌≡◌, ℕ, ◌+◌, ◌*◌, ◌≤◌, Bool, true, false, cond, ◌||◌, [], ◌∷◌, length, refl, sym, ap, subst, ◌∙◌, ◌⊎◌, inl, inr, arith, if◌then◌else◌, Service, spelling, Terms, fresh, IsInRange, with_link, Config, terms, next, Establish, Endpoint, Wire, frames_by, with_first_of, EndStep, requests, sends, receives, StepAt, at_near, at_far, acting, turned, doing, is_turn_of}
-use Rattle.laws_wire.proofs.Vocabulary.{is_turn, answered, frame_comes, IsTalkOf, IsTalk, IsCall, calls_back, confirmed, indicated, told_first, received, frame}
+use Rattle.laws_wire.proofs.Vocabulary.{is_turn, answered, frame_comes, IsTalkOf, IsTalk, IsCall, calls_back, confirmed, indicated, told_first, received, frame, own_side}
 use Rattle.laws_wire.proofs.Answered.{takes-granted, gives-granted}
 use Rattle.laws_wire.proofs.BothAsking.{Kind, talks, near_calls, far_calls, kind, Refuses, refuses, calls}
 use Rattle.laws_wire.proofs.BothHalf as half
@@ -94,8 +94,8 @@ module _ (service : Service) (tei : ℕ) where
         let way = first-way service tei c p unheard w.near (end t awaiting (f ∷ [])) f [] refl h.both.near in
         let s = w.far in
         let second = after_note (indicated service tei) in
-        let same : with_first_of w.near.way s ≡ frame_comes (spelling c.side f) s = ap (λ way. with_first_of way s) way.0 in
-        let x : Took service tei q unheard d s (end u fresh []) (spelling c.side f) f = takes_frame service tei q unheard d c back s (end u fresh []) f h.both.far.stands way.1 in
+        let same : with_first_of w.near.way s ≡ frame_comes (spelling (own_side c) f) s = ap (λ way. with_first_of way s) way.0 in
+        let x : Took service tei q unheard d s (end u fresh []) (spelling (own_side c) f) f = takes_frame service tei q unheard d c back s (end u fresh []) f h.both.far.stands way.1 in
         let is : with_link (received (frame f)) (end u fresh []) ≡ with_ua_waiting (end u called []) = ap (λ y. end u y []) (takes-sabme u ru t) in
         record {
           weight = 2 + half.one_up service tei (indicated service tei) c d p q face back rt (end u called []);
@@ -108,7 +108,7 @@ module _ (service : Service) (tei : ℕ) where
           })));
           price =
               lower _ weight 2 (granted_of w) _ (one-at-most w.near.way) h.is
-              (ap (λ (s' : Endpoint). length w.near.granted + length s'.granted) same ∙ ap (λ xs. length w.near.granted + length xs) (takes-granted (spelling c.side f) s));
+              (ap (λ (s' : Endpoint). length w.near.granted + length s'.granted) same ∙ ap (λ xs. length w.near.granted + length xs) (takes-granted (spelling (own_side c) f) s));
         }
 
     from-called-far : (act : EndStep) → IsTalkOf service tei act → (w : Wire) (weight : ℕ) → IsCalled w weight → Went false w (turned (acting act (turned w))) weight (if is_turn_of act (turned w) then 1 else 0)

@@ -1,5 +1,6 @@
 -- The premises of the law on counted expiries are met, by the worked calls that recover from their losses.
-use Rattle.laws_wire.proofs.Vocabulary.{◌≡◌, refl, arith, All, Call, reading, header_of, control_of, unnumbered_of, supervisory_of, distance_of, named, seq, sends, loses, at_near, doing, doing_all, turns, confirmed, heard_in, StayTimely, IsFullTalk, StayPatient, Counts, counting, uncounted, IsBelow, StayCounted, StaySpared, user, network, begins, loses_three, lost, ℕ, ◌<◌, line_answer}
+use Rattle.laws_wire.proofs.Vocabulary.{◌≡◌, refl, arith, All, Call, exchanged, reading, side_reading, header_of, control_of, unnumbered_of, supervisory_of, distance_of, named, seq, sends, loses, at_near, doing, doing_all, turns, confirmed, heard_in, StayTimely, IsFullTalk, StayPatient, Counts, counting, uncounted, IsBelow, StayCounted, StaySpared, user, network, begins, loses_three, lost, ℕ, ◌<◌}
+use Rattle.laws_wire.proofs.Vocabulary.{line_answer}
 use Rattle.laws_wire.proofs.Vocabulary.{line_takes_slot, line_after, tei_refusal, tei_course, ua_is_lost}
 unfoldable use Rattle.laws_wire.proofs.AnsweringMet.{ua-lost}
 use Rattle.laws_wire.proofs.AnsweringMet.{lost-idle}
@@ -12,7 +13,7 @@ abbrev so_far : Counts
 so_far = counting Call 0 (at_near loses) (doing (at_near sends) begins) (counting Call 0 (at_near sends) begins uncounted)
 
 none-expired : so_far.near ≡ 0
-unfolding line_after line_answer line_takes_slot reading header_of control_of unnumbered_of supervisory_of tei_course tei_refusal seq distance_of named doing_all turns
+unfolding line_after line_answer line_takes_slot exchanged reading side_reading header_of control_of unnumbered_of supervisory_of tei_course tei_refusal seq distance_of named doing_all turns
 none-expired = refl
 
 three-times : silent.near.card.config.n200 ≡ 3
@@ -42,7 +43,7 @@ ua_so_far : Counts
 ua_so_far = counting Call 0 (at_near sends) begins uncounted
 
 ua-none-expired : ua_so_far.near ≡ 0
-unfolding line_after line_answer line_takes_slot reading header_of control_of unnumbered_of supervisory_of tei_course tei_refusal seq distance_of named doing_all turns ua_so_far
+unfolding line_after line_answer line_takes_slot exchanged reading side_reading header_of control_of unnumbered_of supervisory_of tei_course tei_refusal seq distance_of named doing_all turns ua_so_far
 ua-none-expired = refl
 
 ua-three-times : ua-lost.near.card.config.n200 ≡ 3

@@ -2,6 +2,7 @@
 use Rattle.laws_wire.proofs.Vocabulary.{◌≡◌, ℕ, ◌+◌, ◌<◌, ◌≤◌, Bool, true, false, cond, ◌==◌, List, [], ◌∷◌, ◌++◌, map, refl, sym, ap, subst, ◌∙◌, inl, inr, true≢false, eqb-true, arith, All, All-nil, All-head, All-tail, Service, Parts, spelling, State, TeiAssigned, AwaitingEstablishment, AwaitingRelease, Established, TimerRecovery, Terms, T203, Link, IsInRange, LinkEndpoint, Config, Line}
 use Rattle.laws_wire.proofs.Vocabulary.{place_in, at_requested, aim_of_request, request, terms, awaits_answer, as_heard, is_clearing, is_time, event-follows, T200, after, Request, Data, SetBusy, ClearBusy, Endpoint, Wire, happens, with_first_of, EndStep, requests, expires, sends, receives, StepAt, at_near, at_far, acting, turned, doing, doing_all, calling, IsRoughTalk, IsFullTalkOf, IsFullTalk}
 use Rattle.laws_wire.proofs.Vocabulary.{own_link, IsTimelyOf, StayTimely, StayPatient, Counts, is_7, is_in_7, counted, counting, uncounted, IsCountedOf, IsCounted, StayCounted, StaySpared, ExpiriesAreCounted, LossyExpiriesAreCounted, frame, requested, offer, expired, LinkSetBusy, received, LinkClearBusy, LinkData, LinkRequest, timer_T200, timer_T203, IsPatient, Called, uncalled, seeing, seen}
+use Rattle.laws_wire.proofs.Vocabulary.{own_side}
 use Rattle.model_link.specs.Events.{Event}
 use Rattle.laws_wire.proofs.Awaited.{link-is, state-is, awaits-is, may-here}
 use Rattle.laws_wire.proofs.LooseUp.{for-asked}
@@ -96,11 +97,11 @@ module _ (service : Service) (tei : ℕ) where
     near-takes : Below (acting receives w).near (cond in_7 0 k)
     near-takes = subst (λ ways. Below (with_first_of ways w.near) (cond in_7 0 k)) (sym far.way) (taken m.way refl)
       where
-        taken : (way : List Parts) → m.way ≡ way → Below (with_first_of (map (spelling d.side) way) w.near) (cond in_7 0 k)
+        taken : (way : List Parts) → m.way ≡ way → Below (with_first_of (map (spelling (own_side d)) way) w.near) (cond in_7 0 k)
         taken [] e = same
         taken (f ∷ fs) e =
             let from : IsCarried d service tei f = All-head (IsCarried d service tei) f fs (subst (All (IsCarried d service tei)) e far.carried) in
-            by-event c (received (frame f)) (with_first_of (map (spelling d.side) (f ∷ fs)) w.near) _ (takes_frame service tei p unheard c d face w.near n f near from).stands refl refl refl
+            by-event c (received (frame f)) (with_first_of (map (spelling (own_side d)) (f ∷ fs)) w.near) _ (takes_frame service tei p unheard c d face w.near n f near from).stands refl refl refl
 
     pub near-counts : (act : EndStep) → IsFullTalkOf service tei act → Below (acting act w).near (counted service tei act w.near k)
     near-counts (requests r) is =

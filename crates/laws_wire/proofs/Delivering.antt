@@ -12,7 +12,7 @@ use Rattle.laws_wire.proofs.Up.{Talk, pair_of, talks, Acted}
 use Rattle.std.proofs.Math.Seq.{drop-append_seam}
 use Rattle.model_line.specs.Sound.{IsSound}
 use Rattle.laws_wire.specs.Facing.{line_of, most_turns, unsent_at, due_since, IsToldSince, Delivers, CardsDeliver, CardsFaceAgain, CallsFace}
-use Rattle.laws_wire.proofs.Spelled.{twice-other}
+use Rattle.laws_wire.proofs.Spelled.{sides-turned}
 unfoldable use Rattle.laws_wire.specs.Wire.{doing_all, turns}
 
 -- ---- where no turn is left the two cards face each other again
@@ -240,7 +240,7 @@ module _ (service : Service) (tei : ℕ) where
     face = record { side = sym h.2.0; n201 = h.2.1 }
 
     back : talking.Face d c
-    back = record { side = ap other_side h.2.0 ∙ twice-other c.side; n201 = sym h.2.1 }
+    back = record { side = sym (sides-turned c d h.2.0); n201 = sym h.2.1 }
 
     abbrev Talked : Wire → Type 0
     Talked v =

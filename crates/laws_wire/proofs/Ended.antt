@@ -1,7 +1,7 @@
 -- Two stations of which one releases the link where both rest: what each thing that is done makes of them.
 use Rattle.laws_wire.proofs.Vocabulary.{◌≡◌, ℕ, ◌+◌, ◌<◌, Bool, true, false, List, [], ◌∷◌, ◌++◌, cond, refl, sym, ap, subst, ◌∙◌, ◌⊎◌, inl, inr, append-nil, arith, All, nat_lt, flat_map, lt-ltb, All-head, All-tail, Service, Timer, Parts, spelling, Established, ControlFrame, Terms, LinkTimer, T203, Link, frame_of, course, LinkEndpoint, with_link, response, Ua, Dm, IsInRange, begun, Config}
 use Rattle.laws_wire.proofs.Vocabulary.{LineTold, expiry, next, terms, HasNothingToSend, awaits_answer, T200, Endpoint, Wire, happens, EndStep, requests, expires, sends, receives, loses, acting, turned, StepAt, at_near, at_far, doing, doing_all, is_poll, is_final, IsTimelyOf, for_layer_3, IsLeaving, IsTimelyThere, StayTimelyThere, release_confirmed, release_indicated, map, expired, timer_T200}
-use Rattle.laws_wire.proofs.Vocabulary.{timer_T203}
+use Rattle.laws_wire.proofs.Vocabulary.{timer_T203, own_side}
 use Rattle.laws_wire.proofs.Awaited.{NoneOpen, may-there, long-there, waits-first, goes-first}
 use Rattle.laws_wire.proofs.Leaving.{its_disc, disc, leaving, left, gone, hears-disc, told-disc, repeats-disc, repeats-untold, told-again}
 use Rattle.laws_wire.proofs.LossyPhases.{for-timer, Aims}
@@ -85,16 +85,16 @@ module _ (service : Service) (tei : ℕ) where
       far-silent none = record { near = h.near; far = t-silent service tei d q b w.far m none h.far }
 
       near-takes-none : m.way ≡ [] → Are n m a b (acting receives w)
-      near-takes-none none = subst (Are n m a b) (sym (takes-none w (h.far.stands.way ∙ ap (map (spelling d.side)) none))) h
+      near-takes-none none = subst (Are n m a b) (sym (takes-none w (h.far.stands.way ∙ ap (map (spelling (own_side d))) none))) h
 
       far-takes-none : n.way ≡ [] → Are n m a b (turned (acting receives (turned w)))
-      far-takes-none none = subst (λ v. Are n m a b (turned v)) (sym (takes-none (turned w) (h.near.stands.way ∙ ap (map (spelling c.side)) none))) h
+      far-takes-none none = subst (λ v. Are n m a b (turned v)) (sym (takes-none (turned w) (h.near.stands.way ∙ ap (map (spelling (own_side c))) none))) h
 
       near-loses-none : n.way ≡ [] → Are n m a b (acting loses w)
-      near-loses-none none = subst (Are n m a b) (sym (loses-none w (h.near.stands.way ∙ ap (map (spelling c.side)) none))) h
+      near-loses-none none = subst (Are n m a b) (sym (loses-none w (h.near.stands.way ∙ ap (map (spelling (own_side c))) none))) h
 
       far-loses-none : m.way ≡ [] → Are n m a b (turned (acting loses (turned w)))
-      far-loses-none none = subst (λ v. Are n m a b (turned v)) (sym (loses-none (turned w) (h.far.stands.way ∙ ap (map (spelling d.side)) none))) h
+      far-loses-none none = subst (λ v. Are n m a b (turned v)) (sym (loses-none (turned w) (h.far.stands.way ∙ ap (map (spelling (own_side d))) none))) h
 
       -- a timer that does not run
       near-unmoved : (timer : Timer) (its : LinkTimer) → Aims service tei timer its → course n.terms (expired its) n.link ≡ begun n.link → Are n m a b (acting (expires timer) w)

@@ -1,5 +1,6 @@
 -- The premises of the law on a call that ends are met by the worked call.
-use Rattle.laws_wire.proofs.Vocabulary.{◌≡◌, [], ◌∷◌, ◌++◌, refl, inl, All, Call, reading, header_of, control_of, unnumbered_of, supervisory_of, distance_of, named, seq, Wire, expires, sends, loses, at_near, doing_all, turns, heard_in, MayRepeat, IsFullTalk, StayPatient, IsLeaving, StayTimelyThere, release_confirmed, EndsSo, user, network, begins, establishes, IsStill, line_answer}
+use Rattle.laws_wire.proofs.Vocabulary.{◌≡◌, [], ◌∷◌, ◌++◌, refl, inl, All, Call, exchanged, reading, side_reading, header_of, control_of, unnumbered_of, supervisory_of, distance_of, named, seq, Wire, expires, sends, loses, at_near, doing_all, turns, heard_in, MayRepeat, IsFullTalk, StayPatient, IsLeaving, StayTimelyThere, release_confirmed, EndsSo, user, network, begins, establishes, IsStill}
+use Rattle.laws_wire.proofs.Vocabulary.{line_answer}
 use Rattle.laws_wire.proofs.Vocabulary.{line_takes_slot, line_after, tei_refusal, tei_course}
 use Rattle.lapd_frame.specs.declared.timers.Timer.TheVariants.{T200}
 use Rattle.laws_wire.specs.WorkedEnding.{established, rests, still, released, loses_disc, loses_both, ended, ended_still, ended_rests}
@@ -24,22 +25,22 @@ disc-lost : Wire
 disc-lost = doing_all (at_near sends ∷ at_near loses ∷ []) released
 
 disc-idle : IsStill disc-lost
-unfolding line_after line_answer line_takes_slot reading header_of control_of unnumbered_of supervisory_of tei_course tei_refusal seq distance_of named doing_all turns disc-lost
+unfolding line_after line_answer line_takes_slot exchanged reading side_reading header_of control_of unnumbered_of supervisory_of tei_course tei_refusal seq distance_of named doing_all turns disc-lost
 disc-idle = record { near = refl; far = refl; near_way = refl; far_way = refl }
 
 disc-may : MayRepeat Call 0 disc-lost.near
-unfolding line_after line_answer line_takes_slot reading header_of control_of unnumbered_of supervisory_of tei_course tei_refusal seq distance_of named doing_all turns disc-lost
+unfolding line_after line_answer line_takes_slot exchanged reading side_reading header_of control_of unnumbered_of supervisory_of tei_course tei_refusal seq distance_of named doing_all turns disc-lost
 disc-may = none-told
 
 ua-lost : Wire
 ua-lost = doing_all loses_disc released
 
 ua-idle : IsStill ua-lost
-unfolding line_after line_answer line_takes_slot reading header_of control_of unnumbered_of supervisory_of tei_course tei_refusal seq distance_of named doing_all turns ua-lost
+unfolding line_after line_answer line_takes_slot exchanged reading side_reading header_of control_of unnumbered_of supervisory_of tei_course tei_refusal seq distance_of named doing_all turns ua-lost
 ua-idle = record { near = refl; far = refl; near_way = refl; far_way = refl }
 
 ua-may : MayRepeat Call 0 ua-lost.near
-unfolding line_after line_answer line_takes_slot reading header_of control_of unnumbered_of supervisory_of tei_course tei_refusal seq distance_of named doing_all turns ua-lost
+unfolding line_after line_answer line_takes_slot exchanged reading side_reading header_of control_of unnumbered_of supervisory_of tei_course tei_refusal seq distance_of named doing_all turns ua-lost
 ua-may = none-told
 
 timely : StayTimelyThere loses_both released

@@ -1,7 +1,7 @@
 -- A station in a call in which frames are lost and timers expire: what its layer 3 was granted is what its link accepted, and
 -- layer 3 heard what its link delivered.
 use Rattle.laws_wire.proofs.Vocabulary.{◌≡◌, ℕ, Bool, true, false, ◌==◌, suc, List, [], ◌∷◌, ◌++◌, length, map, None, is_some, refl, sym, ap, subst, ◌∙◌, ◌⊎◌, inl, inr, append-nil, append_assoc, eqb-true, arith, option_to_list, flat_map, list_any, and_parts, false≢true, map-append, list_any-append, list_any_none, Note, Service, Timer, Parts, spelling, LinkTimer, LinkEndpoint, with_link, with_sent}
-use Rattle.laws_wire.proofs.Vocabulary.{Config, LineTold, expiry, request, next, at_timer, aim_of_expiry, Line, place_in, flat_map-append, Course, Data, Endpoint, happens, without_first, frame_comes, data_told, for_layer_3, heard_in, is_error, HasNoError, two_ends_without_first, course, NoteData, refusal}
+use Rattle.laws_wire.proofs.Vocabulary.{Config, LineTold, expiry, request, next, at_timer, aim_of_expiry, Line, place_in, flat_map-append, Course, Data, Endpoint, happens, without_first, frame_comes, data_told, for_layer_3, heard_in, is_error, HasNoError, two_ends_without_first, course, NoteData, refusal, own_side}
 use Rattle.model_link.specs.Events as link
 use Rattle.laws_wire.proofs.Answered.{gives-told, same-granted, takes-granted}
 use Rattle.laws_wire.proofs.Asking.{with_more}
@@ -79,7 +79,7 @@ module _ (service : Service) (tei place : ℕ) (past : List LineTold) (c : Confi
   -- a frame of the other side
   module _ (d : Config) (face : Face c d) (f : Parts) (from : IsCarried d service tei f) where
     abbrev took : Endpoint
-    took = frame_comes (spelling d.side f) s
+    took = frame_comes (spelling (own_side d) f) s
 
     abbrev x : Course
     x = course n.terms (link.received (link.frame f)) n.link
@@ -94,7 +94,7 @@ module _ (service : Service) (tei place : ℕ) (past : List LineTold) (c : Confi
         → Held c service tei place past took (with_link (link.received (link.frame f)) n)
     held-taken tells kept = record {
       stands = (takes_frame service tei place unheard c d face s n f h.stands from).stands;
-      granted = takes-granted (spelling d.side f) s ∙ h.granted ∙ sym kept;
+      granted = takes-granted (spelling (own_side d) f) s ∙ h.granted ∙ sym kept;
       heard = heard-then took x (takes_frame service tei place unheard c d face s n f h.stands from).told tells;
     }
 

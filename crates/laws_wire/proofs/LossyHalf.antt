@@ -1,6 +1,6 @@
 -- The second phase of such a call: one end still rings, and the other is up.
 use Rattle.laws_wire.proofs.Vocabulary.{arith, ◌≡◌, ℕ, true, List, [], ◌∷◌, ◌++◌, map, refl, sym, ap, subst, ◌∙◌, ◌⊎◌, inl, inr, append-nil, option_to_list, All-head, Service, Parts, spelling, Terms, course, IsInRange, LinkEndpoint, with_link, frames_of, Config, terms, Endpoint, Wire, with_first_of, without_first, EndStep, requests, expires, sends, receives, loses, acting, turned, frame_comes}
-use Rattle.laws_wire.proofs.Vocabulary.{confirmed, indicated, IsRoughTalkOf}
+use Rattle.laws_wire.proofs.Vocabulary.{confirmed, indicated, IsRoughTalkOf, own_side}
 use Rattle.model_link.specs.Events as link
 use Rattle.laws_wire.proofs.Answered.{takes-granted}
 use Rattle.laws_wire.proofs.Acting.{Acted, up-asks, up-expires, up-gives, up-loses}
@@ -39,7 +39,7 @@ module _ (service : Service) (tei : ℕ) (c d : Config) (p q : ℕ) (face : Face
     unheard-by f fs e meant none x =
         let way = first-way service tei d q _ w.far h.m f fs e h.far.held in
         let i : Ignores t h.repeats h.waiting f = ignores t h.repeats h.waiting f meant.number meant.means in
-        let s' = frame_comes (spelling d.side f) w.near in
+        let s' = frame_comes (spelling (own_side d) f) w.near in
         let event = link.received (link.frame f) in
         let tells : TellsIt service tei (course t event caller_end.link) =
         record {
@@ -57,7 +57,7 @@ module _ (service : Service) (tei : ℕ) (c d : Config) (p q : ℕ) (face : Face
     confirms fs e x =
         let f = ua u in
         let way = first-way service tei d q _ w.far h.m f fs e h.far.held in
-        let s' = frame_comes (spelling d.side f) w.near in
+        let s' = frame_comes (spelling (own_side d) f) w.near in
         let n' = end t (answered h.repeats h.waiting) h.way in
         let there : Joint x.n n' x.near [] =
         record {
@@ -66,7 +66,7 @@ module _ (service : Service) (tei : ℕ) (c d : Config) (p q : ℕ) (face : Face
         } in
         let held : Held c service tei p (confirmed service tei ∷ []) s' n' =
         held-first service tei p [] c w.near caller_end h.near (confirmed service tei) s' n' (course t (link.received (link.frame f)) caller_end.link) refl refl refl
-        (taken-stands service tei p [] c w.near caller_end h.near d face f way.1) (takes-granted (spelling d.side f) w.near) refl
+        (taken-stands service tei p [] c w.near caller_end h.near d face f way.1) (takes-granted (spelling (own_side d) f) w.near) refl
         (taken-told service tei p [] c w.near caller_end h.near d face f way.1) refl refl in
         subst (λ ways. Leads (record { near = with_first_of ways w.near; far = without_first w.far })) (sym way.0)
         (as-up service tei c d p q (record { near = s'; far = without_first w.far }) (record {
@@ -131,7 +131,7 @@ module _ (service : Service) (tei : ℕ) (c d : Config) (p q : ℕ) (face : Face
         let x = course h.m.terms (link.received (link.frame f)) h.m.link in
         let error : HasError x.notes = sabme-error h.m.terms h.m.link h.far.up f true (ap (λ y. y.control) is) in
         subst (λ ways. Leads (record { near = without_first w.near; far = with_first_of ways w.far })) (sym way.0)
-        (inr (inr (now-erred w.far (frame_comes (spelling c.side f) w.far) x (taken-told service tei q _ d w.far h.m h.far.held c back f way.1) error)))
+        (inr (inr (now-erred w.far (frame_comes (spelling (own_side c) f) w.far) x (taken-told service tei q _ d w.far h.m h.far.held c back f way.1) error)))
 
     pub half-far : (act : EndStep) → IsRoughTalkOf service tei act → Leads (turned (acting act (turned w)))
     half-far (requests r) is =

@@ -1,7 +1,7 @@
 -- A call in which frames are lost and timers expire: SABME goes as often as T200 expires; then the other end is up, and UA may be on
 -- its way, or lost; and then both are up, and SABME may still be on its way. Or an error was told.
 use Rattle.laws_wire.proofs.Vocabulary.{arith, ◌≡◌, ℕ, List, [], ◌∷◌, map, refl, sym, ap, subst, ◌∙◌, ◌⊎◌, inl, inr, All, All-head, Service, Timer, Parts, spelling, ControlFrame, Terms, LinkTimer, fresh, LinkEndpoint, Config, LineTold, at_timer, aim_of_expiry, Line, place_in, terms, Request, Data, Endpoint, Wire, requests, receives, loses, acting, turned, confirmed, indicated, IsOfLink}
-use Rattle.laws_wire.proofs.Vocabulary.{IsRoughTalkOf, timer_T201, timer_T200, timer_T203}
+use Rattle.laws_wire.proofs.Vocabulary.{IsRoughTalkOf, timer_T201, timer_T200, timer_T203, own_side}
 use Rattle.model_link.specs.declared.timers.LinkTimer.TheVariants as link_timer
 use Rattle.laws_wire.proofs.Acting.{UpAt}
 use Rattle.laws_wire.proofs.Calling.{ua, end, caller}
@@ -31,14 +31,14 @@ module _ (service : Service) (tei : ℕ) where
 
   -- the first frame on the way of a station
   pub first-way : (k : Config) (place : ℕ) (past : List LineTold) (s : Endpoint) (n : LinkEndpoint) (f : Parts) (fs : List Parts) → n.way ≡ f ∷ fs → Held k service tei place past s n
-      → (s.way ≡ spelling k.side f ∷ map (spelling k.side) fs) × IsCarried k service tei f
+      → (s.way ≡ spelling (own_side k) f ∷ map (spelling (own_side k)) fs) × IsCarried k service tei f
   first-way k place past s n f fs e h =
-      (h.stands.way ∙ ap (map (spelling k.side)) e, All-head (IsCarried k service tei) f fs (subst (All (IsCarried k service tei)) e h.stands.carried))
+      (h.stands.way ∙ ap (map (spelling (own_side k))) e, All-head (IsCarried k service tei) f fs (subst (All (IsCarried k service tei)) e h.stands.carried))
 
   -- where none is on its way
   module _ (k : Config) (place : ℕ) (past : List LineTold) (s : Endpoint) (n : LinkEndpoint) (h : Held k service tei place past s n) (none : n.way ≡ []) where
     pub empty : s.way ≡ []
-    empty = h.stands.way ∙ ap (map (spelling k.side)) none
+    empty = h.stands.way ∙ ap (map (spelling (own_side k))) none
 
   module _ (c d : Config) (p q : ℕ) where
     abbrev t : Terms

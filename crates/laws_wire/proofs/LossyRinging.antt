@@ -1,6 +1,6 @@
 -- The first phase of such a call: one end rings, and the other is down.
 use Rattle.laws_wire.proofs.Vocabulary.{◌≡◌, ℕ, false, List, [], ◌∷◌, ◌++◌, map, drop, None, refl, sym, ap, subst, ◌∙◌, ◌⊎◌, inl, inr, arith, All-head, Service, Parts, spelling, Terms, fresh, course, IsInRange, with_link, frames_of, Config, request, terms, refusal, Data, Endpoint, Wire, happens, with_first_of, without_first, EndStep, requests, expires, sends, receives, loses, acting, turned}
-use Rattle.laws_wire.proofs.Vocabulary.{frame_comes, indicated, IsRoughTalkOf, received, LinkData, frame}
+use Rattle.laws_wire.proofs.Vocabulary.{frame_comes, indicated, IsRoughTalkOf, received, LinkData, frame, own_side}
 use Rattle.laws_wire.proofs.Answered.{takes-granted}
 use Rattle.laws_wire.proofs.Calling.{sabme, ua, end, answering, takes-sabme, told-of-sabme}
 use Rattle.laws_wire.proofs.Held.{Held, Erred, held-given, held-lost, held-first, taken-told, taken-stands, held-expired, held-asked}
@@ -52,11 +52,11 @@ module _ (service : Service) (tei : ℕ) (c d : Config) (p q : ℕ) (face : Face
       abbrev call : Parts
       call = sabme t
 
-      its_way : (w.near.way ≡ spelling c.side call ∷ map (spelling c.side) fs) × IsCarried c service tei call
+      its_way : (w.near.way ≡ spelling (own_side c) call ∷ map (spelling (own_side c)) fs) × IsCarried c service tei call
       its_way = first-way service tei c p [] w.near (end t (ringing h.repeats h.waiting) h.way) call fs e h.near
 
       abbrev reached : Endpoint
-      reached = frame_comes (spelling c.side call) w.far
+      reached = frame_comes (spelling (own_side c) call) w.far
 
       becomes : with_link (received (frame call)) (end u fresh []) ≡ end u answering []
       becomes = ap (λ y. end u y []) (takes-sabme u ru t)
@@ -64,7 +64,7 @@ module _ (service : Service) (tei : ℕ) (c d : Config) (p q : ℕ) (face : Face
       answered_by : Held d service tei q (indicated service tei ∷ []) reached (end u answering [])
       answered_by =
           held-first service tei q [] d w.far (end u fresh []) h.far (indicated service tei) reached (end u answering []) (course u (received (frame call)) fresh) refl refl refl
-          (subst (StationStands d service tei q reached) becomes (taken-stands service tei q [] d w.far (end u fresh []) h.far c back call its_way.1)) (takes-granted (spelling c.side call) w.far) refl
+          (subst (StationStands d service tei q reached) becomes (taken-stands service tei q [] d w.far (end u fresh []) h.far c back call its_way.1)) (takes-granted (spelling (own_side c) call) w.far) refl
           (taken-told service tei q [] d w.far (end u fresh []) h.far c back call its_way.1) (told-of-sabme u ru t) refl
 
       answers : Leads (turned (acting receives (turned w)))

@@ -10,7 +10,7 @@ use Rattle.laws_wire.proofs.LossyRinging.{ringing-near, ringing-far}
 use Rattle.laws_wire.proofs.LossyUp.{up-near_acts, up-far_acts}
 use Rattle.laws_wire.proofs.Ringing.{ringing, IsSabme}
 use Rattle.laws_wire.proofs.SoFar.{at-first, then-data}
-use Rattle.laws_wire.proofs.Spelled.{twice-other}
+use Rattle.laws_wire.proofs.Spelled.{sides-turned}
 use Rattle.laws_wire.proofs.Talking.{Face, unheard, Holds, none-told}
 
 -- what was told stays told
@@ -83,7 +83,7 @@ setting service c d line other tei can =
     let w = calling service tei c line d other in
     record {
       face = record { side = sym can.opposite.0; n201 = can.opposite.1 };
-      back = record { side = ap other_side can.opposite.0 ∙ twice-other c.side; n201 = sym can.opposite.1 };
+      back = record { side = sym (sides-turned c d can.opposite.0); n201 = sym can.opposite.1 };
       near = terms_in_range c can.near.0 service tei can.terminal;
       far = terms_in_range d can.far.0 service tei can.terminal;
       near_held = from-nothing c service tei 0 w.near (end (terms c service tei) asked []) (calls service tei c can.near.0 can.terminal line can.near.1) refl;

@@ -1,6 +1,6 @@
 -- The third phase of such a call: both ends are up.
 use Rattle.laws_wire.proofs.Vocabulary.{arith, ◌≡◌, ℕ, true, List, [], ◌∷◌, ◌++◌, drop, refl, sym, ap, subst, ◌∙◌, ◌⊎◌, inl, inr, All, All-nil, All-head, All-tail, Service, Parts, spelling, Terms, course, IsInRange, LinkEndpoint, frames_of, Config, terms, Endpoint, Wire, with_first_of, without_first, EndStep, requests, expires, sends, receives, loses, acting, turned, frame_comes, confirmed}
-use Rattle.laws_wire.proofs.Vocabulary.{indicated, IsRoughTalkOf, received, frame, two_ends_without_first}
+use Rattle.laws_wire.proofs.Vocabulary.{indicated, IsRoughTalkOf, received, frame, two_ends_without_first, own_side}
 use Rattle.laws_wire.proofs.Acting.{which, UpAt, Acted, ranges, up-asks, up-expires, up-gives, up-loses, up-hears}
 use Rattle.laws_wire.proofs.Calling.{sabme}
 use Rattle.laws_wire.proofs.Fair.{HasError, sabme-error}
@@ -47,7 +47,7 @@ module _ (service : Service) (tei : ℕ) (c d : Config) (p q : ℕ) (face : Face
     near-hears : (f : Parts) (fs : List Parts) → h.m.way ≡ f ∷ fs → (here : List Parts) → h.here ≡ f ∷ here → fs ++ frames_of h.m.terms h.m.link.waiting ≡ here → Leads (acting receives w)
     near-hears f fs e here is rest =
         let way = first-way service tei d q _ w.far h.m f fs e h.far.held in
-        let s' = frame_comes (spelling d.side f) w.near in
+        let s' = frame_comes (spelling (own_side d) f) w.near in
         let at : UpAt service tei p (confirmed service tei ∷ []) c w.near h.n h.m h.first h.there (f ∷ here) = subst (λ xs. UpAt service tei p (confirmed service tei ∷ []) c w.near h.n h.m h.first h.there xs) is h.near in
         subst (λ ways. Leads (record { near = with_first_of ways w.near; far = without_first w.far })) (sym way.0)
         (go s' (up-hears service tei p _ c d face w.near h.n h.m f h.first h.there here at way.1 (ranges service tei q _ d w.far h.m h.far.held)))
@@ -78,7 +78,7 @@ module _ (service : Service) (tei : ℕ) (c d : Config) (p q : ℕ) (face : Face
         → Leads (turned (acting receives (turned w)))
     far-hears f fs e none there is rest =
         let way = first-way service tei c p _ w.near h.n f fs e h.near.held in
-        let s' = frame_comes (spelling c.side f) w.far in
+        let s' = frame_comes (spelling (own_side c) f) w.far in
         let at : UpAt service tei q (indicated service tei ∷ []) d w.far h.m h.n [] h.here (f ∷ there) = subst (λ xs. UpAt service tei q (indicated service tei ∷ []) d w.far h.m h.n [] h.here xs) is h.far in
         subst (λ ways. Leads (record { near = without_first w.near; far = with_first_of ways w.far })) (sym way.0)
         (go s' (up-hears service tei q _ d c back w.far h.m h.n f [] h.here there at way.1 (ranges service tei p _ c w.near h.n h.near.held)))
@@ -112,7 +112,7 @@ module _ (service : Service) (tei : ℕ) (c d : Config) (p q : ℕ) (face : Face
         let x = course h.m.terms (received (frame f)) h.m.link in
         let error : HasError x.notes = sabme-error h.m.terms h.m.link h.far.up f true (ap (λ y. y.control) is) in
         subst (λ ways. Leads (record { near = without_first w.near; far = with_first_of ways w.far })) (sym way.0)
-        (inr (inr (now-erred w.far (frame_comes (spelling c.side f) w.far) x (taken-told service tei q _ d w.far h.m h.far.held c back f way.1) error)))
+        (inr (inr (now-erred w.far (frame_comes (spelling (own_side c) f) w.far) x (taken-told service tei q _ d w.far h.m h.far.held c back f way.1) error)))
 
     near-takes : (way : List Parts) → h.m.way ≡ way → Leads (acting receives w)
     near-takes [] e = no-take service tei c d p q w (empty service tei d q _ w.far h.m h.far.held e) (as-up service tei c d p q w h)

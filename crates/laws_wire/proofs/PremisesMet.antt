@@ -1,11 +1,14 @@
 -- The premises of the laws are met: by the worked conversation, after which no turn is left, and by one that loses frames.
-use Rattle.laws_wire.proofs.Vocabulary.{◌≡◌, false, List, [], ◌∷◌, refl, sym, subst, arith, All, list_any, All-nil, All-cons, Call, reading, header_of, control_of, unnumbered_of, supervisory_of, distance_of, named, seq, LineTold, StepAt, doing_all, turns, IsStill, CanCall, IsCall, confirmed, indicated, data_told, all_told, IsBeginningOf, IsRoughTalk, is_error, heard_in, HasNoError, Face, user}
+use Rattle.laws_wire.proofs.Vocabulary.{◌≡◌, false, List, [], ◌∷◌, refl, sym, subst, arith, All, list_any, All-nil, All-cons, Call, exchanged, reading, side_reading, header_of, control_of, unnumbered_of, supervisory_of, distance_of, named, seq, LineTold, StepAt, doing_all, turns, IsStill, CanCall, IsCall, confirmed, indicated, data_told, all_told, IsBeginningOf, IsRoughTalk, is_error, heard_in}
+use Rattle.laws_wire.proofs.Vocabulary.{HasNoError, Face, user}
 use Rattle.laws_wire.proofs.Vocabulary.{network, begins, talks, line_answer, line_takes_slot, line_after, tei_refusal, tei_course}
 use Rattle.laws_wire.specs.WorkedLosing.{loses_two}
 use Rattle.laws_wire.proofs.Delivering.{calls-face}
 use Rattle.laws_wire.proofs.LossyRun.{calls-are-told_in_order}
+use Rattle.model_line.specs.Config.{sapi_fault}
 
 pub can : CanCall user 0 network 0 0
+unfolding sapi_fault
 can = record { near = (refl, omega arith); far = (refl, omega arith); opposite = (refl, refl); terminal = omega arith }
 
 abbrev pub Are : (StepAt → Type 0) → List StepAt → Type 0
@@ -20,7 +23,7 @@ pub talk : All (IsCall Call 0) talks
 talk = grind (arith, all-of)
 
 pub still : IsStill (doing_all talks begins)
-unfolding line_after line_answer line_takes_slot reading header_of control_of unnumbered_of supervisory_of tei_course tei_refusal seq distance_of named doing_all turns
+unfolding line_after line_answer line_takes_slot exchanged reading side_reading header_of control_of unnumbered_of supervisory_of tei_course tei_refusal seq distance_of named doing_all turns
 still = record { near = refl; far = refl; near_way = refl; far_way = refl }
 
 -- so the two face each other
@@ -35,11 +38,11 @@ abbrev pub IsFair : LineTold → Type 0
 IsFair t = list_any is_error t.notes ≡ false
 
 told-near : (doing_all loses_two begins).near.told ≡ confirmed Call 0 ∷ []
-unfolding line_after line_answer line_takes_slot reading header_of control_of unnumbered_of supervisory_of tei_course tei_refusal seq distance_of named doing_all turns
+unfolding line_after line_answer line_takes_slot exchanged reading side_reading header_of control_of unnumbered_of supervisory_of tei_course tei_refusal seq distance_of named doing_all turns
 told-near = refl
 
 told-far : (doing_all loses_two begins).far.told ≡ indicated Call 0 ∷ data_told Call 0 (0xAB ∷ []) ∷ []
-unfolding line_after line_answer line_takes_slot reading header_of control_of unnumbered_of supervisory_of tei_course tei_refusal seq distance_of named doing_all turns
+unfolding line_after line_answer line_takes_slot exchanged reading side_reading header_of control_of unnumbered_of supervisory_of tei_course tei_refusal seq distance_of named doing_all turns
 told-far = refl
 
 pub fair-near : HasNoError (doing_all loses_two begins).near

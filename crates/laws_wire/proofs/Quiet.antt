@@ -1,5 +1,6 @@
 -- What changes nothing at a station: a call for a frame where none waits, taking a frame where none is on its way, and data that is refused.
 use Rattle.laws_wire.proofs.Vocabulary.{◌≡◌, ℕ, ◌≤◌, false, List, [], ◌∷◌, map, None, sym, ap, subst, ◌∙◌, ◌⊎◌, inl, inr, arith, All, All-head, Service, Parts, spelling, given, LinkEndpoint, frame_given, Config, Request, request, next, refusal, Data, Endpoint, Wire, happens, frames_by, with_first_of, requests, sends, receives, acting, turned, answered, IsTalkOf, LinkData, two_ends_without_first}
+use Rattle.laws_wire.proofs.Vocabulary.{own_side}
 use Rattle.laws_wire.proofs.Answered.{gives-granted}
 use Rattle.laws_wire.proofs.Standing.{IsCarried, StationStands, gives-frames}
 use Rattle.laws_wire.proofs.Talking.{Past, Holds, holds-given, holds-lost, More, holds-asked}
@@ -19,9 +20,9 @@ module _ (service : Service) (tei : ℕ) where
 
   -- the first frame on the way of a station
   pub first-way : (k : Config) (place : ℕ) (first : Past) (s : Endpoint) (n : LinkEndpoint) (f : Parts) (fs : List Parts) → n.way ≡ f ∷ fs → Holds k service tei place first s n
-      → (s.way ≡ spelling k.side f ∷ map (spelling k.side) fs) × IsCarried k service tei f
+      → (s.way ≡ spelling (own_side k) f ∷ map (spelling (own_side k)) fs) × IsCarried k service tei f
   first-way k place first s n f fs e h =
-      (h.stands.way ∙ ap (map (spelling k.side)) e, All-head (IsCarried k service tei) f fs (subst (All (IsCarried k service tei)) e h.stands.carried))
+      (h.stands.way ∙ ap (map (spelling (own_side k))) e, All-head (IsCarried k service tei) f fs (subst (All (IsCarried k service tei)) e h.stands.carried))
 
   -- ---- what changes nothing
 
@@ -31,7 +32,7 @@ module _ (service : Service) (tei : ℕ) where
       pub none : b ≡ 0
       pub granted : granted_of w' ≡ granted_of w
 
-    pub frames-are : frames_by (answered next w.near) ≡ map (spelling w.near.card.config.side) (frame_given n.terms (given n.terms n.link))
+    pub frames-are : frames_by (answered next w.near) ≡ map (spelling (own_side w.near.card.config)) (frame_given n.terms (given n.terms n.link))
     frames-are = gives-frames service tei p w.near n (subst (λ k. StationStands k service tei p w.near n) (sym h.near.stands.config) h.near.stands)
 
     pub quiet-gives : given n.terms n.link ≡ None → Quiet (acting sends w) (turn_of (frames_by (answered next w.near)))

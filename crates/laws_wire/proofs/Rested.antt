@@ -1,6 +1,6 @@
 -- What is done at one end of a call in which frames are lost and timers expire makes what is still to do less, or tells an error.
 use Rattle.laws_wire.proofs.Vocabulary.{◌≡◌, ℕ, ◌+◌, ◌*◌, ◌≤◌, cond, List, [], ◌∷◌, ◌++◌, length, map, drop, refl, sym, ap, subst, ◌∙◌, ◌⊎◌, inl, inr, length-append, arith, Service, Timer, Parts, spelling, LinkTimer, Link, course, given, LinkEndpoint, with_link, with_sent, frame_given, Config, LineTold, expiry, request, after, Course, Data, Endpoint, Wire, happens, with_first_of, without_first}
-use Rattle.laws_wire.proofs.Vocabulary.{EndStep, requests, expires, sends, receives, loses, acting, is_any, frame_comes, granted_of, next, IsRoughTalkOf, is_move_of, expiries_of, two_ends_without_first}
+use Rattle.laws_wire.proofs.Vocabulary.{EndStep, requests, expires, sends, receives, loses, acting, is_any, frame_comes, granted_of, next, IsRoughTalkOf, is_move_of, expiries_of, two_ends_without_first, own_side}
 use Rattle.model_link.specs.Events as link
 use Rattle.laws_wire.proofs.Answered.{gives-granted, takes-granted, same-granted}
 use Rattle.laws_wire.proofs.Asking.{with_more}
@@ -58,7 +58,7 @@ module _ (service : Service) (tei : ℕ) (c d : Config) (p q : ℕ) (past_n past
     more = 0;
     fell = goes_on v n m (with_sent n) m x.contents refl (moved_by sends) 0 x.received
         (total (moved_by sends) (load v (with_sent n).link) (load_way v n.way) (load_way v news) (load_way v (n.way ++ news)) (load v m.link + load_way v m.way) (load v n.link) (length news) ((v + 4) * 0)
-        (way-append v n.way news) (subst (λ xs. cond {A = ℕ} (is_any xs) 1 0 ≤ length news) (sym (gives-frames service tei p w.near n own)) (any-mapped (spelling w.near.card.config.side) news)) x.falls);
+        (way-append v n.way news) (subst (λ xs. cond {A = ℕ} (is_any xs) 1 0 ≤ length news) (sym (gives-frames service tei p w.near n own)) (any-mapped (spelling (own_side w.near.card.config)) news)) x.falls);
     granted = (none-more (length (happens next w.near).granted) (length w.far.granted) (length w.near.granted) (length w.far.granted) (ap length (gives-granted w.near)) refl);
   }
     where
@@ -161,11 +161,11 @@ module _ (service : Service) (tei : ℕ) (c d : Config) (p q : ℕ) (past_n past
   takes-nothing e' = grind (arith, lost, goes_on, load_way, taken-grants)
 
   module _ (f : Parts) (fs : List Parts) (e : m.way ≡ f ∷ fs) where
-    way-there : (w.far.way ≡ spelling d.side f ∷ map (spelling d.side) fs) × IsCarried d service tei f
+    way-there : (w.far.way ≡ spelling (own_side d) f ∷ map (spelling (own_side d)) fs) × IsCarried d service tei f
     way-there = first-way service tei d q past_m w.far m f fs e far
 
     abbrev s' : Endpoint
-    s' = frame_comes (spelling d.side f) w.near
+    s' = frame_comes (spelling (own_side d) f) w.near
 
     abbrev x : Course
     x = course n.terms (link.received (link.frame f)) n.link

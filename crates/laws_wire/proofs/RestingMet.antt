@@ -1,5 +1,6 @@
 -- The premises of the laws on how turns come to an end are met, by worked calls.
-use Rattle.laws_wire.proofs.Vocabulary.{◌≡◌, ◌≤◌, ℕ, ◌*◌, List, [], ◌∷◌, ◌++◌, refl, sym, subst, arith, All, All-nil, All-cons, Call, reading, header_of, control_of, unnumbered_of, supervisory_of, distance_of, named, seq, Data, requests, StepAt, at_near, doing_all, IsStill, confirmed, indicated, data_told, granted_of, HasNoError, IsRoughTalk, rounds, moves, expiries, most_frames, StayTimely, user}
+use Rattle.laws_wire.proofs.Vocabulary.{◌≡◌, ◌≤◌, ℕ, ◌*◌, List, [], ◌∷◌, ◌++◌, refl, sym, subst, arith, All, All-nil, All-cons, Call, exchanged, reading, side_reading, header_of, control_of, unnumbered_of, supervisory_of, distance_of, named, seq, Data, requests, StepAt, at_near, doing_all, IsStill, confirmed, indicated, data_told, granted_of, HasNoError, IsRoughTalk, rounds, moves, expiries}
+use Rattle.laws_wire.proofs.Vocabulary.{most_frames, StayTimely, user}
 use Rattle.laws_wire.proofs.Vocabulary.{network, begins, establishes, line_answer, line_takes_slot, line_after, tei_refusal, tei_course, rejects_one, two_accepted}
 use Rattle.laws_wire.proofs.PremisesMet.{can, IsFair, all-of}
 use Rattle.laws_wire.proofs.RestedRun.{moves-come-to-an-end}
@@ -7,11 +8,11 @@ use Rattle.laws_wire.proofs.RestedTimely.{timely-rounds-come-to-rest}
 
 -- An I-frame is lost, and both go again.
 near-told : (doing_all rejects_one begins).near.told ≡ confirmed Call 0 ∷ []
-unfolding line_after line_answer line_takes_slot reading header_of control_of unnumbered_of supervisory_of tei_course tei_refusal seq distance_of named doing_all
+unfolding line_after line_answer line_takes_slot exchanged reading side_reading header_of control_of unnumbered_of supervisory_of tei_course tei_refusal seq distance_of named doing_all
 near-told = refl
 
 far-told : (doing_all rejects_one begins).far.told ≡ indicated Call 0 ∷ data_told Call 0 (0xAB ∷ []) ∷ data_told Call 0 (0xCD ∷ []) ∷ []
-unfolding line_after line_answer line_takes_slot reading header_of control_of unnumbered_of supervisory_of tei_course tei_refusal seq distance_of named doing_all
+unfolding line_after line_answer line_takes_slot exchanged reading side_reading header_of control_of unnumbered_of supervisory_of tei_course tei_refusal seq distance_of named doing_all
 far-told = refl
 
 near-fair : HasNoError (doing_all rejects_one begins).near

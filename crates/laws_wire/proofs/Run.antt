@@ -1,6 +1,6 @@
 -- A whole call: how many turns there are, what layer 3 was told so far, and what it was told where no turn is left.
 use Rattle.laws_wire.proofs.Vocabulary.{◌≡◌, ℕ, ◌+◌, ◌*◌, ◌≤◌, Bool, true, false, ◌||◌, List, [], ◌∷◌, map, take, None, refl, sym, ap, subst, ◌∙◌, inl, inr, arith, All, if◌then◌else◌, All-head, All-tail, Service, spelling, other_side, fresh, given, IsInRange, LinkEndpoint, Config, LineTold, next, gave, terms, terms_in_range, Pair, all-there, nothing-given, Endpoint, Wire, StepAt, turned, doing}
-use Rattle.laws_wire.proofs.Vocabulary.{IsStill, answered, calling, IsCall, calls_back, confirmed, data_told, told_first, IsBeginningOf, CanCall, ComesThrough, CallsComeThrough}
+use Rattle.laws_wire.proofs.Vocabulary.{IsStill, answered, calling, IsCall, calls_back, confirmed, data_told, told_first, IsBeginningOf, CanCall, ComesThrough, CallsComeThrough, own_side}
 use Rattle.laws_link.specs.two.Rounds.{HasArrived}
 unfoldable use Rattle.laws_wire.specs.Wire.{doing_all, turns}
 unfoldable use Rattle.laws_wire.specs.Call.{both_call}
@@ -10,7 +10,7 @@ use Rattle.laws_wire.proofs.BothCrossing.{waits, under_way, answered_there, retu
 use Rattle.laws_wire.proofs.BothHalf as half
 use Rattle.laws_wire.proofs.BothPhases.{cost, Goes, step}
 use Rattle.laws_wire.proofs.Calling.{asked, caller, end, with_ua_waiting, with_ua_first}
-use Rattle.laws_wire.proofs.Spelled.{twice-other}
+use Rattle.laws_wire.proofs.Spelled.{sides-turned}
 use Rattle.laws_wire.proofs.SoFar.{at-first, then-data}
 use Rattle.laws_wire.proofs.Standing.{StationStands, still-gives-none}
 use Rattle.laws_wire.proofs.Talking.{Face, Past, unheard, after_note, Holds, all-told, none-told, no-way}
@@ -50,7 +50,7 @@ module _ (service : Service) (tei : ℕ) where
   none-given k place first s n h e = still-gives-none service tei place s n (subst (λ k. StationStands k service tei place s n) (sym h.stands.config) h.stands) e
 
   pub way-empty : (k : Config) (place : ℕ) (first : Past) (s : Endpoint) (n : LinkEndpoint) → Holds k service tei place first s n → s.way ≡ [] → n.way ≡ []
-  way-empty k place first s n h e = no-way (spelling k.side) n.way (sym h.stands.way ∙ e)
+  way-empty k place first s n h e = no-way (spelling (own_side k)) n.way (sym h.stands.way ∙ e)
 
   by-pair : (first : LineTold) (k : Config) (place : ℕ) (other s : Endpoint) (m n : LinkEndpoint) → Holds k service tei place (after_note first) s n → other.granted ≡ m.link.contents
       → n.delivered ≡ take n.link.r m.link.contents → IsBeginningOf (first ∷ map (data_told service tei) other.granted) s.told
@@ -156,7 +156,7 @@ module _ (service : Service) (c d : Config) (line other tei : ℕ) (ds : List St
   face = record { side = sym can.opposite.0; n201 = can.opposite.1 }
 
   back : Face d c
-  back = record { side = ap other_side can.opposite.0 ∙ twice-other c.side; n201 = sym can.opposite.1 }
+  back = record { side = sym (sides-turned c d can.opposite.0); n201 = sym can.opposite.1 }
 
   rt : IsInRange (terms c service tei)
   rt = terms_in_range c can.near.0 service tei can.terminal

@@ -1,5 +1,6 @@
 -- The premises of the law that a call with losses comes to rest are met by the worked calls.
-use Rattle.laws_wire.proofs.Vocabulary.{◌≡◌, ℕ, ◌≤◌, [], ◌∷◌, refl, sym, subst, arith, All, Call, reading, header_of, control_of, unnumbered_of, supervisory_of, distance_of, named, seq, Data, SetBusy, ClearBusy, requests, expires, at_near, at_far, doing_all, IsStill, confirmed, heard_in, IsFullTalk, StayPatient, MayRepeat, BothMayRepeat, rounds, with_t200_expired, moves, begins, user, network}
+use Rattle.laws_wire.proofs.Vocabulary.{◌≡◌, ℕ, ◌≤◌, [], ◌∷◌, refl, sym, subst, arith, All, Call, exchanged, reading, side_reading, header_of, control_of, unnumbered_of, supervisory_of, distance_of, named, seq, Data, SetBusy, ClearBusy, requests, expires, at_near, at_far, doing_all, IsStill, confirmed, heard_in, IsFullTalk, StayPatient, MayRepeat, BothMayRepeat, rounds, with_t200_expired, moves}
+use Rattle.laws_wire.proofs.Vocabulary.{begins, user, network}
 use Rattle.laws_wire.proofs.Vocabulary.{line_answer, line_takes_slot, line_after, tei_refusal, tei_course, IsAtRest, uncalled, seen, most_moves, none_busy, busy, near_expires, HasLeft, HasTold, loses_ua, is_ready, ready, ready_seen, ready_free, ready_still, ready_near, ready_left, ua_lost, lost_near, lost_still}
 use Rattle.lapd_frame.specs.declared.timers.Timer.TheVariants.{T200}
 use Rattle.laws_wire.proofs.AnsweringMet.{only-turns, patient-first}
@@ -27,7 +28,7 @@ rests : (n : ℕ) × (n ≤ most_moves 7 is_ready begins) × IsStill (rounds n r
 rests = lossy-rounds-come-to-rest Call user network 0 0 0 7 is_ready can full (omega arith) (omega arith) patient
 
 may : BothMayRepeat Call 0 ready
-unfolding line_after line_answer line_takes_slot reading header_of control_of unnumbered_of supervisory_of tei_course tei_refusal seq distance_of named doing_all
+unfolding line_after line_answer line_takes_slot exchanged reading side_reading header_of control_of unnumbered_of supervisory_of tei_course tei_refusal seq distance_of named doing_all
 may = (none-told, none-told)
 
 settles : HasTold Call 0 (seen Call 0 is_ready begins uncalled) ready (rounds 4 (with_t200_expired Call 0 ready)) × IsAtRest Call 0 (rounds 4 (with_t200_expired Call 0 ready))
@@ -40,7 +41,7 @@ full-lost : All (IsFullTalk Call 0) ua_lost
 full-lost = all-of (IsFullTalk Call 0) ua_lost (tt, (tt, (tt, (tt, tt))))
 
 may-lost : MayRepeat Call 0 (doing_all ua_lost begins).near
-unfolding line_after line_answer line_takes_slot reading header_of control_of unnumbered_of supervisory_of tei_course tei_refusal seq distance_of named doing_all
+unfolding line_after line_answer line_takes_slot exchanged reading side_reading header_of control_of unnumbered_of supervisory_of tei_course tei_refusal seq distance_of named doing_all
 may-lost = none-told
 
 told-again : heard_in (rounds 1 (doing_all (near_expires Call 0) (doing_all ua_lost begins))).near ≡ confirmed Call 0 ∷ []
@@ -48,7 +49,7 @@ told-again =
     (lossy-calls-are-answered Call user network 0 0 0 ua_lost can full-lost (only-turns ua_lost refl begins) lost_still lost_near may-lost).1
 
 free-lost : busy ua_lost begins none_busy ≡ none_busy
-unfolding line_after line_answer line_takes_slot reading header_of control_of unnumbered_of supervisory_of tei_course tei_refusal seq distance_of named doing_all busy
+unfolding line_after line_answer line_takes_slot exchanged reading side_reading header_of control_of unnumbered_of supervisory_of tei_course tei_refusal seq distance_of named doing_all busy
 free-lost = refl
 
 comes : (n : ℕ) × (n ≤ most_moves 7 ua_lost begins) × IsStill (rounds n (doing_all ua_lost begins))

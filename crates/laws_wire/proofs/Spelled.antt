@@ -1,5 +1,5 @@
 -- A frame that a sound link gives comes as it is, and is read again.
-use Rattle.laws_wire.proofs.Vocabulary.{◌≡◌, ℕ, ◌+◌, ◌≤◌, false, nat_lt, List, length, Ok, refl, arith, le-ltb, Side, Parts, IsFrame, spelling, other_side, reading, reading-again, came, IsNotShort, not-short, is_short}
+use Rattle.laws_wire.proofs.Vocabulary.{◌≡◌, ℕ, ◌+◌, ◌≤◌, false, nat_lt, List, length, Ok, refl, sym, ap, ◌∙◌, arith, le-ltb, Side, Sender, Config, own_side, heard_side, Parts, IsFrame, spelling, other_side, reading, reading-again, came, IsNotShort, not-short, is_short}
 use Rattle.model_bits.specs.Stream.{frame}
 
 -- A frame that is neither too short nor too long comes as it is.
@@ -10,15 +10,25 @@ pub came-whole : (n201 : ℕ) (octets : List ℕ) → IsNotShort octets → leng
 came-whole n201 octets not-short few = grind (arith, nat_lt, whole-field, le-ltb)
 
 -- A frame of this side that comes to the other as it is, and that the other reads as what it is.
-pub record Carries (side : Side) (n201 : ℕ) (f : Parts) (octets : List ℕ) : Type 0 where
+pub record Carries (sender : Sender) (n201 : ℕ) (f : Parts) (octets : List ℕ) : Type 0 where
   pub whole : came n201 octets ≡ frame octets
-  pub read : reading side octets ≡ Ok f
+  pub read : reading sender octets ≡ Ok f
 
-pub carries : (side : Side) (n201 : ℕ) (f : Parts) → IsFrame f → length (spelling side f) ≤ n201 + 4 → Carries side n201 f (spelling side f)
-carries side n201 f is few = record {
-  whole = came-whole n201 (spelling side f) (not-short side f.address f.control f.info) few;
-  read = reading-again side f (spelling side f) (record { is_frame = is; octets_are = refl });
+pub carries : (sender : Sender) (n201 : ℕ) (f : Parts) → IsFrame f → length (spelling sender f) ≤ n201 + 4 → Carries sender n201 f (spelling sender f)
+carries sender n201 f is few = record {
+  whole = came-whole n201 (spelling sender f) (not-short sender f.address f.control f.info) few;
+  read = reading-again sender f (spelling sender f) (record { is_frame = is; octets_are = refl });
 }
 
 pub twice-other : (side : Side) → other_side (other_side side) ≡ side
 twice-other side = grind arith
+
+-- What two ends send and hear, from the other one.
+abbrev turned_round : Sender → Sender
+turned_round sender = record { side = other_side sender.side; sapi = sender.sapi }
+
+turned-twice : (sender : Sender) → turned_round (turned_round sender) ≡ sender
+turned-twice sender = ap (λ (side : Side). record { side = side; sapi = sender.sapi }) (twice-other sender.side)
+
+pub sides-turned : (c d : Config) → own_side d ≡ heard_side c → own_side c ≡ heard_side d
+sides-turned c d e = sym (ap turned_round e ∙ turned-twice (own_side c))

@@ -1,7 +1,7 @@
 -- A station at whose line one link alone speaks stands for an end of two links that face each other.
 use Rattle.laws_wire.proofs.Vocabulary.{arith, ◌≡◌, ℕ, ◌+◌, ◌<◌, ◌≤◌, Bool, true, false, cond, List, [], ◌++◌, length, map, set, Option, Some, None, IfSome, option_map, Ok, refl, sym, ap, subst, ◌∙◌, ◌⊎◌, inl, inr, append-nil, All, get_or-set_same, set-get_or, map-append, All-nil, All-cons, All-append, Refusal, PoolFull, Service, Timer, Parts, spelling, reading, sapi_of, Terms, LinkTimer}
 use Rattle.laws_wire.proofs.Vocabulary.{frame_of, Given, LinkEndpoint, with_link, with_sent, frame_given, given_is_frame, Config, came, hears, expiry, request, next, Answer, refused, gave, at_timer, aim_of_expiry, Line, fresh_line, place_in, link_number, terms, unless_refused, unless_refused_told, of_request, heard_side, with_given_frame, next_of, Request, at_requested, aim_of_request, sound_in}
-use Rattle.laws_wire.proofs.Vocabulary.{given_short, terms_in_range, Card, line_at, wants_room, after_is_sound, has_lines, line_sound, Event, Endpoint, answered, happens, frame_comes, told_by, frames_by, contents_requested, line_answer, line_takes_slot, line_after, is_granted}
+use Rattle.laws_wire.proofs.Vocabulary.{given_short, terms_in_range, Card, line_at, wants_room, after_is_sound, has_lines, line_sound, Event, Endpoint, answered, happens, frame_comes, told_by, frames_by, contents_requested, line_answer, line_takes_slot, line_after, is_granted, own_side}
 use Rattle.std.specs.Option.{unwrap_or}
 use Rattle.model_bits.specs.Stream.{frame}
 use Rattle.model_link.specs.Events as link
@@ -20,7 +20,7 @@ use Rattle.laws_wire.proofs.Spelled.{Carries, carries}
 
 -- A frame on the way is one of this side's link, and comes as it is.
 pub record IsCarried (c : Config) (service : Service) (tei : ℕ) (f : Parts) : Type 0 where
-  pub carried : Carries c.side c.n201 f (spelling c.side f)
+  pub carried : Carries (own_side c) c.n201 f (spelling (own_side c) f)
   pub sapi : f.address.sapi ≡ sapi_of service
   pub by : f.address.tei ≡ tei
 
@@ -30,7 +30,7 @@ pub record StationStands (c : Config) (service : Service) (tei place : ℕ) (s :
   pub within : s.line < c.lines
   pub speaks : Speaks c service tei place n.link (line_at s.line s.card)
   pub terms : n.terms ≡ terms c service tei
-  pub way : s.way ≡ map (spelling c.side) n.way
+  pub way : s.way ≡ map (spelling (own_side c)) n.way
   pub carried : All (IsCarried c service tei) n.way
 
 module _ (service : Service) (tei place : ℕ) (s : Endpoint) (n : LinkEndpoint) (h : StationStands s.card.config service tei place s n) where
@@ -66,7 +66,7 @@ module _ (service : Service) (tei place : ℕ) (s : Endpoint) (n : LinkEndpoint)
 
   -- so it stands for another end
   pub stands-then : (e : Event) (n' : LinkEndpoint) → n'.terms ≡ n.terms → Speaks c service tei place n'.link (line_at s.line (after (event_at s.line e) m))
-      → (happens e s).way ≡ map (spelling c.side) n'.way → All (IsCarried c service tei) n'.way → StationStands c service tei place (happens e s) n'
+      → (happens e s).way ≡ map (spelling (own_side c)) n'.way → All (IsCarried c service tei) n'.way → StationStands c service tei place (happens e s) n'
   stands-then e n' same-terms speaks way carried = assumption (after_is_sound m (event_at s.line e) h.sound h.within, speaks, same-terms ∙ h.terms, way, carried)
 
   -- ---- it gives
@@ -76,13 +76,13 @@ module _ (service : Service) (tei place : ℕ) (s : Endpoint) (n : LinkEndpoint)
   given-carried None given short = All-nil (IsCarried c service tei)
   given-carried (Some g) given short =
       let f : Parts = record (frame_of t g.frame) { info = unwrap_or g.contents [] } in
-      All-cons (IsCarried c service tei) f [] (record { carried = carries c.side c.n201 f given.whole short; sapi = refl; by = refl })
+      All-cons (IsCarried c service tei) f [] (record { carried = carries (own_side c) c.n201 f given.whole short; sapi = refl; by = refl })
       (All-nil (IsCarried c service tei))
 
   gives-own : answered next s ≡ gave (option_map next_of (option_map (with_given_frame c l (link_number place service) t) (links.given t n.link)))
   gives-own = gives-taken s ∙ ap (λ o. gave (option_map next_of o)) (takes-own c service tei place l own-sound n.link h.speaks)
 
-  pub gives-frames : frames_by (answered next s) ≡ map (spelling c.side) (frame_given n.terms (links.given n.terms n.link))
+  pub gives-frames : frames_by (answered next s) ≡ map (spelling (own_side c)) (frame_given n.terms (links.given n.terms n.link))
   gives-frames = grind (arith, gives-own)
 
   pub gives-stands : StationStands c service tei place (happens next s) (with_sent n)
@@ -97,8 +97,8 @@ module _ (service : Service) (tei place : ℕ) (s : Endpoint) (n : LinkEndpoint)
       (subst (λ u. Speaks c service tei place (links.after u link.offer n.link) (line_at s.line (after (event_at s.line next) m))) (sym h.terms)
       (subst (Speaks c service tei place (links.after t link.offer n.link)) (sym (there (line_after c next l) (after (event_at s.line next) m) refl))
       (goes-on c service tei place l own-sound n.link h.speaks)))
-      (ap (λ way. way ++ frames_by (answered next s)) h.way ∙ ap (λ fs. map (spelling c.side) n.way ++ fs) gives-frames
-      ∙ sym (map-append (spelling c.side) n.way given))
+      (ap (λ way. way ++ frames_by (answered next s)) h.way ∙ ap (λ fs. map (spelling (own_side c)) n.way ++ fs) gives-frames
+      ∙ sym (map-append (spelling (own_side c)) n.way given))
       (All-append (IsCarried c service tei) n.way given h.carried
       (subst (λ u. All (IsCarried c service tei) (frame_given u (links.given u n.link))) (sym h.terms) new))
 

@@ -1,6 +1,6 @@
 -- A station in a call: what its layer 3 was granted is what its link accepted, and it was told what its link delivered.
-use Rattle.laws_wire.proofs.Vocabulary.{arith, ◌≡◌, ℕ, ◌≤◌, Bool, false, cond, List, [], ◌∷◌, ◌++◌, length, map, drop, Option, Some, None, Ok, refl, sym, ap, subst, ◌∙◌, ◌⊎◌, append-nil, append_assoc, All, option_to_list, nat_lt, ltb-false, All-tail, Refusal, TooLong, Service, Parts, spelling, other_side, Terms, Link, LinkEndpoint, with_link, with_sent, Config, came, LineTold, request, next}
-use Rattle.laws_wire.proofs.Vocabulary.{heard_side, link-grants, Data, Endpoint, happens, without_first, frame_comes, data_told, map-append, two_ends_without_first, course, refusal}
+use Rattle.laws_wire.proofs.Vocabulary.{arith, ◌≡◌, ℕ, ◌≤◌, Bool, false, cond, List, [], ◌∷◌, ◌++◌, length, map, drop, Option, Some, None, Ok, refl, sym, ap, subst, ◌∙◌, ◌⊎◌, append-nil, append_assoc, All, option_to_list, nat_lt, ltb-false, All-tail, Refusal, TooLong, Service, Parts, spelling, Terms, Link, LinkEndpoint, with_link, with_sent, Config, came, LineTold, request, next}
+use Rattle.laws_wire.proofs.Vocabulary.{heard_side, link-grants, Data, Endpoint, happens, without_first, frame_comes, data_told, map-append, two_ends_without_first, course, refusal, own_side}
 use Rattle.model_bits.specs.Stream.{frame}
 use Rattle.model_link.specs.Events as link
 use Rattle.laws_wire.proofs.Answered.{gives-told, gives-granted, takes-granted}
@@ -10,7 +10,7 @@ use Rattle.laws_wire.proofs.Standing.{IsCarried, StationStands, Granted, gives-s
 
 -- Two configurations of the two sides.
 pub record Face (c d : Config) : Type 0 where
-  pub side : other_side c.side ≡ d.side
+  pub side : heard_side c ≡ own_side d
   pub n201 : c.n201 ≡ d.n201
 
 -- What layer 3 of a station had been told before, and what its link had delivered.
@@ -85,30 +85,30 @@ module _ (service : Service) (tei place : ℕ) (first : Past) where
     pub stands : StationStands c service tei place (frame_comes octets s) (with_link (link.received (link.frame f)) n)
     pub told : (frame_comes octets s).told ≡ s.told ++ said_by (course n.terms (link.received (link.frame f)) n.link)
 
-  pub takes : (c d : Config) → Face c d → (s : Endpoint) (n : LinkEndpoint) (f : Parts) → StationStands c service tei place s n → IsCarried d service tei f → Took c s n (spelling d.side f) f
+  pub takes : (c d : Config) → Face c d → (s : Endpoint) (n : LinkEndpoint) (f : Parts) → StationStands c service tei place s n → IsCarried d service tei f → Took c s n (spelling (own_side d) f) f
   takes c d face s n f h from =
       let x = from.carried in
       let same-n201 : d.n201 ≡ s.card.config.n201 = sym face.n201 ∙ ap (λ k. k.n201) (sym h.config) in
-      let whole : came s.card.config.n201 (spelling d.side f) ≡ frame (spelling d.side f) = subst (λ k. came k (spelling d.side f) ≡ frame (spelling d.side f)) same-n201 x.whole in
-      let side : d.side ≡ heard_side s.card.config = sym face.side ∙ ap (λ k. other_side k.side) (sym h.config) in
-      let read : Rattle.lapd_frame.specs.Reading.reading (heard_side s.card.config) (spelling d.side f) ≡ Ok f = subst (λ k. Rattle.lapd_frame.specs.Reading.reading k (spelling d.side f) ≡ Ok f) side x.read in
+      let whole : came s.card.config.n201 (spelling (own_side d) f) ≡ frame (spelling (own_side d) f) = subst (λ k. came k (spelling (own_side d) f) ≡ frame (spelling (own_side d) f)) same-n201 x.whole in
+      let side : own_side d ≡ heard_side s.card.config = sym face.side ∙ ap heard_side (sym h.config) in
+      let read : Rattle.lapd_frame.specs.Senders.reading (heard_side s.card.config) (spelling (own_side d) f) ≡ Ok f = subst (λ k. Rattle.lapd_frame.specs.Senders.reading k (spelling (own_side d) f) ≡ Ok f) side x.read in
       let own = (subst (λ k. StationStands k service tei place s n) (sym h.config) h) in
       record {
         stands =
-            subst (λ k. StationStands k service tei place (frame_comes (spelling d.side f) s) (with_link (link.received (link.frame f)) n)) h.config
-            (takes-stands service tei place s n own f (spelling d.side f) whole read from.sapi from.by);
-        told = takes-told service tei place s n own f (spelling d.side f) whole read from.sapi from.by;
+            subst (λ k. StationStands k service tei place (frame_comes (spelling (own_side d) f) s) (with_link (link.received (link.frame f)) n)) h.config
+            (takes-stands service tei place s n own f (spelling (own_side d) f) whole read from.sapi from.by);
+        told = takes-told service tei place s n own f (spelling (own_side d) f) whole read from.sapi from.by;
       }
 
   pub holds-taken : (c d : Config) → Face c d → (s : Endpoint) (n : LinkEndpoint) (f : Parts) → Holds c service tei place first s n → IsCarried d service tei f
       → TellsData n.terms (course n.terms (link.received (link.frame f)) n.link) → (with_link (link.received (link.frame f)) n).link.contents ≡ n.link.contents
-      → Holds c service tei place first (frame_comes (spelling d.side f) s) (with_link (link.received (link.frame f)) n)
+      → Holds c service tei place first (frame_comes (spelling (own_side d) f) s) (with_link (link.received (link.frame f)) n)
   holds-taken c d face s n f h from tells kept =
       let x = takes c d face s n f h.stands from in
       let more = option_to_list (course n.terms (link.received (link.frame f)) n.link).delivered in
       record {
         stands = x.stands;
-        granted = takes-granted (spelling d.side f) s ∙ h.granted ∙ sym kept;
+        granted = takes-granted (spelling (own_side d) f) s ∙ h.granted ∙ sym kept;
         since = h.since ++ more;
         told = x.told ∙ (grind (arith, append_assoc, map-append));
         delivered = ap (λ xs. xs ++ more) h.delivered ∙ append_assoc first.had h.since more;

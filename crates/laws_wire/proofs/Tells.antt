@@ -1,5 +1,5 @@
 -- A station, the end for which it stands, and what its layer 3 heard.
-use Rattle.laws_wire.proofs.Vocabulary.{arith, ◌≡◌, ℕ, List, [], ◌∷◌, ◌++◌, map, refl, sym, ap, subst, ◌∙◌, All, flat_map, All-head, Service, Timer, Parts, spelling, LinkTimer, course, LinkEndpoint, with_link, with_sent, Config, LineTold, expiry, next, HasNothingToSend, nothing-to_send, flat_map-append, Endpoint, happens, frame_comes, for_layer_3, heard_in}
+use Rattle.laws_wire.proofs.Vocabulary.{arith, ◌≡◌, ℕ, List, [], ◌∷◌, ◌++◌, map, refl, sym, ap, subst, ◌∙◌, All, flat_map, All-head, Service, Timer, Parts, spelling, LinkTimer, course, LinkEndpoint, with_link, with_sent, Config, LineTold, expiry, next, HasNothingToSend, nothing-to_send, flat_map-append, Endpoint, happens, frame_comes, for_layer_3, heard_in, own_side}
 use Rattle.model_link.specs.Events as link
 use Rattle.laws_wire.proofs.Answered.{gives-told}
 use Rattle.laws_wire.proofs.LossyPhases.{Aims}
@@ -37,7 +37,7 @@ module _ (service : Service) (tei : ℕ) where
     abbrev more-by : Parts → List LineTold
     more-by f = flat_map for_layer_3 (said_by (course n.terms (link.received (link.frame f)) n.link))
 
-    pub t-taken : (d : Config) → Face k d → (f : Parts) → IsCarried d service tei f → T k place (hs ++ more-by f) (frame_comes (spelling d.side f) s) (After f)
+    pub t-taken : (d : Config) → Face k d → (f : Parts) → IsCarried d service tei f → T k place (hs ++ more-by f) (frame_comes (spelling (own_side d) f) s) (After f)
     t-taken d face f from =
         let x = takes_frame service tei place unheard k d face s n f h.stands from in
         grind (arith, flat_map, flat_map-append, said_by)
@@ -56,9 +56,9 @@ module _ (service : Service) (tei : ℕ) where
 
   -- its only frame is lost, or taken
   pub first-carried : (k : Config) (place : ℕ) (hs : List LineTold) (s : Endpoint) (n : LinkEndpoint) (f : Parts) → n.way ≡ f ∷ [] → T k place hs s n
-      → (s.way ≡ spelling k.side f ∷ []) × IsCarried k service tei f
+      → (s.way ≡ spelling (own_side k) f ∷ []) × IsCarried k service tei f
   first-carried k place hs s n f one h =
-      (h.stands.way ∙ ap (map (spelling k.side)) one, All-head (IsCarried k service tei) f [] (subst (All (IsCarried k service tei)) one h.stands.carried))
+      (h.stands.way ∙ ap (map (spelling (own_side k))) one, All-head (IsCarried k service tei) f [] (subst (All (IsCarried k service tei)) one h.stands.carried))
 
   -- it has nothing to give
   pub t-silent : (k : Config) (place : ℕ) (hs : List LineTold) (s : Endpoint) (n : LinkEndpoint) → HasNothingToSend n.terms n.link → T k place hs s n → T k place hs (happens next s) n

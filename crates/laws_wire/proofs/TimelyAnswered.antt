@@ -1,6 +1,6 @@
 -- The next phases of such a call: the other end is up, and its UA waits, or is on its way before all else.
 use Rattle.laws_wire.proofs.Vocabulary.{arith, ◌≡◌, ℕ, false, List, [], ◌∷◌, None, refl, sym, ap, subst, ◌∙◌, ◌⊎◌, inl, inr, All-tail, Service, Timer, Parts, spelling, Terms, TimerRecovery, LinkTimer, T203, course, given, IsInRange, LinkEndpoint, with_link, with_sent, offer-gave, Config, expiry, request, next, terms, awaits_answer, CanRepeat, T200, refusal, Data, Endpoint, Wire, happens}
-use Rattle.laws_wire.proofs.Vocabulary.{with_first_of, EndStep, requests, expires, sends, receives, loses, acting, turned, IsStill, frame_comes, confirmed, indicated, IsRoughTalkOf, is_final, IsLongEnough, IsTimelyOf, IsSpared, gives_one, is_ua, true, received, LinkData, frame, expired, timer_T200, timer_T203}
+use Rattle.laws_wire.proofs.Vocabulary.{with_first_of, EndStep, requests, expires, sends, receives, loses, acting, turned, IsStill, frame_comes, confirmed, indicated, IsRoughTalkOf, is_final, IsLongEnough, IsTimelyOf, IsSpared, gives_one, is_ua, true, received, LinkData, frame, expired, timer_T200, timer_T203, own_side}
 use Rattle.laws_link.specs.two.Timely as two_links_timely
 use Rattle.laws_wire.proofs.Answered.{takes-granted}
 use Rattle.laws_wire.proofs.Awaited.{closed, may-there, long-there, gives-first, waits-first, goes-first}
@@ -118,11 +118,11 @@ module _ (service : Service) (tei : ℕ) (c d : Config) (p q : ℕ) (face : Face
     confirms =
         let f = ua m.terms in
         let way = first-way service tei d q _ w.far (with_ua_first m) f m.way refl h.far in
-        let s' = frame_comes (spelling d.side f) w.near in
+        let s' = frame_comes (spelling (own_side d) f) w.near in
         let n' = end t (answered h.repeats []) [] in
         let held : Held c service tei p (confirmed service tei ∷ []) s' n' =
         held-first service tei p [] c w.near comes_end h.near (confirmed service tei) s' n' (course t (received (frame f)) comes_end.link) refl refl refl
-        (taken-stands service tei p [] c w.near comes_end h.near d face f way.1) (takes-granted (spelling d.side f) w.near) refl
+        (taken-stands service tei p [] c w.near comes_end h.near d face f way.1) (takes-granted (spelling (own_side d) f) w.near) refl
         (taken-told service tei p [] c w.near comes_end h.near d face f way.1) refl refl in
         record {
           near = subst (λ ways. Held c service tei p (confirmed service tei ∷ []) (with_first_of ways w.near) n') (sym way.0) held;

@@ -1,6 +1,6 @@
 -- The first phases of such a call: one end rings, and the other is down.
 use Rattle.laws_wire.proofs.Vocabulary.{◌≡◌, ℕ, ◌+◌, ◌<◌, true, List, [], ◌∷◌, map, None, refl, sym, ap, subst, ◌∙◌, inl, inr, arith, nat_lt, option_to_list, lt-ltb, Service, Timer, Parts, spelling, ControlFrame, Terms, LinkTimer, fresh, course, given, IsInRange, LinkEndpoint, with_link, Config, expiry, terms, T200, Course, Data, Wire, happens, EndStep, requests, expires, sends, receives, loses}
-use Rattle.laws_wire.proofs.Vocabulary.{acting, turned, IsStill, frame_comes, indicated, IsRoughTalkOf, is_poll, MayRepeat, IsTimelyOf, received, frame, expired, timer_T200, timer_T203, NoteData}
+use Rattle.laws_wire.proofs.Vocabulary.{acting, turned, IsStill, frame_comes, indicated, IsRoughTalkOf, is_poll, MayRepeat, IsTimelyOf, received, frame, expired, timer_T200, timer_T203, NoteData, own_side}
 use Rattle.laws_wire.proofs.Answered.{takes-granted}
 use Rattle.laws_wire.proofs.Awaited.{may-there, waits-first, goes-first}
 use Rattle.laws_wire.proofs.Calling.{sabme, end, answering, called, takes-sabme, told-of-sabme}
@@ -143,11 +143,11 @@ module _ (service : Service) (tei : ℕ) (c d : Config) (p q : ℕ) (face : Face
     answers =
         let f = sabme t in
         let way = first-way service tei c p [] w.near caller_end f [] refl h.near in
-        let reached = frame_comes (spelling c.side f) w.far in
+        let reached = frame_comes (spelling (own_side c) f) w.far in
         let becomes : with_link (received (frame f)) (end u fresh []) ≡ end u answering [] = ap (λ y. end u y []) (takes-sabme u ru t) in
         let held : Held d service tei q (indicated service tei ∷ []) reached (end u answering []) =
         held-first service tei q [] d w.far (end u fresh []) h.far (indicated service tei) reached (end u answering []) (course u (received (frame f)) fresh) refl refl refl
-        (subst (StationStands d service tei q reached) becomes (taken-stands service tei q [] d w.far (end u fresh []) h.far c back f way.1)) (takes-granted (spelling c.side f) w.far) refl
+        (subst (StationStands d service tei q reached) becomes (taken-stands service tei q [] d w.far (end u fresh []) h.far c back f way.1)) (takes-granted (spelling (own_side c) f) w.far) refl
         (taken-told service tei q [] d w.far (end u fresh []) h.far c back f way.1) (told-of-sabme u ru t) refl in
         grind (arith, held-lost, answering, firm-first)
 

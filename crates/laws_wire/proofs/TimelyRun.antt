@@ -1,7 +1,7 @@
 -- A whole call in which timers are timely: both ends stay up, and what was lost arrives.
 use Rattle.laws_wire.proofs.Vocabulary.{◌≡◌, ℕ, suc, ◌+◌, ◌<◌, Bool, true, false, ◌==◌, List, [], ◌∷◌, length, map, is_some, refl, sym, ap, ◌∙◌, inl, inr, eqb-true, arith, All, flat_map, list_any, and_parts, or_parts, All-nil, All-cons, All-head, All-tail, list_any-append, Note, Service, Timer, Parts, ControlFrame, fresh, IsInRange, Ends, Config, LineTold, terms, all-arrived, T200, Endpoint, Wire}
 use Rattle.laws_wire.proofs.Vocabulary.{EndStep, sends, receives, expires, StepAt, at_near, at_far, acting, turned, doing, doing_all, IsStill, calling, confirmed, indicated, data_told, for_layer_3, heard_in, is_error, HasNoError, IsRoughTalkOf, IsRoughTalk, is_poll, is_final, IsTimelyOf, IsSpared, IsTimely, StayTimely, both_expire, round, rounds, HasNoErrors, BothMayRepeat, HasMissing, HasArrived}
-use Rattle.laws_wire.proofs.Vocabulary.{with_t200_expired, WhatIsLostArrives, is_ua, frames_by, timer_T200, read_as, StayPatient, TwoLinksHasArrived, nothing-to_send, spelling, ◌++◌, LinkEndpoint}
+use Rattle.laws_wire.proofs.Vocabulary.{with_t200_expired, WhatIsLostArrives, is_ua, frames_by, timer_T200, read_as, StayPatient, TwoLinksHasArrived, nothing-to_send, spelling, ◌++◌, LinkEndpoint, own_side}
 use Rattle.laws_wire.proofs.Awaited.{NoneOpen, open-here}
 use Rattle.laws_wire.proofs.Calling.{end, called}
 use Rattle.laws_wire.proofs.LossyRun.{Setting, setting}
@@ -105,8 +105,8 @@ module _ (service : Service) (tei : ℕ) (c d : Config) (p q : ℕ) (face : Face
     record {
       near = nothing-said service tei c p (confirmed service tei ∷ []) w.near e.near h.near (nothing-to_send e.near.terms e.near.link x.nothing);
       far = nothing-said service tei d q (indicated service tei ∷ []) w.far e.far h.far (nothing-to_send e.far.terms e.far.link y.nothing);
-      near_way = h.near.stands.way ∙ ap (map (spelling c.side)) x.way;
-      far_way = h.far.stands.way ∙ ap (map (spelling d.side)) y.way;
+      near_way = h.near.stands.way ∙ ap (map (spelling (own_side c))) x.way;
+      far_way = h.far.stands.way ∙ ap (map (spelling (own_side d))) y.way;
     },
   )
 

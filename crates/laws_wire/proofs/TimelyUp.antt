@@ -1,7 +1,7 @@
 -- Two stations whose links are up, where each timer is timely: both stay up, whatever is lost.
 use Rattle.laws_wire.proofs.Vocabulary.{arith, ◌≡◌, ℕ, Bool, true, IsTrue, List, [], ◌∷◌, map, Some, None, refl, sym, ap, subst, ◌∙◌, ◌⊎◌, inl, inr, append-nil, true≢false, All, All-head, Control, Service, Timer, Parts, spelling, TimerRecovery, LinkTimer, T203, is_multiple_frame, course, given, is_running, awaits_answer, IsTimed, IsTimedIn, runs, LinkEndpoint, Ends, with_link, with_sent}
 use Rattle.laws_wire.proofs.Vocabulary.{offer-gave, Config, LineTold, expiry, request, next, gave, CanRepeat, nothing-given, T200, Data, Endpoint, Wire, happens, with_first_of, EndStep, requests, expires, sends, receives, loses, acting, turned, answered, IsOfLink, IsRoughTalkOf, is_poll, is_final, IsTimelyOf, rounds, Joined, Flows, expired, timer_T200, timer_T203, two_ends_with_first_of}
-use Rattle.laws_wire.proofs.Vocabulary.{two_ends_without_first, two_links_rounds}
+use Rattle.laws_wire.proofs.Vocabulary.{two_ends_without_first, two_links_rounds, own_side}
 use Rattle.laws_link.specs.two.Timely as two_links_timely
 use Rattle.laws_wire.proofs.Asking.{with_more, asked-form}
 use Rattle.laws_wire.proofs.Awaited.{NoneOpen, closed, may-there, long-there}
@@ -28,7 +28,7 @@ module _ (service : Service) (tei : ℕ) where
       → IsHushed n
   hushed k place past s n h none empty = record {
     given = still-gives-none service tei place s n (subst (λ k. StationStands k service tei place s n) (sym h.stands.config) h.stands) none;
-    way = no-way (spelling k.side) n.way (sym h.stands.way ∙ empty);
+    way = no-way (spelling (own_side k)) n.way (sym h.stands.way ∙ empty);
   }
 
   pub none-waits : (n : LinkEndpoint) → IsHushed n → n.link.waiting ≡ []
@@ -72,7 +72,7 @@ module _ (service : Service) (tei : ℕ) where
       → Joined n m → n.terms.n201 ≡ m.terms.n201 → Flows n m → Flows m n → Held c service tei p past (with_first_of o.way s) (two_ends_with_first_of m.way n)
   took-held c d p q face past other s o n m h g joined same there back = subst (λ ways. Held c service tei p past (with_first_of ways s) (two_ends_with_first_of m.way n)) (sym g.stands.way) (taken m.way refl)
     where
-      taken : (way : List Parts) → m.way ≡ way → Held c service tei p past (with_first_of (map (spelling d.side) way) s) (two_ends_with_first_of way n)
+      taken : (way : List Parts) → m.way ≡ way → Held c service tei p past (with_first_of (map (spelling (own_side d)) way) s) (two_ends_with_first_of way n)
       taken [] e = h
       taken (f ∷ fs) e =
           let from : IsCarried d service tei f = All-head (IsCarried d service tei) f fs (subst (All (IsCarried d service tei)) e g.stands.carried) in

@@ -1,7 +1,7 @@
 -- What is known of the links of a call in which UA may be lost: each runs the timer that it needs, and is busy only as it was asked.
 use Rattle.laws_wire.proofs.Vocabulary.{arith, ◌≡◌, ℕ, ◌*◌, ◌≤◌, Bool, true, false, not, ◌&&◌, ◌||◌, IsTrue, List, [], ◌∷◌, ◌++◌, map, refl, sym, ap, subst, ◌∙◌, ◌⊎◌, inl, inr, true≢false, All, All-head, All-tail, Service, Timer, Parts, spelling, LinkTimer, is_multiple_frame, after, IsInRange, LinkEndpoint, with_link, Config, expiry, request, terms, next, Line, place_in, Request, Data, SetBusy}
 use Rattle.laws_wire.proofs.Vocabulary.{ClearBusy, at_requested, aim_of_request, sound-after, Endpoint, Wire, happens, frame_comes, with_first_of, EndStep, requests, expires, sends, receives, loses, acting, turned, StepAt, at_near, at_far, doing, doing_all, link_of, is_granted, answered, IsAsked, IsFullTalkOf, IsFullTalk, StayPatient, or_parts, frame, requested, LinkEvent, offer, expired}
-use Rattle.laws_wire.proofs.Vocabulary.{LinkSetBusy, received, LinkClearBusy, LinkData, LinkRequest, Called, seeing, HasItsTimer, timely-after, busy_asked, as_heard, each-row}
+use Rattle.laws_wire.proofs.Vocabulary.{LinkSetBusy, received, LinkClearBusy, LinkData, LinkRequest, Called, seeing, HasItsTimer, timely-after, busy_asked, as_heard, each-row, own_side}
 use Rattle.laws_wire.specs.Facing.{line_of}
 use Rattle.laws_wire.specs.Settling.{Busy, busy_by, busy_behind, busy}
 use Rattle.laws_wire.proofs.Awaited.{link-is}
@@ -107,12 +107,12 @@ module _ (service : Service) (tei : ℕ) where
   module _ (c d : Config) (p q : ℕ) (face : Face c d) (w : Wire) (n m : LinkEndpoint) (near : StationStands c service tei p w.near n) (far : StationStands d service tei q w.far m) (up : IsTrue (is_multiple_frame n.link.state) ⊎ (n.link.own_busy ≡ false))
       (b : Bool) (known : Known b w.near) where
     taken : (way : List Parts) → m.way ≡ way → Known b (with_first_of w.far.way w.near)
-    taken [] e = subst (λ ways. Known b (with_first_of ways w.near)) (sym (far.way ∙ ap (map (spelling d.side)) e)) known
+    taken [] e = subst (λ ways. Known b (with_first_of ways w.near)) (sym (far.way ∙ ap (map (spelling (own_side d))) e)) known
     taken (f ∷ fs) e =
         let carried = All-head (IsCarried d service tei) f fs (subst (All (IsCarried d service tei)) e far.carried) in
-        let took : Took service tei p unheard c w.near n (spelling d.side f) f = takes_frame service tei p unheard c d face w.near n f near carried in
-        subst (λ ways. Known b (with_first_of ways w.near)) (sym (far.way ∙ ap (map (spelling d.side)) e))
-        (known-takes c p w.near n near b known (frame_comes (spelling d.side f) w.near) f took.stands)
+        let took : Took service tei p unheard c w.near n (spelling (own_side d) f) f = takes_frame service tei p unheard c d face w.near n f near carried in
+        subst (λ ways. Known b (with_first_of ways w.near)) (sym (far.way ∙ ap (map (spelling (own_side d))) e))
+        (known-takes c p w.near n near b known (frame_comes (spelling (own_side d) f) w.near) f took.stands)
 
     pub near-known : (act : EndStep) → IsFullTalkOf service tei act → Known (busy_by act w.near b) (acting act w).near
     near-known (requests r) is = known-asked c p w.near n near b known up r is

@@ -1,7 +1,7 @@
 -- The phases of a call in which UA may be lost: one end rings, and the other is down; or it is up, and its UA waits, is on its way, or is
 -- not to come.
 use Rattle.laws_wire.proofs.Vocabulary.{◌≡◌, ℕ, ◌+◌, ◌<◌, ◌≤◌, Bool, true, false, not, List, [], ◌∷◌, ◌++◌, map, take, refl, sym, ap, subst, ◌∙◌, ◌⊎◌, inl, inr, arith, nat_lt, option_to_list, lt-ltb, All, All-head, All-drop, Control, Service, Parts, spelling, ControlFrame, Terms, course, IsInRange, LinkEndpoint, with_link, Config, LineTold, expiry, request, terms, Request, Means, Rising, kind_of}
-use Rattle.laws_wire.proofs.Vocabulary.{one_enquiry, tally, line, HasNo, T200, Course, Endpoint, Wire, happens, frame_comes, with_first_of, without_first, EndStep, requests, expires, sends, receives, loses, acting, confirmed, heard_in, is_poll, IsTimelyOf, IsFullTalkOf, timer_T200, timer_T203, NoteData}
+use Rattle.laws_wire.proofs.Vocabulary.{one_enquiry, tally, line, HasNo, T200, Course, Endpoint, Wire, happens, frame_comes, with_first_of, without_first, EndStep, requests, expires, sends, receives, loses, acting, confirmed, heard_in, is_poll, IsTimelyOf, IsFullTalkOf, timer_T200, timer_T203, NoteData, own_side}
 use Rattle.model_link.specs.Events as link
 use Rattle.laws_wire.proofs.Awaited.{awaits-is, may-there, none-there, goes-first, waits-first}
 use Rattle.laws_wire.proofs.Calling.{sabme, end}
@@ -84,7 +84,7 @@ module _ (service : Service) (tei : ℕ) (c d : Config) (p q : ℕ) (face : Face
     ignores-frame f fs first number means =
         let its_way = first-way service tei d q past w.far M f fs first held in
         let i : Ignores t repeats ws f = ignores t repeats ws f number means in
-        let s' = frame_comes (spelling d.side f) w.near in
+        let s' = frame_comes (spelling (own_side d) f) w.near in
         let event = link.received (link.frame f) in
         let tells : TellsIt service tei (course t event it.link) =
         assumption (i.notes ∙ ap (λ o. map (λ octets. NoteData service tei) (option_to_list o)) (sym i.delivered)) in

@@ -1,6 +1,7 @@
 -- A whole call in which UA may be lost: what is told, and that all has come where no turn is left and T200 runs at neither end.
 use Rattle.laws_wire.proofs.Vocabulary.{◌≡◌, ℕ, ◌==◌, Bool, true, false, cond, ◌&&◌, ◌||◌, List, [], ◌∷◌, ◌++◌, length, map, refl, sym, ap, subst, ◌∙◌, ◌⊎◌, inl, inr, append-nil, append_assoc, arith, All, All-head, All-tail, Service, Parts, ControlFrame, spelling, fresh, IsInRange, LinkEndpoint, frames_of, Config, LineTold, T203, expiry, request, terms, T200, Endpoint, Wire, happens, EndStep}
 use Rattle.laws_wire.proofs.Vocabulary.{requests, expires, sends, receives, loses, acting, turned, StepAt, at_near, at_far, doing, doing_all, is_any, confirmed, indicated, heard_in, is_final, IsTimelyOf, eqb-true, timer_T200, timer_T203, IsFullTalkOf, IsFullTalk, IsPatient, StayPatient, Called, error_f, renewed, told_of_sabme, with_sabme, takes_sabme, gives_information, seeing, seen, and-false}
+use Rattle.laws_wire.proofs.Vocabulary.{own_side}
 use Rattle.laws_wire.proofs.Awaited.{awaits-is, none-there}
 use Rattle.laws_wire.proofs.Calling.{end, answering, sabme, ua}
 use Rattle.laws_wire.proofs.Held.{Held, held-lost, held-expired}
@@ -122,7 +123,7 @@ module _ (service : Service) (tei : ℕ) (c d : Config) (p q : ℕ) (face : Face
   -- it takes SABME, or nothing
   module _ (w : Wire) where
     empty-way : (n : LinkEndpoint) (ts : List LineTold) → Held c service tei p ts w.near n → n.way ≡ [] → w.near.way ≡ []
-    empty-way n ts h none = h.stands.way ∙ ap (map (spelling c.side)) none
+    empty-way n ts h none = h.stands.way ∙ ap (map (spelling (own_side c))) none
 
     stays : (A : Wire → Type 0) → w.near.way ≡ [] → A w → A (done receives w)
     stays A none h = subst A (sym (ap turned (takes-none (turned w) none))) h

@@ -1,7 +1,7 @@
 -- The end that is called, once it took SABME: its UA is not to come, waits, or is on its way behind what went before.
 use Rattle.laws_wire.proofs.Vocabulary.{◌≡◌, ℕ, Bool, false, not, ◌||◌, IsTrue, List, [], ◌∷◌, ◌++◌, refl, sym, ap, subst, ◌∙◌, ◌⊎◌, inl, inr, append_assoc, append-nil, true≢false, arith, All, All-head, All-nil, Service, Parts, spelling, ControlFrame, LinkTimer, Terms, is_multiple_frame, has_outstanding, frame_of, frames_of, course, given, IsInRange, LinkEndpoint, with_sent, Config, LineTold}
 use Rattle.laws_wire.proofs.Vocabulary.{next, terms, Rising, Sane, HasNo, offer-gave, Endpoint, Wire, happens, frame_comes, with_first_of, without_first, EndStep, requests, expires, sends, receives, loses, acting, turned, confirmed, is_poll, is_final, IsTimelyOf, frame_given, with_link, two_ends_without_first, link_expires, TwoEndsStep, Ends, two_ends_acting, link_requests, link_sends, after}
-use Rattle.laws_wire.proofs.Vocabulary.{IsFullTalkOf, gives_information, all-right, line_of, line-grows, rising-reports, offer-stays, rising-lower, flows-low}
+use Rattle.laws_wire.proofs.Vocabulary.{IsFullTalkOf, gives_information, all-right, line_of, line-grows, rising-reports, offer-stays, rising-lower, flows-low, own_side}
 use Rattle.model_link.specs.Events as link
 use Rattle.laws_link.specs.two.Timely as two_links_timely
 use Rattle.laws_wire.proofs.Acting.{ranges, sound}
@@ -319,10 +319,10 @@ module _ (service : Service) (tei : ℕ) (c d : Config) (p q : ℕ) (face : Face
         let rung = end t (ringing h.repeats []) [] in
         let far : Its w.far (behind (f ∷ []) h.m) = subst (λ stale. Its w.far (behind (stale ++ f ∷ []) h.m)) e h.far in
         let way = first-way service tei d q past w.far (behind (f ∷ []) h.m) f h.m.way refl far in
-        let s' = frame_comes (spelling d.side f) w.near in
+        let s' = frame_comes (spelling (own_side d) f) w.near in
         let held : Held c service tei p (confirmed service tei ∷ []) s' n =
         held-first service tei p [] c w.near rung h.near (confirmed service tei) s' n (course t (link.received (link.frame f)) rung.link) refl refl refl
-        (taken-stands service tei p [] c w.near rung h.near d face f way.1) (takes-granted (spelling d.side f) w.near) refl
+        (taken-stands service tei p [] c w.near rung h.near d face f way.1) (takes-granted (spelling (own_side d) f) w.near) refl
         (taken-told service tei p [] c w.near rung h.near d face f way.1) refl refl in
         record {
           n = n;

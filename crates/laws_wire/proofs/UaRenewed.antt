@@ -1,6 +1,6 @@
 -- SABME comes again to the end that is called, whose UA was lost: UA waits again, where there is room, and what it had sent is given up.
 use Rattle.laws_wire.proofs.Vocabulary.{◌≡◌, ℕ, Bool, true, false, cond, List, [], ◌∷◌, ◌++◌, map, refl, sym, ap, subst, ◌∙◌, ◌⊎◌, inl, inr, append-nil, arith, flat_map, Service, spelling, Terms, has_outstanding, has_room, frames_of, course, IsInRange, LinkEndpoint, with_link, Config, LineTold, terms, Rising, Sane, flat_map-append, Course, line_of, Endpoint, Wire, frame_comes, with_first_of}
-use Rattle.laws_wire.proofs.Vocabulary.{without_first, receives, acting, turned, data_told, for_layer_3, heard_in, received, LinkEvent, frame, error_f, renewed}
+use Rattle.laws_wire.proofs.Vocabulary.{without_first, receives, acting, turned, data_told, for_layer_3, heard_in, received, LinkEvent, frame, error_f, renewed, own_side}
 use Rattle.laws_wire.proofs.Answered.{takes-granted}
 use Rattle.laws_wire.proofs.Calling.{its_ua, sabme, end}
 use Rattle.laws_wire.proofs.Held.{Held, held-lost, taken-told, taken-stands}
@@ -46,9 +46,9 @@ module _ (service : Service) (tei : ℕ) (c d : Config) (p q : ℕ) (face : Face
     x = course M.terms event M.link
 
     abbrev reached : Endpoint
-    reached = frame_comes (spelling c.side (sabme t)) w.far
+    reached = frame_comes (spelling (own_side c) (sabme t)) w.far
 
-    its_way : (w.near.way ≡ spelling c.side (sabme t) ∷ []) × IsCarried c service tei (sabme t)
+    its_way : (w.near.way ≡ spelling (own_side c) (sabme t) ∷ []) × IsCarried c service tei (sabme t)
     its_way = first-way service tei c p [] w.near caller_end (sabme t) [] refl near
 
     abbrev left : Bool → LinkEndpoint
@@ -104,7 +104,7 @@ module _ (service : Service) (tei : ℕ) (c d : Config) (p q : ℕ) (face : Face
       v = record { near = without_first w.near; far = s' };
       is =
           ap (λ ways. record { near = without_first w.near; far = with_first_of ways w.far }) its_way.0
-          ∙ (λ i. record { near = without_first w.near; far = record reached { granted = (takes-granted (spelling c.side (sabme t)) w.far ∙ split b w.far.granted) i } });
+          ∙ (λ i. record { near = without_first w.near; far = record reached { granted = (takes-granted (spelling (own_side c) (sabme t)) w.far ∙ split b w.far.granted) i } });
       repeats = repeats;
       near = held-lost service tei p [] c w.near caller_end near;
       far = by-room (has_room M.terms M.link) refl;

@@ -1,6 +1,6 @@
 -- Where one end rings, no turn is left and its T200 expires, one round is enough for it to be told of the establishment.
 use Rattle.laws_wire.proofs.Vocabulary.{◌≡◌, ℕ, ◌<◌, IsTrue, List, [], ◌∷◌, refl, sym, ap, subst, nat_lt, lt-ltb, arith, All, All-head, Service, Timer, Parts, spelling, ControlFrame, Terms, Link, fresh, is_multiple_frame, after, course, IsInRange, LinkEndpoint, with_link, with_sent, Config, LineTold, next, terms, Endpoint, Wire, happens, frame_comes, with_first_of, without_first, expires, sends}
-use Rattle.laws_wire.proofs.Vocabulary.{acting, doing_all, confirmed, heard_in, MayRepeat, rounds, timer_T200}
+use Rattle.laws_wire.proofs.Vocabulary.{acting, doing_all, confirmed, heard_in, MayRepeat, rounds, timer_T200, own_side}
 use Rattle.model_link.specs.Events as link
 use Rattle.laws_wire.proofs.Acting.{ranges}
 use Rattle.laws_wire.proofs.Answered.{takes-granted}
@@ -43,12 +43,12 @@ module _ (service : Service) (tei : ℕ) (c d : Config) (p q : ℕ) (face : Face
     abbrev w1 : Wire
     w1 = acting sends w
 
-    way1 : (w1.near.way ≡ spelling c.side (sabme t) ∷ []) × IsCarried c service tei (sabme t)
+    way1 : (w1.near.way ≡ spelling (own_side c) (sabme t) ∷ []) × IsCarried c service tei (sabme t)
     way1 = first-way service tei c p [] w1.near (end t (ringing k []) (sabme t ∷ [])) (sabme t) [] refl (held-given service tei p [] c w.near (end t (ringing k (its_sabme ∷ [])) []) near refl)
 
     -- and comes
     abbrev reached : Endpoint
-    reached = frame_comes (spelling c.side (sabme t)) w.far
+    reached = frame_comes (spelling (own_side c) (sabme t)) w.far
 
     abbrev w2 : Wire
     w2 = record { near = without_first w1.near; far = reached }
@@ -79,13 +79,13 @@ module _ (service : Service) (tei : ℕ) (c d : Config) (p q : ℕ) (face : Face
 
     -- and comes
     abbrev told : Endpoint
-    told = frame_comes (spelling d.side (ua u)) w2.near
+    told = frame_comes (spelling (own_side d) (ua u)) w2.near
 
     near4 : Held c service tei p (confirmed service tei ∷ []) told (end t (answered_link k []) [])
     near4 =
         let rung = end t (ringing k []) [] in
         held-first service tei p [] c w2.near rung near2 (confirmed service tei) told (end t (answered_link k []) []) (course t (link.received (link.frame (ua u))) rung.link) refl refl refl
-        (taken-stands service tei p [] c w2.near rung near2 d face (ua u) carried) (takes-granted (spelling d.side (ua u)) w2.near) refl
+        (taken-stands service tei p [] c w2.near rung near2 d face (ua u) carried) (takes-granted (spelling (own_side d) (ua u)) w2.near) refl
         (taken-told service tei p [] c w2.near rung near2 d face (ua u) carried) refl refl
 
     pub round-tells : heard_in (rounds 1 w).near ≡ confirmed service tei ∷ []

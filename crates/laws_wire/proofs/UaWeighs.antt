@@ -1,6 +1,6 @@
 -- Each step of a call in which UA may be lost makes what is left to do less; so its moves are bounded.
 use Rattle.laws_wire.proofs.Vocabulary.{◌≡◌, ℕ, ◌+◌, ◌-◌, ◌*◌, ◌≤◌, Bool, false, cond, not, IsTrue, List, [], ◌∷◌, ◌++◌, length, refl, sym, ap, subst, ◌∙◌, ◌⊎◌, inl, inr, eqb-true, arith, Service, Parts, spelling, ControlFrame, Terms, Link, fresh, has_outstanding, has_room, is_multiple_frame, frames_of, after, Means, IsInRange, LinkEndpoint, with_link, Config, LineTold, terms, Rising, Endpoint}
-use Rattle.laws_wire.proofs.Vocabulary.{Wire, frame_comes, without_first, EndStep, receives, acting, turned, StepAt, at_near, at_far, doing, IsFullTalkOf, IsTimelyOf, is_move, is_move_of, expiries_in, two_ends_with_first_of, two_ends_without_first, link_receives, Called, reports_in}
+use Rattle.laws_wire.proofs.Vocabulary.{Wire, frame_comes, without_first, EndStep, receives, acting, turned, StepAt, at_near, at_far, doing, IsFullTalkOf, IsTimelyOf, is_move, is_move_of, expiries_in, two_ends_with_first_of, two_ends_without_first, link_receives, Called, reports_in, own_side}
 use Rattle.model_link.specs.Events as link
 use Rattle.laws_wire.proofs.Answered.{takes-granted}
 use Rattle.laws_wire.proofs.Calling.{end, its_ua, sabme, ua, takes-sabme}
@@ -212,7 +212,7 @@ module _ (service : Service) (tei : ℕ) (c d : Config) (p q : ℕ) (face : Face
     n' = end t (ringing k []) []
 
     abbrev reached : Endpoint
-    reached = frame_comes (spelling c.side (sabme t)) w.far
+    reached = frame_comes (spelling (own_side c) (sabme t)) w.far
 
     abbrev w1 : Wire
     w1 = record { near = without_first w.near; far = reached }
@@ -235,7 +235,7 @@ module _ (service : Service) (tei : ℕ) (c d : Config) (p q : ℕ) (face : Face
     again-pays : P 1 0 0 w w1
     again-pays = record {
       more = 0;
-      granted = let same = ap (λ (xs : List (List ℕ)). length w.near.granted + length xs) (takes-granted (spelling c.side (sabme t)) w.far) in omega (arith, same);
+      granted = let same = ap (λ (xs : List (List ℕ)). length w.near.granted + length xs) (takes-granted (spelling (own_side c) (sabme t)) w.far) in omega (arith, same);
       falls =
           sum (heft service tei v w1) (heft service tei v w) (load v (ringing k [])) (load v (kept (has_outstanding l))) (load v l) (load_way v M.way)
           ((v + 4) * (length (kept (has_outstanding l)).contents - 0)) ((v + 4) * (length l.contents - 0)) ((v + 4) * undelivered (ringing k []) l)

@@ -1,7 +1,7 @@
 -- Two stations whose links are up: each turn lowers their weight, and each request that is granted raises it by four.
 use Rattle.laws_wire.proofs.Vocabulary.{◌≡◌, ℕ, ◌+◌, ◌*◌, ◌≤◌, false, List, [], ◌∷◌, ◌++◌, length, map, drop, Option, Some, None, refl, sym, ap, subst, ◌∙◌, ◌⊎◌, inl, inr, append-nil, length-append, arith, All, if◌then◌else◌, All-head, All-tail, Service, Parts, spelling, Terms, Link, given, Given, LinkEndpoint, Ends, with_link, with_sent, frame_given, Config, Request, request, next, weight_at}
 use Rattle.laws_wire.proofs.Vocabulary.{HasNothingToSend, takes-first, Pair, nothing-given, nothing-to_send, silent-stays, refusal, Data, Endpoint, Wire, happens, frames_by, with_first_of, EndStep, requests, sends, receives, StepAt, at_near, at_far, acting, turned, doing, doing_all, is_any, is_turn_of, is_turn, turns, answered, frame_comes, IsTalkOf, IsTalk, received, LinkData, frame}
-use Rattle.laws_wire.proofs.Vocabulary.{two_ends_with_first_of, two_ends_without_first}
+use Rattle.laws_wire.proofs.Vocabulary.{two_ends_with_first_of, two_ends_without_first, own_side}
 use Rattle.laws_link.proofs.OfTwo.AnyOrder as any_order
 use Rattle.laws_wire.proofs.Answered.{gives-granted, takes-granted}
 use Rattle.laws_wire.proofs.Asking.{with_more, asked-form, asks-more, Asked}
@@ -72,12 +72,12 @@ module _ (service : Service) (tei : ℕ) where
       pub price : b + (weight_at n' + weight_at m') + 4 * granted_of w ≤ (weight_at n + weight_at m) + 4 * granted_of w'
 
     module _ (w : Wire) (n m : LinkEndpoint) (h : Talk c d p q first second w n m) where
-      turn-is : turn_of (frames_by (answered next w.near)) ≡ turn_of (map (spelling w.near.card.config.side) (frame_given n.terms (given n.terms n.link)))
+      turn-is : turn_of (frames_by (answered next w.near)) ≡ turn_of (map (spelling (own_side w.near.card.config)) (frame_given n.terms (given n.terms n.link)))
       turn-is = ap turn_of (gives-frames service tei p w.near n (subst (λ k. StationStands k service tei p w.near n) (sym h.near.stands.config) h.near.stands))
 
       acts-gives : Acted w (acting sends w) n m (turn_of (frames_by (answered next w.near)))
       acts-gives =
-          let x = end-gives (spelling w.near.card.config.side) n m h.pair in
+          let x = end-gives (spelling (own_side w.near.card.config)) n m h.pair in
           record {
             n' = with_sent n;
             m' = m;
@@ -92,8 +92,8 @@ module _ (service : Service) (tei : ℕ) where
 
       takes-some : (f : Parts) (fs : List Parts) → m.way ≡ f ∷ fs → Acted w (acting receives w) n m (turn_of w.far.way)
       takes-some f fs e =
-          let way : w.far.way ≡ spelling d.side f ∷ map (spelling d.side) fs = h.far.stands.way ∙ ap (map (spelling d.side)) e in
-          let same : with_first_of w.far.way w.near ≡ frame_comes (spelling d.side f) w.near = ap (λ way. with_first_of way w.near) way in
+          let way : w.far.way ≡ spelling (own_side d) f ∷ map (spelling (own_side d)) fs = h.far.stands.way ∙ ap (map (spelling (own_side d))) e in
+          let same : with_first_of w.far.way w.near ≡ frame_comes (spelling (own_side d) f) w.near = ap (λ way. with_first_of way w.near) way in
           let there : 1 ≤ length m.way = subst (λ fs'. 1 ≤ length fs') (sym e) (omega arith) in
           let x = takes-first m n h.pair.far h.pair.near h.pair.back h.pair.there there in
           let n' = with_link (received (frame f)) n in
@@ -112,7 +112,7 @@ module _ (service : Service) (tei : ℕ) where
             };
             price =
                 subst (λ s. turn_of w.far.way + (weight_at n' + weight_at (two_ends_without_first m)) + 4 * granted_of w ≤ (weight_at n + weight_at m) + 4 * (length s.granted + length w.far.granted)) (sym same)
-                (omega (arith, (ap turn_of way), taken.lighter, (ap length (takes-granted (spelling d.side f) w.near))));
+                (omega (arith, (ap turn_of way), taken.lighter, (ap length (takes-granted (spelling (own_side d) f) w.near))));
           }
 
       acts-takes : Acted w (acting receives w) n m (turn_of w.far.way)

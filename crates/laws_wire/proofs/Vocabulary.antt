@@ -9,9 +9,12 @@ pub use Rattle.std.proofs.lemmas.List.Prefix.{front_rest}
 pub use Rattle.std.specs.List.{list_any}
 pub use Rattle.std.specs.Option.{option_map_or, option_or}
 pub use Rattle.std.specs.Prelude.{All, option_to_list, unwrap_or}
-pub use Rattle.lapd_frame.proofs.Spelling.{reading-again}
-pub use Rattle.lapd_frame.specs.Grammar.{IsFrame, Parts, other_side, spelling}
-unfoldable pub use Rattle.lapd_frame.specs.Reading.{control_of, header_of, reading, supervisory_of, unnumbered_of}
+pub use Rattle.lapd_frame.proofs.Naming.{reading-again}
+pub use Rattle.lapd_frame.specs.Grammar.{IsFrame, Parts, other_side}
+unfoldable pub use Rattle.lapd_frame.specs.Reading.{control_of, header_of, reading as side_reading, supervisory_of, unnumbered_of}
+unfoldable pub use Rattle.lapd_frame.specs.Senders.{exchanged, reading}
+pub use Rattle.lapd_frame.specs.Senders.{spelling}
+pub use Rattle.lapd_frame.specs.declared.senders.Sender.{Sender}
 pub use Rattle.lapd_frame.specs.Services.{sapi_of}
 pub use Rattle.lapd_frame.specs.declared.addresses.Side.{Side}
 pub use Rattle.lapd_frame.specs.declared.controls.Control.{Control}
@@ -106,7 +109,7 @@ pub use Rattle.model_line.specs.Request.{Assign, ClearBusy, Data, Establish, Rel
 pub use Rattle.model_line.specs.Requested.{aim_of_request, at_requested}
 pub use Rattle.model_line.specs.Sides.{at_side}
 pub use Rattle.model_line.specs.Sound.{IsSoundAt}
-pub use Rattle.model_line.specs.Taken.{Taken, first_taken, link_taken, next_of, taken, with_given_frame}
+pub use Rattle.model_line.specs.Taken.{Taken, first_taken, link_taken, next_of, own_side, taken, with_given_frame}
 pub use Rattle.model_line.specs.declared.config.Config.{Config}
 pub use Rattle.model_link.proofs.Delivering.{event-delivers}
 pub use Rattle.model_link.proofs.Direction.{frames-append, frames_of, line_of, named-means, receiver-goes, receiver-loses, sender-goes, sender-loses, carried-reports, line-grows, rising-reports}

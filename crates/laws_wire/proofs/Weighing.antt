@@ -1,17 +1,17 @@
 -- What two ends still have to do, where v turns go again at most: what their links have to send, what is on their ways, and for
 -- each contents that are not delivered yet a REJ, v turns, and an acknowledgement.
-use Rattle.laws_wire.proofs.Vocabulary.{◌≡◌, ℕ, ◌+◌, ◌-◌, ◌*◌, ◌≤◌, List, [], ◌∷◌, length, map, refl, sym, ap, ◌∙◌, arith, All, All-head, All-tail, Service, Parts, spelling, Link, LinkEndpoint, Config, Endpoint}
+use Rattle.laws_wire.proofs.Vocabulary.{◌≡◌, ℕ, ◌+◌, ◌-◌, ◌*◌, ◌≤◌, List, [], ◌∷◌, length, map, refl, sym, ap, ◌∙◌, arith, All, All-head, All-tail, Service, Parts, spelling, Link, LinkEndpoint, Config, Endpoint, own_side}
 use Rattle.laws_wire.proofs.Loads.{load, load_way}
 use Rattle.laws_wire.proofs.Standing.{IsCarried, StationStands}
 
 -- ---- a station stands for one end alone
 
 module _ (service : Service) (tei : ℕ) (c : Config) where
-  spelled-same : (xs ys : List Parts) → All (IsCarried c service tei) xs → All (IsCarried c service tei) ys → map (spelling c.side) xs ≡ map (spelling c.side) ys → xs ≡ ys
+  spelled-same : (xs ys : List Parts) → All (IsCarried c service tei) xs → All (IsCarried c service tei) ys → map (spelling (own_side c)) xs ≡ map (spelling (own_side c)) ys → xs ≡ ys
   spelled-same [] [] h g e = refl
   spelled-same (x ∷ xs) (y ∷ ys) h g e =
-      let first : spelling c.side x ≡ spelling c.side y = cc in
-      let rest : map (spelling c.side) xs ≡ map (spelling c.side) ys = cc in
+      let first : spelling (own_side c) x ≡ spelling (own_side c) y = cc in
+      let rest : map (spelling (own_side c)) xs ≡ map (spelling (own_side c)) ys = cc in
       let here = All-head (IsCarried c service tei) x xs h in
       let there = All-head (IsCarried c service tei) y ys g in
       let same : x ≡ y = cc in

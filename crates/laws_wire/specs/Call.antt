@@ -1,10 +1,11 @@
 -- A call between two cards: what layer 3 of each asks for, and what it is told.
 use Rattle.std.specs.Prelude.{◌≡◌, ◌≤◌, ◌<◌, ℕ, ◌+◌, ◌*◌, Bool, false, ◌||◌, List, [], ◌∷◌, ◌++◌, length, map, All, Some, if◌then◌else◌}
-use Rattle.lapd_frame.specs.Grammar.{other_side}
 use Rattle.lapd_frame.specs.declared.notes.Note.TheVariants as notes
 use Rattle.lapd_frame.specs.declared.services.Service.{Service}
 use Rattle.model_line.specs.declared.config.Config.{Config}
 use Rattle.model_line.specs.Event.{request, LineTold, nothing}
+use Rattle.model_line.specs.Heard.{heard_side}
+use Rattle.model_line.specs.Taken.{own_side}
 use Rattle.model_line.specs.Request.{Request, Establish, Data, Assign}
 use Rattle.model_line.specs.Sound.{IsInRange}
 use Rattle.model_card.specs.Card.{fresh}
@@ -22,12 +23,13 @@ abbrev pub calling : Service → ℕ → Config → ℕ → Config → ℕ → W
 calling service tei c line d other =
     record { near = happens (request (Establish service tei)) (assigned c line tei); far = assigned d other tei }
 
--- A line of a card with a configuration in range; and two configurations of the two sides, with the same N201.
+-- A line of a card with a configuration in range; and two configurations of the two sides, so that each hears what the other
+-- sends, with the same SAPI of the second service and the same N201.
 abbrev pub IsLineOf : Config → ℕ → Type 0
 IsLineOf c line = IsInRange c × (line < c.lines)
 
 abbrev pub AreOpposite : Config → Config → Type 0
-AreOpposite c d = (d.side ≡ other_side c.side) × (c.n201 ≡ d.n201)
+AreOpposite c d = (own_side d ≡ heard_side c) × (c.n201 ≡ d.n201)
 
 -- Two such cards, a line of each, and a TEI that a terminal can have.
 pub record CanCall (c : Config) (line : ℕ) (d : Config) (other tei : ℕ) : Type 0 where

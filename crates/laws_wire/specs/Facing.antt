@@ -3,11 +3,12 @@ use Rattle.std.specs.Prelude.{◌≡◌, ℕ, ◌+◌, ◌*◌, ◌<◌, ◌≤�
 use Rattle.lapd_frame.specs.declared.faults.ReadFault.{ReadFault}
 use Rattle.lapd_frame.specs.declared.services.Service.{Service}
 use Rattle.lapd_frame.specs.Grammar.{Parts}
-use Rattle.lapd_frame.specs.Reading.{reading}
+use Rattle.lapd_frame.specs.Senders.{reading}
 use Rattle.model_link.specs.Link.{Link, unsent}
 use Rattle.model_line.specs.declared.config.Config.{Config}
 use Rattle.model_line.specs.Event.{LineTold}
 use Rattle.model_line.specs.Line.{Line, link_of, state_of, terms}
+use Rattle.model_line.specs.Taken.{own_side}
 use Rattle.model_card.specs.Card.{line_at}
 use Rattle.model_card.specs.Sound.{IsSound}
 use Rattle.laws_line.specs.Drains.{frames_to_go, information_to_go}
@@ -23,7 +24,7 @@ parts_of (Ok parts) = parts ∷ []
 parts_of (Err fault) = []
 
 abbrev pub read_as : Config → List ℕ → List Parts
-read_as c octets = parts_of (reading c.side octets)
+read_as c octets = parts_of (reading (own_side c) octets)
 
 -- The link at an endpoint, and whether either side is busy there.
 abbrev pub own_link : Service → ℕ → Endpoint → Link
@@ -52,7 +53,7 @@ pub record Speaks (service : Service) (tei : ℕ) (s u : Endpoint) : Type 0 wher
   pub received : (own_link service tei u).r ≡ (own_link service tei s).s
   pub owes : (own_link service tei s).a < (own_link service tei s).s → (own_link service tei u).pending ≡ true
 
--- So does each of two cards of the two sides, with the same N201.
+-- So does each of two cards of the two sides, with the same N201 and the same SAPI of the second service.
 abbrev pub Face : Service → ℕ → Wire → Type 0
 Face service tei w = Speaks service tei w.near w.far × Speaks service tei w.far w.near × AreOpposite w.near.card.config w.far.card.config
 

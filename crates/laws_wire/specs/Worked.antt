@@ -3,6 +3,7 @@ use Rattle.std.specs.Prelude.{◌≡◌, List, [], ◌∷◌, refl}
 use Rattle.lapd_frame.specs.declared.addresses.Side.TheVariants.{User, Network}
 use Rattle.lapd_frame.specs.declared.services.Service.TheVariants.{Call}
 use Rattle.lapd_frame.specs.Reading.{reading, header_of, control_of, unnumbered_of, supervisory_of}
+use Rattle.lapd_frame.specs.Senders.{exchanged, reading as read_by}
 use Rattle.lapd_seq.specs.Circle.{distance_of, named}
 use Rattle.lapd_seq.specs.Numbers.{seq}
 use Rattle.lapd_tei.specs.Events as teis
@@ -13,7 +14,7 @@ use Rattle.laws_wire.specs.Wire.{Wire, requests, sends, receives, StepAt, at_nea
 use Rattle.laws_wire.specs.Call.{calling, confirmed, indicated, data_told}
 
 abbrev pub network : Config
-network = record { lines = 1; terminals = 1; k = 7; k16 = 3; queue = 8; unit_queue = 4; control = 4; slots = 16; n201 = 260; n200 = 3; side = Network }
+network = record { lines = 1; terminals = 1; k = 7; k16 = 3; queue = 8; unit_queue = 4; control = 4; slots = 16; n201 = 260; n200 = 3; side = Network; sapi = 16 }
 
 abbrev pub user : Config
 user = record network { side = User }
@@ -25,11 +26,11 @@ abbrev pub establishes : List StepAt
 establishes = at_near sends ∷ at_far receives ∷ at_far sends ∷ at_near receives ∷ []
 
 established_near : (doing_all establishes begins).near.told ≡ confirmed Call 0 ∷ []
-unfolding lines.after lines.answer lines.takes_slot reading header_of control_of unnumbered_of supervisory_of teis.course teis.refusal seq distance_of named doing_all turns
+unfolding lines.after lines.answer lines.takes_slot exchanged read_by reading header_of control_of unnumbered_of supervisory_of teis.course teis.refusal seq distance_of named doing_all turns
 established_near = refl
 
 established_far : (doing_all establishes begins).far.told ≡ indicated Call 0 ∷ []
-unfolding lines.after lines.answer lines.takes_slot reading header_of control_of unnumbered_of supervisory_of teis.course teis.refusal seq distance_of named doing_all turns
+unfolding lines.after lines.answer lines.takes_slot exchanged read_by reading header_of control_of unnumbered_of supervisory_of teis.course teis.refusal seq distance_of named doing_all turns
 established_far = refl
 
 -- The network's end is granted data as soon as it has taken SABME, and its I-frame follows UA. Then the user's end sends, while
@@ -41,14 +42,14 @@ talks =
     ∷ []
 
 told_near : (doing_all talks begins).near.told ≡ confirmed Call 0 ∷ data_told Call 0 (0xAB ∷ []) ∷ []
-unfolding lines.after lines.answer lines.takes_slot reading header_of control_of unnumbered_of supervisory_of teis.course teis.refusal seq distance_of named doing_all turns
+unfolding lines.after lines.answer lines.takes_slot exchanged read_by reading header_of control_of unnumbered_of supervisory_of teis.course teis.refusal seq distance_of named doing_all turns
 told_near = refl
 
 told_far : (doing_all talks begins).far.told ≡ indicated Call 0 ∷ data_told Call 0 (0xCD ∷ 0xEF ∷ []) ∷ []
-unfolding lines.after lines.answer lines.takes_slot reading header_of control_of unnumbered_of supervisory_of teis.course teis.refusal seq distance_of named doing_all turns
+unfolding lines.after lines.answer lines.takes_slot exchanged read_by reading header_of control_of unnumbered_of supervisory_of teis.course teis.refusal seq distance_of named doing_all turns
 told_far = refl
 
 -- Twelve turns, which is the bound: four, and four for each of two requests.
 turns_of_talk : turns talks begins ≡ 12
-unfolding lines.after lines.answer lines.takes_slot reading header_of control_of unnumbered_of supervisory_of teis.course teis.refusal seq distance_of named doing_all turns
+unfolding lines.after lines.answer lines.takes_slot exchanged read_by reading header_of control_of unnumbered_of supervisory_of teis.course teis.refusal seq distance_of named doing_all turns
 turns_of_talk = refl

@@ -5,6 +5,7 @@ use Rattle.lapd_frame.specs.declared.notes.Note.TheVariants.{Error, ReleaseIndic
 use Rattle.lapd_frame.specs.declared.services.Service.TheVariants.{Call}
 use Rattle.lapd_frame.specs.declared.timers.Timer.TheVariants.{T200}
 use Rattle.lapd_frame.specs.Reading.{reading, header_of, control_of, unnumbered_of, supervisory_of}
+use Rattle.lapd_frame.specs.Senders.{exchanged, reading as read_by}
 use Rattle.lapd_seq.specs.Circle.{distance_of, named}
 use Rattle.lapd_seq.specs.Numbers.{seq}
 use Rattle.lapd_tei.specs.Events as teis
@@ -27,11 +28,11 @@ abbrev pub given_up : LineTold
 given_up = record nothing { notes = Error Call 0 G ∷ ReleaseIndication Call 0 ∷ [] }
 
 heard_of_three : heard_in (doing_all (is_lost ++ is_lost ++ is_lost) begins).near ≡ []
-unfolding lines.after lines.answer lines.takes_slot reading header_of control_of unnumbered_of supervisory_of teis.course teis.refusal seq distance_of named doing_all turns
+unfolding lines.after lines.answer lines.takes_slot exchanged read_by reading header_of control_of unnumbered_of supervisory_of teis.course teis.refusal seq distance_of named doing_all turns
 heard_of_three = refl
 
 heard_of_four : heard_in (doing_all (is_lost ++ is_lost ++ is_lost ++ is_lost) begins).near ≡ given_up ∷ []
-unfolding lines.after lines.answer lines.takes_slot reading header_of control_of unnumbered_of supervisory_of teis.course teis.refusal seq distance_of named doing_all turns
+unfolding lines.after lines.answer lines.takes_slot exchanged read_by reading header_of control_of unnumbered_of supervisory_of teis.course teis.refusal seq distance_of named doing_all turns
 heard_of_four = refl
 
 -- Each UA is lost: three expiries bring SABME again, which is told as error F at the other end, and the fourth tells error G here.
@@ -39,15 +40,15 @@ abbrev pub ua_is_lost : List StepAt
 ua_is_lost = at_near sends ∷ at_far receives ∷ at_far sends ∷ at_far loses ∷ at_near (expires (T200 Call 0)) ∷ []
 
 ua_of_three : heard_in (doing_all (ua_is_lost ++ ua_is_lost ++ ua_is_lost) begins).near ≡ []
-unfolding lines.after lines.answer lines.takes_slot reading header_of control_of unnumbered_of supervisory_of teis.course teis.refusal seq distance_of named doing_all turns
+unfolding lines.after lines.answer lines.takes_slot exchanged read_by reading header_of control_of unnumbered_of supervisory_of teis.course teis.refusal seq distance_of named doing_all turns
 ua_of_three = refl
 
 ua_of_four : heard_in (doing_all (ua_is_lost ++ ua_is_lost ++ ua_is_lost ++ ua_is_lost) begins).near ≡ given_up ∷ []
-unfolding lines.after lines.answer lines.takes_slot reading header_of control_of unnumbered_of supervisory_of teis.course teis.refusal seq distance_of named doing_all turns
+unfolding lines.after lines.answer lines.takes_slot exchanged read_by reading header_of control_of unnumbered_of supervisory_of teis.course teis.refusal seq distance_of named doing_all turns
 ua_of_four = refl
 
 sabme_of_four : heard_in (doing_all (ua_is_lost ++ ua_is_lost ++ ua_is_lost ++ ua_is_lost) begins).far ≡ indicated Call 0 ∷ error_f Call 0 ∷ error_f Call 0 ∷ error_f Call 0 ∷ []
-unfolding lines.after lines.answer lines.takes_slot reading header_of control_of unnumbered_of supervisory_of teis.course teis.refusal seq distance_of named doing_all turns
+unfolding lines.after lines.answer lines.takes_slot exchanged read_by reading header_of control_of unnumbered_of supervisory_of teis.course teis.refusal seq distance_of named doing_all turns
 sabme_of_four = refl
 
 -- While the far end is busy, and drops the I-frame, T200 expires on and on: each enquiry is answered by RNR, and the count begins anew.
@@ -58,5 +59,5 @@ abbrev pub is_answered : List StepAt
 is_answered = at_near (expires (T200 Call 0)) ∷ round
 
 busy_of_five : heard_in (doing_all (drops_one ++ is_answered ++ is_answered ++ is_answered ++ is_answered ++ is_answered) begins).near ≡ confirmed Call 0 ∷ []
-unfolding lines.after lines.answer lines.takes_slot reading header_of control_of unnumbered_of supervisory_of teis.course teis.refusal seq distance_of named doing_all turns
+unfolding lines.after lines.answer lines.takes_slot exchanged read_by reading header_of control_of unnumbered_of supervisory_of teis.course teis.refusal seq distance_of named doing_all turns
 busy_of_five = refl

@@ -5,6 +5,7 @@ use Rattle.lapd_frame.specs.declared.notes.Note.TheVariants.{Error, ReleaseConfi
 use Rattle.lapd_frame.specs.declared.services.Service.TheVariants.{Call}
 use Rattle.lapd_frame.specs.declared.timers.Timer.TheVariants.{T200, T203}
 use Rattle.lapd_frame.specs.Reading.{reading, header_of, control_of, unnumbered_of, supervisory_of}
+use Rattle.lapd_frame.specs.Senders.{exchanged, reading as read_by}
 use Rattle.lapd_seq.specs.Circle.{distance_of, named}
 use Rattle.lapd_seq.specs.Numbers.{seq}
 use Rattle.lapd_tei.specs.Events as teis
@@ -23,11 +24,11 @@ abbrev pub established : Wire
 established = doing_all establishes begins
 
 pub rests : (runs_t200 Call 0 established.near ≡ false) × (runs_t200 Call 0 established.far ≡ false)
-unfolding lines.after lines.answer lines.takes_slot reading header_of control_of unnumbered_of supervisory_of teis.course teis.refusal seq distance_of named doing_all turns
+unfolding lines.after lines.answer lines.takes_slot exchanged read_by reading header_of control_of unnumbered_of supervisory_of teis.course teis.refusal seq distance_of named doing_all turns
 rests = (refl, refl)
 
 pub still : IsStill established
-unfolding lines.after lines.answer lines.takes_slot reading header_of control_of unnumbered_of supervisory_of teis.course teis.refusal seq distance_of named doing_all turns
+unfolding lines.after lines.answer lines.takes_slot exchanged read_by reading header_of control_of unnumbered_of supervisory_of teis.course teis.refusal seq distance_of named doing_all turns
 still = record { near = refl; far = refl; near_way = refl; far_way = refl }
 
 abbrev pub released : Wire
@@ -44,19 +45,19 @@ abbrev pub ended : Wire
 ended = doing_all loses_both released
 
 ended_near : heard_in ended.near ≡ confirmed Call 0 ∷ release_confirmed Call 0 ∷ []
-unfolding lines.after lines.answer lines.takes_slot reading header_of control_of unnumbered_of supervisory_of teis.course teis.refusal seq distance_of named doing_all turns
+unfolding lines.after lines.answer lines.takes_slot exchanged read_by reading header_of control_of unnumbered_of supervisory_of teis.course teis.refusal seq distance_of named doing_all turns
 ended_near = refl
 
 ended_far : heard_in ended.far ≡ indicated Call 0 ∷ release_indicated Call 0 ∷ []
-unfolding lines.after lines.answer lines.takes_slot reading header_of control_of unnumbered_of supervisory_of teis.course teis.refusal seq distance_of named doing_all turns
+unfolding lines.after lines.answer lines.takes_slot exchanged read_by reading header_of control_of unnumbered_of supervisory_of teis.course teis.refusal seq distance_of named doing_all turns
 ended_far = refl
 
 pub ended_still : IsStill ended
-unfolding lines.after lines.answer lines.takes_slot reading header_of control_of unnumbered_of supervisory_of teis.course teis.refusal seq distance_of named doing_all turns
+unfolding lines.after lines.answer lines.takes_slot exchanged read_by reading header_of control_of unnumbered_of supervisory_of teis.course teis.refusal seq distance_of named doing_all turns
 ended_still = record { near = refl; far = refl; near_way = refl; far_way = refl }
 
 pub ended_rests : runs_t200 Call 0 ended.near ≡ false
-unfolding lines.after lines.answer lines.takes_slot reading header_of control_of unnumbered_of supervisory_of teis.course teis.refusal seq distance_of named doing_all turns
+unfolding lines.after lines.answer lines.takes_slot exchanged read_by reading header_of control_of unnumbered_of supervisory_of teis.course teis.refusal seq distance_of named doing_all turns
 ended_rests = refl
 
 -- Where N200 is used up the end that releases tells error H, and the other is not told of it.
@@ -67,11 +68,11 @@ abbrev gives_up : Wire
 gives_up = doing_all (again ++ again ++ again ++ again) released
 
 gives_up_near : heard_in gives_up.near ≡ confirmed Call 0 ∷ record nothing { notes = Error Call 0 H ∷ ReleaseConfirm Call 0 ∷ [] } ∷ []
-unfolding lines.after lines.answer lines.takes_slot reading header_of control_of unnumbered_of supervisory_of teis.course teis.refusal seq distance_of named doing_all turns
+unfolding lines.after lines.answer lines.takes_slot exchanged read_by reading header_of control_of unnumbered_of supervisory_of teis.course teis.refusal seq distance_of named doing_all turns
 gives_up_near = refl
 
 gives_up_far : heard_in gives_up.far ≡ indicated Call 0 ∷ []
-unfolding lines.after lines.answer lines.takes_slot reading header_of control_of unnumbered_of supervisory_of teis.course teis.refusal seq distance_of named doing_all turns
+unfolding lines.after lines.answer lines.takes_slot exchanged read_by reading header_of control_of unnumbered_of supervisory_of teis.course teis.refusal seq distance_of named doing_all turns
 gives_up_far = refl
 
 -- Where timers of the other end expire, too, it may give up first: T203 expires, and each enquiry comes to an end that does not heed it.
@@ -80,5 +81,5 @@ far_asks = at_far sends ∷ at_near receives ∷ at_far (expires (T200 Call 0)) 
 
 other_gives_up : heard_in (doing_all (at_far (expires (T203 Call 0)) ∷ far_asks ++ far_asks ++ far_asks ++ far_asks) released).far
     ≡ indicated Call 0 ∷ record nothing { notes = Error Call 0 I ∷ [] } ∷ []
-unfolding lines.after lines.answer lines.takes_slot reading header_of control_of unnumbered_of supervisory_of teis.course teis.refusal seq distance_of named doing_all turns
+unfolding lines.after lines.answer lines.takes_slot exchanged read_by reading header_of control_of unnumbered_of supervisory_of teis.course teis.refusal seq distance_of named doing_all turns
 other_gives_up = refl

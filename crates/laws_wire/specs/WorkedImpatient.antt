@@ -5,6 +5,7 @@ use Rattle.lapd_frame.specs.declared.notes.Note.TheVariants.{Error, ReleaseIndic
 use Rattle.lapd_frame.specs.declared.services.Service.TheVariants.{Call}
 use Rattle.lapd_frame.specs.declared.timers.Timer.TheVariants.{T200, T203}
 use Rattle.lapd_frame.specs.Reading.{reading, header_of, control_of, unnumbered_of, supervisory_of}
+use Rattle.lapd_frame.specs.Senders.{exchanged, reading as read_by}
 use Rattle.lapd_seq.specs.Circle.{distance_of, named}
 use Rattle.lapd_seq.specs.Numbers.{seq}
 use Rattle.lapd_tei.specs.Events as teis
@@ -31,11 +32,11 @@ abbrev rings_on : List StepAt
 rings_on = is_lost ++ expiring ++ is_lost ++ expiring ++ is_lost ++ expiring ++ is_lost
 
 rings_still : IsStill (doing_all rings_on begins)
-unfolding lines.after lines.answer lines.takes_slot reading header_of control_of unnumbered_of supervisory_of teis.course teis.refusal seq distance_of named doing_all
+unfolding lines.after lines.answer lines.takes_slot exchanged read_by reading header_of control_of unnumbered_of supervisory_of teis.course teis.refusal seq distance_of named doing_all
 rings_still = record { near = refl; far = refl; near_way = refl; far_way = refl }
 
 rings_near : heard_in (doing_all rings_on begins).near ≡ []
-unfolding lines.after lines.answer lines.takes_slot reading header_of control_of unnumbered_of supervisory_of teis.course teis.refusal seq distance_of named doing_all
+unfolding lines.after lines.answer lines.takes_slot exchanged read_by reading header_of control_of unnumbered_of supervisory_of teis.course teis.refusal seq distance_of named doing_all
 rings_near = refl
 
 -- Then its expiry gives the establishment up: the end that calls is told error G and a release.
@@ -43,7 +44,7 @@ abbrev gives_up : LineTold
 gives_up = record nothing { notes = Error Call 0 G ∷ ReleaseIndication Call 0 ∷ [] }
 
 rings_no_more : heard_in (rounds 1 (doing_all (near_expires Call 0) (doing_all rings_on begins))).near ≡ gives_up ∷ []
-unfolding lines.after lines.answer lines.takes_slot reading header_of control_of unnumbered_of supervisory_of teis.course teis.refusal seq distance_of named doing_all rounds
+unfolding lines.after lines.answer lines.takes_slot exchanged read_by reading header_of control_of unnumbered_of supervisory_of teis.course teis.refusal seq distance_of named doing_all rounds
 rings_no_more = refl
 
 -- An I-frame is lost, and each enquiry.
@@ -53,7 +54,7 @@ asks_on =
     ++ expiring ++ is_lost
 
 asks_still : IsStill (doing_all asks_on begins)
-unfolding lines.after lines.answer lines.takes_slot reading header_of control_of unnumbered_of supervisory_of teis.course teis.refusal seq distance_of named doing_all
+unfolding lines.after lines.answer lines.takes_slot exchanged read_by reading header_of control_of unnumbered_of supervisory_of teis.course teis.refusal seq distance_of named doing_all
 asks_still = record { near = refl; far = refl; near_way = refl; far_way = refl }
 
 -- Then the expiry of T200 renews the establishment, and both ends are told so; what was lost does not arrive.
@@ -61,11 +62,11 @@ abbrev again : Wire
 again = rounds 4 (with_t200_expired Call 0 (doing_all asks_on begins))
 
 again_near : heard_in again.near ≡ confirmed Call 0 ∷ record nothing { notes = Error Call 0 I ∷ [] } ∷ indicated Call 0 ∷ []
-unfolding lines.after lines.answer lines.takes_slot reading header_of control_of unnumbered_of supervisory_of teis.course teis.refusal seq distance_of named doing_all rounds
+unfolding lines.after lines.answer lines.takes_slot exchanged read_by reading header_of control_of unnumbered_of supervisory_of teis.course teis.refusal seq distance_of named doing_all rounds
 again_near = refl
 
 again_far : heard_in again.far ≡ indicated Call 0 ∷ error_f Call 0 ∷ []
-unfolding lines.after lines.answer lines.takes_slot reading header_of control_of unnumbered_of supervisory_of teis.course teis.refusal seq distance_of named doing_all rounds
+unfolding lines.after lines.answer lines.takes_slot exchanged read_by reading header_of control_of unnumbered_of supervisory_of teis.course teis.refusal seq distance_of named doing_all rounds
 again_far = refl
 
 -- Where T200 is too short there are more moves. With k = 2 two contents are rejected, as the first is lost, and not sent again yet. Two
@@ -99,9 +100,9 @@ comes_often =
     ∷ comes_twice ++ comes_twice ++ comes_twice ++ comes_twice ++ is_rejected ++ both_come ++ at_near receives ∷ at_near receives ∷ []
 
 moves_of_short : moves comes_often narrow_begins ≡ 138
-unfolding lines.after lines.answer lines.takes_slot reading header_of control_of unnumbered_of supervisory_of teis.course teis.refusal seq distance_of named doing_all moves
+unfolding lines.after lines.answer lines.takes_slot exchanged read_by reading header_of control_of unnumbered_of supervisory_of teis.course teis.refusal seq distance_of named doing_all moves
 moves_of_short = refl
 
 bound_of_short : most_moves 2 comes_often narrow_begins ≡ 132
-unfolding lines.after lines.answer lines.takes_slot reading header_of control_of unnumbered_of supervisory_of teis.course teis.refusal seq distance_of named doing_all expiries reports
+unfolding lines.after lines.answer lines.takes_slot exchanged read_by reading header_of control_of unnumbered_of supervisory_of teis.course teis.refusal seq distance_of named doing_all expiries reports
 bound_of_short = refl

@@ -5,6 +5,7 @@ use Rattle.lapd_frame.specs.declared.notes.Note.TheVariants.{Error}
 use Rattle.lapd_frame.specs.declared.services.Service.TheVariants.{Call}
 use Rattle.lapd_frame.specs.declared.timers.Timer.TheVariants.{T200, T203}
 use Rattle.lapd_frame.specs.Reading.{reading, header_of, control_of, unnumbered_of, supervisory_of}
+use Rattle.lapd_frame.specs.Senders.{exchanged, reading as read_by}
 use Rattle.lapd_seq.specs.Circle.{distance_of, named}
 use Rattle.lapd_seq.specs.Numbers.{seq}
 use Rattle.lapd_tei.specs.Events as teis
@@ -25,11 +26,11 @@ loses_two =
     ∷ at_near sends ∷ at_far receives ∷ at_far sends ∷ at_near receives ∷ at_near sends ∷ at_far receives ∷ at_far sends ∷ at_near receives ∷ []
 
 heard_near : heard_in (doing_all loses_two begins).near ≡ confirmed Call 0 ∷ []
-unfolding lines.after lines.answer lines.takes_slot reading header_of control_of unnumbered_of supervisory_of teis.course teis.refusal seq distance_of named doing_all turns
+unfolding lines.after lines.answer lines.takes_slot exchanged read_by reading header_of control_of unnumbered_of supervisory_of teis.course teis.refusal seq distance_of named doing_all turns
 heard_near = refl
 
 heard_far : heard_in (doing_all loses_two begins).far ≡ indicated Call 0 ∷ data_told Call 0 (0xAB ∷ []) ∷ []
-unfolding lines.after lines.answer lines.takes_slot reading header_of control_of unnumbered_of supervisory_of teis.course teis.refusal seq distance_of named doing_all turns
+unfolding lines.after lines.answer lines.takes_slot exchanged read_by reading header_of control_of unnumbered_of supervisory_of teis.course teis.refusal seq distance_of named doing_all turns
 heard_far = refl
 
 -- No frame is lost, but T200 expires while an enquiry is on its way (`specs/WorkedUntimely` of `laws_link`, with cards): an error
@@ -48,7 +49,7 @@ abbrev pub error_f : LineTold
 error_f = record nothing { notes = Error Call 0 F ∷ [] }
 
 heard_twice : heard_in (doing_all comes_twice begins).far ≡ indicated Call 0 ∷ data_told Call 0 (0xAB ∷ []) ∷ error_f ∷ data_told Call 0 (0xAB ∷ []) ∷ []
-unfolding lines.after lines.answer lines.takes_slot reading header_of control_of unnumbered_of supervisory_of teis.course teis.refusal seq distance_of named doing_all turns
+unfolding lines.after lines.answer lines.takes_slot exchanged read_by reading header_of control_of unnumbered_of supervisory_of teis.course teis.refusal seq distance_of named doing_all turns
 heard_twice = refl
 
 -- Where N201 is not the same at both, contents that one end may send are too long for the other.
@@ -59,5 +60,5 @@ abbrev sends_nine : List StepAt
 sends_nine = establishes ++ at_near (requests (Data Call 0 (1 ∷ 2 ∷ 3 ∷ 4 ∷ 5 ∷ 6 ∷ 7 ∷ 8 ∷ 9 ∷ []))) ∷ at_near sends ∷ at_far receives ∷ []
 
 heard_of_nine : heard_in (doing_all sends_nine (calling Call 0 user 0 narrow 0)).far ≡ indicated Call 0 ∷ record nothing { notes = Error Call 0 O ∷ [] } ∷ []
-unfolding lines.after lines.answer lines.takes_slot reading header_of control_of unnumbered_of supervisory_of teis.course teis.refusal seq distance_of named doing_all turns
+unfolding lines.after lines.answer lines.takes_slot exchanged read_by reading header_of control_of unnumbered_of supervisory_of teis.course teis.refusal seq distance_of named doing_all turns
 heard_of_nine = refl

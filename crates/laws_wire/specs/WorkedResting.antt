@@ -4,6 +4,7 @@ use Rattle.std.proofs.Common.{arith}
 use Rattle.lapd_frame.specs.declared.services.Service.TheVariants.{Call}
 use Rattle.lapd_frame.specs.declared.timers.Timer.TheVariants.{T200}
 use Rattle.lapd_frame.specs.Reading.{reading, header_of, control_of, unnumbered_of, supervisory_of}
+use Rattle.lapd_frame.specs.Senders.{exchanged, reading as read_by}
 use Rattle.lapd_seq.specs.Circle.{distance_of, named}
 use Rattle.lapd_seq.specs.Numbers.{seq}
 use Rattle.lapd_tei.specs.Events as teis
@@ -23,16 +24,16 @@ rejects_one =
     ∷ at_far sends ∷ at_near receives ∷ at_near sends ∷ at_near sends ∷ at_far receives ∷ at_far receives ∷ at_far sends ∷ at_near receives ∷ []
 
 rejected_come : heard_in (doing_all rejects_one begins).far ≡ indicated Call 0 ∷ data_told Call 0 (0xAB ∷ []) ∷ data_told Call 0 (0xCD ∷ []) ∷ []
-unfolding lines.after lines.answer lines.takes_slot reading header_of control_of unnumbered_of supervisory_of teis.course teis.refusal seq distance_of named doing_all moves expiries
+unfolding lines.after lines.answer lines.takes_slot exchanged read_by reading header_of control_of unnumbered_of supervisory_of teis.course teis.refusal seq distance_of named doing_all moves expiries
 rejected_come = refl
 
 -- Sixteen moves; the bound is 76, with k = 7.
 moves_of_rejects : moves rejects_one begins ≡ 16
-unfolding lines.after lines.answer lines.takes_slot reading header_of control_of unnumbered_of supervisory_of teis.course teis.refusal seq distance_of named doing_all moves expiries
+unfolding lines.after lines.answer lines.takes_slot exchanged read_by reading header_of control_of unnumbered_of supervisory_of teis.course teis.refusal seq distance_of named doing_all moves expiries
 moves_of_rejects = refl
 
 bound_of_rejects : 2 * most_frames 7 (expiries rejects_one) 2 ≡ 76
-unfolding lines.after lines.answer lines.takes_slot reading header_of control_of unnumbered_of supervisory_of teis.course teis.refusal seq distance_of named doing_all moves expiries
+unfolding lines.after lines.answer lines.takes_slot exchanged read_by reading header_of control_of unnumbered_of supervisory_of teis.course teis.refusal seq distance_of named doing_all moves expiries
 bound_of_rejects = refl
 
 -- Three I-frames are lost, and lost again each time that T200 has expired and the other end was asked.
@@ -49,7 +50,7 @@ loses_always =
 
 -- Forty moves. So what goes again is to be counted: without it the bound would be 38.
 moves_of_losses : moves loses_always begins ≡ 40
-unfolding lines.after lines.answer lines.takes_slot reading header_of control_of unnumbered_of supervisory_of teis.course teis.refusal seq distance_of named doing_all moves expiries
+unfolding lines.after lines.answer lines.takes_slot exchanged read_by reading header_of control_of unnumbered_of supervisory_of teis.course teis.refusal seq distance_of named doing_all moves expiries
 moves_of_losses = refl
 
 expiries_of_losses : expiries loses_always ≡ 3
@@ -64,5 +65,5 @@ abbrev pub two_accepted : Wire
 two_accepted = doing_all (establishes ++ at_near (requests (Data Call 0 (1 ∷ []))) ∷ at_near (requests (Data Call 0 (2 ∷ []))) ∷ []) begins
 
 rests : IsStill (rounds 2 two_accepted)
-unfolding lines.after lines.answer lines.takes_slot reading header_of control_of unnumbered_of supervisory_of teis.course teis.refusal seq distance_of named doing_all rounds
+unfolding lines.after lines.answer lines.takes_slot exchanged read_by reading header_of control_of unnumbered_of supervisory_of teis.course teis.refusal seq distance_of named doing_all rounds
 rests = record { near = refl; far = refl; near_way = refl; far_way = refl }

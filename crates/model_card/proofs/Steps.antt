@@ -24,13 +24,21 @@ pub line_sound : (card : Card) (number : ℕ) → HasLines card → number < car
 line_sound card number h within = grind arith
 
 -- What an event is to one line of a card: nothing if it is at another line, else as to the card.
+by_line_there : (card : Card) (e : Event) (number : ℕ) → e.line < length card.lines → (P : Bool → Line → Answer → Type 0)
+    → ((a : Answer) → P false (line_at number card) a)
+    → (lines.takes_slot card.config e.what (line_at number card) ≡ true → P true (line_at number card) (refused PoolFull))
+    → (e.line ≡ number → wants_room e card ≡ false
+    → P true (lines.after card.config e.what (line_at number card)) (lines.answer card.config e.what (line_at number card)))
+    → P (e.line == number) (line_at number (after e card)) (answer e card)
+by_line_there card e number here P elsewhere full served = grind (arith, by_room, eqb-true, and_parts, eq-eqb, get_or-set_other, get_or-set_same)
+
 pub by_line : (card : Card) (e : Event) (number : ℕ) → HasLines card → e.line < card.config.lines → (P : Bool → Line → Answer → Type 0)
     → ((a : Answer) → P false (line_at number card) a)
     → (lines.takes_slot card.config e.what (line_at number card) ≡ true → P true (line_at number card) (refused PoolFull))
     → (e.line ≡ number → wants_room e card ≡ false
     → P true (lines.after card.config e.what (line_at number card)) (lines.answer card.config e.what (line_at number card)))
     → P (e.line == number) (line_at number (after e card)) (answer e card)
-by_line card e number h here P elsewhere full served = grind (arith, by_room, eqb-true, and_parts, eq-eqb, get_or-set_other, get_or-set_same)
+by_line card e number h here = let count = h.count in by_line_there card e number (omega (arith, count, here))
 
 pub after_lines : (e : Event) (card : Card) → HasLines card → e.line < card.config.lines → HasLines (after e card)
 after_lines e card h within =

@@ -1,5 +1,5 @@
 -- What a line gives is not too short for a frame.
-use Rattle.model_line.proofs.Vocabulary.{◌≡◌, ℕ, ◌%◌, ◌≤◌, ◌⊎◌, Bool, true, false, cond, List, [], ◌∷◌, ◌++◌, length, slice_index, IfSome, arith, Side, Address, Control, spelling, service_at, Config, Line, Taken, taken, terms, IsSound}
+use Rattle.model_line.proofs.Vocabulary.{◌≡◌, ℕ, ◌%◌, ◌≤◌, ◌⊎◌, Bool, true, false, cond, List, [], ◌∷◌, ◌++◌, length, slice_index, IfSome, arith, Sender, Address, Control, spelling, own_side, service_at, Config, Line, Taken, taken, terms, IsSound}
 use Rattle.lapd_frame.specs.Grammar.{one_of}
 use Rattle.lapd_frame.specs.Services.{sapi_of}
 use Rattle.lapd_frame.specs.declared.controls.Control.TheVariants.{Ui}
@@ -19,8 +19,8 @@ one_octet : (a b without with_pf : ℕ) (pf : Bool) (info : List ℕ) → withou
 one_octet a b without with_pf pf info h k = grind (arith, third)
 
 -- what the grammar spells
-pub not_short : (side : Side) (a : Address) (c : Control) (info : List ℕ) → IsNotShort (spelling side (record { address = a; control = c; info = info }))
-not_short side a c info = grind (arith, one_octet)
+pub not_short : (sender : Sender) (a : Address) (c : Control) (info : List ℕ) → IsNotShort (spelling sender (record { address = a; control = c; info = info }))
+not_short sender a c info = grind (arith, one_octet)
 
 abbrev IsLong : Taken → Type 0
 IsLong t = IsNotShort t.frame
@@ -28,6 +28,6 @@ IsLong t = IsNotShort t.frame
 pub taken_not_short : (c : Config) (l : Line) → IsSound c l → IfSome (taken c l) IsLong
 taken_not_short c l s =
     taken_walk c l s IsLong
-    (λ m ms e. not_short c.side (record { sapi = 63; command = true; tei = 127 }) (Ui false) (information_of m))
-    (λ u us e. not_short c.side (record { sapi = sapi_of u.service; command = true; tei = u.tei }) (Ui false) u.contents)
-    (λ n tei few at sound g e. not_short c.side (address_at (terms c (service_at n) tei) g.frame.command) g.frame.control (unwrap_or g.contents []))
+    (λ m ms e. not_short (record { side = c.side; sapi = 16 }) (record { sapi = 63; command = true; tei = 127 }) (Ui false) (information_of m))
+    (λ u us e. not_short (own_side c) (record { sapi = sapi_of u.service; command = true; tei = u.tei }) (Ui false) u.contents)
+    (λ n tei few at sound g e. not_short (own_side c) (address_at (terms c (service_at n) tei) g.frame.command) g.frame.control (unwrap_or g.contents []))

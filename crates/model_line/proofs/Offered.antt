@@ -1,5 +1,6 @@
 -- What a link gives to be sent is no longer than a frame may be.
-use Rattle.model_line.proofs.Vocabulary.{◌≡◌, ℕ, ◌+◌, ◌≤◌, Bool, true, false, List, [], ◌∷◌, length, slice_get, Option, None, IfSome, refl, cond, arith, All, unwrap_or, All-head, slice_get_cases, spelling, ControlFrame, Terms, Link, fresh, address_at, given, given_of, course, offer, offer_among, may_send_information, is_awaiting_acknowledgement, give_information, with_one_sent, send_information}
+use Rattle.model_line.proofs.Vocabulary.{◌≡◌, ℕ, ◌+◌, ◌≤◌, Bool, true, false, List, [], ◌∷◌, length, slice_get, Option, None, IfSome, refl, cond, arith, All, unwrap_or, All-head, slice_get_cases, spelling, own_side, ControlFrame, Terms, Link, fresh, address_at, given, given_of, course, offer, offer_among, may_send_information, is_awaiting_acknowledgement, give_information, with_one_sent}
+use Rattle.model_line.proofs.Vocabulary.{send_information}
 use Rattle.model_line.proofs.Vocabulary.{send_acknowledgement, IsWaitingFrame, Sent, ◌then◌, changed, pending_is, start, Config}
 use Rattle.model_link.specs.Sound.{IsSound}
 use Rattle.model_link.specs.Steps.{Course, begun}
@@ -8,7 +9,7 @@ use Rattle.model_line.specs.Taken.{frame_of}
 
 abbrev octets_sent : Config → Terms → Sent → List ℕ
 octets_sent c t s =
-    spelling c.side (record { address = address_at t s.frame.command; control = s.frame.control; info = unwrap_or s.contents [] })
+    spelling (own_side c) (record { address = address_at t s.frame.command; control = s.frame.control; info = unwrap_or s.contents [] })
 
 abbrev IsShort : Config → Terms → Sent → Type 0
 IsShort c t s = length (octets_sent c t s) ≤ t.n201 + 4

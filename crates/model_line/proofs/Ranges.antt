@@ -1,5 +1,5 @@
 -- What the ranges of a configuration say.
-use Rattle.model_line.proofs.Vocabulary.{◌≡◌, ℕ, ◌≤◌, Bool, true, not, cond, Option, Some, None, max, arith, and_parts, leb-true, Service, Config, Field, is_within, terms, IsInRange}
+use Rattle.model_line.proofs.Vocabulary.{◌≡◌, ℕ, ◌≤◌, Bool, true, not, cond, Option, Some, None, max, arith, and_parts, leb-true, Service, Config, Field, is_within, sapi_fault, terms, IsInRange}
 use Rattle.model_link.specs.Sound as links
 
 passed : (b : Bool) (f : Field) (o : Option Field) → cond (not b) (Some f) o ≡ None → (b ≡ true) × (o ≡ None)
@@ -23,8 +23,10 @@ pub record Ranges (c : Config) : Type 0 where
   pub slots : Within 1 8192 c.slots
   pub n201 : Within 8 260 c.n201
   pub n200 : Within 0 10 c.n200
+  pub sapi : Within 1 62 c.sapi
 
 pub ranges_of : (c : Config) → IsInRange c → Ranges c
+unfolding sapi_fault
 ranges_of c h = grind (arith, passed, within)
 
 -- So the parameters of a link are in range.

@@ -1,5 +1,5 @@
 -- An REJ is a frame of four octets, and frames take their octets of the stream.
-use Rattle.model_line.proofs.Vocabulary.{◌≡◌, ℕ, ◌%◌, Bool, List, [], ◌∷◌, slice_index, Option, Some, None, Result, Ok, Err, cond, arith, ne_eqb, Address, Side, Control, ReadFault, Parts, reading, header_of, control_of, unnumbered_of, completed, sized, reject_number}
+use Rattle.model_line.proofs.Vocabulary.{◌≡◌, ℕ, ◌%◌, Bool, List, [], ◌∷◌, slice_index, Option, Some, None, Result, Ok, Err, cond, arith, ne_eqb, Address, Side, Sender, Control, ReadFault, Parts, reading, side_reading, named, header_of, control_of, unnumbered_of, completed, sized, reject_number}
 use Rattle.std.proofs.lemmas.Bool.{eqb-true}
 
 -- what is read is no REJ
@@ -30,6 +30,14 @@ header_no_reject : (side : Side) (octets : List ℕ) (first second third fourth 
 unfolding header_of
 header_no_reject side octets first second third fourth e = grind (arith, sized_no_reject, field_of_three, unnumbered_no_reject)
 
-pub three_no_reject : (side : Side) (first second third : ℕ) → NoReject (reading side (first ∷ second ∷ third ∷ []))
+three_by_side : (side : Side) (first second third : ℕ) → NoReject (side_reading side (first ∷ second ∷ third ∷ []))
+unfolding side_reading
+three_by_side side first second third = grind (arith, slice_index, header_no_reject, eqb-true)
+
+named_no_reject : (own : ℕ) (r : Result Parts ReadFault) → NoReject r → NoReject (named own r)
+named_no_reject own (Ok parts) h = h
+named_no_reject own (Err fault) h = h
+
+pub three_no_reject : (sender : Sender) (first second third : ℕ) → NoReject (reading sender (first ∷ second ∷ third ∷ []))
 unfolding reading
-three_no_reject side first second third = grind (arith, slice_index, header_no_reject, eqb-true)
+three_no_reject sender first second third = named_no_reject sender.sapi _ (three_by_side sender.side first second third)

@@ -1,5 +1,5 @@
 -- Each REJ with a valid N(R) is a frame of four octets that is heard.
-use Rattle.model_line.proofs.Vocabulary.{◌≡◌, ℕ, ◌≤◌, Bool, false, List, [], ◌∷◌, length, nat_le, Result, refl, ap, arith, le-leb, ReadFault, Parts, reading, Link, Config, one, is_long_frame, rejects_aimed, Line, aim_of_reading, heard_side, aim_of_heard, link_received, rises_rejects}
+use Rattle.model_line.proofs.Vocabulary.{◌≡◌, ℕ, ◌≤◌, Bool, false, List, [], ◌∷◌, length, nat_le, Result, refl, ap, arith, le-leb, ReadFault, Parts, reading, side_reading, Link, Config, one, is_long_frame, rejects_aimed, Line, aim_of_reading, heard_side, aim_of_heard, link_received, rises_rejects}
 use Rattle.model_bits.specs.Stream.{Event}
 use Rattle.model_line.proofs.ProperAims.{reading_aims}
 use Rattle.model_line.proofs.Rejects.{NoReject, three_no_reject}
@@ -15,7 +15,7 @@ module _ (c : Config) (l : Line) where
 
   few_no_reject : (first second : ℕ) → NoReject (reading (heard_side c) []) × NoReject (reading (heard_side c) (first ∷ []))
       × NoReject (reading (heard_side c) (first ∷ second ∷ []))
-  unfolding reading
+  unfolding reading side_reading
   few_no_reject first second = (0, 0, 0)
 
   frame_counted : (octets : List ℕ) → one (rejects_aimed l (aim_of_reading c l (reading (heard_side c) octets))) ≤ one (nat_le 4 (length octets))

@@ -9,9 +9,11 @@ pub use Rattle.std.proofs.lemmas.Option.{none-some, slice_get_cases}
 pub use Rattle.std.specs.List.{list_any, prefix_len, range_with_len}
 pub use Rattle.std.specs.Option.{option_map_or, option_or, unwrap_or}
 pub use Rattle.std.specs.Prelude.{All, sum_by}
-pub use Rattle.lapd_frame.specs.Grammar.{Parts, spelling}
+pub use Rattle.lapd_frame.specs.Grammar.{Parts}
 pub use Rattle.lapd_frame.specs.Reading.{completed, sized}
-unfoldable pub use Rattle.lapd_frame.specs.Reading.{control_of, header_of, reading, unnumbered_of}
+unfoldable pub use Rattle.lapd_frame.specs.Reading.{control_of, header_of, reading as side_reading, unnumbered_of}
+pub use Rattle.lapd_frame.specs.Senders.{named, spelling}
+unfoldable pub use Rattle.lapd_frame.specs.Senders.{reading}
 pub use Rattle.lapd_frame.specs.Services.{same_service, service_of}
 pub use Rattle.lapd_frame.specs.declared.addresses.Address.{Address}
 pub use Rattle.lapd_frame.specs.declared.addresses.Side.{Side}
@@ -21,6 +23,7 @@ pub use Rattle.lapd_frame.specs.declared.faults.ReadFault.{ReadFault}
 pub use Rattle.lapd_frame.specs.declared.faults.ReadFault.TheVariants.{BadExtension, Short, Undefined, WrongSize}
 pub use Rattle.lapd_frame.specs.declared.notes.Note.{Note}
 pub use Rattle.lapd_frame.specs.declared.refusals.Refusal.{Refusal}
+pub use Rattle.lapd_frame.specs.declared.senders.Sender.{Sender}
 pub use Rattle.lapd_frame.specs.declared.services.Service.{Service}
 pub use Rattle.lapd_frame.specs.declared.services.Service.TheVariants.{Call, Packet}
 pub use Rattle.lapd_frame.specs.declared.timers.Order.{Order}
@@ -47,6 +50,7 @@ pub use Rattle.model_bits.specs.Stream.{dropped, overlong, Event as StreamEvent,
 pub use Rattle.model_bits.specs.declared.heard.Cause.{Cause}
 pub use Rattle.model_bits.specs.declared.heard.Cause.TheVariants.{Unserved}
 pub use Rattle.model_line.specs.Config.{is_within}
+unfoldable pub use Rattle.model_line.specs.Config.{sapi_fault}
 pub use Rattle.model_line.specs.Counts.{hears_frame, is_accepted, is_given, is_long_frame, is_pool, is_pool_full, may_send, one, rejects, rejects_aimed}
 pub use Rattle.model_line.specs.Deliveries.{arrived, arrived_aimed, delivered, delivered_at, delivered_in, is_change_at, is_data_of, restarts, restarts_aimed}
 pub use Rattle.model_line.specs.Effect.{Aim, Effect, at_link, at_management, at_no_link, at_none, at_units, of_aim, of_change, of_link, of_management, told_of_link, told_of_management, unserved_cause, without_units}
@@ -57,7 +61,7 @@ pub use Rattle.model_line.specs.Line.{Line, UnitData, fresh_line, link_at, link_
 pub use Rattle.model_line.specs.Machine.{unless_refused, unless_refused_told, aim_of}
 unfoldable pub use Rattle.model_line.specs.Machine.{after, answer, takes_slot}
 pub use Rattle.model_line.specs.Heard.{addressed, aim_of_heard, aim_of_reading, drop_for, heard_side, message_of, to_service, unless_at_link}
-pub use Rattle.model_line.specs.Taken.{first_taken, line_of, link_taken, next_of, round, Taken, taken, with_given_frame, with_message, with_unit}
+pub use Rattle.model_line.specs.Taken.{first_taken, line_of, link_taken, next_of, own_side, round, Taken, taken, with_given_frame, with_message, with_unit}
 pub use Rattle.model_line.specs.Refusal.{Row, bad_tei, bad_tei_or_group, first_that_holds, no_link, no_link_nor_group, pool_full, queue_full, refusal, too_long, unit_queue_full, wrong_state}
 pub use Rattle.model_line.specs.Request.{Data, Down, Request, Unit}
 pub use Rattle.model_line.specs.Requested.{aim_of_request, at_deactivated, at_requested, carries_contents}

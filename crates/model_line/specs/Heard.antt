@@ -4,16 +4,16 @@ use Rattle.model_bits.specs.Stream as stream
 use Rattle.model_bits.specs.declared.heard.Cause.{Cause}
 use Rattle.model_bits.specs.declared.heard.Cause.TheVariants.{Extension, Sapi, Tei, Unserved}
 use Rattle.lapd_frame.specs.declared.addresses.Address.{Address}
-use Rattle.lapd_frame.specs.declared.addresses.Side.{Side}
 use Rattle.lapd_frame.specs.declared.controls.Control.{Control}
 use Rattle.lapd_frame.specs.declared.controls.Control.TheVariants.{Ui}
 use Rattle.lapd_frame.specs.declared.faults.ReadFault.{ReadFault}
 use Rattle.lapd_frame.specs.declared.faults.ReadFault.TheVariants.{BadExtension, Undefined, WrongSize, Short}
 use Rattle.lapd_frame.specs.declared.overlong.Long.{Long}
 use Rattle.lapd_frame.specs.declared.overlong.Long.TheVariants as long
+use Rattle.lapd_frame.specs.declared.senders.Sender.{Sender}
 use Rattle.lapd_frame.specs.declared.services.Service.{Service}
 use Rattle.lapd_frame.specs.Grammar.{Parts, other_side}
-use Rattle.lapd_frame.specs.Reading.{reading, long_reading}
+use Rattle.lapd_frame.specs.Senders.{reading, long_reading}
 use Rattle.lapd_frame.specs.Services.{service_of}
 use Rattle.model_link.specs.Events as link
 use Rattle.lapd_tei.specs.Events as teis
@@ -28,8 +28,8 @@ abbrev pub drop_for : Cause → Aim
 drop_for cause = at_none (dropped cause)
 
 -- Layer 2 management has SAPI 63, and its frames are for the group, TEI 127 (Q.921 clauses 3.3.3 and 5.3.1). Of the
--- other SAPIs 0 and 16 are served, and their frames are for the links of a TEI on the line. An unknown SAPI is told
--- before an unknown TEI (profile).
+-- other SAPIs those of the two services are served, and their frames are for the links of a TEI on the line. An unknown
+-- SAPI is told before an unknown TEI (profile).
 abbrev pub management_sapi : ℕ
 management_sapi = 63
 
@@ -73,9 +73,10 @@ aim_of_long l (Err (Undefined address)) = addressed l address link.undefined (dr
 aim_of_long l (Err (WrongSize address)) = addressed l address link.wrong_size (drop_for Unserved)
 aim_of_long l (Err Short) = drop_for Unserved
 
--- What is heard is the other side's (clause 3.3.2). The causes for which no frame was heard come before those of an address.
-abbrev pub heard_side : Config → Side
-heard_side c = other_side c.side
+-- What is heard is the other side's (clause 3.3.2); on the line the second service has the SAPI of the configuration. The
+-- causes for which no frame was heard come before those of an address.
+abbrev pub heard_side : Config → Sender
+heard_side c = record { side = other_side c.side; sapi = c.sapi }
 
 abbrev pub aim_of_heard : Config → Line → stream.Event → Aim
 aim_of_heard c l (stream.frame octets) = aim_of_reading c l (reading (heard_side c) octets)

@@ -3,8 +3,9 @@ use Rattle.std.specs.Prelude.{ℕ, ◌+◌, true, false, List, [], ◌∷◌, �
 use Rattle.std.specs.List.{range_with_len}
 use Rattle.std.specs.Option.{option_or, unwrap_or}
 use Rattle.lapd_frame.specs.declared.controls.Control.TheVariants.{Ui}
+use Rattle.lapd_frame.specs.declared.senders.Sender.{Sender}
 use Rattle.lapd_frame.specs.declared.timers.Order.{Order}
-use Rattle.lapd_frame.specs.Grammar.{spelling}
+use Rattle.lapd_frame.specs.Senders.{spelling}
 use Rattle.lapd_frame.specs.Services.{sapi_of}
 use Rattle.model_link.specs.declared.terms.Terms.{Terms}
 use Rattle.model_link.specs.Events as link
@@ -29,11 +30,14 @@ with_message l octets = record { frame = octets; orders = []; line = record l { 
 abbrev pub message_taken : Config → Line → Option Taken
 message_taken c l = option_map (with_message l) (teis.offered c.side l.management)
 
--- else the oldest unit data, in a UI command with P=0 (Q.921 clauses 3.6.5 and 5.2.2), which is spelled as this side's
--- (clause 3.3.2),
+-- Frames are this side's (clause 3.3.2), on a line on which the second service has the SAPI of the configuration.
+abbrev pub own_side : Config → Sender
+own_side c = record { side = c.side; sapi = c.sapi }
+
+-- else the oldest unit data, in a UI command with P=0 (Q.921 clauses 3.6.5 and 5.2.2),
 abbrev pub unit_frame : Config → UnitData → List ℕ
 unit_frame c u =
-    spelling c.side (record { address = record { sapi = sapi_of u.service; command = true; tei = u.tei }; control = Ui false; info = u.contents })
+    spelling (own_side c) (record { address = record { sapi = sapi_of u.service; command = true; tei = u.tei }; control = Ui false; info = u.contents })
 
 abbrev pub with_unit : Config → Line → UnitData → Taken
 with_unit c l u = record { frame = unit_frame c u; orders = []; line = record l { units = drop 1 l.units } }
@@ -45,7 +49,7 @@ unit_taken c l = option_map (with_unit c l) (slice_get l.units 0)
 -- link that has nothing to give is passed over.
 abbrev pub frame_of : Config → Terms → Given → List ℕ
 frame_of c t g =
-    spelling c.side (record { address = address_at t g.frame.command; control = g.frame.control; info = unwrap_or g.contents [] })
+    spelling (own_side c) (record { address = address_at t g.frame.command; control = g.frame.control; info = unwrap_or g.contents [] })
 
 abbrev pub with_given_frame : Config → Line → ℕ → Terms → Given → Taken
 with_given_frame c l number t g = record {

@@ -2,8 +2,10 @@
 
 ghost use Rattle.std.specs.Prelude.{◌≡◌, Some};
 ghost use Rattle.model_line.specs.Config.{first_fault, field_name, is_within};
+ghost use Rattle.model_line.specs.Heard.{heard_side};
+ghost use Rattle.model_line.specs.Taken.{own_side};
 
-use lapd_frame::Side;
+use lapd_frame::{Sender, Side};
 use std::fmt;
 
 /// The greatest number of octets that an information field may be allowed (N201, Q.921 clause 5.9.3).
@@ -23,7 +25,7 @@ pub struct Config {
     /// The window of call control links, SAPI 0: how many I-frames may be outstanding, 1 to 127 (Q.921
     /// clause 5.9.5).
     pub k: u16,
-    /// The window of packet links, SAPI 16: 1 to 127.
+    /// The window of packet links, the second service: 1 to 127.
     pub k16: u16,
     /// Contents that wait on each link, sent or unsent: the greater of `k` and `k16` to 127.
     pub queue: u16,
@@ -39,6 +41,9 @@ pub struct Config {
     pub n200: u16,
     /// Which side of its lines the card is: it hears the other one.
     pub side: Side,
+    /// The SAPI of the second service, [`Service::Packet`](lapd_frame::Service::Packet): 1 to 62, as a rule 16 (Q.921
+    /// clause 3.3.3).
+    pub sapi: u16,
 }
 
 /// A field of [`Config`], in their order.
@@ -64,10 +69,13 @@ pub enum Field {
     N201,
     /// [`Config::n200`].
     N200,
+    /// [`Config::sapi`].
+    Sapi,
 }
 
 impl Config {
     /// The first field that is out of range, in the order of the fields; none where all are in range.
+    #[tactic(auto, unfolding(crate::specs::Config::sapi_fault))]
     pub fn fault(&self) -> Option<Field>
         ensures { result ≡ first_fault self.now }
     {
@@ -101,7 +109,32 @@ impl Config {
         if !is_in(self.n200, 0, 10) {
             return Some(Field::N200);
         }
+        if !is_in(self.sapi, 1, 62) {
+            return Some(Field::Sapi);
+        }
         None
+    }
+
+    /// Whose frames a line sends: this side's.
+    #[inline(always)]
+    pub fn own_side(&self) -> Sender
+        ensures { result ≡ own_side self.now }
+    {
+        Sender {
+            side: self.side,
+            sapi: self.sapi,
+        }
+    }
+
+    /// Whose frames a line hears: the other side's.
+    #[inline(always)]
+    pub fn heard_side(&self) -> Sender
+        ensures { result ≡ heard_side self.now }
+    {
+        Sender {
+            side: self.side.other(),
+            sapi: self.sapi,
+        }
     }
 }
 
@@ -127,6 +160,7 @@ impl fmt::Display for Field {
             Field::Slots => "slots",
             Field::N201 => "n201",
             Field::N200 => "n200",
+            Field::Sapi => "sapi",
         })
     }
 }

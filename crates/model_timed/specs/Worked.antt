@@ -2,6 +2,7 @@
 use Rattle.std.specs.Prelude.{◌≡◌, List, [], ◌∷◌, ◌++◌, None, Some, refl}
 use Rattle.lapd_clock.specs.Timer.{Lengths, T200, T203, Call}
 use Rattle.lapd_frame.specs.Reading.{reading, header_of, control_of, unnumbered_of, supervisory_of}
+use Rattle.lapd_frame.specs.Senders.{exchanged, reading as read_by}
 use Rattle.lapd_frame.specs.declared.addresses.Side.TheVariants.{Network}
 use Rattle.lapd_seq.specs.Circle.{distance_of, named}
 use Rattle.lapd_seq.specs.Numbers.{seq}
@@ -19,7 +20,7 @@ use Rattle.model_timed.specs.Frames.{TimedCard, fresh, frames, after_all, events
 use Rattle.model_timed.specs.Sayings.{said_in, last_start}
 
 abbrev pub usual : Config
-usual = record { lines = 1; terminals = 8; k = 7; k16 = 3; queue = 8; unit_queue = 4; control = 4; slots = 64; n201 = 260; n200 = 3; side = Network }
+usual = record { lines = 1; terminals = 8; k = 7; k16 = 3; queue = 8; unit_queue = 4; control = 4; slots = 64; n201 = 260; n200 = 3; side = Network; sapi = 16 }
 
 abbrev pub lengths : Lengths
 lengths = record { t200 = 10; t203 = 50; t201 = 10 }
@@ -36,7 +37,7 @@ begun = after_all up (fresh usual lengths)
 
 -- The link is up, and T203 runs until 55.
 t203_runs : begun.clock.running ≡ record { moment = 55; line = 0; timer = T203 Call 64 } ∷ []
-unfolding lines.after lines.answer lines.takes_slot reading header_of control_of unnumbered_of supervisory_of teis.course teis.refusal seq distance_of named timed.after_all
+unfolding lines.after lines.answer lines.takes_slot exchanged read_by reading header_of control_of unnumbered_of supervisory_of teis.course teis.refusal seq distance_of named timed.after_all
 t203_runs = refl
 
 -- An I-frame goes at 20: T203 rests, and T200 runs until 30. It falls due then, and runs anew; the link enquires.
@@ -47,31 +48,31 @@ abbrev pub expired : List (Step Event)
 expired = sent ++ (time 30 ∷ falls_due ∷ [])
 
 t200_runs : (after_all sent (fresh usual lengths)).clock.running ≡ record { moment = 30; line = 0; timer = T200 Call 64 } ∷ []
-unfolding lines.after lines.answer lines.takes_slot reading header_of control_of unnumbered_of supervisory_of teis.course teis.refusal seq distance_of named timed.after_all
+unfolding lines.after lines.answer lines.takes_slot exchanged read_by reading header_of control_of unnumbered_of supervisory_of teis.course teis.refusal seq distance_of named timed.after_all
 t200_runs = refl
 
 enquires : state 0 Call 64 (after_all expired (fresh usual lengths)).card ≡ Some 8
-unfolding lines.after lines.answer lines.takes_slot reading header_of control_of unnumbered_of supervisory_of teis.course teis.refusal seq distance_of named timed.after_all
+unfolding lines.after lines.answer lines.takes_slot exchanged read_by reading header_of control_of unnumbered_of supervisory_of teis.course teis.refusal seq distance_of named timed.after_all
 enquires = refl
 
 runs_anew : (after_all expired (fresh usual lengths)).clock.running ≡ record { moment = 40; line = 0; timer = T200 Call 64 } ∷ []
-unfolding lines.after lines.answer lines.takes_slot reading header_of control_of unnumbered_of supervisory_of teis.course teis.refusal seq distance_of named timed.after_all
+unfolding lines.after lines.answer lines.takes_slot exchanged read_by reading header_of control_of unnumbered_of supervisory_of teis.course teis.refusal seq distance_of named timed.after_all
 runs_anew = refl
 
 -- It was started last at 30, so it is due at 40; and T203 is stopped.
 started_30 : last_start 0 (T200 Call 64) (said_in frames expired (fresh usual lengths)) ≡ Some 30
-unfolding lines.after lines.answer lines.takes_slot reading header_of control_of unnumbered_of supervisory_of teis.course teis.refusal seq distance_of named said_in
+unfolding lines.after lines.answer lines.takes_slot exchanged read_by reading header_of control_of unnumbered_of supervisory_of teis.course teis.refusal seq distance_of named said_in
 started_30 = refl
 
 rests : last_start 0 (T203 Call 64) (said_in frames expired (fresh usual lengths)) ≡ None
-unfolding lines.after lines.answer lines.takes_slot reading header_of control_of unnumbered_of supervisory_of teis.course teis.refusal seq distance_of named said_in
+unfolding lines.after lines.answer lines.takes_slot exchanged read_by reading header_of control_of unnumbered_of supervisory_of teis.course teis.refusal seq distance_of named said_in
 rests = refl
 
 -- Nothing else falls due before 40.
 nothing_due : events_of (time 39 ∷ falls_due ∷ []) (after_all expired (fresh usual lengths)) ≡ []
-unfolding lines.after lines.answer lines.takes_slot reading header_of control_of unnumbered_of supervisory_of teis.course teis.refusal seq distance_of named timed.after_all timed.events_of
+unfolding lines.after lines.answer lines.takes_slot exchanged read_by reading header_of control_of unnumbered_of supervisory_of teis.course teis.refusal seq distance_of named timed.after_all timed.events_of
 nothing_due = refl
 
 falls_at_40 : events_of (time 40 ∷ falls_due ∷ []) (after_all expired (fresh usual lengths)) ≡ at 0 (line.expiry (T200 Call 64)) ∷ []
-unfolding lines.after lines.answer lines.takes_slot reading header_of control_of unnumbered_of supervisory_of teis.course teis.refusal seq distance_of named timed.after_all timed.events_of
+unfolding lines.after lines.answer lines.takes_slot exchanged read_by reading header_of control_of unnumbered_of supervisory_of teis.course teis.refusal seq distance_of named timed.after_all timed.events_of
 falls_at_40 = refl

@@ -21,6 +21,7 @@ pub const USUAL: Config = Config {
     n201: 260,
     n200: 3,
     side: Side::Network,
+    sapi: 16,
 };
 
 /// A card of the usual sizes.

@@ -60,6 +60,7 @@ pub fn config(lines: u16) -> Config {
         n201: N201,
         n200: 3,
         side: Side::Network,
+        sapi: 16,
     }
 }
 

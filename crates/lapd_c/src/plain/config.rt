@@ -1,7 +1,7 @@
 //! The configuration of a card.
 
 ghost use Rattle.std.specs.Prelude.{◌≡◌, ◌<◌, None, Ok, Err, IfSome, IfOk, IfErr};
-ghost use Rattle.lapd_c.specs.{first_fault, config_in, side_in, config_fault};
+ghost use Rattle.lapd_c.specs.{first_fault, config_in, side_in, sapi_in, config_fault};
 
 use crate::plain::statuses::{BAD_SIDE, field_status};
 use lapd_frame::Side;
@@ -17,7 +17,7 @@ pub struct PlainConfig {
     pub terminals: u16,
     /// The window of call control links: 1 to 127.
     pub k: u16,
-    /// The window of packet links: 1 to 127.
+    /// The window of packet links, the second service: 1 to 127.
     pub k16: u16,
     /// Contents that wait on each link: the greater of `k` and `k16` to 127.
     pub queue: u16,
@@ -33,6 +33,8 @@ pub struct PlainConfig {
     pub n200: u16,
     /// Which side of its lines the card is: 0 the network's, 1 the user's.
     pub side: u16,
+    /// The SAPI of the second service: 1 to 62; 0 is 16.
+    pub sapi: u16,
 }
 
 /// The side of a number: 0 the network's, else the user's.
@@ -40,6 +42,13 @@ pub fn side_in(side: u16) -> Side
     ensures { result ≡ side_in side }
 {
     if side == 0 { Side::Network } else { Side::User }
+}
+
+/// The SAPI of the second service: 16 where 0 is given.
+pub fn sapi_in(sapi: u16) -> u16
+    ensures { result ≡ sapi_in sapi }
+{
+    if sapi == 0 { 16 } else { sapi }
 }
 
 impl PlainConfig {
@@ -66,6 +75,7 @@ impl PlainConfig {
             n201: self.n201,
             n200: self.n200,
             side: side_in(self.side),
+            sapi: sapi_in(self.sapi),
         };
         match config.fault() {
             Some(field) => Err(field_status(field)),

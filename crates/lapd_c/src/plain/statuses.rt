@@ -49,6 +49,8 @@ pub const NO_FRAME: u32 = 28;
 
 /// A side that is neither 0 nor 1: of a start whose configuration has all else in range, and of a frame's text.
 pub const BAD_SIDE: u32 = 43;
+/// The SAPI of the second service is out of range.
+pub const BAD_SAPI: u32 = 44;
 
 /// The status of a request that was refused: 1 to 10, or 29.
 pub fn refusal_status(why: Refusal) -> u32
@@ -60,12 +62,15 @@ pub fn refusal_status(why: Refusal) -> u32
     }
 }
 
-/// The status of a start whose configuration has this field out of range, as the first: 33 to 42.
+/// The status of a start whose configuration has this field out of range, as the first: 33 to 42, or [`BAD_SAPI`].
 pub fn field_status(field: Field) -> u32
     ensures status { result ≡ field_status field }
     ensures wrong { 10 < result }
 {
-    33 + field as u32
+    match field {
+        Field::Sapi => BAD_SAPI,
+        _ => 33 + field as u32,
+    }
 }
 
 /// The service of a number: its SAPI.

@@ -29,6 +29,13 @@ use Rattle.model_card.proofs.OfPorts.Reaching.{reached_sound, reached_after_all}
 use Rattle.model_card.proofs.OfPorts.Steps.{moments-append, config_stays as octets_config_stays}
 use Rattle.model_card.specs.ports.Pulls.{pulls_behind, most_pulls_behind}
 use Rattle.laws_line.proofs.OfCard.Spelling.{head}
+use Rattle.lapd_frame.specs.Grammar.{head_of}
+use Rattle.lapd_frame.specs.Senders.{renamed}
+use Rattle.lapd_frame.specs.Services.{sapi_of}
+use Rattle.lapd_frame.proofs.Naming.{exchanged-small}
+use Rattle.model_link.specs.Link.{address_at}
+use Rattle.model_link.proofs.Waits.{sapi-small}
+use Rattle.model_line.specs.Line.{service_at, terms}
 use Rattle.laws_line.proofs.OfCard.InOrder.{among-before, among-behind, among-mapped, has-end}
 use Rattle.laws_line.proofs.OfCard.Meanwhile.{call-behind, line-sound}
 use Rattle.laws_line.proofs.OfCard.Wherever.{all-left, waiting-taken}
@@ -143,7 +150,12 @@ all-but-last (y ∷ front) (z ∷ heard) x left few e =
 -- a control frame consists of octets
 text-octets : (card : Card) (number link tei : ℕ) → IsSound card → number < card.config.lines → tei_at (place_at link) (line_at number card) ≡ Some tei
     → (f : ControlFrame) → as_octets (control_text card.config link tei f) ≡ control_text card.config link tei f
-text-octets card number link tei s few on f = grind (arith, line-sound, exact, append-nil, head)
+text-octets card number link tei s few on f =
+    let range : tei ≤ 126 = (line-sound card number s few).management.table.range (place_at link) tei on in
+    let a = renamed card.config.sapi (address_at (terms card.config (service_at link) tei) f.command) in
+    let h = head_of card.config.side a f.control in
+    ap as_octets (append-nil h)
+    ∙ exact h (head card.config.side a f.control (exchanged-small card.config.sapi (sapi_of (service_at link)) (sapi-small (service_at link))) (omega (arith, range))) ∙ sym (append-nil h)
 
 all-octets : (spell : ControlFrame → List ℕ) → ((f : ControlFrame) → as_octets (spell f) ≡ spell f) → (fs : List ControlFrame) → map as_octets (map spell fs) ≡ map spell fs
 all-octets spell same [] = refl

@@ -1,6 +1,6 @@
 -- Worked values of a card: each computes.
 use Rattle.std.specs.Prelude.{None, ◌≡◌, ℕ, List, [], ◌∷◌, ◌++◌, map, Some, refl}
-use Rattle.laws_line.specs.WorkedWords.{QueueFull, PoolFull, Call, reading, header_of, control_of, unnumbered_of, Config, first_fault, Answer, told, refused, gave, next, request, nothing, Data, Unit, Event, at, Card, fresh, state, run, stored, limit}
+use Rattle.laws_line.specs.WorkedWords.{QueueFull, PoolFull, Call, exchanged, read_by, reading, header_of, control_of, unnumbered_of, Config, first_fault, Answer, told, refused, gave, next, request, nothing, Data, Unit, Event, at, Card, fresh, state, run, stored, limit}
 use Rattle.lapd_tei.specs.Events as teis
 use Rattle.model_line.specs.declared.config.Field.TheVariants as field
 use Rattle.model_line.specs.Machine as lines
@@ -16,7 +16,7 @@ abbrev answers_after : Config → List Event → List Event → List Answer
 answers_after c before events = map answer_of (run (card_after c before) events).replies
 
 up_is_established : state 0 Call 64 (card_after usual up) ≡ Some 7
-unfolding lines.after lines.takes_slot reading header_of control_of unnumbered_of teis.course teis.refusal
+unfolding lines.after lines.takes_slot exchanged read_by reading header_of control_of unnumbered_of teis.course teis.refusal
 up_is_established = refl
 
 -- two calls for the next frame then give UA, and nothing
@@ -24,7 +24,7 @@ abbrev next_on_0 : Event
 next_on_0 = at 0 next
 
 ua_is_given : answers_after usual up (next_on_0 ∷ next_on_0 ∷ []) ≡ gave (Some (record { octets = 0x00 ∷ 0x81 ∷ 0x73 ∷ []; orders = [] })) ∷ gave None ∷ []
-unfolding lines.after lines.answer lines.takes_slot reading header_of control_of unnumbered_of teis.course teis.refusal
+unfolding lines.after lines.answer lines.takes_slot exchanged read_by reading header_of control_of unnumbered_of teis.course teis.refusal
 ua_is_given = refl
 
 -- a queue of two contents takes two, and the third is refused; UA waits all the while
@@ -37,22 +37,22 @@ data_on line value = at line (request (Data Call 64 (value ∷ [])))
 full_queue :
     answers_after small_queue up (data_on 0 0x01 ∷ data_on 0 0x02 ∷ data_on 0 0x03 ∷ [])
     ≡ told nothing ∷ told nothing ∷ refused QueueFull ∷ []
-unfolding lines.after lines.answer lines.takes_slot reading header_of control_of unnumbered_of teis.course teis.refusal
+unfolding lines.after lines.answer lines.takes_slot exchanged read_by reading header_of control_of unnumbered_of teis.course teis.refusal
 full_queue = refl
 
 stored_before_refusal : stored (card_after small_queue (up ++ data_on 0 0x01 ∷ data_on 0 0x02 ∷ [])) ≡ 5
-unfolding lines.after lines.takes_slot reading header_of control_of unnumbered_of teis.course teis.refusal
+unfolding lines.after lines.takes_slot exchanged read_by reading header_of control_of unnumbered_of teis.course teis.refusal
 stored_before_refusal = refl
 
 stored_after_refusal : stored (card_after small_queue (up ++ data_on 0 0x01 ∷ data_on 0 0x02 ∷ data_on 0 0x03 ∷ [])) ≡ 5
-unfolding lines.after lines.takes_slot reading header_of control_of unnumbered_of teis.course teis.refusal
+unfolding lines.after lines.takes_slot exchanged read_by reading header_of control_of unnumbered_of teis.course teis.refusal
 stored_after_refusal = refl
 
 -- a pool of one slot
 full_pool :
     answers_after (record usual { slots = 1 }) up (data_on 0 0x01 ∷ data_on 0 0x02 ∷ [])
     ≡ told nothing ∷ refused PoolFull ∷ []
-unfolding lines.after lines.answer lines.takes_slot reading header_of control_of unnumbered_of teis.course teis.refusal
+unfolding lines.after lines.answer lines.takes_slot exchanged read_by reading header_of control_of unnumbered_of teis.course teis.refusal
 full_pool = refl
 
 -- whichever line uses it

@@ -1,6 +1,7 @@
 -- Worked values: cards, and moments with other answers, that would break the clauses of `Card::drive`.
 use Rattle.std.specs.Prelude.{◌≡◌, ℕ, ◌+◌, ◌*◌, ◌≤◌, List, [], ◌∷◌, map, Some, None, refl}
-use Rattle.laws_line.specs.WorkedWords.{ap, arith, frame, Fcs, Short, PoolFull, Call, reading, header_of, control_of, unnumbered_of, supervisory_of, seq, named, distance_of, hears, next, request, gave, Answer, told, refused, dropped, nothing, cause_in, Assign, Data, lost_in, Card, fresh, sent, heard, accepted, expired, rejected, window, IsPriced, IsDropWithoutCost, IsDropWithoutEffect, at}
+use Rattle.laws_line.specs.WorkedWords.{ap, arith, frame, Fcs, Short, PoolFull, Call, exchanged, read_by, reading, header_of, control_of, unnumbered_of, supervisory_of, seq, named, distance_of, hears, next, request, gave, Answer, told, refused, dropped, nothing, cause_in, Assign, Data, lost_in, Card, fresh, sent, heard, accepted, expired, rejected, window, IsPriced, IsDropWithoutCost}
+use Rattle.laws_line.specs.WorkedWords.{IsDropWithoutEffect, at}
 use Rattle.laws_line.specs.WorkedWords.{events_at, answers_at, answer_in, LinkName, IsNext, IsWithinLimit, IsNotRefusedForPool, Moment, moments, after_all}
 use Rattle.model_bits.specs.Stream as stream
 use Rattle.lapd_frame.specs.declared.notes.Note.TheVariants as notes
@@ -18,7 +19,7 @@ abbrev sabme : line_event.Event
 sabme = hears (frame (0x00 ∷ 0x81 ∷ 0x7F ∷ []))
 
 dropped_at_a_cost : IsDropWithoutCost (moment (after_all (fresh usual) (on_0 (Assign 64) ∷ [])) sabme (told (dropped Fcs))) → ⊥
-unfolding after_all lines.after lines.takes_slot reading header_of control_of unnumbered_of teis.course teis.refusal
+unfolding after_all lines.after lines.takes_slot exchanged read_by reading header_of control_of unnumbered_of teis.course teis.refusal
 dropped_at_a_cost free = cc (free (frame (0x00 ∷ 0x81 ∷ 0x7F ∷ [])) refl refl)
 
 dropped_with_effect : IsDropWithoutEffect (moment (fresh usual) (hears (stream.dropped Fcs)) (told (record (dropped Fcs) { lost = 1 }))) → ⊥
@@ -67,13 +68,13 @@ abbrev tells_data : Answer
 tells_data = told (record nothing { notes = notes.Data Call 64 ∷ []; contents = Some (0x41 ∷ []) })
 
 delivered_first : IsNext call (comes_first 0 tells_data)
-unfolding after_all lines.after lines.takes_slot reading header_of control_of unnumbered_of supervisory_of teis.course teis.refusal seq named distance_of
+unfolding after_all lines.after lines.takes_slot exchanged read_by reading header_of control_of unnumbered_of supervisory_of teis.course teis.refusal seq named distance_of
 delivered_first = refl
 
 undelivered : IsNext call (comes_first 0 (told nothing)) → ⊥
-unfolding after_all lines.after lines.takes_slot reading header_of control_of unnumbered_of supervisory_of teis.course teis.refusal seq named distance_of
+unfolding after_all lines.after lines.takes_slot exchanged read_by reading header_of control_of unnumbered_of supervisory_of teis.course teis.refusal seq named distance_of
 undelivered is_next = cc is_next
 
 too_early : IsNext call (comes_first 1 tells_data) → ⊥
-unfolding after_all lines.after lines.takes_slot reading header_of control_of unnumbered_of supervisory_of teis.course teis.refusal seq named distance_of
+unfolding after_all lines.after lines.takes_slot exchanged read_by reading header_of control_of unnumbered_of supervisory_of teis.course teis.refusal seq named distance_of
 too_early is_next = cc is_next

@@ -1,6 +1,7 @@
 -- Worked values: a control frame that waits at a line of octets, and the pulls by which it is heard.
 use Rattle.std.specs.Prelude.{◌≡◌, ℕ, ◌+◌, true, List, [], ◌∷◌, replicate, refl}
 use Rattle.laws_line.specs.WorkedWords.{Call, command, Sabme, link_at, Assign, Establish, most_frames_before}
+use Rattle.lapd_frame.specs.Senders.{exchanged}
 use Rattle.lapd_tei.specs.Events as teis
 use Rattle.model_bits.specs.Bits.{low_bits}
 use Rattle.model_bits.specs.Stream as stream
@@ -36,9 +37,9 @@ abbrev given_by : ℕ → List ℕ
 given_by pulls = (port_at 0 (after_all waiting (replicate pulls (at 0 pull)))).given
 
 it_is_heard : AreHeardSince 8 [] (given_by 8) ((0x02 ∷ 0x81 ∷ 0x7F ∷ []) ∷ [])
-unfolding after_all after answer meant lines.after lines.answer lines.takes_slot teis.course teis.refusal low_bits
+unfolding exchanged after_all after answer meant lines.after lines.answer lines.takes_slot teis.course teis.refusal low_bits
 it_is_heard = record { since = stream.frame (0x02 ∷ 0x81 ∷ 0x7F ∷ []) ∷ []; goes_on = refl; among = ([], [], refl, tt) }
 
 not_yet : stream.heard_in 8 (given_by 7) ≡ []
-unfolding after_all after answer meant lines.after lines.answer lines.takes_slot teis.course teis.refusal low_bits
+unfolding exchanged after_all after answer meant lines.after lines.answer lines.takes_slot teis.course teis.refusal low_bits
 not_yet = refl

@@ -1,5 +1,6 @@
 -- The premises of the law on damaged octets are met by the worked run.
-use Rattle.laws_order.proofs.Vocabulary.{arith, ◌≡◌, ℕ, ◌&&◌, ◌==◌, Bool, true, false, List, [], ◌∷◌, ◌++◌, Option, Some, eqb-true, refl, ap, and_parts, Call, Parts, reading, header_of, control_of, unnumbered_of, supervisory_of, distance_of, named, seq, low_bits, Config, heard_side, IsFront, user, network, Endpoint, of_link_at, data_noted, data_granted, None, port_of, known, kept_by, Circuit}
+use Rattle.laws_order.proofs.Vocabulary.{arith, ◌≡◌, ℕ, ◌&&◌, ◌==◌, Bool, true, false, List, [], ◌∷◌, ◌++◌, Option, Some, eqb-true, refl, ap, and_parts, Call, Parts, exchanged, reading, side_reading, header_of, control_of, unnumbered_of, supervisory_of, distance_of, named, seq, low_bits, Config, heard_side, IsFront, user, network, Endpoint, of_link_at, data_noted, data_granted, None, port_of}
+use Rattle.laws_order.proofs.Vocabulary.{known, kept_by, Circuit}
 use Rattle.laws_order.proofs.Vocabulary.{doing_all, Mixed, establishes, stream_frame, StreamEvent, next, gave, port_octet, card_answer, tei_refusal, tei_course, FaceAtRest}
 use Rattle.model_line.specs.Machine as lines
 use Rattle.model_card.specs.ports.Card as ports
@@ -88,7 +89,7 @@ all-so (by_far deed ∷ hs) w e =
     let both = and_parts (is_possible_at deed w.far w.near.way) (are_possible hs (happening (by_far deed) w)) e in (at-so deed w.far w.near.way both.0, all-so hs (happening (by_far deed) w) both.1)
 
 computed : are_possible goes_again begins ≡ true
-unfolding lines.after lines.answer lines.takes_slot reading header_of control_of unnumbered_of supervisory_of tei_course tei_refusal seq distance_of named low_bits ports.after ports.answer ports.meant doing_all are_possible
+unfolding lines.after lines.answer lines.takes_slot exchanged reading side_reading header_of control_of unnumbered_of supervisory_of tei_course tei_refusal seq distance_of named low_bits ports.after ports.answer ports.meant doing_all are_possible
 computed = refl
 
 -- ---- the two ends are at rest
@@ -97,27 +98,27 @@ abbrev established : Circuit
 established = doing_all establishes call.begins
 
 near-flag : is_flag false (port_of established.near).items ≡ true
-unfolding lines.after lines.answer lines.takes_slot reading header_of control_of unnumbered_of supervisory_of tei_course tei_refusal seq distance_of named low_bits ports.after ports.answer ports.meant doing_all
+unfolding lines.after lines.answer lines.takes_slot exchanged reading side_reading header_of control_of unnumbered_of supervisory_of tei_course tei_refusal seq distance_of named low_bits ports.after ports.answer ports.meant doing_all
 near-flag = refl
 
 far-flag : is_flag false (port_of established.far).items ≡ true
-unfolding lines.after lines.answer lines.takes_slot reading header_of control_of unnumbered_of supervisory_of tei_course tei_refusal seq distance_of named low_bits ports.after ports.answer ports.meant doing_all
+unfolding lines.after lines.answer lines.takes_slot exchanged reading side_reading header_of control_of unnumbered_of supervisory_of tei_course tei_refusal seq distance_of named low_bits ports.after ports.answer ports.meant doing_all
 far-flag = refl
 
 near-none : card_answer (frames.at established.near.line next) established.near.card.card ≡ gave None
-unfolding lines.after lines.answer lines.takes_slot reading header_of control_of unnumbered_of supervisory_of tei_course tei_refusal seq distance_of named low_bits ports.after ports.answer ports.meant doing_all
+unfolding lines.after lines.answer lines.takes_slot exchanged reading side_reading header_of control_of unnumbered_of supervisory_of tei_course tei_refusal seq distance_of named low_bits ports.after ports.answer ports.meant doing_all
 near-none = refl
 
 far-none : card_answer (frames.at established.far.line next) established.far.card.card ≡ gave None
-unfolding lines.after lines.answer lines.takes_slot reading header_of control_of unnumbered_of supervisory_of tei_course tei_refusal seq distance_of named low_bits ports.after ports.answer ports.meant doing_all
+unfolding lines.after lines.answer lines.takes_slot exchanged reading side_reading header_of control_of unnumbered_of supervisory_of tei_course tei_refusal seq distance_of named low_bits ports.after ports.answer ports.meant doing_all
 far-none = refl
 
 near-heard : established.near.way ≡ []
-unfolding lines.after lines.answer lines.takes_slot reading header_of control_of unnumbered_of supervisory_of tei_course tei_refusal seq distance_of named low_bits ports.after ports.answer ports.meant doing_all
+unfolding lines.after lines.answer lines.takes_slot exchanged reading side_reading header_of control_of unnumbered_of supervisory_of tei_course tei_refusal seq distance_of named low_bits ports.after ports.answer ports.meant doing_all
 near-heard = refl
 
 far-heard : established.far.way ≡ []
-unfolding lines.after lines.answer lines.takes_slot reading header_of control_of unnumbered_of supervisory_of tei_course tei_refusal seq distance_of named low_bits ports.after ports.answer ports.meant doing_all
+unfolding lines.after lines.answer lines.takes_slot exchanged reading side_reading header_of control_of unnumbered_of supervisory_of tei_course tei_refusal seq distance_of named low_bits ports.after ports.answer ports.meant doing_all
 far-heard = refl
 
 pub rested : FaceAtRest Call 0 (as_wire begins) × HasReceived begins.near × HasReceived begins.far
@@ -164,7 +165,7 @@ mixed-so (mixed.by_octets deed ∷ hs) w e =
     (at-so deed w.far w.near.way both.0, mixed-so hs (mixed.happening (mixed.by_octets deed) w) both.1)
 
 mixed-computed : are_mixed worked.goes_again worked.begins ≡ true
-unfolding lines.after lines.answer lines.takes_slot reading header_of control_of unnumbered_of supervisory_of tei_course tei_refusal seq distance_of named low_bits ports.after ports.answer ports.meant doing_all are_mixed
+unfolding lines.after lines.answer lines.takes_slot exchanged reading side_reading header_of control_of unnumbered_of supervisory_of tei_course tei_refusal seq distance_of named low_bits ports.after ports.answer ports.meant doing_all are_mixed
 mixed-computed = refl
 
 pub mixed-in-order : IsFront (data_noted Call 0 (mixed.seen_far worked.goes_again worked.begins)) (kept ++ data_granted Call 0 (mixed.seen_near worked.goes_again worked.begins))

@@ -1,5 +1,5 @@
 -- What is done between a card of frames and one of octets is, at the card of frames inside, done on a wire of frames.
-use Rattle.laws_order.proofs.Vocabulary.{arith, ◌≡◌, ℕ, Bool, true, false, cond, List, [], ◌∷◌, ◌++◌, drop, Option, None, Some, refl, sym, ap, ◌∙◌, subst, append-nil, All, All-nil, All-cons, All-head, All-tail, All-append, Service, Config, is_due, Endpoint, Wire, CanCall, calling, calls-come-through, twice-other, doing-append, IsCall, stream_frame, StreamEvent, option_map, port_octet}
+use Rattle.laws_order.proofs.Vocabulary.{arith, ◌≡◌, ℕ, Bool, true, false, cond, List, [], ◌∷◌, ◌++◌, drop, Option, None, Some, refl, sym, ap, ◌∙◌, subst, append-nil, All, All-nil, All-cons, All-head, All-tail, All-append, Service, Config, is_due, Endpoint, Wire, CanCall, calling, calls-come-through, sides-turned, doing-append, IsCall, stream_frame, StreamEvent, option_map, port_octet}
 use Rattle.laws_order.proofs.Vocabulary.{call_both_call, CallComesThrough, assigned, Establish, Assign, port_of}
 use Rattle.model_line.specs.Event as line
 unfoldable use Rattle.model_card.specs.ports.Card.{meant}
@@ -140,5 +140,5 @@ calls-come-through-between-kinds service c d number other tei ds can = (by-frame
         let x = calls-are-of-frames service tei w ds talk in
         let begins : frames.turned (as_wire w) ≡ calling service tei d other c number =
         ap (λ (s : Endpoint). ends_of s w.near) (asked-as (Establish service tei) (octets.assigned d other tei) [] ∙ ap (frames.happens (line.request (Establish service tei))) (assigned-as d other tei)) in
-        through service d c other number tei (grind (arith, twice-other)) (all_swapped x.0) (all-talk service tei x.0 x.1) (frames.turned (as_wire (doing_all ds w)))
+        through service d c other number tei (record { near = can.far; far = can.near; opposite = (sides-turned c d can.opposite.0, sym can.opposite.1); terminal = can.terminal }) (all_swapped x.0) (all-talk service tei x.0 x.1) (frames.turned (as_wire (doing_all ds w)))
         (ap (frames.doing_all (all_swapped x.0)) (sym begins) ∙ all-turned x.0 (as_wire w) ∙ ap frames.turned x.2)

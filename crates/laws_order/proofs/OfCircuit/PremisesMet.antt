@@ -1,13 +1,16 @@
 -- The premises of the laws are met by the worked call: all has gone behind it, so layer 3 of each was told all.
-use Rattle.laws_order.proofs.Vocabulary.{◌≡◌, Bool, true, false, List, [], ◌∷◌, ◌++◌, ◌&&◌, ◌<◌, None, refl, ap, arith, All, and_parts, All-append, All-cons, All-nil, Call, reading, header_of, control_of, unnumbered_of, supervisory_of, distance_of, named, seq, low_bits, Item, idle, AreOctets, next, gave, CanCall, user, network, IsCall, calling, Circuit, OctetStep, octet_requests, OctetStepAt}
+use Rattle.laws_order.proofs.Vocabulary.{◌≡◌, Bool, true, false, List, [], ◌∷◌, ◌++◌, ◌&&◌, ◌<◌, None, refl, ap, arith, All, and_parts, All-append, All-cons, All-nil, Call, exchanged, reading, side_reading, header_of, control_of, unnumbered_of, supervisory_of, distance_of, named, seq, low_bits, Item, idle, AreOctets, next, gave, CanCall, user, network, IsCall, calling, Circuit, OctetStep}
+use Rattle.laws_order.proofs.Vocabulary.{octet_requests, OctetStepAt}
 use Rattle.laws_order.proofs.Vocabulary.{at_near, at_far, doing_all, port_of, IsTalkOf, IsTalk, both_call, HasAllGone, IsToldAll, begins, establishes, goes_on, sends_octets, at, StepAt, wire_doing_all, card_answer, tei_refusal, tei_course, Data, frame, IsThrough, call_begins, talks, are_talk}
 use Rattle.model_line.specs.Machine as lines
 use Rattle.model_card.specs.ports.Card as ports
 use Rattle.laws_order.specs.circuit.MixedCall as mixed
 use Rattle.laws_order.proofs.OfCircuit.MixedCall.{calls-are-of-frames, calls-come-through-between-kinds}
 use Rattle.laws_order.proofs.OfCircuit.Through.{calls-come-through-in-octets}
+use Rattle.model_line.specs.Config.{sapi_fault}
 
 pub can : CanCall user 0 network 0 0
+unfolding sapi_fault
 can = record { near = (refl, omega arith); far = (refl, omega arith); opposite = (refl, refl); terminal = omega arith }
 
 abbrev after_it : Circuit
@@ -34,27 +37,27 @@ ends-in-flag (idle ∷ frame octets ∷ items) e = behind idle (frame octets ∷
 ends-in-flag (frame octets ∷ items) e = behind (frame octets) items (ends-in-flag items e)
 
 near-flag : is_flag false (port_of after_it.near).items ≡ true
-unfolding lines.after lines.answer lines.takes_slot reading header_of control_of unnumbered_of supervisory_of tei_course tei_refusal seq distance_of named low_bits ports.after ports.answer ports.meant doing_all
+unfolding lines.after lines.answer lines.takes_slot exchanged reading side_reading header_of control_of unnumbered_of supervisory_of tei_course tei_refusal seq distance_of named low_bits ports.after ports.answer ports.meant doing_all
 near-flag = refl
 
 far-flag : is_flag false (port_of after_it.far).items ≡ true
-unfolding lines.after lines.answer lines.takes_slot reading header_of control_of unnumbered_of supervisory_of tei_course tei_refusal seq distance_of named low_bits ports.after ports.answer ports.meant doing_all
+unfolding lines.after lines.answer lines.takes_slot exchanged reading side_reading header_of control_of unnumbered_of supervisory_of tei_course tei_refusal seq distance_of named low_bits ports.after ports.answer ports.meant doing_all
 far-flag = refl
 
 near-none : card_answer (at after_it.near.line next) after_it.near.card.card ≡ gave None
-unfolding lines.after lines.answer lines.takes_slot reading header_of control_of unnumbered_of supervisory_of tei_course tei_refusal seq distance_of named low_bits ports.after ports.answer ports.meant doing_all
+unfolding lines.after lines.answer lines.takes_slot exchanged reading side_reading header_of control_of unnumbered_of supervisory_of tei_course tei_refusal seq distance_of named low_bits ports.after ports.answer ports.meant doing_all
 near-none = refl
 
 far-none : card_answer (at after_it.far.line next) after_it.far.card.card ≡ gave None
-unfolding lines.after lines.answer lines.takes_slot reading header_of control_of unnumbered_of supervisory_of tei_course tei_refusal seq distance_of named low_bits ports.after ports.answer ports.meant doing_all
+unfolding lines.after lines.answer lines.takes_slot exchanged reading side_reading header_of control_of unnumbered_of supervisory_of tei_course tei_refusal seq distance_of named low_bits ports.after ports.answer ports.meant doing_all
 far-none = refl
 
 near-heard : after_it.near.way ≡ []
-unfolding lines.after lines.answer lines.takes_slot reading header_of control_of unnumbered_of supervisory_of tei_course tei_refusal seq distance_of named low_bits ports.after ports.answer ports.meant doing_all
+unfolding lines.after lines.answer lines.takes_slot exchanged reading side_reading header_of control_of unnumbered_of supervisory_of tei_course tei_refusal seq distance_of named low_bits ports.after ports.answer ports.meant doing_all
 near-heard = refl
 
 far-heard : after_it.far.way ≡ []
-unfolding lines.after lines.answer lines.takes_slot reading header_of control_of unnumbered_of supervisory_of tei_course tei_refusal seq distance_of named low_bits ports.after ports.answer ports.meant doing_all
+unfolding lines.after lines.answer lines.takes_slot exchanged reading side_reading header_of control_of unnumbered_of supervisory_of tei_course tei_refusal seq distance_of named low_bits ports.after ports.answer ports.meant doing_all
 far-heard = refl
 
 pub gone : HasAllGone after_it

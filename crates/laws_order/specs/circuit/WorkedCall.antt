@@ -2,6 +2,7 @@
 use Rattle.std.specs.Prelude.{◌≡◌, List, [], ◌∷◌, ◌++◌, replicate, None, refl}
 use Rattle.lapd_frame.specs.declared.services.Service.TheVariants.{Call}
 use Rattle.lapd_frame.specs.Reading.{reading, header_of, control_of, unnumbered_of, supervisory_of}
+use Rattle.lapd_frame.specs.Senders.{exchanged, reading as read_by}
 use Rattle.lapd_seq.specs.Circle.{distance_of, named}
 use Rattle.lapd_seq.specs.Numbers.{seq}
 use Rattle.lapd_tei.specs.Events as teis
@@ -28,11 +29,11 @@ establishes =
     ++ (replicate 9 (at_far sends) ++ replicate 10 (at_near receives))))
 
 established_near : (doing_all establishes begins).near.told ≡ confirmed Call 0 ∷ []
-unfolding lines.after lines.answer lines.takes_slot reading header_of control_of unnumbered_of supervisory_of teis.course teis.refusal seq distance_of named low_bits ports.after ports.answer ports.meant doing_all
+unfolding lines.after lines.answer lines.takes_slot exchanged read_by reading header_of control_of unnumbered_of supervisory_of teis.course teis.refusal seq distance_of named low_bits ports.after ports.answer ports.meant doing_all
 established_near = refl
 
 established_far : (doing_all establishes begins).far.told ≡ indicated Call 0 ∷ []
-unfolding lines.after lines.answer lines.takes_slot reading header_of control_of unnumbered_of supervisory_of teis.course teis.refusal seq distance_of named low_bits ports.after ports.answer ports.meant doing_all
+unfolding lines.after lines.answer lines.takes_slot exchanged read_by reading header_of control_of unnumbered_of supervisory_of teis.course teis.refusal seq distance_of named low_bits ports.after ports.answer ports.meant doing_all
 established_far = refl
 
 -- Then the user's end sends, and flags of the network's come between; the acknowledgement goes by itself.
@@ -45,7 +46,7 @@ abbrev pub sends_octets : List StepAt
 sends_octets = establishes ++ (at_near (requests (Data Call 0 (0xAB ∷ []))) ∷ goes_on)
 
 sent : (doing_all sends_octets begins).far.told ≡ indicated Call 0 ∷ data_told Call 0 (0xAB ∷ []) ∷ []
-unfolding lines.after lines.answer lines.takes_slot reading header_of control_of unnumbered_of supervisory_of teis.course teis.refusal seq distance_of named low_bits ports.after ports.answer ports.meant doing_all
+unfolding lines.after lines.answer lines.takes_slot exchanged read_by reading header_of control_of unnumbered_of supervisory_of teis.course teis.refusal seq distance_of named low_bits ports.after ports.answer ports.meant doing_all
 sent = refl
 
 -- Where layer 3 asks for numbers that are no octets, others are told: eight bits of each go. So octets alone are asked to be sent.
@@ -53,7 +54,7 @@ abbrev sends_300 : List StepAt
 sends_300 = establishes ++ (at_near (requests (Data Call 0 (300 ∷ []))) ∷ replicate 11 (at_near sends) ++ replicate 11 (at_far receives))
 
 no_octet : (doing_all sends_300 begins).far.told ≡ indicated Call 0 ∷ data_told Call 0 (44 ∷ []) ∷ []
-unfolding lines.after lines.answer lines.takes_slot reading header_of control_of unnumbered_of supervisory_of teis.course teis.refusal seq distance_of named low_bits ports.after ports.answer ports.meant doing_all
+unfolding lines.after lines.answer lines.takes_slot exchanged read_by reading header_of control_of unnumbered_of supervisory_of teis.course teis.refusal seq distance_of named low_bits ports.after ports.answer ports.meant doing_all
 no_octet = refl
 
 -- Where no frame waits, and each octet was heard, but what was put on the line last is the frame, the end of it may not have been
@@ -62,18 +63,18 @@ abbrev cut : List StepAt
 cut = replicate 5 (at_near sends) ++ replicate 5 (at_far receives)
 
 cut_none : machine.answer (frames.at 0 next) (doing_all cut begins).near.card.card ≡ gave None
-unfolding lines.after lines.answer lines.takes_slot reading header_of control_of unnumbered_of supervisory_of teis.course teis.refusal seq distance_of named low_bits ports.after ports.answer ports.meant doing_all
+unfolding lines.after lines.answer lines.takes_slot exchanged read_by reading header_of control_of unnumbered_of supervisory_of teis.course teis.refusal seq distance_of named low_bits ports.after ports.answer ports.meant doing_all
 cut_none = refl
 
 cut_heard : (doing_all cut begins).near.way ≡ []
-unfolding lines.after lines.answer lines.takes_slot reading header_of control_of unnumbered_of supervisory_of teis.course teis.refusal seq distance_of named low_bits ports.after ports.answer ports.meant doing_all
+unfolding lines.after lines.answer lines.takes_slot exchanged read_by reading header_of control_of unnumbered_of supervisory_of teis.course teis.refusal seq distance_of named low_bits ports.after ports.answer ports.meant doing_all
 cut_heard = refl
 
 cut_untold : (doing_all cut begins).far.told ≡ []
-unfolding lines.after lines.answer lines.takes_slot reading header_of control_of unnumbered_of supervisory_of teis.course teis.refusal seq distance_of named low_bits ports.after ports.answer ports.meant doing_all
+unfolding lines.after lines.answer lines.takes_slot exchanged read_by reading header_of control_of unnumbered_of supervisory_of teis.course teis.refusal seq distance_of named low_bits ports.after ports.answer ports.meant doing_all
 cut_untold = refl
 
 -- Fifteen beats establish, where the bound is 1284.
 in_beats : (beats 15 begins).near.told ≡ confirmed Call 0 ∷ []
-unfolding lines.after lines.answer lines.takes_slot reading header_of control_of unnumbered_of supervisory_of teis.course teis.refusal seq distance_of named low_bits ports.after ports.answer ports.meant doing_all beats
+unfolding lines.after lines.answer lines.takes_slot exchanged read_by reading header_of control_of unnumbered_of supervisory_of teis.course teis.refusal seq distance_of named low_bits ports.after ports.answer ports.meant doing_all beats
 in_beats = refl

@@ -3,6 +3,7 @@
 use Rattle.std.specs.Prelude.{◌≡◌, ℕ, List, [], ◌∷◌, ◌++◌, map, replicate, Ok, refl}
 use Rattle.lapd_frame.specs.declared.services.Service.TheVariants.{Call}
 use Rattle.lapd_frame.specs.Reading.{reading, header_of, control_of, unnumbered_of, supervisory_of}
+use Rattle.lapd_frame.specs.Senders.{exchanged, reading as read_by}
 use Rattle.lapd_seq.specs.Circle.{distance_of, named}
 use Rattle.lapd_seq.specs.Numbers.{seq}
 use Rattle.lapd_tei.specs.Events as teis
@@ -62,15 +63,15 @@ abbrev pub goes_again : List StepAt
 goes_again = near_asks 0xAB ∷ near_asks 0xCD ∷ replicate 17 near_pulls ++ (one_comes ++ (rejected ++ (replicate 17 near_pulls ++ both_come)))
 
 told_far : data_noted Call 0 (seen_far goes_again begins) ≡ (0xAB ∷ []) ∷ (0xCD ∷ []) ∷ []
-unfolding lines.after lines.answer lines.takes_slot reading header_of control_of unnumbered_of supervisory_of teis.course teis.refusal seq distance_of named low_bits ports.after ports.answer ports.meant doing_all happening_all seen_near seen_far
+unfolding lines.after lines.answer lines.takes_slot exchanged read_by reading header_of control_of unnumbered_of supervisory_of teis.course teis.refusal seq distance_of named low_bits ports.after ports.answer ports.meant doing_all happening_all seen_near seen_far
 told_far = refl
 
 pub near_stays : StaysEstablished Call 0 (seen_near goes_again begins)
-unfolding lines.after lines.answer lines.takes_slot reading header_of control_of unnumbered_of supervisory_of teis.course teis.refusal seq distance_of named low_bits ports.after ports.answer ports.meant doing_all happening_all seen_near seen_far
+unfolding lines.after lines.answer lines.takes_slot exchanged read_by reading header_of control_of unnumbered_of supervisory_of teis.course teis.refusal seq distance_of named low_bits ports.after ports.answer ports.meant doing_all happening_all seen_near seen_far
 near_stays = refl
 
 pub far_stays : StaysEstablished Call 0 (seen_far goes_again begins)
-unfolding lines.after lines.answer lines.takes_slot reading header_of control_of unnumbered_of supervisory_of teis.course teis.refusal seq distance_of named low_bits ports.after ports.answer ports.meant doing_all happening_all seen_near seen_far
+unfolding lines.after lines.answer lines.takes_slot exchanged read_by reading header_of control_of unnumbered_of supervisory_of teis.course teis.refusal seq distance_of named low_bits ports.after ports.answer ports.meant doing_all happening_all seen_near seen_far
 far_stays = refl
 
 -- Octets in which a frame stands that was never pulled, as errors make them that the check does not show: it is told, and was never
@@ -79,17 +80,17 @@ abbrev pub never_pulled : List StepAt
 never_pulled = map far_hears (0 ∷ 2 ∷ 0 ∷ 0 ∷ 50 ∷ 9 ∷ 181 ∷ 253 ∷ 252 ∷ [])
 
 told_of_none : data_noted Call 0 (seen_far never_pulled begins) ≡ (0x99 ∷ []) ∷ []
-unfolding lines.after lines.answer lines.takes_slot reading header_of control_of unnumbered_of supervisory_of teis.course teis.refusal seq distance_of named low_bits ports.after ports.answer ports.meant doing_all happening_all seen_near seen_far
+unfolding lines.after lines.answer lines.takes_slot exchanged read_by reading header_of control_of unnumbered_of supervisory_of teis.course teis.refusal seq distance_of named low_bits ports.after ports.answer ports.meant doing_all happening_all seen_near seen_far
 told_of_none = refl
 
 none_kept : room 0 Call 0 begins.near.card.card ≡ Ok (record { queue = 8; pool = 16; va = 0 })
-unfolding lines.after lines.answer lines.takes_slot reading header_of control_of unnumbered_of supervisory_of teis.course teis.refusal seq distance_of named low_bits ports.after ports.answer ports.meant doing_all
+unfolding lines.after lines.answer lines.takes_slot exchanged read_by reading header_of control_of unnumbered_of supervisory_of teis.course teis.refusal seq distance_of named low_bits ports.after ports.answer ports.meant doing_all
 none_kept = refl
 
 never_granted : data_granted Call 0 (seen_near never_pulled begins) ≡ []
-unfolding lines.after lines.answer lines.takes_slot reading header_of control_of unnumbered_of supervisory_of teis.course teis.refusal seq distance_of named low_bits ports.after ports.answer ports.meant doing_all happening_all seen_near seen_far
+unfolding lines.after lines.answer lines.takes_slot exchanged read_by reading header_of control_of unnumbered_of supervisory_of teis.course teis.refusal seq distance_of named low_bits ports.after ports.answer ports.meant doing_all happening_all seen_near seen_far
 never_granted = refl
 
 not_pulled : ArePossible Call 0 never_pulled begins → ⊥
-unfolding lines.after lines.answer lines.takes_slot reading header_of control_of unnumbered_of supervisory_of teis.course teis.refusal seq distance_of named low_bits ports.after ports.answer ports.meant doing_all happening_all seen_near seen_far ArePossible
+unfolding lines.after lines.answer lines.takes_slot exchanged read_by reading header_of control_of unnumbered_of supervisory_of teis.course teis.refusal seq distance_of named low_bits ports.after ports.answer ports.meant doing_all happening_all seen_near seen_far ArePossible
 not_pulled h = cc h.1.1.1.1.1.1.1.1.0

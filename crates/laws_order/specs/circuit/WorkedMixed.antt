@@ -3,6 +3,7 @@
 use Rattle.std.specs.Prelude.{◌≡◌, ℕ, List, [], ◌∷◌, ◌++◌, map, replicate, refl}
 use Rattle.lapd_frame.specs.declared.services.Service.TheVariants.{Call}
 use Rattle.lapd_frame.specs.Reading.{reading, header_of, control_of, unnumbered_of, supervisory_of}
+use Rattle.lapd_frame.specs.Senders.{exchanged, reading as read_by}
 use Rattle.lapd_seq.specs.Circle.{distance_of, named}
 use Rattle.lapd_seq.specs.Numbers.{seq}
 use Rattle.lapd_tei.specs.Events as teis
@@ -46,11 +47,11 @@ goes_again =
     ∷ map far_hears (0 ∷ 2 ∷ 0 ∷ 0 ∷ 86 ∷ 43 ∷ 144 ∷ 253 ∷ []) ++ (far_gets 0 ∷ map far_hears (2 ∷ 4 ∷ 0 ∷ 154 ∷ 59 ∷ 247 ∷ 252 ∷ []) ++ (far_gets 252 ∷ []))))
 
 told_far : data_noted Call 0 (seen_far goes_again begins) ≡ (0xAB ∷ []) ∷ (0xCD ∷ []) ∷ []
-unfolding lines.after lines.answer lines.takes_slot reading header_of control_of unnumbered_of supervisory_of teis.course teis.refusal seq distance_of named low_bits ports.after ports.answer ports.meant doing_all seen_near seen_far
+unfolding lines.after lines.answer lines.takes_slot exchanged read_by reading header_of control_of unnumbered_of supervisory_of teis.course teis.refusal seq distance_of named low_bits ports.after ports.answer ports.meant doing_all seen_near seen_far
 told_far = refl
 
 pub far_stays : StaysEstablished Call 0 (seen_far goes_again begins)
-unfolding lines.after lines.answer lines.takes_slot reading header_of control_of unnumbered_of supervisory_of teis.course teis.refusal seq distance_of named low_bits ports.after ports.answer ports.meant doing_all seen_near seen_far
+unfolding lines.after lines.answer lines.takes_slot exchanged read_by reading header_of control_of unnumbered_of supervisory_of teis.course teis.refusal seq distance_of named low_bits ports.after ports.answer ports.meant doing_all seen_near seen_far
 far_stays = refl
 
 -- A call: the card of frames asks for it, SABME comes octet by octet, and data goes back behind UA.
@@ -63,13 +64,13 @@ talks =
     ∷ replicate 16 call.sends ++ (call.by_frames receives ∷ call.by_frames receives ∷ []))
 
 told_far_first : (call.doing_all talks call_begins).far.told ≡ wire_call.indicated Call 0 ∷ []
-unfolding lines.after lines.answer lines.takes_slot reading header_of control_of unnumbered_of supervisory_of teis.course teis.refusal seq distance_of named low_bits ports.after ports.answer ports.meant call.doing_all
+unfolding lines.after lines.answer lines.takes_slot exchanged read_by reading header_of control_of unnumbered_of supervisory_of teis.course teis.refusal seq distance_of named low_bits ports.after ports.answer ports.meant call.doing_all
 told_far_first = refl
 
 told_near : (call.doing_all talks call_begins).near.told ≡ wire_call.confirmed Call 0 ∷ wire_call.data_told Call 0 (7 ∷ []) ∷ []
-unfolding lines.after lines.answer lines.takes_slot reading header_of control_of unnumbered_of supervisory_of teis.course teis.refusal seq distance_of named low_bits ports.after ports.answer ports.meant call.doing_all
+unfolding lines.after lines.answer lines.takes_slot exchanged read_by reading header_of control_of unnumbered_of supervisory_of teis.course teis.refusal seq distance_of named low_bits ports.after ports.answer ports.meant call.doing_all
 told_near = refl
 
 pub are_talk : call.AreTalk Call 0 talks call_begins
-unfolding lines.after lines.answer lines.takes_slot reading header_of control_of unnumbered_of supervisory_of teis.course teis.refusal seq distance_of named low_bits ports.after ports.answer ports.meant call.doing_all call.AreTalk
+unfolding lines.after lines.answer lines.takes_slot exchanged read_by reading header_of control_of unnumbered_of supervisory_of teis.course teis.refusal seq distance_of named low_bits ports.after ports.answer ports.meant call.doing_all call.AreTalk
 are_talk = (tt, (tt, (tt, (tt, (tt, (tt, (tt, (tt, (([], refl), ((refl, refl), (tt, (tt, (tt, (tt, (tt, (tt, (tt, (tt, (tt, (tt, (tt, (tt, (tt, (tt, (tt, (tt, (tt, (tt, tt))))))))))))))))))))))))))))

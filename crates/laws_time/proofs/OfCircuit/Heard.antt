@@ -9,7 +9,7 @@ use Rattle.lapd_clock.specs.Timer.{Lengths}
 use Rattle.lapd_frame.specs.declared.services.Service.{Service}
 use Rattle.lapd_frame.specs.declared.timers.Timer.TheVariants as timers
 use Rattle.lapd_frame.specs.Grammar.{Parts}
-use Rattle.lapd_frame.specs.Reading.{reading}
+use Rattle.lapd_frame.specs.Senders.{reading}
 use Rattle.model_bits.specs.Stream as stream
 use Rattle.model_link.specs.Events as link
 use Rattle.model_link.specs.Events.{Event as LinkEvent}
@@ -54,6 +54,7 @@ use Rattle.laws_time.proofs.OfCircuit.Under.{EndOk, IsLong, Then, here-is, all-p
 use Rattle.laws_time.proofs.OfCircuit.Acts.{IsSoon, sound-line, speaks-here, orders-mean}
 use Rattle.laws_time.specs.circuit.Clocked.{TimedEndpoint, happens}
 use Rattle.laws_time.specs.circuit.LongEnough.{is_of, is_waiting}
+use Rattle.model_line.specs.Taken.{own_side}
 
 or-false : (b : Bool) → (b || false) ≡ b
 or-false true = refl
@@ -150,7 +151,7 @@ module _ (c : Config) (service : Service) (tei place : ℕ) (ranged : IsInRange 
         soon (λ e is time. absurd (mv.by e is)) (λ none. h.timer)
 
     -- A frame of the other end comes: if it asks for an answer, so much was given by now.
-    module _ (d : Config) (ranged_far : IsInRange d) (side : heard_side c ≡ d.side) (size : d.n201 ≡ c.n201) (octets : List ℕ) (soon_asked : is_of asks d octets ≡ true → length (port_of a.at).given + half c service tei place ranged ≤ M') where
+    module _ (d : Config) (ranged_far : IsInRange d) (side : heard_side c ≡ own_side d) (size : d.n201 ≡ c.n201) (octets : List ℕ) (soon_asked : is_of asks d octets ≡ true → length (port_of a.at).given + half c service tei place ranged ≤ M') where
       pub frame-comes : IsOwn d service tei place ranged_far octets → gained c.n201 (port_of a.at).received value ≡ Some (stream.frame octets) → Then c service tei place ranged lengths rate S M' (happens (port.octet value) a)
       frame-comes own is =
           let f = own.0 in
@@ -160,9 +161,9 @@ module _ (c : Config) (service : Service) (tei place : ℕ) (ranged : IsInRange 
           let whole : came k.n201 octets ≡ stream.frame octets =
           ap (λ (k : Config). came k.n201 octets) h.but.ends.stands.config ∙ ap (λ n. came n octets) (sym size) ∙ ap (came d.n201) own.1 ∙ own.2.carried.whole ∙ ap stream.frame (sym own.1) in
           let read : reading (heard_side k) octets ≡ Ok f = ap (λ (k : Config). reading (heard_side k) octets) h.but.ends.stands.config
-          ∙ ap (λ side. reading side octets) side ∙ ap (reading d.side) own.1 ∙ own.2.carried.read in
+          ∙ ap (λ side. reading side octets) side ∙ ap (reading (own_side d)) own.1 ∙ own.2.carried.read in
           let mv = heard-frame c service tei place ranged a.at h.but.ends value d octets f own.1 own.2 side size (here (Some (stream.frame octets)) is) in
-          let read_there : reading d.side octets ≡ Ok f = ap (reading d.side) own.1 ∙ own.2.carried.read in
+          let read_there : reading (own_side d) octets ≡ Ok f = ap (reading (own_side d)) own.1 ∙ own.2.carried.read in
           moved-on c service tei place ranged lengths rate a (port.octet value) S M M' h.but (line.hears (stream.frame octets)) means (λ x. x ≡ e) mv
           (λ x is. subst IsOrdinary (sym (mv.by x is)) tt)
           (λ x is asks_it. soon_asked

@@ -38,6 +38,9 @@ use Rattle.laws_time.proofs.OfCircuit.Standing.{Ends, pulls}
 use Rattle.laws_time.proofs.OfCircuit.Under.{EndOk, state-here}
 use Rattle.laws_time.specs.circuit.Clocked.{TimedEndpoint, Clocked, Beat, gone, beat, after, fall_due}
 use Rattle.laws_time.specs.circuit.LongEnough.{Line, IsTalk, IsClearAt, IsLongEnough, is_of, is_waiting, asked, answered_in}
+use Rattle.model_line.specs.Taken.{own_side}
+use Rattle.model_line.specs.Heard.{heard_side}
+use Rattle.laws_wire.proofs.Spelled.{sides-turned}
 unfoldable use Rattle.laws_time.specs.circuit.LongEnough.{pulling, AreClear}
 
 -- A command with P=1 asks for an answer.
@@ -60,10 +63,6 @@ poll-asks command control is = grind arith
 of-asks : (c : Config) (octets : List ℕ) → is_of is_poll c octets ≡ true → is_of asks_frame c octets ≡ true
 of-asks c octets is =
     any-more (λ (f : Parts). is_poll f.address.command f.control) (λ (f : Parts). asks_frame f.address.command f.control) (λ f. poll-asks f.address.command f.control) (read_as c octets) is
-
-other-again : (s : Side) → other_side (other_side s) ≡ s
-other-again Network = refl
-other-again User = refl
 
 is-due : (n m : ℕ) → nat_le n m ≡ true → n ≤ m
 is-due n m is = grind arith
@@ -99,7 +98,7 @@ module _ (c : Config) (service : Service) (tei : ℕ) (ranged : IsInRange c) (ki
   pulling-on (suc n) s h ok before value more octets given is its =
       pulling-on n (circuit.happens port.pull s) (pulls c service tei 0 ranged s h).ends (pulled-on c service tei 0 ranged kind plain s h most ok) before value more octets given is its
 
-module _ (l : Line) (some : 1 ≤ l.rate) (near : IsInRange l.near) (far : IsInRange l.far) (opposite : l.far.side ≡ other_side l.near.side) (size : l.near.n201 ≡ l.far.n201)
+module _ (l : Line) (some : 1 ≤ l.rate) (near : IsInRange l.near) (far : IsInRange l.far) (opposite : own_side l.far ≡ heard_side l.near) (size : l.near.n201 ≡ l.far.n201)
     (t200 : answered_in l.near l.far l.way + l.rate ≤ l.lengths.t200 * l.rate) (t u : TimedOctetCard) where
   abbrev halves : ℕ
   halves = half l.near l.service l.tei 0 near + half l.far l.service l.tei 0 far
@@ -180,7 +179,7 @@ module _ (l : Line) (some : 1 ≤ l.rate) (near : IsInRange l.near) (far : IsInR
       far-heard : HasHeard l.service l.tei l.way l.lengths l.rate l.far far w.beats far-gone.S' (by_now near-gone.S') (gone l.rate b w).far (beat l.rate w b).far
       far-heard =
           let g = near-gone in let k = far-gone in let more = g.later in
-          heard-on l.service l.tei l.way l.lengths l.rate l.far far l.near near l.near.n201 (sym size) refl (ap other_side opposite ∙ other-again l.near.side) w.beats k.S' (by_now p.S) (by_now g.S') g.S' (by_now p.S2)
+          heard-on l.service l.tei l.way l.lengths l.rate l.far far l.near near l.near.n201 (sym size) refl (sym (sides-turned l.near l.far opposite)) w.beats k.S' (by_now p.S) (by_now g.S') g.S' (by_now p.S2)
           (gone l.rate b w).far (gone l.rate b w).near k.ok g.ok (omega (arith, more)) (omega arith) b.far_noise clear_far k.given g.given g.way
           (soon-then (gone l.rate b w).far k.given k.now)
 

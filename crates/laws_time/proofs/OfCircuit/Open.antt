@@ -6,9 +6,9 @@ use Rattle.std.proofs.lemmas.List.Elements.{All-head, All-tail}
 use Rattle.std.specs.List.{AllByRecursion, list_any}
 use Rattle.lapd_frame.specs.declared.controls.Control.{Control}
 use Rattle.lapd_frame.specs.declared.services.Service.{Service}
-use Rattle.lapd_frame.specs.Grammar.{Parts, spelling}
-use Rattle.lapd_frame.specs.Reading.{reading}
-use Rattle.lapd_frame.proofs.Spelling.{reading-again}
+use Rattle.lapd_frame.specs.Grammar.{Parts}
+use Rattle.lapd_frame.specs.Senders.{reading, spelling}
+use Rattle.lapd_frame.proofs.Naming.{reading-again}
 use Rattle.model_bits.proofs.BitLemmas.{length-bits}
 use Rattle.model_bits.proofs.Division.Unique.{length-check}
 use Rattle.model_bits.specs.Bits.{bits}
@@ -43,6 +43,7 @@ use Rattle.laws_time.proofs.OfCircuit.Sender.{Sends, IsIn, text_length, wait-mor
 unfoldable use Rattle.laws_time.proofs.OfCircuit.Sender.{WaitIn}
 use Rattle.laws_time.proofs.OfCircuit.Standing.{Ends, Pulled, pulls, bare, fine}
 use Rattle.laws_time.proofs.OfCircuit.Taken.{text, Took}
+use Rattle.model_line.specs.Taken.{own_side}
 
 -- A control frame takes at most 72 bits.
 stuffed-longest : (b : List Bool) → 5 * length (stuffed b) ≤ 6 * length b
@@ -100,7 +101,7 @@ module _ (c : Config) (service : Service) (tei place : ℕ) (ranged : IsInRange 
     pub text-kind : (f : ControlFrame) → IsWaitingFrame (terms c service tei) f → is_of kind c (text c service tei f) ≡ kind f.command f.control
     text-kind f w =
         ap (λ r. list_any (λ (f : Parts). kind f.address.command f.control) (parts_of r))
-        (reading-again c.side (frame_of (terms c service tei) f) (text c service tei f) (record { is_frame = w.is_frame; octets_are = refl }))
+        (reading-again (own_side c) (frame_of (terms c service tei) f) (text c service tei f) (record { is_frame = w.is_frame; octets_are = refl }))
         ∙ or-false (kind f.command f.control)
       where
         or-false : (b : Bool) → (b || false) ≡ b
@@ -185,7 +186,7 @@ module _ (c : Config) (service : Service) (tei place : ℕ) (ranged : IsInRange 
           or-false true = refl
           or-false false = refl
 
-          by-parts : (o : List ℕ) → (p : Parts) × (o ≡ spelling c.side p) × (reading c.side o ≡ Ok p) × ((asks p.address.command p.control ≡ false) × (is_final p.address.command p.control ≡ false)) → is_of kind c o ≡ false
+          by-parts : (o : List ℕ) → (p : Parts) × (o ≡ spelling (own_side c) p) × (reading (own_side c) o ≡ Ok p) × ((asks p.address.command p.control ≡ false) × (is_final p.address.command p.control ≡ false)) → is_of kind c o ≡ false
           by-parts o z =
               ap (λ r. list_any (λ (f : Parts). kind f.address.command f.control) (parts_of r)) z.2
               ∙ or-false (kind z.0.address.command z.0.control) ∙ plain z.0 z.3

@@ -9,7 +9,7 @@ use Rattle.lapd_frame.specs.declared.refusals.Refusal.TheVariants.{PoolFull}
 use Rattle.lapd_frame.specs.declared.services.Service.{Service}
 use Rattle.lapd_frame.specs.declared.timers.Timer.{Timer}
 use Rattle.lapd_frame.specs.Grammar.{Parts}
-use Rattle.lapd_frame.specs.Reading.{reading}
+use Rattle.lapd_frame.specs.Senders.{reading}
 use Rattle.lapd_frame.specs.Services.{sapi_of}
 use Rattle.model_bits.specs.Stream as stream
 use Rattle.model_link.specs.declared.terms.Terms.{Terms}

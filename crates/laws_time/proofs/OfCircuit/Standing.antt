@@ -5,8 +5,8 @@ use Rattle.std.proofs.lemmas.List.Elements.{All-nil, All-append, All-cons, All-h
 use Rattle.std.specs.Option.{option_map_or}
 use Rattle.lapd_frame.specs.declared.services.Service.{Service}
 use Rattle.lapd_frame.specs.declared.timers.Timer.{Timer}
-use Rattle.lapd_frame.specs.Grammar.{Parts, spelling}
-use Rattle.lapd_frame.specs.Reading.{reading}
+use Rattle.lapd_frame.specs.Grammar.{Parts}
+use Rattle.lapd_frame.specs.Senders.{reading, spelling}
 use Rattle.model_bits.specs.Sent.{Item}
 use Rattle.model_bits.specs.StuffingLaws.{AreOctets}
 use Rattle.model_bits.specs.Stream as stream
@@ -48,6 +48,7 @@ use Rattle.laws_order.proofs.OfCircuit.Projected.{Fits, port-after}
 use Rattle.laws_order.proofs.OfCircuit.Ran.{Ran, goes-on, within-ports, sound-port, on-line, gives-octets}
 use Rattle.laws_time.proofs.OfCircuit.Sender.{Fine, Gave}
 use Rattle.laws_time.proofs.OfCircuit.Taken.{Took, takes-now}
+use Rattle.model_line.specs.Taken.{own_side}
 
 -- An expiry as the card of frames inside has it.
 expired-reply : (timer : Timer) (s : OctetEndpoint) (way : List (List ℕ))
@@ -66,7 +67,7 @@ module _ (c : Config) (service : Service) (tei place : ℕ) (ranged : IsInRange 
 
   -- A frame of this end's.
   abbrev pub IsOwn : List ℕ → Type 0
-  IsOwn octets = (f : Parts) × (octets ≡ spelling c.side f) × IsCarried c service tei f
+  IsOwn octets = (f : Parts) × (octets ≡ spelling (own_side c) f) × IsCarried c service tei f
 
   pub record Ends (s : OctetEndpoint) : Type 0 where
     pub ran : Ran c s
@@ -247,7 +248,7 @@ module _ (c : Config) (service : Service) (tei place : ℕ) (ranged : IsInRange 
           (told-more (as_station [] s) (bared y) (dropped-same cause (as_station [] s)) refl refl (bare h.its) h.stands))
 
       -- with a frame of the other end
-      module _ (d : Config) (octets : List ℕ) (f : Parts) (spelled : octets ≡ spelling d.side f) (from : IsCarried d service tei f) (side : heard_side c ≡ d.side) (size : d.n201 ≡ c.n201) where
+      module _ (d : Config) (octets : List ℕ) (f : Parts) (spelled : octets ≡ spelling (own_side d) f) (from : IsCarried d service tei f) (side : heard_side c ≡ own_side d) (size : d.n201 ≡ c.n201) where
         abbrev IsHeard : link.Event → Type 0
         IsHeard e = e ≡ link.received (link.frame f)
 
@@ -258,7 +259,7 @@ module _ (c : Config) (service : Service) (tei place : ℕ) (ranged : IsInRange 
             let whole : came k.n201 octets ≡ stream.frame octets =
             ap (λ (k : Config). came k.n201 octets) h.stands.config ∙ ap (λ n. came n octets) (sym size) ∙ ap (came d.n201) spelled ∙ from.carried.whole ∙ ap stream.frame (sym spelled) in
             let read = ap (λ (k : Config). reading (heard_side k) octets) h.stands.config
-            ∙ ap (λ side. reading side octets) side ∙ ap (reading d.side) spelled ∙ from.carried.read in
+            ∙ ap (λ side. reading side octets) side ∙ ap (reading (own_side d)) spelled ∙ from.carried.read in
             let takes = takes-stands service tei place (as_station [] s) (bare h.its) own f octets whole read from.sapi from.by in
             record {
               ends = same-ends s heard h ran-now (links.after (terms c service tei) e h.its)
@@ -315,13 +316,13 @@ module _ (c : Config) (service : Service) (tei place : ℕ) (ranged : IsInRange 
     its-frames : List Parts
     its-frames = frame_given (terms c service tei) (links.given (terms c service tei) h.its)
 
-    frames-are : frames_among (item_of (given_in (next_of_card s.line s.card.card)) ∷ []) ≡ map (spelling c.side) (frame_given (terms c service tei) (links.given (terms c service tei) h.its))
+    frames-are : frames_among (item_of (given_in (next_of_card s.line s.card.card)) ∷ []) ≡ map (spelling (own_side c)) (frame_given (terms c service tei) (links.given (terms c service tei) h.its))
     frames-are = sym gives-now ∙ gives-frames service tei place (as_station [] s) (bare h.its) own
-        ∙ ap (λ (k : Config). map (spelling k.side) (frame_given (terms c service tei) (links.given (terms c service tei) h.its))) h.stands.config
+        ∙ ap (λ (k : Config). map (spelling (own_side k)) (frame_given (terms c service tei) (links.given (terms c service tei) h.its))) h.stands.config
 
-    all-own : (fs : List Parts) → All (IsCarried c service tei) fs → All IsOwn (map (spelling c.side) fs)
+    all-own : (fs : List Parts) → All (IsCarried c service tei) fs → All IsOwn (map (spelling (own_side c)) fs)
     all-own [] all = All-nil IsOwn
-    all-own (f ∷ fs) all = All-cons IsOwn (spelling c.side f) (map (spelling c.side) fs) (f, refl, All-head (IsCarried c service tei) f fs all) (all-own fs (All-tail (IsCarried c service tei) f fs all))
+    all-own (f ∷ fs) all = All-cons IsOwn (spelling (own_side c) f) (map (spelling (own_side c)) fs) (f, refl, All-head (IsCarried c service tei) f fs all) (all-own fs (All-tail (IsCarried c service tei) f fs all))
 
     octets-now : (o : Option NextFrame) → ((f : NextFrame) → o ≡ Some f → AreOctets f.octets) → All AreOctets (frames_among (item_of o ∷ []))
     octets-now None all = All-nil AreOctets

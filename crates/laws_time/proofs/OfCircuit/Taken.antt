@@ -2,8 +2,8 @@
 use Rattle.std.proofs.Common.{arith, ◌≡◌, ℕ, Bool, true, false, cond, List, [], ◌∷◌, map, Option, Some, None, Ok, refl, sym, ap, ◌∙◌, subst, All, ◌⊎◌, inl, inr}
 use Rattle.std.proofs.lemmas.List.Elements.{All-head}
 use Rattle.lapd_frame.specs.declared.services.Service.{Service}
-use Rattle.lapd_frame.specs.Grammar.{Parts, spelling}
-use Rattle.lapd_frame.specs.Reading.{reading}
+use Rattle.lapd_frame.specs.Grammar.{Parts}
+use Rattle.lapd_frame.specs.Senders.{reading, spelling}
 use Rattle.model_bits.specs.Sent.{Item, frame}
 use Rattle.model_link.specs.Events as link
 use Rattle.model_link.specs.Link.{Link}
@@ -28,13 +28,14 @@ use Rattle.model_link.specs.declared.frames.ControlFrame.{ControlFrame}
 use Rattle.model_link.specs.declared.terms.Terms.{Terms}
 use Rattle.model_link.specs.Link.{frame_of}
 use Rattle.std.specs.List.{AllByRecursion}
+use Rattle.model_line.specs.Taken.{own_side}
 
 module _ (c : Config) (service : Service) (tei : ℕ) where
   abbrev t : Terms
   t = terms c service tei
 
   abbrev pub text : ControlFrame → List ℕ
-  text f = spelling c.side (frame_of (terms c service tei) f)
+  text f = spelling (own_side c) (frame_of (terms c service tei) f)
 
   abbrev pub IsPlain : Parts → Type 0
   IsPlain p = (asks p.address.command p.control ≡ false) × (is_final p.address.command p.control ≡ false)
@@ -42,7 +43,7 @@ module _ (c : Config) (service : Service) (tei : ℕ) where
   abbrev pub TookDue : List Item → List ControlFrame → List ControlFrame → Type 0
   TookDue new ws now =
       ((f : ControlFrame) × (new ≡ frame (text f) ∷ []) × (ws ≡ f ∷ now))
-      ⊎ ((now ≡ []) × ((o : List ℕ) → new ≡ frame o ∷ [] → (p : Parts) × (o ≡ spelling c.side p) × (reading c.side o ≡ Ok p) × IsPlain p))
+      ⊎ ((now ≡ []) × ((o : List ℕ) → new ≡ frame o ∷ [] → (p : Parts) × (o ≡ spelling (own_side c) p) × (reading (own_side c) o ≡ Ok p) × IsPlain p))
 
   abbrev pub Took : List Item → List ControlFrame → List ControlFrame → Type 0
   Took new ws now = ((new ≡ []) × (now ≡ ws)) ⊎ TookDue new ws now
@@ -75,7 +76,7 @@ module _ (c : Config) (service : Service) (tei : ℕ) where
       go false false runs = (is, tt)
 
   pub takes-now : (l : Link) (o : Option NextFrame)
-      → frames_among (item_of o ∷ []) ≡ map (spelling c.side) (frame_given (terms c service tei) (links.given (terms c service tei) l))
+      → frames_among (item_of o ∷ []) ≡ map (spelling (own_side c)) (frame_given (terms c service tei) (links.given (terms c service tei) l))
       → All (IsCarried c service tei) (frame_given (terms c service tei) (links.given (terms c service tei) l))
       → TookDue (item_of o ∷ []) l.waiting (links.after (terms c service tei) link.offer l).waiting
   takes-now l o are carried = go l.waiting refl
@@ -84,12 +85,12 @@ module _ (c : Config) (service : Service) (tei : ℕ) where
       named None octets is = cc is
       named (Some g) octets is = ap (λ x. frame x ∷ []) (cc is)
 
-      plain : (fs : List Parts) → AllByRecursion IsPlain fs → All (IsCarried c service tei) fs → (octets : List ℕ) → octets ∷ [] ≡ map (spelling c.side) fs
-          → (p : Parts) × (octets ≡ spelling c.side p) × (reading c.side octets ≡ Ok p) × IsPlain p
+      plain : (fs : List Parts) → AllByRecursion IsPlain fs → All (IsCarried c service tei) fs → (octets : List ℕ) → octets ∷ [] ≡ map (spelling (own_side c)) fs
+          → (p : Parts) × (octets ≡ spelling (own_side c) p) × (reading (own_side c) octets ≡ Ok p) × IsPlain p
       plain [] all own octets is = cc is
       plain (p ∷ fs) all own octets is =
-          let same : octets ≡ spelling c.side p = cc is in
-          (p, same, ap (reading c.side) same ∙ (All-head (IsCarried c service tei) p fs own).carried.read, all.0)
+          let same : octets ≡ spelling (own_side c) p = cc is in
+          (p, same, ap (reading (own_side c)) same ∙ (All-head (IsCarried c service tei) p fs own).carried.read, all.0)
 
       one : (o : Option NextFrame) (octets : List ℕ) → item_of o ∷ [] ≡ frame octets ∷ [] → frames_among (item_of o ∷ []) ≡ octets ∷ []
       one o octets is = ap frames_among is
@@ -100,4 +101,4 @@ module _ (c : Config) (service : Service) (tei : ℕ) where
           inr (x.0, λ octets put. plain (frame_given (terms c service tei) (links.given (terms c service tei) l)) x.1 carried octets (sym (one o octets put) ∙ are))
       go (f ∷ fs) is =
           let x = given-first l f fs is in
-          inl (f, named o (text f) (are ∙ ap (map (spelling c.side)) x.0), is ∙ ap (λ ws. f ∷ ws) (sym x.1))
+          inl (f, named o (text f) (are ∙ ap (map (spelling (own_side c))) x.0), is ∙ ap (λ ws. f ∷ ws) (sym x.1))

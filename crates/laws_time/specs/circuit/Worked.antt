@@ -5,6 +5,7 @@ use Rattle.lapd_frame.specs.declared.notes.Note.TheVariants.{Error, ReleaseIndic
 use Rattle.lapd_frame.specs.declared.notes.ErrorCode.TheVariants.{G}
 use Rattle.lapd_frame.specs.declared.services.Service.TheVariants.{Call}
 use Rattle.lapd_frame.specs.Reading.{reading, header_of, control_of, unnumbered_of, supervisory_of}
+use Rattle.lapd_frame.specs.Senders.{exchanged, reading as read_by}
 use Rattle.lapd_seq.specs.Circle.{distance_of, named}
 use Rattle.lapd_seq.specs.Numbers.{seq}
 use Rattle.lapd_tei.specs.Events as teis
@@ -33,7 +34,7 @@ abbrev pub calls : List Beat
 calls = asks ∷ replicate 15 plain
 
 called : (after 1 calls begins).near.at.told ≡ confirmed Call 0 ∷ []
-unfolding lines.after lines.answer lines.takes_slot reading header_of control_of unnumbered_of supervisory_of teis.course teis.refusal seq distance_of named low_bits ports.after ports.answer ports.meant fall_due
+unfolding lines.after lines.answer lines.takes_slot exchanged read_by reading header_of control_of unnumbered_of supervisory_of teis.course teis.refusal seq distance_of named low_bits ports.after ports.answer ports.meant fall_due
 called = refl
 
 -- Both ask in the first beat, so that their SABMEs cross: each is confirmed.
@@ -41,11 +42,11 @@ abbrev crossing : List Beat
 crossing = record asks { far_asks = Establish Call 0 ∷ [] } ∷ replicate 15 plain
 
 crossed_near : (after 1 crossing begins).near.at.told ≡ confirmed Call 0 ∷ []
-unfolding lines.after lines.answer lines.takes_slot reading header_of control_of unnumbered_of supervisory_of teis.course teis.refusal seq distance_of named low_bits ports.after ports.answer ports.meant fall_due
+unfolding lines.after lines.answer lines.takes_slot exchanged read_by reading header_of control_of unnumbered_of supervisory_of teis.course teis.refusal seq distance_of named low_bits ports.after ports.answer ports.meant fall_due
 crossed_near = refl
 
 crossed_far : (after 1 crossing begins).far.at.told ≡ confirmed Call 0 ∷ []
-unfolding lines.after lines.answer lines.takes_slot reading header_of control_of unnumbered_of supervisory_of teis.course teis.refusal seq distance_of named low_bits ports.after ports.answer ports.meant fall_due
+unfolding lines.after lines.answer lines.takes_slot exchanged read_by reading header_of control_of unnumbered_of supervisory_of teis.course teis.refusal seq distance_of named low_bits ports.after ports.answer ports.meant fall_due
 crossed_far = refl
 
 -- A content is sent, and noise makes another octet of one of its: the frame is lost. T200 falls due, and an enquiry goes; behind its
@@ -57,11 +58,11 @@ abbrev lost : List Beat
 lost = sends ∷ replicate 3 plain ++ (record plain { far_noise = Some 0x55 } ∷ replicate 10 plain)
 
 not_yet : contents_at (after 1 (calls ++ lost) begins).far ≡ []
-unfolding lines.after lines.answer lines.takes_slot reading header_of control_of unnumbered_of supervisory_of teis.course teis.refusal seq distance_of named low_bits ports.after ports.answer ports.meant fall_due
+unfolding lines.after lines.answer lines.takes_slot exchanged read_by reading header_of control_of unnumbered_of supervisory_of teis.course teis.refusal seq distance_of named low_bits ports.after ports.answer ports.meant fall_due
 not_yet = refl
 
 recovered : contents_at (after 1 (calls ++ lost ++ replicate 30 plain) begins).far ≡ (0xAB ∷ []) ∷ []
-unfolding lines.after lines.answer lines.takes_slot reading header_of control_of unnumbered_of supervisory_of teis.course teis.refusal seq distance_of named low_bits ports.after ports.answer ports.meant fall_due
+unfolding lines.after lines.answer lines.takes_slot exchanged read_by reading header_of control_of unnumbered_of supervisory_of teis.course teis.refusal seq distance_of named low_bits ports.after ports.answer ports.meant fall_due
 recovered = refl
 
 -- SABME is lost, and N200 is 1: it goes again as T200 falls due at 16, and now it is heard.
@@ -82,7 +83,7 @@ abbrev nearly : List Beat
 nearly = asks_deaf ∷ replicate 14 deaf ++ replicate 17 plain
 
 nearly_lost : (after 1 nearly (begins_once lengths)).near.at.told ≡ confirmed Call 0 ∷ []
-unfolding lines.after lines.answer lines.takes_slot reading header_of control_of unnumbered_of supervisory_of teis.course teis.refusal seq distance_of named low_bits ports.after ports.answer ports.meant fall_due
+unfolding lines.after lines.answer lines.takes_slot exchanged read_by reading header_of control_of unnumbered_of supervisory_of teis.course teis.refusal seq distance_of named low_bits ports.after ports.answer ports.meant fall_due
 nearly_lost = refl
 
 -- The line is dead, and T200 runs for four milliseconds: the release is told as it falls due for the second time, at 8.
@@ -93,7 +94,7 @@ abbrev dies : List Beat
 dies = asks_deaf ∷ replicate 8 deaf
 
 told_dead : notes_at (after 1 dies (begins_once short)).near ≡ Error Call 0 G ∷ ReleaseIndication Call 0 ∷ []
-unfolding lines.after lines.answer lines.takes_slot reading header_of control_of unnumbered_of supervisory_of teis.course teis.refusal seq distance_of named low_bits ports.after ports.answer ports.meant fall_due
+unfolding lines.after lines.answer lines.takes_slot exchanged read_by reading header_of control_of unnumbered_of supervisory_of teis.course teis.refusal seq distance_of named low_bits ports.after ports.answer ports.meant fall_due
 told_dead = refl
 
 -- Noise makes a frame of another link of what comes: its TEI is not on the line, so it is dropped, and nothing else is told.
@@ -104,5 +105,5 @@ abbrev others : List Beat
 others = map disturbed (0x7E ∷ 0x00 ∷ 0x81 ∷ 0xEF ∷ 0x50 ∷ 0xB1 ∷ 0xFD ∷ 0xFC ∷ [])
 
 is_dropped : (after 1 others begins).far.at.told ≡ dropped Tei ∷ []
-unfolding lines.after lines.answer lines.takes_slot reading header_of control_of unnumbered_of supervisory_of teis.course teis.refusal seq distance_of named low_bits ports.after ports.answer ports.meant fall_due
+unfolding lines.after lines.answer lines.takes_slot exchanged read_by reading header_of control_of unnumbered_of supervisory_of teis.course teis.refusal seq distance_of named low_bits ports.after ports.answer ports.meant fall_due
 is_dropped = refl

@@ -6,6 +6,7 @@ use Rattle.model_bits.specs.Stream as stream
 use Rattle.lapd_clock.specs.Timer.{T200}
 use Rattle.lapd_frame.specs.declared.services.Service.TheVariants.{Call}
 use Rattle.lapd_frame.specs.Reading.{reading, header_of, control_of, unnumbered_of, supervisory_of}
+use Rattle.lapd_frame.specs.Senders.{exchanged, reading as read_by}
 use Rattle.lapd_seq.specs.Circle.{distance_of, named}
 use Rattle.lapd_seq.specs.Numbers.{seq}
 use Rattle.lapd_tei.specs.Events as teis
@@ -20,6 +21,7 @@ use Rattle.laws_order.specs.circuit.Circuit.{port_of}
 use Rattle.laws_time.specs.circuit.Clocked.{Clocked, TimedEndpoint, after, fall_due}
 use Rattle.laws_time.specs.circuit.Worked.{asks}
 use Rattle.laws_time.specs.circuit.LongEnough.{Line, IsFit, IsLongEnough, answered_in, begins, asked, is_of}
+use Rattle.model_line.specs.Config.{sapi_fault}
 unfoldable use Rattle.laws_time.specs.circuit.LongEnough.{pulling}
 
 -- A line of so many octets a millisecond, with so many in transit each way, on which each timer runs so long.
@@ -36,6 +38,7 @@ primary_rate = refl
 
 -- So T200 is long enough from 362 ms on, and from 95 ms on.
 pub fit : (rate way t200 : ℕ) → 1 ≤ rate → 1 ≤ t200 → t200 ≤ 3600000 → answered_in user network way + rate ≤ (line_with rate way t200).lengths.t200 * rate → IsFit (line_with rate way t200)
+unfolding sapi_fault
 fit rate way t200 some least most long = record {
   call = record { near = (refl, omega arith); far = (refl, omega arith); opposite = (refl, refl); terminal = omega arith };
   some = some;
@@ -66,15 +69,15 @@ abbrev its_end : TimedEndpoint
 its_end = fall_due 0 (asked 1 [] then.near)
 
 falls_due : due its_end.clock ≡ Some (record { moment = 1; line = 0; timer = T200 Call 0 })
-unfolding lines.after lines.answer lines.takes_slot reading header_of control_of unnumbered_of supervisory_of teis.course teis.refusal seq distance_of named low_bits ports.after ports.answer ports.meant fall_due
+unfolding lines.after lines.answer lines.takes_slot exchanged read_by reading header_of control_of unnumbered_of supervisory_of teis.course teis.refusal seq distance_of named low_bits ports.after ports.answer ports.meant fall_due
 falls_due = refl
 
 in_5 : state its_end.at.line Call 0 its_end.at.card.card ≡ Some 5
-unfolding lines.after lines.answer lines.takes_slot reading header_of control_of unnumbered_of supervisory_of teis.course teis.refusal seq distance_of named low_bits ports.after ports.answer ports.meant fall_due
+unfolding lines.after lines.answer lines.takes_slot exchanged read_by reading header_of control_of unnumbered_of supervisory_of teis.course teis.refusal seq distance_of named low_bits ports.after ports.answer ports.meant fall_due
 in_5 = refl
 
 goes : (port_of (pulling 7 its_end.at)).given ≡ (0x7E ∷ 0x00 ∷ 0x01 ∷ 0xDF ∷ 0xC8 ∷ 0xA8 ∷ 0xFC ∷ []) ++ 0xFC ∷ []
-unfolding lines.after lines.answer lines.takes_slot reading header_of control_of unnumbered_of supervisory_of teis.course teis.refusal seq distance_of named low_bits ports.after ports.answer ports.meant fall_due pulling
+unfolding lines.after lines.answer lines.takes_slot exchanged read_by reading header_of control_of unnumbered_of supervisory_of teis.course teis.refusal seq distance_of named low_bits ports.after ports.answer ports.meant fall_due pulling
 goes = refl
 
 heard : gained 260 (0x7E ∷ 0x00 ∷ 0x01 ∷ 0xDF ∷ 0xC8 ∷ 0xA8 ∷ 0xFC ∷ []) 0xFC ≡ Some (stream.frame (0x00 ∷ 0x01 ∷ 0x7F ∷ []))
@@ -82,11 +85,11 @@ unfolding low_bits
 heard = refl
 
 asks_for_ua : is_of is_poll user (0x00 ∷ 0x01 ∷ 0x7F ∷ []) ≡ true
-unfolding reading header_of control_of unnumbered_of supervisory_of
+unfolding exchanged read_by reading header_of control_of unnumbered_of supervisory_of
 asks_for_ua = refl
 
 received : length (port_of then.far.at).received ≡ 1
-unfolding lines.after lines.answer lines.takes_slot reading header_of control_of unnumbered_of supervisory_of teis.course teis.refusal seq distance_of named low_bits ports.after ports.answer ports.meant fall_due
+unfolding lines.after lines.answer lines.takes_slot exchanged read_by reading header_of control_of unnumbered_of supervisory_of teis.course teis.refusal seq distance_of named low_bits ports.after ports.answer ports.meant fall_due
 received = refl
 
 not_long_enough : IsLongEnough too_short user network its_end then.far → ⊥

@@ -1,6 +1,6 @@
 -- What a receiver hears of unit data: the laws.
 use Rattle.laws_trace.proofs.Vocabulary.{◌≡◌, ℕ, ◌<◌, List, [], ◌∷◌, ◌++◌, map, refl, sym, ap, ◌∙◌, arith, filter, flat_map, flat_map-append, map-append, filter-append, Config, IsInRange, most_frames, takes_at, as_octets, octets_given, frames_to_hear, OfEachLine, given_frames_are_heard, append-nil, fold, unit_frame, subst, is_unit, ports_fresh as fresh, PortsEvent as Event}
-use Rattle.laws_trace.proofs.Vocabulary.{PortsAreAtLines as AreAtLines, Asked, none_asked, with_request, units_to_hear, AreFronts, whole_frame, whole_frames, UnitsAreHeard, AllUnitsAreHeard, stream_heard_in, stream_frame}
+use Rattle.laws_trace.proofs.Vocabulary.{PortsAreAtLines as AreAtLines, Asked, none_asked, with_request, units_to_hear, AreFronts, whole_frame, whole_frames, UnitsAreHeard, AllUnitsAreHeard, stream_heard_in, stream_frame, own_side}
 use Rattle.laws_trace.proofs.Units.{units_begun}
 use Rattle.laws_trace.proofs.UnitsGoOut.{left-waiting, goes, nothing-left}
 use Rattle.laws_trace.proofs.OfOctets.AsOctets.{same_units}
@@ -69,8 +69,8 @@ module _ (c : Config) (events : List Event) (number : ℕ) (ranged : IsInRange c
         before = map as_octets parts.before;
         fronts = mapped parts.before asks.earlier parts.fronts;
         all =
-            ap (λ es. filter (is_unit c.side) (flat_map whole_frame es)) (sym (all-frames-go-out c events number ranged all within h))
-            ∙ ap (filter (is_unit c.side)) (heard_again (map as_octets given)) ∙ (grind (arith, same_units, spelled, begun))
+            ap (λ es. filter (is_unit (own_side c)) (flat_map whole_frame es)) (sym (all-frames-go-out c events number ranged all within h))
+            ∙ ap (filter (is_unit (own_side c))) (heard_again (map as_octets given)) ∙ (grind (arith, same_units, spelled, begun))
             ∙ ap (map as_octets) parts.begun_is ∙ map-append as_octets parts.before parts.since
             ∙ ap (λ xs. map as_octets parts.before ++ map as_octets xs) (sym (append-nil parts.since) ∙ ap (λ ws. parts.since ++ ws) (sym none) ∙ parts.waits);
       }

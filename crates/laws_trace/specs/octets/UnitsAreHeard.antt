@@ -2,6 +2,7 @@
 use Rattle.std.specs.Prelude.{◌≡◌, ℕ, List, [], ◌∷◌, ◌++◌, filter, map, flat_map}
 use Rattle.model_bits.specs.Stream as stream
 use Rattle.model_line.specs.declared.config.Config.{Config}
+use Rattle.model_line.specs.Taken.{own_side}
 use Rattle.laws_trace.specs.Trace.{IsFront}
 use Rattle.laws_trace.specs.UnitsGoOut.{is_unit}
 use Rattle.model_card.specs.ports.Event.{Event}
@@ -18,7 +19,7 @@ abbrev pub whole_frames : ℕ → List ℕ → List (List ℕ)
 whole_frames n201 octets = flat_map whole_frame (stream.heard_in n201 octets)
 
 abbrev pub units_heard : Config → List ℕ → List (List ℕ)
-units_heard c octets = filter (is_unit c.side) (whole_frames c.n201 octets)
+units_heard c octets = filter (is_unit (own_side c)) (whole_frames c.n201 octets)
 
 -- Some of the first of each of these lists, one behind the other.
 abbrev pub AreFronts : List (List ℕ) → List (List (List ℕ)) → Type 0

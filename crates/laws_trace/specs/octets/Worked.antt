@@ -7,6 +7,7 @@ use Rattle.model_bits.specs.Stream as stream
 use Rattle.model_bits.specs.declared.heard.Cause.TheVariants.{Fcs}
 use Rattle.lapd_frame.specs.declared.services.Service.TheVariants.{Call}
 use Rattle.lapd_frame.specs.Reading.{reading, header_of, control_of, unnumbered_of}
+use Rattle.lapd_frame.specs.Senders.{exchanged, reading as read_by}
 use Rattle.model_line.specs.Machine as lines
 use Rattle.lapd_tei.specs.Events as teis
 use Rattle.model_line.specs.Request.{Request, Unit, Down}
@@ -35,15 +36,15 @@ abbrev units_and_pulls : ℕ → List Event
 units_and_pulls n = asks (unit 1) ∷ asks (unit 2) ∷ asks (Unit Call 64 (3 ∷ [])) ∷ pulls n
 
 two_granted : units_to_hear usual (units_and_pulls 9) 0 ≡ record { earlier = []; since = spelled 1 ∷ spelled 2 ∷ [] }
-unfolding moments after answer meant lines.after lines.answer lines.takes_slot low_bits
+unfolding exchanged moments after answer meant lines.after lines.answer lines.takes_slot low_bits
 two_granted = refl
 
 one_heard : units_heard usual (octets_given usual (units_and_pulls 9) 0) ≡ spelled 1 ∷ []
-unfolding moments after answer meant lines.after lines.answer lines.takes_slot low_bits reading header_of control_of unnumbered_of
+unfolding moments after answer meant lines.after lines.answer lines.takes_slot low_bits exchanged read_by reading header_of control_of unnumbered_of
 one_heard = refl
 
 two_heard : units_heard usual (octets_given usual (units_and_pulls 16) 0) ≡ spelled 1 ∷ spelled 2 ∷ []
-unfolding moments after answer meant lines.after lines.answer lines.takes_slot low_bits reading header_of control_of unnumbered_of
+unfolding moments after answer meant lines.after lines.answer lines.takes_slot low_bits exchanged read_by reading header_of control_of unnumbered_of
 two_heard = refl
 
 -- As often as this the usual configuration has to be pulled, and then all is heard.
@@ -56,11 +57,11 @@ abbrev down_between : List Event
 down_between = asks (unit 1) ∷ asks (unit 2) ∷ pulls 2 ++ asks Down ∷ asks (unit 3) ∷ pulls 16
 
 second_given_up : units_to_hear usual down_between 0 ≡ record { earlier = (spelled 1 ∷ spelled 2 ∷ []) ∷ []; since = spelled 3 ∷ [] }
-unfolding moments after answer meant lines.after lines.answer lines.takes_slot low_bits teis.course teis.refusal
+unfolding exchanged moments after answer meant lines.after lines.answer lines.takes_slot low_bits teis.course teis.refusal
 second_given_up = refl
 
 third_heard : units_heard usual (octets_given usual down_between 0) ≡ spelled 1 ∷ spelled 3 ∷ []
-unfolding moments after answer meant lines.after lines.answer lines.takes_slot low_bits teis.course teis.refusal reading header_of control_of unnumbered_of
+unfolding moments after answer meant lines.after lines.answer lines.takes_slot low_bits teis.course teis.refusal exchanged read_by reading header_of control_of unnumbered_of
 third_heard = refl
 
 -- Where the second alone is heard, or none though one was granted, the laws of unit data are broken.

@@ -6,6 +6,7 @@ use Rattle.model_bits.specs.Bits.{low_bits}
 use Rattle.model_bits.specs.Stream as stream
 use Rattle.lapd_frame.specs.declared.services.Service.TheVariants.{Call}
 use Rattle.lapd_frame.specs.Reading.{reading, header_of, control_of, unnumbered_of, supervisory_of}
+use Rattle.lapd_frame.specs.Senders.{exchanged, reading as read_by}
 use Rattle.lapd_seq.specs.Circle.{named, distance_of}
 use Rattle.lapd_seq.specs.Numbers.{seq}
 use Rattle.lapd_tei.specs.Events as teis
@@ -33,11 +34,11 @@ abbrev comes : List Event
 comes = at 0 (request (Assign 64)) ∷ map (λ v. at 0 (octet v)) (0x7E ∷ 0x00 ∷ 0x81 ∷ 0xEF ∷ 0x50 ∷ 0xB1 ∷ 0xFD ∷ 0xFC ∷ [])
 
 sabme_latest : meant_all (fresh small) comes ≡ frames.at 0 (line_event.request (Assign 64)) ∷ frames.at 0 sabme ∷ []
-unfolding meant_all after meant lines.after lines.answer lines.takes_slot teis.course teis.refusal low_bits reading header_of control_of unnumbered_of
+unfolding meant_all after meant lines.after lines.answer lines.takes_slot teis.course teis.refusal low_bits exchanged read_by reading header_of control_of unnumbered_of
 sabme_latest = refl
 
 on_then : is_on 64 (managed_after small 0 (frames.at 0 (line_event.request (Assign 64)) ∷ frames.at 0 sabme ∷ [])) ≡ true
-unfolding teis.course teis.refusal reading header_of control_of unnumbered_of
+unfolding teis.course teis.refusal exchanged read_by reading header_of control_of unnumbered_of
 on_then = refl
 
 -- Seven pulls behind it its UA is heard, the octets of two flags, of the frame and of its check; and with six of them it is not.
@@ -45,11 +46,11 @@ abbrev given_by : ℕ → List ℕ
 given_by n = octets_given small (comes ++ replicate n (at 0 pull)) 0
 
 ua_heard : AreHeardSince small.n201 (octets_given small comes 0) (given_by 7) (texts small Call 64 (queue small 0 Call 64 (meant_all (fresh small) comes)))
-unfolding moments meant_all after_all after answer meant runs.moments runs.after_all lines.after lines.answer lines.takes_slot teis.course teis.refusal low_bits seq distance_of named reading header_of control_of unnumbered_of supervisory_of
+unfolding moments meant_all after_all after answer meant runs.moments runs.after_all lines.after lines.answer lines.takes_slot teis.course teis.refusal low_bits seq distance_of named exchanged read_by reading header_of control_of unnumbered_of supervisory_of
 ua_heard = record { since = stream.frame (0x00 ∷ 0x81 ∷ 0x73 ∷ []) ∷ []; goes_on = refl; among = ([], [], refl, tt) }
 
 not_yet : stream.heard_in small.n201 (given_by 6) ≡ []
-unfolding moments after_all after answer meant lines.after lines.answer lines.takes_slot teis.course teis.refusal low_bits reading header_of control_of unnumbered_of
+unfolding moments after_all after answer meant lines.after lines.answer lines.takes_slot teis.course teis.refusal low_bits exchanged read_by reading header_of control_of unnumbered_of
 not_yet = refl
 
 -- 178 pulls are as many as the law asks for: they mean 172 calls for the next frame, while the TEI stays.
@@ -60,7 +61,7 @@ abbrev calls : ℕ → List frames.Event
 calls n = replicate n (frames.at 0 line_event.next)
 
 calls_meant : meant_all (after_all (fresh small) comes) many ≡ calls 172
-unfolding meant_all after_all after answer meant lines.after lines.answer lines.takes_slot teis.course teis.refusal low_bits reading header_of control_of unnumbered_of
+unfolding meant_all after_all after answer meant lines.after lines.answer lines.takes_slot teis.course teis.refusal low_bits exchanged read_by reading header_of control_of unnumbered_of
 calls_meant = refl
 
 still_on : (before : List frames.Event) → is_on 64 (managed_after small 0 (before ++ calls 1)) ≡ is_on 64 (managed_after small 0 before)

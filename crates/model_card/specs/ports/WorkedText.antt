@@ -8,6 +8,7 @@ use Rattle.model_bits.specs.Stream.{frame, overlong, dropped, heard_in}
 use Rattle.model_bits.specs.declared.heard.Cause.TheVariants.{Fcs}
 use Rattle.lapd_frame.specs.declared.addresses.Side.TheVariants.{Network}
 use Rattle.lapd_frame.specs.declared.services.Service.TheVariants.{Call}
+use Rattle.lapd_frame.specs.Senders.{exchanged}
 use Rattle.model_line.specs.Came.{came}
 use Rattle.model_line.specs.declared.config.Config.{Config}
 use Rattle.model_line.specs.Event as line
@@ -24,7 +25,7 @@ use Rattle.model_card.specs.ports.Run.{moments, meant_all}
 use Rattle.model_card.specs.ports.WholeLaws.{IsThere, Brings}
 
 abbrev small : Config
-small = record { lines = 1; terminals = 1; k = 1; k16 = 1; queue = 1; unit_queue = 1; control = 2; slots = 1; n201 = 8; n200 = 1; side = Network }
+small = record { lines = 1; terminals = 1; k = 1; k16 = 1; queue = 1; unit_queue = 1; control = 2; slots = 1; n201 = 8; n200 = 1; side = Network; sapi = 16 }
 
 -- Unit data of the group, and so many pulls.
 abbrev unit : Request
@@ -51,20 +52,20 @@ abbrev ui : List ℕ
 ui = 0x02 ∷ 0xFF ∷ 0x03 ∷ 0xAB ∷ []
 
 its_text : text_of_calls small (pulled 2) 0 ≡ flag ++ (frame_text ui ++ flag)
-unfolding meant_all moments after answer meant runs.moments lines.after lines.answer lines.takes_slot low_bits
+unfolding exchanged meant_all moments after answer meant runs.moments lines.after lines.answer lines.takes_slot low_bits
 its_text = refl
 
 its_first : octets_given small (pulled 2) 0 ≡ 0x7E ∷ 0x02 ∷ []
-unfolding meant_all moments after answer meant runs.moments lines.after lines.answer lines.takes_slot low_bits
+unfolding exchanged meant_all moments after answer meant runs.moments lines.after lines.answer lines.takes_slot low_bits
 its_first = refl
 
 -- After eight octets two bits of its closing flag are left. So the ninth pull calls again, for nothing, and one flag stands there.
 called_again : meant_all (fresh small) (pulled 9) ≡ frames.at 0 (line.request unit) ∷ frames.at 0 line.next ∷ frames.at 0 line.next ∷ []
-unfolding meant_all after meant lines.after lines.answer lines.takes_slot low_bits
+unfolding exchanged meant_all after meant lines.after lines.answer lines.takes_slot low_bits
 called_again = refl
 
 its_end : octets_given small (pulled 9) 0 ≡ 0x7E ∷ 0x02 ∷ 0xDF ∷ 0x07 ∷ 0xAC ∷ 0xAA ∷ 0xCB ∷ 0xF8 ∷ 0xF9 ∷ []
-unfolding meant_all moments after answer meant runs.moments lines.after lines.answer lines.takes_slot low_bits
+unfolding exchanged meant_all moments after answer meant runs.moments lines.after lines.answer lines.takes_slot low_bits
 its_end = refl
 
 -- A UA stands in these octets, and the last of them brings it, and nothing else.
@@ -72,11 +73,11 @@ abbrev ua : List ℕ
 ua = 0x7E ∷ 0x00 ∷ 0x81 ∷ 0x73 ∷ 0xC4 ∷ 0x12 ∷ 0x7E ∷ []
 
 ua_stands : IsThere (bits ua) (frame (0x00 ∷ 0x81 ∷ 0x73 ∷ []))
-unfolding low_bits
+unfolding exchanged low_bits
 ua_stands = record { before = []; after = []; is = refl; late = lit< tt }
 
 ua_brought : Brings 8 (0x7E ∷ 0x00 ∷ 0x81 ∷ 0x73 ∷ 0xC4 ∷ 0x12 ∷ []) 0x7E
-unfolding low_bits
+unfolding exchanged low_bits
 ua_brought = record { event = Some (came 8 (0x00 ∷ 0x81 ∷ 0x73 ∷ [])); is = refl; there = All-cons (IsThere (bits ua)) (frame (0x00 ∷ 0x81 ∷ 0x73 ∷ [])) [] ua_stands (All-nil (IsThere (bits ua))) }
 
 -- So does a frame of 13 octets behind it, of which the first four are heard, on a line for 8 octets of information.
@@ -87,14 +88,14 @@ abbrev both : List ℕ
 both = ua ++ (long ++ 0x2C ∷ 0x46 ∷ 0x7E ∷ [])
 
 long_stands : IsThere (bits both) (overlong (0x00 ∷ 0x81 ∷ 0x00 ∷ 0x04 ∷ []))
-unfolding low_bits
+unfolding exchanged low_bits
 long_stands = (long, refl, record { before = bits (0x7E ∷ 0x00 ∷ 0x81 ∷ 0x73 ∷ 0xC4 ∷ 0x12 ∷ []); after = []; is = refl; late = lit< tt })
 
 both_heard : heard_in 8 both ≡ frame (0x00 ∷ 0x81 ∷ 0x73 ∷ []) ∷ overlong (0x00 ∷ 0x81 ∷ 0x00 ∷ 0x04 ∷ []) ∷ []
-unfolding low_bits
+unfolding exchanged low_bits
 both_heard = refl
 
 -- With one bit of it changed it is a bad check, however long it is.
 damaged_heard : heard_in 8 (ua ++ (0x00 ∷ 0x81 ∷ 0x00 ∷ 0x04 ∷ replicate 9 0x03 ++ 0x2C ∷ 0x46 ∷ 0x7E ∷ [])) ≡ frame (0x00 ∷ 0x81 ∷ 0x73 ∷ []) ∷ dropped Fcs ∷ []
-unfolding low_bits
+unfolding exchanged low_bits
 damaged_heard = refl

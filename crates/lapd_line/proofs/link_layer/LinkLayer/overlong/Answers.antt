@@ -5,8 +5,8 @@ use Rattle.lapd_line.proofs.link_layer.LinkLayer.overlong.Goals as goal
 
 pub returns-in-Ok-Information : goal.returns-in-Ok-Information
 returns-in-Ok-Information g c =
-    serves_as (λ others m st. ap (λ side. aim_of_long m (long_reading side c.args.head.now)) (sym c.other.ensures) ∙ ap (aim_of_long m) (sym c.in-Ok-Information.ensures.kept ∙ ap Ok c.in-Ok-Information.field-0-is)) (c.malformed.ensures [] (omega arith))
+    serves_as (λ others m st. ap (λ side. aim_of_long m (long_reading side c.args.head.now)) (sym c.heard_side.ensures) ∙ ap (aim_of_long m) (sym c.in-Ok-Information.ensures ∙ ap Ok c.in-Ok-Information.field-0-is)) (c.malformed.ensures [] (omega arith))
 
 pub returns-in-Err : goal.returns-in-Err
 returns-in-Err g c =
-    serves_as (λ others m st. ap (λ side. aim_of_long m (long_reading side c.args.head.now)) (sym c.other.ensures) ∙ ap (aim_of_long m) (sym c.in-Err.ensures.kept) ∙ long_fault c.args.self.now.config m c.in-Err.fault) (c.faulty.ensures [] (omega arith))
+    serves_as (λ others m st. ap (λ side. aim_of_long m (long_reading side c.args.head.now)) (sym c.heard_side.ensures) ∙ ap (aim_of_long m) (sym c.in-Err.ensures) ∙ long_fault c.args.self.now.config m c.in-Err.fault) (c.faulty.ensures [] (omega arith))

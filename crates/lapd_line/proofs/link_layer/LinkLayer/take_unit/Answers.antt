@@ -1,5 +1,5 @@
 -- Hand-written answers for `LinkLayer::take_unit`.
-use Rattle.lapd_line.proofs.Vocabulary.{◌≡◌, [], Some, length, ap, sym, subst, ◌∙◌, arith, same_Some, unit_taken, Takes, orders_taken}
+use Rattle.lapd_line.proofs.Vocabulary.{◌≡◌, [], true, false, Some, length, Ui, Loads, spelling, ap, sym, subst, ◌∙◌, arith, same_Some, unit_taken, Takes, orders_taken}
 use Rattle.lapd_line.proofs.PullTakesUnits.{oldest, is_frame, no_unit, unit_loaded}
 use Rattle.lapd_line.proofs.link_layer.LinkLayer.take_unit.Goals as goal
 
@@ -32,4 +32,6 @@ returns g c =
     subst (λ o. Takes (λ c' m. unit_taken c' m) c.args.self.now s (g.O.Outlet.loading c.args.out.now) (record c.args.self.now { units = c.pop.new.self }) t (g.O.Outlet.loading c.load.new.out) (Some o)) (sym c.none.ensures)
     (subst (λ r. Takes (λ c' m. unit_taken c' m) c.args.self.now s (g.O.Outlet.loading c.args.out.now) (record c.args.self.now { units = r }) t (g.O.Outlet.loading c.load.new.out) (Some [])) (sym c.pop.ensures)
     (unit_loaded c.args.self.now s t (g.O.Outlet.loading c.args.out.now) (g.O.Outlet.loading c.load.new.out) c.in_ok-unit.unit c.sapi.result c.get.result.now (sym c.in_ok-unit.ensures) c.sapi.ensures c.get.ensures.octets
-    c.release.ensures.released c.release.ensures.limits c.load.ensures.room c.load.ensures.reference c.load.ensures.loaded))
+    c.release.ensures.released c.release.ensures.limits c.load.ensures.room c.load.ensures.reference
+    (subst (λ sender. Loads (spelling sender (record { address = record { sapi = c.sapi.result; command = true; tei = c.in_ok-unit.unit.tei }; control = Ui false; info = c.get.result.now })) (g.O.Outlet.loading c.args.out.now) (g.O.Outlet.loading c.load.new.out))
+    c.own_side.ensures c.load.ensures.loaded)))

@@ -1,7 +1,7 @@
--- Hand-written answers for `card_numbers`.
+-- Hand-written answers for `side_numbers`.
 use Rattle.lapd_script.proofs.Vocabulary.{Err, cond, take, sym, ap, ◌∙◌, BadNumberOfWords, texts, for_user, nine_numbers, ten_numbers}
 use Rattle.lapd_script.proofs.ReadLemmas.{at, with_tenth, with_eleventh}
-use Rattle.lapd_script.proofs.read.card_numbers.Goals as goal
+use Rattle.lapd_script.proofs.read.side_numbers.Goals as goal
 
 pub returns-in-10 : goal.returns-in-10
 returns-in-10 c =

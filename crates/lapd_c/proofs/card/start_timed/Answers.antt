@@ -14,16 +14,16 @@ pub returns-clause-begun : goal.returns-clause-begun
 returns-clause-begun c _ =
     subst (HasBegun (fresh c.args.kind (config_in c.args.config.now))) (sym c.put.ensures.card)
     (subst (λ config. Begins (fresh c.args.kind config) c.in-Some-started.value.value)
-        (read-is (config_fault c.args.config.now) c.read.result (config_in c.args.config.now) c.in-Ok.value c.read.ensures.fault c.read.ensures.config c.in-Ok.is)
-        c.in-Some-started.ensures.begins)
+    (read-is (config_fault c.args.config.now) c.read.result (config_in c.args.config.now) c.in-Ok.value c.read.ensures.fault c.read.ensures.config c.in-Ok.is)
+    c.in-Some-started.ensures.begins)
 
 pub returns-clause-timed : goal.returns-clause-timed
 returns-clause-timed c _ =
     subst (λ timers. TimersStandIn timers (card_in (fresh c.args.kind (config_in c.args.config.now))) (stopped (lengths_in c.args.lengths.now)))
     (sym (ap timers_held c.put.ensures.card ∙ c.in-Some-started.ensures.timers))
     (subst (λ lengths. TimersStandIn (Some c.in-Some.value) (card_in (fresh c.args.kind (config_in c.args.config.now))) (stopped lengths))
-        (read-meets (λ lengths. lengths_of lengths ≡ lengths_in c.args.lengths.now) (first_out_of_range (lengths_in c.args.lengths.now)) c.read-2.result c.in-Ok-read.value 21
-            c.read-2.ensures.out_of_range c.read-2.ensures.read c.in-Ok-read.is)
+    (read-meets (λ lengths. lengths_of lengths ≡ lengths_in c.args.lengths.now) (first_out_of_range (lengths_in c.args.lengths.now)) c.read-2.result c.in-Ok-read.value 21
+    c.read-2.ensures.out_of_range c.read-2.ensures.read c.in-Ok-read.is)
     (subst (λ (config : Config). TimersStandIn (Some c.in-Some.value) (card_in (fresh c.args.kind config)) (stopped (lengths_of c.in-Ok-read.value)))
-        (read-is (config_fault c.args.config.now) c.read.result (config_in c.args.config.now) c.in-Ok.value c.read.ensures.fault c.read.ensures.config c.in-Ok.is)
-        (c.in-Some.ensures c.args.kind)))
+    (read-is (config_fault c.args.config.now) c.read.result (config_in c.args.config.now) c.in-Ok.value c.read.ensures.fault c.read.ensures.config c.in-Ok.is)
+    (c.in-Some.ensures c.args.kind)))

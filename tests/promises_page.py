@@ -69,6 +69,10 @@ RUNS = {
     'releases_are_told': 'laws_order WorkedInTheEnd'}
 # The law that the pages print whole, and the most lines that it may need.
 HEADLINE, MOST_LINES = 'a_call_comes_through', 200
+# How many wrong machines the page names at a promise; tests/wrong-machines --page has all.
+MOST_ROWS = 6
+# Premises that many laws of two cards have: what the page calls them.
+SHARED = {'a call': ['CanCall c line d other tei'], 'within k': ['(terms c service tei).k ≤ k', '(terms d service tei).k ≤ k']}
 MACHINE_ROW = re.compile(r'^machine: (\S+)$|^law: (\S+) (\S+)', re.MULTILINE)
 
 
@@ -156,19 +160,27 @@ class Statement:
         if HEADLINE in row.names and self.lines([row], read) > MOST_LINES:
             sys.exit('reading: %s needs over %d lines' % (HEADLINE, MOST_LINES))
         broken = sorted({it for name in row.names for it in self.refuted[(place, name)]})
-        files = dict.fromkeys([row.file.relative_to(ROOT).as_posix(), *self.statements_of(row)])
+        files = self.statements_of(row) or [row.file.relative_to(ROOT).as_posix()]
         run = self.run_of(row)
         return ['', '### %s' % ', '.join('`%s`' % it for it in row.names), '',
                 '|%s||' % self.sentence_of(place, row), '|---|---|',
                 '|Premises|%s|' % self.premises_of(row),
                 '|Lines|%d: %s|' % (self.lines([row], read), ', '.join('`%s`' % it for it in files)),
                 '|Run|%s|' % ('`%s`' % run if run else 'none'),
-                '|Refutes|%s|' % (', '.join('`%s`' % it for it in broken) or 'no row')]
+                '|Refutes|%s|' % some_of(broken)]
+
+
+def some_of(rows):
+    """The first rows of wrong machines, and how many more there are."""
+    shown = ', '.join('`%s`' % it for it in rows[:MOST_ROWS])
+    return (shown + ', and %d more' % len(rows[MOST_ROWS:]) * (len(rows) > MOST_ROWS)) or 'none'
 
 
 def quoted(premises):
-    """Premises as a list of code."""
-    return '; '.join('`%s`' % it for it in premises) or 'none'
+    """Premises as a list of code; those of SHARED by their names."""
+    named = {name: them for name, them in SHARED.items() if all(it in premises for it in them)}
+    rest = [it for it in premises if not any(it in them for them in named.values())]
+    return '; '.join([*named] + ['`%s`' % it for it in rest]) or 'none'
 
 
 def parted(rows, names):
@@ -186,6 +198,7 @@ def page():
     it, lines = Statement(), []
     always = of_definition(it.files[('laws_trace', 'Trace')].definitions[ALWAYS])['']
     lines += ['', '`%s`: %s.' % (ALWAYS, quoted(always))]
+    lines += ['%s: %s.' % (name.capitalize(), '; '.join('`%s`' % it for it in them)) for name, them in SHARED.items()]
     for place, rows in it.rows_of.items():
         lines += ['', '## %s' % (title(place)[0].upper() + title(place)[1:])]
         for row in rows:

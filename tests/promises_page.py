@@ -2,10 +2,9 @@
 
 The words of a promise are those of tests/statement.txt. The number of lines is that of the definitions which it names, and of
 those that these name in turn, without comments, imports and blank lines. Promises of one card count what they need beside
-the machine and the ports, which the last table has; laws of two cards, and what stands beside the statement, what they need
-beside those of one card. The last table counts each definition once. Who else says what stands beside the
-statement, SAID tells, of laws SAID_AGAIN. Premises that each card has, and keeps (PREMISES), are not counted, nor are what
-the prover's library defines and the types of the .rt files.
+the machine and the ports, which the last table has; laws of two cards what they need beside those of one card. The last
+table counts each definition once. Premises that each card has, and keeps (PREMISES), are not counted, nor are what the
+prover's library defines and the types of the .rt files.
 
 The law that docs/PROOFS.md prints whole, HEADLINE, needs at most MOST_LINES.
 The worked run of a promise is that of RUNS: a file of worked values that names a definition which the promise needs."""
@@ -20,20 +19,6 @@ from statement import promises
 MACHINE = [('model_card', 'Run', 'moments'), ('model_card', 'Run', 'after_all'), ('model_card', 'Card', 'fresh')]
 PORTS = [('model_card', 'ports.Run', 'moments'), ('model_card', 'ports.Run', 'after_all'),
          ('model_card', 'ports.Run', 'meant_all'), ('model_card', 'ports.Card', 'fresh'), ('lapd_card', 'Drive', 'events_of')]
-SAID = {'by_event': '`amortised`', 'amortised_from_zero': '`amortised`', 'six_octets_a_frame': '`linear`',
-        'numbered': '`what_is_told_was_heard`, `codec`', 'from_zero': '`what_is_told_was_heard`, `codec`',
-        'textual': '`frames_are_heard`, `frames_go_at_once`'}
-SAID_AGAIN = {'run_is_moments': '`moments`', 'stored_within_limit': '`within_limit`',
-              'drops_are_without_effect': '`drops`, `without_effect`',
-              'frames_linear': '`linear`, `six_octets_a_frame`, `seven_octets_a_reject`', 'lines_isolated': '`isolated`',
-              'octets_are_a_codec': '`codec`, `frames_are_heard`, `frames_go_at_once`',
-              'units_are_heard': '`units_go_out`, `given_frames_are_heard`',
-              'frames_go_out': '`frames_are_read`, `heard_frames_are_octets`, `given_frames_are_heard`',
-              'all_frames_go_out': '`calls_come_to_an_end`, `what_is_given_is_due`, `frames_go_at_once`, '
-                                   '`given_frames_are_heard`',
-              'pulls_are_takes': '`frames_go_at_once`, `answers_are_heard`', 'timers_run': '`timers_are_timely`',
-              'what_is_due_joins_the_queue': '`what_is_given_is_due`',
-              'frames_are_octets': '`units_go_out`, `what_is_given_is_due`, `teis_are_managed`'}
 # The worked runs of promises, by crate and file of its specs/.
 RUNS = {
     'ok': 'laws_line card/WorkedCard', 'ran': 'laws_line card/WorkedCard', 'taken': 'laws_line card/WorkedCard',
@@ -99,9 +84,6 @@ class Statement:
         self.rows_of = {place: sorted(rows, key=lambda it, them=self.names.get(place): them.index(it.names[0]))
                         for place, (rows, _) in parts.items() if rows}
         self.beside = {place: rows for place, (_, rows) in parts.items() if rows}
-        beside = {name for rows in self.beside.values() for it in rows for name in it.names}
-        for name in sorted({*SAID, *SAID_AGAIN} - beside):
-            sys.exit('reading: SAID or SAID_AGAIN has %s, which is no clause or law beside the statement' % name)
         for name in sorted({*RUNS} - {name for them in self.names.values() for name in them}):
             sys.exit('reading: RUNS has %s, which is no promise' % name)
         self.of_one = sum((rows for place, rows in self.rows_of.items() if place not in OF_TWO_CARDS), [])
@@ -162,8 +144,7 @@ class Statement:
         broken = sorted({it for name in row.names for it in self.refuted[(place, name)]})
         files = self.statements_of(row) or [row.file.relative_to(ROOT).as_posix()]
         run = self.run_of(row)
-        return ['', '### %s' % ', '.join('`%s`' % it for it in row.names), '',
-                '|%s||' % self.sentence_of(place, row), '|---|---|',
+        return ['', '|%s|%s|' % (', '.join('`%s`' % it for it in row.names), self.sentence_of(place, row)), '|---|---|',
                 '|Premises|%s|' % self.premises_of(row),
                 '|Lines|%d: %s|' % (self.lines([row], read), ', '.join('`%s`' % it for it in files)),
                 '|Run|%s|' % ('`%s`' % run if run else 'none'),
@@ -208,14 +189,11 @@ def page():
 
 def beside(it):
     """What is proved and not in the statement."""
-    lines = ['', '## Beside the statement', '', '|What|Of|Said by|Lines|', '|---|---|---|---|']
+    lines = ['', '## Beside the statement', '', '|Of|Also proved|', '|---|---|']
     for place, rows in it.beside.items():
         if place in OF_TWO_CARDS and place in it.names:
             continue
-        for row in rows:
-            by = {**SAID, **SAID_AGAIN}.get(row.names[0], '')
-            lines.append('|%s|%s|%s|%d|' % (', '.join('`%s`' % name for name in row.names), title(place).replace('laws of ', ''), by,
-                                            it.lines([row], it.read)))
+        lines.append('|%s|%s|' % (title(place).replace('laws of ', ''), ', '.join('`%s`' % name for row in rows for name in row.names)))
     return lines
 
 
@@ -227,8 +205,8 @@ def together(it):
     places = [place for place in it.rows_of if place not in OF_TWO_CARDS]
     for place in places:
         rows = rows + it.rows_of[place]
-        said = title(place) + ' as tests/statement.txt lists it' if place == DRIVE else 'and with the %s' % title(place)
-        said = said.replace('the `', '`') + ', of one card: the statement' * (place == places[-1])
-        lines.append('|%s|%d|' % (said, it.lines(rows)))
+        if place in (DRIVE, places[-1]):
+            said = title(place) if place == DRIVE else 'and all other promises of one card'
+            lines.append('|%s|%d|' % (said, it.lines(rows)))
     of_two = sum((rows for place, rows in it.rows_of.items() if place in OF_TWO_CARDS), [])
     return lines + ['|beside it, the laws of two cards|%d|' % it.lines(of_two, it.read)]

@@ -57,7 +57,9 @@ HEADLINE, MOST_LINES = 'a_call_comes_through', 200
 # How many wrong machines the page names at a promise; tests/wrong-machines --page has all.
 MOST_ROWS = 6
 # Premises that many laws of two cards have: what the page calls them.
-SHARED = {'a call': ['CanCall c line d other tei'], 'within k': ['(terms c service tei).k ≤ k', '(terms d service tei).k ≤ k']}
+SHARED = {'a call': ['CanCall c line d other tei'], 'talk': ['All (IsTalk service tei) ds'],
+          'rough talk': ['All (IsRoughTalk service tei) ds'], 'full talk': ['All (IsFullTalk service tei) ds'],
+          'possible steps': ['All (IsPossible service tei w) hs'], 'within k': ['(terms c service tei).k ≤ k', '(terms d service tei).k ≤ k']}
 MACHINE_ROW = re.compile(r'^machine: (\S+)$|^law: (\S+) (\S+)', re.MULTILINE)
 
 

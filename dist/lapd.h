@@ -3,10 +3,9 @@
  *
  * A card takes what comes from its lines and answers with notes for layer 3, orders for timers, and what to send. It
  * is the network's side of its lines or, where `side` of its configuration says so, the user's: a private exchange's
- * end of a trunk. It is one of two kinds, as its start says. Where a driver gives and takes whole frames, as it does
- * over every controller that has flags, stuffed 0s and checks in hardware, it is a card of frames:
- * lapd_card_start_frames. Where it gives and takes the octets of the bit stream, it is a card of octets:
- * lapd_card_start.
+ * end of a trunk. It is one of two kinds, as its start says. If a driver gives and takes whole frames, it is a card of
+ * frames: lapd_card_start_frames. Drivers do so over every controller that has flags, stuffed 0s and checks in hardware.
+ * If a driver gives and takes the octets of the bit stream, it is a card of octets: lapd_card_start.
  *
  * A card has no callbacks, starts no thread, prints nothing, sets no errno, and takes memory in its start alone, as a
  * clock does. The library comes in two ways, with this header for both:
@@ -21,28 +20,29 @@
  *
  * A null pointer is answered by LAPD_WRONG_POINTER: by lapd.c always, and with a library of the toolchain's where the program
  * is compiled with -DLAPD_CHECKED, by lapd_checked.h. So compile a program that is not finished yet. A pointer to octets may
- * be null there if the length behind it is 0.
+ * be null there if its length is 0.
  *
  * What the caller promises, and no call can test:
  *
- *  - Each pointer is valid for what it points to. Where null pointers are not answered, as above, none is null, also where a
- *    length is 0.
- *  - A length is the true number of octets behind its pointer.
+ *  - Each pointer is valid for what it points to. If null pointers are not answered, as above, none is null, even with a
+ *    length of 0.
+ *  - A length is the true number of octets to which its pointer points.
  *  - What two arguments of a call point to does not overlap, and neither overlaps what a card or a clock holds: the
- *    proofs take each as a place of its own. Where it could happen by mistake, the call says what to do.
- *  - A card or a clock is used by one call at a time, also where an interrupt comes: a second call would meet it half
- *    changed, and nothing tells of that. Other cards and clocks may be used meanwhile. Where starts and frees run at
+ *    proofs take each as a place of its own. If it could happen by mistake, the call says what to do.
+ *  - A card or a clock is used by one call at a time, even if an interrupt comes: a second call would meet it half
+ *    changed, and nothing tells of that. Other cards and clocks may be used meanwhile. If starts and frees run at
  *    the same time, the functions of memory must allow it (malloc's do, heap.c's do not).
  *  - It begins as LAPD_CARD_NONE or LAPD_CLOCK_NONE, no copy of it is used, and its fields are left alone.
  *
- * No card and no clock is const, also where a call only asks: an export of the toolchain's cannot read through a const
+ * No card and no clock is const, although some calls only ask. An export of the toolchain's cannot read through a const
  * pointer what owns memory, and nothing is proved of two questions at once.
  *
- * Everything else is tested: each function says by its status what was wrong, and then nothing has changed, neither
- * the card or clock nor what is behind the other pointers (except LAPD_NO_PLACE of lapd_clock_apply_report, and that a
- * link waits for room after LAPD_REFUSED_QUEUE_FULL of lapd_data). Where several things are wrong, the first is told:
- * that a pointer is null, that there is no card or clock, that the card is of the other kind, the line, the other
- * arguments in their order; a refusal of a request is told last.
+ * Everything else is tested. Each function says by its status what was wrong, and then nothing has changed: neither
+ * the card or clock, nor what the other pointers point to. There are three exceptions: LAPD_NO_PLACE of
+ * lapd_clock_apply_report; a link waits for room after LAPD_REFUSED_QUEUE_FULL of lapd_data; and it is the moment of
+ * lapd_fall_due after its LAPD_NO_TIMER. If several things are wrong, the first is told: that a pointer is null, that
+ * there is no card or clock, that the card is of the other kind, the line, the other arguments in their order. A
+ * refusal of a request is told last.
  */
 #ifndef LAPD_H
 #define LAPD_H
@@ -141,7 +141,8 @@ enum {
     LAPD_WRONG_LENGTH = 19,  /* contents of a request that has none; an exchange of two lengths, or beyond them; or too
                                 little room for a frame */
     LAPD_WRONG_ORDER = 20,   /* an order is none, or a report's number of orders is over 4 */
-    LAPD_WRONG_TIME = 21,    /* a moment after LAPD_LATEST, or a timer's length out of range */
+    LAPD_WRONG_TIME = 21,    /* a moment after LAPD_LATEST, or of lapd_fall_due before its last one or from 2^63 on; or a
+                                timer's length out of range */
     LAPD_WRONG_POINTER = 30, /* a pointer is null: of lapd.c, and where LAPD_CHECKED is defined */
 
     /* What else can be. */
@@ -151,7 +152,8 @@ enum {
     LAPD_NO_MORE_LINKS = 25, /* the line has no link from that place on */
 
     /* Of cards of frames. Nothing has changed. */
-    LAPD_WRONG_CARD = 26,  /* a call for octets on a card of frames, or one for frames on a card of octets */
+    LAPD_WRONG_CARD = 26,  /* a call for octets on a card of frames, or one for frames on a card of octets; one of a card's
+                              own timers on a card without, or lapd_expire on one with them */
     LAPD_WRONG_CAUSE = 27, /* none of LAPD_ABORT, LAPD_RAGGED, LAPD_SHORT and LAPD_FCS */
     LAPD_NO_FRAME = 28,    /* no frame of the line waits to be sent */
 
@@ -166,7 +168,8 @@ enum {
     LAPD_BAD_SLOTS = 40,
     LAPD_BAD_N201 = 41,
     LAPD_BAD_N200 = 42,
-    LAPD_BAD_SIDE = 43 /* of lapd_frame_text, too */
+    LAPD_BAD_SIDE = 43, /* of lapd_frame_text, too */
+    LAPD_BAD_SAPI = 44
 };
 
 /* ---- The configuration of a card -------------------------------------------------------------------------------- */
@@ -184,6 +187,7 @@ typedef struct lapd_config {
     uint16_t n201;       /* octets of an information field at most: 8 to 260 (clause 5.9.3) */
     uint16_t n200;       /* how often a command is repeated: 0 to 10 (clause 5.9.2) */
     uint16_t side;       /* which side of its lines the card is: LAPD_NETWORK or LAPD_USER */
+    uint16_t sapi;       /* the SAPI of the second service, LAPD_PACKET: 1 to 62; 0 means 16 (clause 3.3.3) */
 } lapd_config;
 
 enum {
@@ -195,7 +199,7 @@ enum {
 
 enum {
     LAPD_CALL = 0,   /* the service of SAPI 0: call control */
-    LAPD_PACKET = 16 /* the service of SAPI 16: packet mode */
+    LAPD_PACKET = 16 /* the second service, whatever its SAPI: packet mode with SAPI 16, if it has no other */
 };
 
 enum {
@@ -209,7 +213,7 @@ enum {
 };
 
 /* What a note says. Those of a link name its service and TEI. A SABME while the link is up (states 7 and 8) tells
- * error F; an establish indication comes with it only where something that was sent was not acknowledged. */
+ * error F; an establish indication comes with it only if something that was sent was not acknowledged. */
 enum {
     LAPD_ESTABLISH_INDICATION = 1, /* the link is up without a request; contents not acknowledged are lost */
     LAPD_ESTABLISH_CONFIRM = 2,    /* the link is up, as was asked for */
@@ -229,7 +233,7 @@ typedef struct lapd_note {
     uint8_t note;    /* LAPD_ESTABLISH_INDICATION to LAPD_XID_INDICATION */
     uint8_t service; /* LAPD_CALL or LAPD_PACKET; LAPD_CALL for assigned, removed and doubled, which are of both */
     uint8_t tei;     /* the TEI that it is about */
-    uint8_t error;   /* of LAPD_ERROR_INDICATION: the letter, 'A' to 'O' without 'M'; else 0 */
+    uint8_t error;   /* of LAPD_ERROR_INDICATION: the letter, 'A' to 'O' without 'M'; otherwise 0 */
 } lapd_note;
 
 enum {
@@ -246,7 +250,7 @@ typedef struct lapd_timer {
 } lapd_timer;
 
 enum {
-    LAPD_START = 1, /* start the timer; where it runs, anew */
+    LAPD_START = 1, /* start the timer; if it runs, anew */
     LAPD_STOP = 2   /* stop the timer, which ran */
 };
 
@@ -270,27 +274,28 @@ enum {
 
 /*
  * What an event led to: notes, then why something was dropped, then orders. Each call that succeeds tells all of one
- * event: the numbers of notes and orders, cause, lost, begun, delivered, length and more are always those of this event;
- * behind the numbers, and behind length, the arrays may hold what earlier events told.
+ * event: the numbers of notes and orders, cause, lost, begun, delivered, length and more are always those of this event.
+ * Beyond these numbers, and beyond length, the arrays may hold what earlier events told.
  *
  * A link on which contents were refused as LAPD_REFUSED_QUEUE_FULL waits for room, and is told once when its queue has
- * some (`reopened`): by the first call of its line that writes a report and at whose end it has, whatever made the room:
- * contents were acknowledged, or given up as the link was released, established anew or taken down. Where more than
- * one that waits has room, a report tells one, the lowest TEI first, and call control before packet; the next reports of
- * the line tell the others, if they still have. A link whose TEI leaves the line waits no longer, and is not told.
+ * some (`reopened`): by the first call of its line that writes a report and at whose end it has. It does not matter what
+ * made the room: contents were acknowledged, or given up as the link was released, established anew or taken down. If more
+ * than one that waits has room, a report tells one, the lowest TEI first, and call control before packet. The next reports
+ * of the line tell the others, if they still have. A link whose TEI leaves the line waits no longer, and is not told.
  *
  * A report is written by the calls that it is handed to, and by these alone: no card keeps its address. It has no pointers, so
  * a copy tells the same, and stays as it is. While layer 3 reads a report and asks for something meanwhile, its requests take
  * another one. So nothing is copied:
  *
  *     lapd_report came, asked;
- *     if (lapd_frame(&card, line, frame, length, &came) == LAPD_OK) {
- *         ... the orders of `came`
+ *     if (lapd_frame(&card, line, frame, length, &came) == LAPD_OK)
  *         for (const lapd_note *note = came.notes; note < came.notes + came.note_count; note++)
  *             if (note->note == LAPD_DATA_INDICATION
  *                 && lapd_data(&card, line, note->service, note->tei, came.contents, came.length, &asked) == LAPD_OK)
- *                 ... the orders of `asked`, and its notes, which are of the request
- *     }
+ *                 ... the notes of `asked`, which are of the request
+ *
+ * Of a card that does not keep its own timers, the orders of `came` are carried out before the request, and those of `asked`
+ * right after it.
  *
  * With the same report for both, what was told is gone after the first request: read all of it before, or only answer with
  * its contents, which lapd_data and lapd_unit copy first.
@@ -300,16 +305,17 @@ typedef struct lapd_report {
     uint8_t order_count; /* 0 to 4 */
     uint8_t cause;       /* 0, or LAPD_ABORT to LAPD_UNSERVED */
     uint8_t lost;        /* so many frames to send found no room to wait, and are lost as if on the line */
-    uint8_t begun;       /* of a pull: 1 where it began a frame that waited; 1 with the next frame; else 0 */
-    uint8_t delivered;   /* 1 where contents were delivered, of `length` octets; else 0, and length is 0 */
+    uint8_t begun;       /* of a pull: 1 if it began a frame that waited; 1 with the next frame; otherwise 0 */
+    uint8_t delivered;   /* 1 if contents were delivered, of `length` octets; otherwise 0, and length is 0 */
     uint16_t length;     /* octets of contents, at most the card's n201 */
     lapd_note notes[LAPD_MOST_NOTES];
     lapd_order orders[LAPD_MOST_ORDERS];
     uint8_t contents[LAPD_MOST_OCTETS];
-    uint8_t more;        /* of the next frame: 1 where another waits on its line, so that the next call gives one; else 0 */
-    uint8_t reopened;    /* 1 where a link that waited for room has some again; else 0, and the next two tell nothing */
+    uint8_t more;        /* of the next frame: 1 if another waits on its line, so that the next call gives one; otherwise 0 */
+    uint8_t reopened;    /* 1 if a link that waited for room has some again; if it is 0, the next two tell nothing */
     uint8_t reopened_service; /* of that link: LAPD_CALL or LAPD_PACKET */
     uint8_t reopened_tei;     /* of that link: 0 to 126 */
+    uint16_t line;            /* the line at which the event happened */
 } lapd_report;
 
 /* ---- A card ----------------------------------------------------------------------------------------------------- */
@@ -323,12 +329,40 @@ typedef struct lapd_card {
 #define LAPD_CARD_NONE { false, LAPD_NULL }
 
 /* Starts a card of octets, on which no TEI is on any line. Takes memory, as only the starts of a card do.
- * LAPD_SECOND_START, the first bad field (LAPD_BAD_LINES to LAPD_BAD_SIDE) or LAPD_NO_MEMORY: there is no other card than
+ * LAPD_SECOND_START, the first bad field (LAPD_BAD_LINES to LAPD_BAD_SAPI) or LAPD_NO_MEMORY: there is no other card than
  * before. */
 LAPD_STATUS lapd_card_start(lapd_card *card, const lapd_config *config);
 
 /* Starts a card of frames in the same way. It takes less memory, as no line of it has room for a frame on its way. */
 LAPD_STATUS lapd_card_start_frames(lapd_card *card, const lapd_config *config);
+
+/* How long timers run, in milliseconds, 1 to 3,600,000 each: T200 and T203 of each link, and T201 of each line (clauses
+ * 5.9.1, 5.9.8 and 5.9.6; by default 1,000, 10,000 and 1,000). */
+typedef struct lapd_lengths {
+    uint32_t t200;
+    uint32_t t203;
+    uint32_t t201;
+} lapd_lengths;
+
+/*
+ * Starts a card of octets that keeps its own timers: no clock is needed, and no order is to be carried out. It is at moment 0,
+ * and its calls happen at the moment that lapd_fall_due named last. So call that first: a timer that another call starts
+ * before it runs from moment 0. Its reports have no orders, and lapd_expire answers LAPD_WRONG_CARD, as its expiries are its
+ * own; all other calls are the same. LAPD_WRONG_TIME: a length is out of range.
+ */
+LAPD_STATUS lapd_card_start_timed(lapd_card *card, const lapd_config *config, const lapd_lengths *lengths);
+
+/*
+ * Starts a card of frames that keeps its own timers in the same way.
+ *
+ *     while (lapd_fall_due(&card, now(), &report) == LAPD_OK)
+ *         ... what the report tells of report.line
+ *     if a frame came:  lapd_frame(&card, line, frame, length, &report);  ... what the report tells
+ *     for (uint32_t line = 0; lapd_next_waiting(&card, line, &line) == LAPD_OK; line++)
+ *         ... lapd_next_frame, where the controller of this line has room
+ *     ... and so on, when a frame has come, a controller has room again, or the moment of lapd_next_moment is there
+ */
+LAPD_STATUS lapd_card_start_frames_timed(lapd_card *card, const lapd_config *config, const lapd_lengths *lengths);
 
 /* Ends a card of either kind and gives back all memory that its start took. LAPD_NO_CARD: nothing happens. */
 LAPD_STATUS lapd_card_free(lapd_card *card);
@@ -339,18 +373,19 @@ LAPD_STATUS lapd_card_free(lapd_card *card);
  * as bit 8: turn their octets by lapd_turned, here, at lapd_pull and at lapd_exchange. */
 LAPD_STATUS lapd_octet(lapd_card *card, uint32_t line, uint8_t octet, lapd_report *report);
 
-/* Gives the next octet of a line to send, bit 1 first: of a frame where one waits or is on its way, else of flags. */
+/* Gives the next octet of a line to send, bit 1 first: of a frame if one waits or has begun, otherwise of flags. */
 LAPD_STATUS lapd_pull(lapd_card *card, uint32_t line, uint8_t *octet, lapd_report *report);
 
 /*
  * Takes and gives octets in turn: step 2i takes in[i], step 2i+1 gives out[i]. Goes on from step *steps, up to and with
  * the first step that has something to tell (a note, an order, a cause, a frame lost, contents, a frame begun), or to
- * the end; *steps is then the next step, and the report is that of this step, or tells nothing where no step had
- * anything to tell. For room of a link it does not stop: the report has it as it is at the end of the call (lapd.c stops
- * after 256 octets where a link has room again then). LAPD_WRONG_LENGTH: the two lengths differ, or *steps is beyond
- * twice the length. For a step that has nothing to tell no report is written. `in` and `out` are two buffers: what is
- * proved of the octets that are taken holds while none of them is written over. With one buffer call lapd_octet and
- * lapd_pull in turn.
+ * the end. *steps is then the next step. The report is that of this step, or tells nothing if no step had
+ * anything to tell. At a card with its own timers it may stop at a step that has nothing but an order, and its report
+ * tells nothing then: so go on as long as there are steps. For room of a link it does not stop: the report has it as it is
+ * at the end of the call (lapd.c stops after 256 octets where a link has room again then). LAPD_WRONG_LENGTH: the two
+ * lengths differ, or *steps is beyond twice the length. For a step that has nothing to tell no report is written. `in` and
+ * `out` are two buffers: what is proved of the octets that are taken holds while none of them is written over. With one
+ * buffer call lapd_octet and lapd_pull in turn.
  *
  *     for (size_t steps = 0; steps < 2 * n && lapd_exchange(&card, line, in, n, out, n, &steps, &report) == LAPD_OK;)
  *         ... what the report tells ...
@@ -376,8 +411,8 @@ LAPD_STATUS lapd_frame_failed(lapd_card *card, uint32_t line, uint8_t cause, lap
  * Gives the next frame of a line to send: writes it in front of `out`, from the address to the information, without a
  * check, and *length is how many octets it has. The frame counts as sent then, so call it when the controller can take
  * one. LAPD_NO_FRAME: none waits, and nothing has changed. LAPD_WRONG_LENGTH: `room` is less than n201 and four, whatever
- * waits. Behind the frame nothing of `out` is written; `out` lies outside of *report. Carry out the report's orders as
- * those of each other call. Where report->more is 0, the next call would answer LAPD_NO_FRAME, unless something happens at
+ * waits. After the frame nothing of `out` is written; `out` lies outside of *report. Carry out the report's orders as
+ * those of each other call. If report->more is 0, the next call would answer LAPD_NO_FRAME, unless something happens at
  * the line before it.
  *
  *     uint8_t out[LAPD_MOST_FRAME];
@@ -419,12 +454,28 @@ enum {
 };
 
 /* Asks for something at a line; the contents are copied. LAPD_REFUSED_BAD_TEI to LAPD_REFUSED_CONTROL_FULL, or
- * LAPD_REFUSED_WRONG_SIDE, where it is refused. The service is LAPD_CALL or LAPD_PACKET in each, though assign, remove,
+ * LAPD_REFUSED_WRONG_SIDE: it is refused. The service is LAPD_CALL or LAPD_PACKET in each, though assign, remove,
  * check and disown are about both, and LAPD_DOWN about the line, which reads no TEI either; the length is 0 except for
- * LAPD_DATA and LAPD_UNIT. The contents lie outside of *report; where they are those of the report itself, ask by lapd_data
+ * LAPD_DATA and LAPD_UNIT. The contents lie outside of *report; if they are those of the report itself, ask by lapd_data
  * or lapd_unit. */
 LAPD_STATUS lapd_request(lapd_card *card, uint32_t line, uint8_t request, uint8_t service, uint8_t tei,
                          const uint8_t *contents, size_t length, lapd_report *report);
+
+/* ---- What happens in time, at a card that keeps its own timers. At another: LAPD_WRONG_CARD ----------------------- */
+
+/*
+ * The time is now a moment, in milliseconds from any origin; and the timer that is due first, if one is, expires: the report
+ * tells what that led to, at its line. So call it until it answers LAPD_NO_TIMER: then nothing is due, and calls happen at
+ * this moment. At one moment: by line, then T200 before T203 before T201, by TEI, and call control before packet.
+ * LAPD_WRONG_TIME: a moment before the last one, or 2^63 and later, and nothing has changed. Nothing falls due until the last
+ * moment has come again, so take a clock that is never set back, and look at the status that ends the loop.
+ */
+LAPD_STATUS lapd_fall_due(lapd_card *card, uint64_t now, lapd_report *report);
+
+/* When the timer falls due that falls due first: nothing falls due before, unless another call starts a timer. So ask once all
+ * other calls of a turn are made. If lapd_fall_due has answered LAPD_NO_TIMER, it is later than now. LAPD_NO_TIMER: none
+ * runs. */
+LAPD_STATUS lapd_next_moment(lapd_card *card, uint64_t *moment);
 
 /* ---- What a card says of itself --------------------------------------------------------------------------------- */
 
@@ -442,7 +493,7 @@ typedef struct lapd_link {
 
 /*
  * The links of a line one after the other, by TEI, call control before packet. *place says from where to look: 0 for
- * the first, and afterwards the place behind the link that was told, as the call leaves it. LAPD_NO_MORE_LINKS: there
+ * the first, and afterwards the place after the link that was told, as the call leaves it. LAPD_NO_MORE_LINKS: there
  * is none from there on.
  *
  *     uint8_t place = 0;
@@ -460,7 +511,7 @@ struct lapd_room {
 
 /*
  * The room of the link of a service with this TEI. In states 7 and 8, contents that are not too long are refused as
- * LAPD_REFUSED_QUEUE_FULL exactly where `queue` is 0, and else as LAPD_REFUSED_POOL_FULL exactly where `pool` is 0.
+ * LAPD_REFUSED_QUEUE_FULL exactly if `queue` is 0, and otherwise as LAPD_REFUSED_POOL_FULL exactly if `pool` is 0.
  * LAPD_REFUSED_NO_LINK: the TEI is not on the line.
  *
  * Each contents that the terminal acknowledges raises V(A) by one, modulo 128, and `queue` and `pool` too. So where
@@ -472,15 +523,15 @@ LAPD_STATUS lapd_room(lapd_card *card, uint32_t line, uint8_t service, uint8_t t
 /* How a frame begins, and how long it is. */
 typedef struct lapd_head {
     uint16_t length;   /* octets from its address to its information, without its check: 3 or more, or 0 for no frame */
-    uint8_t octets[4]; /* its address and its control field; where that has one octet, the first of the information, or 0 */
+    uint8_t octets[4]; /* its address and its control field; if that has one octet, the first of the information, or 0 */
 } lapd_head;
 
 /* Which frame a pull of the line began last, as after one whose report says `begun`: it stays until a pull begins
- * another. The length is 0 where no pull has begun one yet. LAPD_WRONG_CARD on a card of frames, which has no pulls. */
+ * another. The length is 0 if no pull has begun one yet. LAPD_WRONG_CARD on a card of frames, which has no pulls. */
 LAPD_STATUS lapd_begun(lapd_card *card, uint32_t line, lapd_head *head);
 
-/* Which frame was heard last at the line, also where it was dropped afterwards, as for a TEI that is not on the line: it stays
- * until the next is. Of one that is too long to be kept the length is n201 and five, whatever it was. The length is 0 where
+/* Which frame was heard last at the line, even if it was dropped afterwards, as for a TEI that is not on the line. It stays
+ * until the next is. Of one that is too long to be kept the length is n201 and five, whatever it was. The length is 0 if
  * none was heard yet. How many were heard so far, lapd_counters tells: the sum of LAPD_HEARD_I to LAPD_HEARD_UNDEFINED, and
  * LAPD_HEARD_OVERLONG. LAPD_WRONG_CARD on a card of frames, whose caller has each frame that it hands over. */
 LAPD_STATUS lapd_heard(lapd_card *card, uint32_t line, lapd_head *head);
@@ -489,9 +540,9 @@ LAPD_STATUS lapd_heard(lapd_card *card, uint32_t line, lapd_head *head);
  * What is counted of a line: the place of each number in lapd_counters.
  */
 enum {
-    /* frames heard, by their third octet, the first of their control field, whether or not they are otherwise well formed
-     * and for a TEI of the line; what is dropped before its check is found good, and what is too long to be kept, is none
-     * of them. SABME heard are isdnLapdPeerSabme of RFC 2127, and FRMR heard isdnLapdRecvdFrmr */
+    /* frames heard, by their third octet, the first of their control field, well formed or not, and whether or not for a
+     * TEI of the line. What is dropped before its check is found good, and what is too long to be kept, is none of them.
+     * SABME heard are isdnLapdPeerSabme of RFC 2127, and FRMR heard isdnLapdRecvdFrmr */
     LAPD_HEARD_I = 0, LAPD_HEARD_RR = 1, LAPD_HEARD_RNR = 2, LAPD_HEARD_REJ = 3, LAPD_HEARD_SABME = 4,
     LAPD_HEARD_DISC = 5, LAPD_HEARD_UI = 6, LAPD_HEARD_UA = 7, LAPD_HEARD_DM = 8, LAPD_HEARD_FRMR = 9,
     LAPD_HEARD_XID = 10, LAPD_HEARD_UNDEFINED = 11,
@@ -502,7 +553,7 @@ enum {
     /* octets of these frames, from the address to the information */
     LAPD_HEARD_OCTETS = 24, LAPD_BEGUN_OCTETS = 25,
     /* of these frames, the commands I, RR, RNR and REJ with P=1, which ask for an answer: by the C/R bit of the first octet, the
-     * third octet, and the lowest bit of the fourth, also where the frame is not well formed */
+     * third octet, and the lowest bit of the fourth, well formed or not */
     LAPD_HEARD_POLLS = 26, LAPD_BEGUN_POLLS = 27,
     /* good frames that are too long to be kept, also those that are then dropped, as for a TEI that is not on the line */
     LAPD_HEARD_OVERLONG = 28,
@@ -519,9 +570,9 @@ enum {
     LAPD_TOLD_ASSIGNED = 58, LAPD_TOLD_REMOVED = 59, LAPD_TOLD_DOUBLED = 60,
     /* control frames and messages that found no room to wait */
     LAPD_LOST = 61,
-    /* messages of TEI management heard and begun (clause 5.3.1, table 8), by their type: of the UI frames above, those with
+    /* messages of TEI management heard and begun (clause 5.3.1, table 8), by their type. They are the UI frames above with
      * SAPI 63 and FF as the second octet (TEI 127 and its extension bit) whose information begins with the entity identifier 15,
-     * whether or not they are otherwise well formed and are served. The network's side begins those that assign, deny, check
+     * well formed or not, served or not. The network's side begins those that assign, deny, check
      * and remove, and hears the others */
     LAPD_HEARD_REQUEST = 62, LAPD_HEARD_ASSIGNED = 63, LAPD_HEARD_DENIED = 64, LAPD_HEARD_CHECK_REQUEST = 65,
     LAPD_HEARD_CHECK_RESPONSE = 66, LAPD_HEARD_REMOVE = 67, LAPD_HEARD_VERIFY = 68,
@@ -644,7 +695,7 @@ LAPD_INLINE uint64_t lapd_card_octets_frames(const lapd_config *config) {
     uint64_t link = lapd_block_octets(8u * config->control) + lapd_block_octets(8u * config->queue);
     uint64_t line = lapd_block_octets(128 * links) + links * link + lapd_block_octets(16u * config->unit_queue)
                     + lapd_block_octets(64);
-    return lapd_block_octets(288) + lapd_block_octets(944 * lines) + lines * line + lapd_block_octets(2 * slots)
+    return lapd_block_octets(368) + lapd_block_octets(944 * lines) + lines * line + lapd_block_octets(2 * slots)
            + lapd_block_octets(slots * config->n201) + lapd_block_octets(32 * lines);
 }
 
@@ -653,6 +704,16 @@ LAPD_INLINE uint64_t lapd_card_octets(const lapd_config *config) {
     uint64_t lines = config->lines, frame = config->n201 + 6u;
     uint64_t port = lapd_block_octets(frame) + lapd_block_octets(frame * 6 / 5 + 2);
     return lapd_card_octets_frames(config) + lapd_block_octets(176 * lines) + lines * port;
+}
+
+/* The same of a card that keeps its own timers: one of frames, one of octets. */
+LAPD_INLINE uint64_t lapd_card_octets_frames_timed(const lapd_config *config) {
+    uint64_t places = config->lines * (4u * config->terminals + 1u);
+    return lapd_card_octets_frames(config) + lapd_block_octets(24 * places) + lapd_block_octets(96);
+}
+
+LAPD_INLINE uint64_t lapd_card_octets_timed(const lapd_config *config) {
+    return lapd_card_octets(config) + lapd_card_octets_frames_timed(config) - lapd_card_octets_frames(config);
 }
 
 /* The same of a clock. */
@@ -726,7 +787,7 @@ LAPD_INLINE_STATUS lapd_check(lapd_card *card, uint32_t line, uint8_t tei, lapd_
 }
 
 /* Tells the terminals that still use a TEI to give it up, or with LAPD_GROUP_TEI all terminals, as after a restart of the
- * network's side (clause 5.3.4): the TEI is not on the line, or none is, else LAPD_REFUSED_TEI_TAKEN. Nothing is told. Of the
+ * network's side (clause 5.3.4). LAPD_REFUSED_TEI_TAKEN: the TEI, or for all any TEI, is on the line. Nothing is told. Of the
  * network's side alone: LAPD_REFUSED_WRONG_SIDE. */
 LAPD_INLINE_STATUS lapd_disown(lapd_card *card, uint32_t line, uint8_t tei, lapd_report *report) {
     return lapd_request_with(card, line, LAPD_DISOWN, LAPD_CALL, tei, LAPD_NULL, 0, report);
@@ -742,7 +803,7 @@ LAPD_INLINE_STATUS lapd_ready(lapd_card *card, uint32_t line, uint8_t service, u
     return lapd_request_with(card, line, LAPD_READY, service, tei, LAPD_NULL, 0, report);
 }
 
-/* The line is down, as where layer 1 lost its synchronization: gives the link up, in each state, with all contents and
+/* The line is down, for example as layer 1 lost its synchronization: gives the link up, in each state, with all contents and
  * control frames that wait on it. It is in state 4 then, its timer stops, and its release is told as its state has it. The
  * TEI stays, unless a check of it that runs takes it off the line; unit data and messages of the line go on waiting, which
  * lapd_line_down gives up, too. LAPD_REFUSED_BAD_TEI and LAPD_REFUSED_NO_LINK alone refuse it. */
@@ -752,10 +813,10 @@ LAPD_INLINE_STATUS lapd_deactivate(lapd_card *card, uint32_t line, uint8_t servi
 
 /*
  * The same of a whole line, a link a call, since a report has no room for the releases of all: gives up the next link from a
- * place on, which is 0 for the first, and afterwards as the call leaves it. Behind the last link one call (LAPD_DOWN) gives
- * up what waits on the line and is of none: unit data, and messages of TEI management; a check that runs ends without a
+ * place on, which is 0 for the first, and afterwards as the call leaves it. After the last link one call (LAPD_DOWN) gives
+ * up what waits on the line and is of none: unit data, and messages of TEI management. A check that runs ends without a
  * result, and its timer stops, which is that report's order. LAPD_NO_MORE_LINKS: the line is down, after two calls for each
- * of its TEIs, and one more, if nothing else was asked or heard there meanwhile. The TEIs stay. Begin again at 0 where the
+ * of its TEIs, and one more, if nothing else was asked or heard there meanwhile. The TEIs stay. Begin again at 0 when the
  * line goes down the next time.
  *
  *     uint8_t place = 0;
@@ -771,7 +832,7 @@ LAPD_INLINE_STATUS lapd_line_down(lapd_card *card, uint32_t line, uint8_t *place
         return lapd_deactivate(card, line, link.service, link.tei, report);
     if (status != LAPD_NO_MORE_LINKS || *place == 0xFF)
         return status;
-    *place = 0xFF; /* behind all links: the line itself comes last, once */
+    *place = 0xFF; /* after all links: the line itself comes last, once */
     return lapd_request_with(card, line, LAPD_DOWN, LAPD_CALL, 0, LAPD_NULL, 0, report);
 }
 
@@ -820,6 +881,7 @@ LAPD_INLINE const char *lapd_status_text(uint32_t status) {
     case LAPD_BAD_N201: return "n201 is out of range";
     case LAPD_BAD_N200: return "n200 is out of range";
     case LAPD_BAD_SIDE: return "side is out of range";
+    case LAPD_BAD_SAPI: return "sapi is out of range";
     default: return "unknown status";
     }
 }

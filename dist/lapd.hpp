@@ -3,13 +3,17 @@
  * this header over lapd.h and no more: no exception, nothing of the standard library, no memory but what a start takes.
  *
  *     lapd::frame_card card;
- *     lapd::clock timers;
  *     lapd::report report;
- *     if (lapd::status is = card.start(config); is != lapd::status::ok)
- *         return fail(lapd::text(is));
- *     if (card.frame(0, octets, report) == lapd::status::ok)
+ *     auto layer_3 = [&report] {
  *         for (lapd::note note : report.notes())
- *             tell(note.text(), note.tei);
+ *             tell(report.line(), note.text(), note.tei);
+ *     };
+ *     if (lapd::status is = card.start(config, lengths); is != lapd::status::ok)
+ *         return fail(lapd::text(is));
+ *     while (card.fall_due(now(), report) == lapd::status::ok) // one timer after the other
+ *         layer_3();
+ *     if (card.frame(0, octets, report) == lapd::status::ok)
+ *         layer_3();
  *
  * lapd.h says of each call what it does, and what the caller promises. Here a status can't go unseen: the compiler warns.
  * A card and a clock are neither copied nor moved, since the handle inside mustn't be.
@@ -50,7 +54,7 @@ private:
 
 using octets = span<const uint8_t>;
 
-/// Where a span's octets lie; not null where it has none, as lapd.h asks.
+/// The place of a span's octets; not null if it has none, as lapd.h asks.
 template <class T> T *at(span<T> of) {
     static T none = 0;
     return of.empty() ? &none : of.data();
@@ -129,7 +133,8 @@ enum class [[nodiscard]] status : uint32_t {
     bad_slots = LAPD_BAD_SLOTS,
     bad_n201 = LAPD_BAD_N201,
     bad_n200 = LAPD_BAD_N200,
-    bad_side = LAPD_BAD_SIDE
+    bad_side = LAPD_BAD_SIDE,
+    bad_sapi = LAPD_BAD_SAPI
 };
 
 enum class service : uint8_t { call = LAPD_CALL, packet = LAPD_PACKET };
@@ -241,6 +246,8 @@ public:
     bool reopened() const { return raw_.reopened != 0; }
     service reopened_service() const { return static_cast<service>(raw_.reopened_service); }
     uint8_t reopened_tei() const { return raw_.reopened_tei; }
+    /// The line at which the event happened.
+    uint32_t line() const { return raw_.line; }
     bool tells() const { return lapd_tells(&raw_); }
     lapd_report *raw() { return &raw_; }
     const lapd_report *raw() const { return &raw_; }
@@ -275,6 +282,12 @@ public:
         const lapd_timer raw = expired.raw();
         return of(lapd_expire(&card_, line, &raw, to.raw()));
     }
+    // Of a card that keeps its own timers; at another status::wrong_card.
+    /// The time is now this moment, and what is due first falls due; status::no_timer if nothing is due.
+    status fall_due(uint64_t now, report &to) { return of(lapd_fall_due(&card_, now, to.raw())); }
+    /// When the first timer falls due; status::no_timer if none runs.
+    status next_moment(uint64_t &moment) { return of(lapd_next_moment(&card_, &moment)); }
+
     status establish(uint32_t line, service by, uint8_t tei, report &to) {
         return of(lapd_establish(&card_, line, number(by), tei, to.raw()));
     }
@@ -301,7 +314,7 @@ public:
     status deactivate(uint32_t line, service by, uint8_t tei, report &to) {
         return of(lapd_deactivate(&card_, line, number(by), tei, to.raw()));
     }
-    /// The line is down: gives up its next link from this place on, which begins as 0, and behind the last what waits and is of
+    /// The line is down: gives up its next link from this place on, which begins as 0, and after the last what waits and is of
     /// none; then status::no_more_links.
     status line_down(uint32_t line, uint8_t &place, report &to) { return of(lapd_line_down(&card_, line, &place, to.raw())); }
 
@@ -312,7 +325,7 @@ public:
             to = static_cast<state>(raw);
         return is;
     }
-    /// The link of a line from this place on, which is then behind it; it begins as 0.
+    /// The link of a line from this place on, which is then the one after it; it begins as 0.
     status next_link(uint32_t line, uint8_t &place, link &to) {
         lapd_link raw = {};
         const status is = of(lapd_next_link(&card_, line, &place, &raw));
@@ -344,6 +357,10 @@ protected:
 class card : public any_card {
 public:
     status start(const lapd_config &config) { return of(lapd_card_start(&card_, &config)); }
+    /// With lengths of timers it keeps its own.
+    status start(const lapd_config &config, const lapd_lengths &lengths) {
+        return of(lapd_card_start_timed(&card_, &config, &lengths));
+    }
     status octet(uint32_t line, uint8_t came, report &to) { return of(lapd_octet(&card_, line, came, to.raw())); }
     status pull(uint32_t line, uint8_t &goes, report &to) { return of(lapd_pull(&card_, line, &goes, to.raw())); }
     status exchange(uint32_t line, octets in, span<uint8_t> out, size_t &steps, report &to) {
@@ -357,13 +374,17 @@ public:
 class frame_card : public any_card {
 public:
     status start(const lapd_config &config) { return of(lapd_card_start_frames(&card_, &config)); }
+    /// With lengths of timers it keeps its own.
+    status start(const lapd_config &config, const lapd_lengths &lengths) {
+        return of(lapd_card_start_frames_timed(&card_, &config, &lengths));
+    }
     status frame(uint32_t line, octets came, report &to) {
         return of(lapd_frame(&card_, line, at(came), came.size(), to.raw()));
     }
     status failed(uint32_t line, cause why, report &to) {
         return of(lapd_frame_failed(&card_, line, static_cast<uint8_t>(why), to.raw()));
     }
-    /// The next frame lies in front of the room; status::no_frame where none waits.
+    /// The next frame lies in front of the room; status::no_frame if none waits.
     status next_frame(uint32_t line, span<uint8_t> room, octets &goes, report &to) {
         size_t length = 0;
         const status is = of(lapd_next_frame(&card_, line, at(room), room.size(), &length, to.raw()));
@@ -371,7 +392,7 @@ public:
             goes = {room.data(), length};
         return is;
     }
-    /// The first line on which a frame waits, from one on; status::no_frame where there is none.
+    /// The first line on which a frame waits, from one on; status::no_frame if there is none.
     status next_waiting(uint32_t from, uint32_t &line) { return of(lapd_next_waiting(&card_, from, &line)); }
 };
 
@@ -403,7 +424,7 @@ public:
     status apply(uint32_t line, const report &all, uint64_t now) {
         return of(lapd_clock_apply_report(&clock_, line, all.raw(), now));
     }
-    /// status::no_timer where none is due.
+    /// status::no_timer if none is due.
     status take_due(uint64_t now, due &to) {
         lapd_due raw = {};
         const status is = of(lapd_clock_due(&clock_, now, &raw));

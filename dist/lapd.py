@@ -4,14 +4,16 @@
 
     # Basic access: windows of 1 for call control and 3 for packet mode (Q.921, 5.9.5)
     config = lapd.Config(lines=1, terminals=8, k=1, k16=3, queue=8, unit_queue=4, control=4, slots=64, n201=260, n200=3)
-    with lapd.FrameCard(config) as card, lapd.Clock(config) as timers:
-        timers.apply(0, card.assign(0, 64), now=0)
+    with lapd.TimedFrameCard(config) as card:
+        card.assign(0, 64)
         report = card.frame(0, bytes.fromhex("00817F"))         # SABME of TEI 64
-        timers.apply(0, report, now=0)
         print([str(note) for note in report.notes])             # ['establish-indication']
         octets, report = card.next_frame(0)                     # UA: 008173
+        for report in card.fall_due(now=10000):                 # T203: the terminal is asked whether it is still there
+            octets, report = card.next_frame(report.line)       # RR, P=1: 02810101
 
-lapd.h says of each call what it does. Here a card is a `Card` (for octets) or a `FrameCard` (for frames), a wrong call or a
+lapd.h says of each call what it does. Here a card is a `TimedCard` (for octets) or a `TimedFrameCard` (for frames), which keep
+their own timers, or a `Card` or a `FrameCard`, whose orders go to a `Clock` or to timers of the program's. A wrong call or a
 refused request raises an `Error` with its `Status`, and what an event led to comes as a `Report` of its own; a number that
 the call can't be handed raises a ValueError. Cards and clocks end with their `with`, or by `close`. A card or a clock is used
 by one thread at a time.
@@ -78,6 +80,7 @@ class Status(enum.IntEnum):
     BAD_N201 = 41
     BAD_N200 = 42
     BAD_SIDE = 43
+    BAD_SAPI = 44
 
     @classmethod
     def _missing_(cls, value: Any) -> Optional["Status"]:
@@ -174,7 +177,7 @@ COUNTERS = 76
 
 class _Config(ctypes.Structure):
     _fields_ = [(name, ctypes.c_uint16) for name in ("lines", "terminals", "k", "k16", "queue", "unit_queue", "control",
-                                                     "slots", "n201", "n200", "side")]
+                                                     "slots", "n201", "n200", "side", "sapi")]
 
 
 class _Note(ctypes.Structure):
@@ -193,7 +196,12 @@ class _Report(ctypes.Structure):
     _fields_ = [*((name, ctypes.c_uint8) for name in ("note_count", "order_count", "cause", "lost", "begun", "delivered")),
                 ("length", ctypes.c_uint16), ("notes", _Note * MOST_NOTES), ("orders", _Order * MOST_ORDERS),
                 ("contents", ctypes.c_uint8 * MOST_OCTETS),
-                *((name, ctypes.c_uint8) for name in ("more", "reopened", "reopened_service", "reopened_tei"))]
+                *((name, ctypes.c_uint8) for name in ("more", "reopened", "reopened_service", "reopened_tei")),
+                ("line", ctypes.c_uint16)]
+
+
+class _Lengths(ctypes.Structure):
+    _fields_ = [(name, ctypes.c_uint32) for name in ("t200", "t203", "t201")]
 
 
 class _Handle(ctypes.Structure):
@@ -230,6 +238,8 @@ _U8, _U32, _U64, _SIZE = ctypes.c_uint8, ctypes.c_uint32, ctypes.c_uint64, ctype
 _TAKES: Dict[str, List[Any]] = {
     "lapd_version": [],
     "lapd_card_start": [_AT, _AT], "lapd_card_start_frames": [_AT, _AT], "lapd_card_free": [_AT],
+    "lapd_card_start_timed": [_AT, _AT, _AT], "lapd_card_start_frames_timed": [_AT, _AT, _AT],
+    "lapd_fall_due": [_AT, _U64, _AT], "lapd_next_moment": [_AT, _AT],
     "lapd_octet": [_AT, _U32, _U8, _AT], "lapd_pull": [_AT, _U32, _AT, _AT],
     "lapd_exchange": [_AT, _U32, _AT, _SIZE, _AT, _SIZE, _AT, _AT],
     "lapd_frame": [_AT, _U32, _AT, _SIZE, _AT], "lapd_frame_failed": [_AT, _U32, _U8, _AT],
@@ -350,6 +360,7 @@ class Config:
     n201: int
     n200: int
     side: Side = Side.NETWORK
+    sapi: int = 0  # of the second service: 1 to 62; 0 means 16
 
     def _raw(self) -> _Config:
         """A number that no field of the C struct holds is told as the largest, which is in no range."""
@@ -390,9 +401,10 @@ class Report(NamedTuple):
     contents: Optional[bytes] = None  # of a data or a unit indication
     more: bool = False  # of the next frame: whether another waits on its line
     reopened: Optional[Tuple[Service, int]] = None  # a link, with its TEI, that was refused contents and has room again
+    line: int = 0  # at which the event happened
 
     def __bool__(self) -> bool:
-        return self != Report()
+        return self[:-1] != Report()[:-1]
 
 
 class Link(NamedTuple):
@@ -438,7 +450,7 @@ def _report(of: _Report) -> Report:
                   tuple(Order(OrderKind(it.order), _timer(it.timer)) for it in of.orders[: of.order_count]),
                   Cause(of.cause) if of.cause else None, of.lost, bool(of.begun),
                   bytes(of.contents[: of.length]) if of.delivered else None, bool(of.more),
-                  (Service(of.reopened_service), of.reopened_tei) if of.reopened else None)
+                  (Service(of.reopened_service), of.reopened_tei) if of.reopened else None, of.line)
 
 
 def _octets(of: bytes) -> bytes:
@@ -459,6 +471,9 @@ class _Owner:
     def __init__(self, config: Config) -> None:
         self._handle = _Handle()
         self._at = ctypes.byref(self._handle)
+        self._begin(config)
+
+    def _begin(self, config: Config) -> None:
         _call(self._start, self._at, ctypes.byref(config._raw()))
 
     def close(self) -> None:
@@ -644,6 +659,44 @@ class FrameCard(AnyCard):
         line = ctypes.c_uint32()
         is_there = _unless(Status.NO_FRAME, "lapd_next_waiting", self._at, start, ctypes.byref(line))
         return line.value if is_there else None
+
+
+class _Timed(AnyCard):
+    """What a card that keeps its own timers does besides: its reports have no orders. Its calls happen at the moment of
+    `fall_due`, and at 0 before the first."""
+
+    def __init__(self, config: Config, t200: int = 1000, t203: int = 10000, t201: int = 1000) -> None:
+        self._lengths = _Lengths(*(_whole(_U32, it) for it in (t200, t203, t201)))
+        super().__init__(config)
+
+    def _begin(self, config: Config) -> None:
+        _call(self._start, self._at, ctypes.byref(config._raw()), ctypes.byref(self._lengths))
+
+    def fall_due(self, now: int) -> Iterator[Report]:
+        """The time is now this moment: what is due falls due, one after the other, and each tells what it led to.
+
+        Take all of them, as `for report in card.fall_due(now)` does. Nothing falls due, and no time passes, before the
+        first is asked for."""
+        while _unless(Status.NO_TIMER, "lapd_fall_due", self._at, now, ctypes.byref(self._told)):
+            yield _report(self._told)
+
+    def next_moment(self) -> Optional[int]:
+        """The moment of the timer that falls due first; None where none runs."""
+        moment = ctypes.c_uint64()
+        is_there = _unless(Status.NO_TIMER, "lapd_next_moment", self._at, ctypes.byref(moment))
+        return moment.value if is_there else None
+
+
+class TimedCard(_Timed, Card):
+    """A card of octets that keeps its own timers."""
+
+    _start = "lapd_card_start_timed"
+
+
+class TimedFrameCard(_Timed, FrameCard):
+    """A card of frames that keeps its own timers."""
+
+    _start = "lapd_card_start_frames_timed"
 
 
 # ---- A clock -------------------------------------------------------------------------------------------------------------

@@ -1,7 +1,7 @@
 /*
- * lapd_checked.h: the calls of lapd.h by the same names, which look at their pointers first. Where one is null, the answer is
- * LAPD_WRONG_POINTER, and nothing has changed; a buffer of length 0 may be null. lapd.h includes it where LAPD_CHECKED is
- * defined. lapd.c looks at them by itself.
+ * lapd_checked.h: the calls of lapd.h by the same names, which look at their pointers first. If one is null, the answer is
+ * LAPD_WRONG_POINTER, and nothing has changed; a buffer of length 0 may be null. With LAPD_CHECKED defined, lapd.h includes
+ * it. The library of one file, lapd.c, looks at them by itself.
  *
  * Written by tools/checked; not to be edited.
  */
@@ -21,6 +21,22 @@ LAPD_INLINE_STATUS lapd_checked_card_start_frames(lapd_card *card, const lapd_co
     return lapd_card_start_frames(card, config);
 }
 #define lapd_card_start_frames lapd_checked_card_start_frames
+
+LAPD_INLINE_STATUS lapd_checked_card_start_timed(lapd_card *card, const lapd_config *config,
+                                                 const lapd_lengths *lengths) {
+    if (card == LAPD_NULL || config == LAPD_NULL || lengths == LAPD_NULL)
+        return LAPD_WRONG_POINTER;
+    return lapd_card_start_timed(card, config, lengths);
+}
+#define lapd_card_start_timed lapd_checked_card_start_timed
+
+LAPD_INLINE_STATUS lapd_checked_card_start_frames_timed(lapd_card *card, const lapd_config *config,
+                                                        const lapd_lengths *lengths) {
+    if (card == LAPD_NULL || config == LAPD_NULL || lengths == LAPD_NULL)
+        return LAPD_WRONG_POINTER;
+    return lapd_card_start_frames_timed(card, config, lengths);
+}
+#define lapd_card_start_frames_timed lapd_checked_card_start_frames_timed
 
 LAPD_INLINE_STATUS lapd_checked_card_free(lapd_card *card) {
     if (card == LAPD_NULL)
@@ -102,6 +118,20 @@ LAPD_INLINE_STATUS lapd_checked_request(lapd_card *card, uint32_t line, uint8_t 
                         report);
 }
 #define lapd_request lapd_checked_request
+
+LAPD_INLINE_STATUS lapd_checked_fall_due(lapd_card *card, uint64_t now, lapd_report *report) {
+    if (card == LAPD_NULL || report == LAPD_NULL)
+        return LAPD_WRONG_POINTER;
+    return lapd_fall_due(card, now, report);
+}
+#define lapd_fall_due lapd_checked_fall_due
+
+LAPD_INLINE_STATUS lapd_checked_next_moment(lapd_card *card, uint64_t *moment) {
+    if (card == LAPD_NULL || moment == LAPD_NULL)
+        return LAPD_WRONG_POINTER;
+    return lapd_next_moment(card, moment);
+}
+#define lapd_next_moment lapd_checked_next_moment
 
 LAPD_INLINE_STATUS lapd_checked_state(lapd_card *card, uint32_t line, uint8_t service, uint8_t tei, uint8_t *state) {
     if (card == LAPD_NULL || state == LAPD_NULL)

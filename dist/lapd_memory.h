@@ -27,7 +27,7 @@ typedef struct {
 /* A block of so many octets, which begins at a multiple of the alignment: a power of two, and 16 at most. */
 rattle_tried rattle_alloc(size_t octets, size_t alignment);
 
-/* For liblapd.a alone: the block with another size; what it held stays, as far as it fits. Where there is none, the old
+/* For liblapd.a alone: the block with another size; what it held stays, as far as it fits. If there is none, the old
  * block stays. */
 rattle_tried rattle_realloc(void *at, size_t old_octets, size_t octets, size_t alignment);
 

@@ -11,7 +11,7 @@ ghost use Rattle.lapd_bits.specs.Register.{HoldsDivision};
 /// The register before the first bit: the preset to ones.
 const PRESET: u16 = 0xFFFF;
 
-/// What the register holds over a frame and its check where there is no error, turned round.
+/// What the register holds over a frame and its check if there is no error, turned round.
 pub(crate) const NO_ERROR: u16 = 0xF0B8;
 
 /// The sums of numbers: of those at whose places an octet has a 1, for each octet.

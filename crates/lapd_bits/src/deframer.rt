@@ -107,7 +107,7 @@ impl Deframer {
         self.ended
     }
 
-    /// Lends again what the latest octet ended, until the next octet; nothing where no octet has come.
+    /// Lends again what the latest octet ended, until the next octet; nothing if no octet has come.
     #[inline(always)]
     pub fn latest(&self) -> Heard<'_>
         ensures lent { heard_of result ≡ latest_of self.now }
@@ -126,7 +126,7 @@ impl Deframer {
         }
     }
 
-    /// How many whole octets of the open gap are kept, four once there are too many to keep; 0 where none is open.
+    /// How many whole octets of the open gap are kept, four once there are too many to keep; 0 if none is open.
     pub fn held(&self) -> u32
         ensures held { (n201 : ℕ) (past : List ℕ) → DeframerStands n201 self.now past → result ≡ octets_held n201 past }
     {
@@ -172,8 +172,8 @@ impl Deframer {
     }
 
     /// Takes an octet that may end something, and keeps what it has ended: an answer would take the caller room and time at
-    /// each octet, also where this is not called. It is marked as rare, so that a caller's loop goes straight on for all
-    /// other octets.
+    /// each octet, also if this is not called. It is marked as rare, so that a caller's loop goes straight on for all other
+    /// octets.
     #[inline(never)]
     #[cold]
     fn take_ending(&mut self, octet: u8)

@@ -1,7 +1,7 @@
 //! What an octet brings in which a flag ends (clause 2.2), at once.
 //!
-//! Where an octet is no flag itself, the six 1s of the flag are those that came right before the octet and those with
-//! which it begins. So the flag's last bit is the octet's first 0, and what stands behind it depends on the octet alone.
+//! If an octet is no flag itself, the six 1s of the flag are those that came right before the octet and those with which
+//! it begins. So the flag's last bit is the octet's first 0, and what stands after it depends on the octet alone.
 ghost use Rattle.std.specs.Prelude.{◌-◌, ◌≤◌, ◌<◌, ◌^◌, IfSome};
 ghost use Rattle.lapd_bits.specs.FlagEnd.{IsFlagEnd};
 
@@ -28,7 +28,7 @@ pub(crate) struct FlagEnd {
 }
 
 /// What an octet brings after so many contiguous 1s in which a flag ends and nothing else does, and no stuffed 0 is. None is
-/// no more than slower, and no clause says where it is answered.
+/// no more than slower, and no clause says when it is answered.
 pub(crate) fn flag_end(ones: u8, octet: u8) -> Option<FlagEnd>
     requires { ones ≤ 7 }
     ensures { IfSome result (λ flag. IsFlagEnd ones octet flag.before flag.front flag.behind flag.ones) }

@@ -18,7 +18,7 @@ use std::marker::Model;
 const OCTET_BITS: u8 = 8;
 
 /// Gives the octets of a line: one opening flag, then each frame that is loaded, stuffed, with its check and a
-/// closing flag, and idle flags where no frame waits (Q.921 clauses 2.2, 2.6 and 2.7).
+/// closing flag, and idle flags if no frame waits (Q.921 clauses 2.2, 2.6 and 2.7).
 ///
 /// All its memory is taken by [`Framer::start`].
 #[derive(Drop, Debug)]
@@ -54,7 +54,7 @@ impl Framer {
     /// A framer for information fields of at most `n201` octets (at most 1,024), which begins with a flag.
     ///
     /// # Errors
-    /// [`StartFault::OutOfMemory`], where there is no memory for the longest frame.
+    /// [`StartFault::OutOfMemory`] if there is no memory for the longest frame.
     pub fn start(alloc: Global, n201: u16) -> Result<Framer, StartFault>
         requires { n201 ≤ 1024 }
         ensures begins { IfOk result (λ framer. framer ≡ record { left = flag; held = 0; begun = None; room = n201 }) }
@@ -83,7 +83,7 @@ impl Framer {
         self.next < self.end
     }
 
-    /// The number of bits that are left, where it is below 8; else 8.
+    /// The number of bits that are left, if it is below 8; otherwise 8.
     #[tactic(auto, using(crate::proofs::FramerGiven::length_to_give))]
     pub fn left(&self) -> u8
         ensures { result ≡ min 8 (length self.now.left) }
@@ -107,7 +107,7 @@ impl Framer {
         }
     }
 
-    /// How the latest frame that was loaded begins, and how long it is; none where none was.
+    /// How the latest frame that was loaded begins, and how long it is; none if none was.
     pub fn begun(&self) -> Option<Head>
         ensures { result ≡ self.now.begun }
     {
@@ -158,8 +158,8 @@ impl Framer {
         keep_first_four(&mut self.first, head, info);
     }
 
-    /// The next octet of the line, low bit first. Where fewer than eight bits are left, an idle flag goes on
-    /// after them first, and else nothing.
+    /// The next octet of the line, low bit first. If fewer than eight bits are left, an idle flag goes on
+    /// after them first, and otherwise nothing.
     #[inline(always)]
     #[tactic(auto, using(crate::proofs::FramerGiven::length_to_give))]
     pub fn octet(&mut self) -> u8

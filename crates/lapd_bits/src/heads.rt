@@ -3,7 +3,7 @@
 ghost use Rattle.std.specs.Prelude.{◌≡◌, ◌++◌, get_or};
 ghost use Rattle.model_bits.specs.Heads.{first_four};
 
-/// Keeps the first four octets of both, one after the other; 0 where there are fewer.
+/// Keeps the first four octets of both, one after the other; 0 if there are fewer.
 #[inline(always)]
 pub(crate) fn keep_first_four(first: &mut [u8; 4], head: &[u8], info: &[u8])
     ensures { first.new ≡ first_four (head.now ++ info.now) }

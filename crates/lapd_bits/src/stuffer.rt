@@ -47,7 +47,7 @@ impl Stuffed {
     }
 }
 
-/// True only where four octets, the first lowest, go as they are after the latest four bits of a text: nowhere do five 1s
+/// True only if four octets, the first lowest, go as they are after the latest four bits of a text: nowhere do five 1s
 /// come together. False is no more than slower.
 #[inline(always)]
 pub(crate) fn go_as_they_are(latest: u64, four: u32) -> bool

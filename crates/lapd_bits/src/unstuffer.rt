@@ -72,7 +72,7 @@ pub(crate) struct Content {
 }
 
 /// What an octet brings after so many contiguous 1s, where it ends nothing. None is no more than slower, and no clause says
-/// where it is answered.
+/// when it is answered.
 #[inline(always)]
 pub(crate) fn at_once(ones: u8, octet: u8) -> Option<Content>
     requires { ones ≤ 7 }

@@ -65,7 +65,7 @@ impl CardHandle {
         }
     }
 
-    /// Puts a card in, where none is.
+    /// Puts a card in, if none is.
     pub(crate) fn put(&mut self, kept: Box<KeptCard>)
         requires { card_of self.old ≡ None }
         ensures card { card_of self.new ≡ Some kept.value }

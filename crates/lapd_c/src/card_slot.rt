@@ -1,4 +1,4 @@
-//! Where a card lies.
+//! The place of a card in memory.
 
 ghost use Rattle.std.specs.Borrow.{sem};
 ghost use Rattle.std.specs.Prelude.{◌≡◌, None, Some, IsSome};
@@ -10,7 +10,7 @@ use std::alloc::Global;
 use std::marker::Model;
 use std::ptr::null_mut;
 
-/// Where a card lies, or that there is none. It owns the card.
+/// The place of a card, or that there is none. It owns the card.
 #[repr(C)]
 pub struct CardSlot {
     at: *mut u8,
@@ -55,7 +55,7 @@ impl CardSlot {
         unsafe { &mut *(self.at as *mut KeptCard) }
     }
 
-    /// Lets the place go, where no card lies.
+    /// Lets the place go, if no card lies.
     pub(crate) fn gone(self)
         requires { self.card ≡ None }
     {

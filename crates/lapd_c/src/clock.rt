@@ -61,7 +61,7 @@ impl ClockHandle {
         }
     }
 
-    /// Puts a clock in, where none is.
+    /// Puts a clock in, if none is.
     pub(crate) fn put(&mut self, clock: Box<Clock>)
         requires empty { clock_of self.old ≡ None }
         requires lines { clock.value.lines ≤ 64 }

@@ -1,4 +1,4 @@
-//! Where a clock lies.
+//! The place of a clock in memory.
 
 ghost use Rattle.std.specs.Borrow.{sem};
 ghost use Rattle.std.specs.Prelude.{◌≡◌, None, Some, IsSome};
@@ -10,7 +10,7 @@ use std::alloc::Global;
 use std::marker::Model;
 use std::ptr::null_mut;
 
-/// Where a clock lies, or that there is none. It owns the clock.
+/// The place of a clock, or that there is none. It owns the clock.
 #[repr(C)]
 pub struct ClockSlot {
     at: *mut u8,
@@ -55,7 +55,7 @@ impl ClockSlot {
         unsafe { &mut *(self.at as *mut Clock) }
     }
 
-    /// Lets the place go, where no clock lies.
+    /// Lets the place go, if no clock lies.
     pub(crate) fn gone(self)
         requires { self.clock ≡ None }
     {

@@ -76,7 +76,7 @@ pub extern "C" fn lapd_frame_failed(
 }
 
 /// Writes the next frame of a line to be sent in front of `out`, from its address to its information, without its check,
-/// and tells how long it is, and whether another waits behind it. There has to be room for the longest: N201 octets and four.
+/// and tells how long it is, and whether another waits after it. There has to be room for the longest: N201 octets and four.
 #[unsafe(no_mangle)]
 pub extern "C" fn lapd_next_frame(
     handle: &mut CardHandle,

@@ -32,7 +32,7 @@ pub(crate) struct KeptCard {
 }
 
 impl KeptCard {
-    /// A card as it begins, of which no link waits, with these timers; none where there is no memory for it.
+    /// A card as it begins, of which no link waits, with these timers; none if there is no memory for it.
     pub(crate) fn begin(
         alloc: Global,
         card: AnyCard,

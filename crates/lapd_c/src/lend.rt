@@ -1,7 +1,7 @@
 //! How a call begins: what its handle holds is lent to it, or it answers at once what is wrong.
 
-/// Lends the card of a handle, or answers that there is none; where a kind is named, that card, too, or answers that it is one of
-/// the other; and where a line is named, it becomes a place among the card's lines, or the answer is that there is none.
+/// Lends the card of a handle, or answers that there is none. If a kind is named, it lends that card, too, or answers that it is
+/// one of the other. If a line is named, it becomes a place among the card's lines, or the answer is that there is none.
 ///
 /// These macros hold the `return`s of the call in which they stand: what is wrong with a handle, a kind, a line or an argument is
 /// the call's status, and nothing has changed then.

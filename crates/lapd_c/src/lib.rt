@@ -5,11 +5,12 @@
 //! (`model_card`, and for octets `model_card::ports`) and of the clock's timers (`lapd_clock`).
 //!
 //! - `lend`: how a call begins, with what its handle holds, or with the status that says what is wrong.
-//! - `card`: a card in C, how it begins and ends; `kept`, a card with its links that wait for room, which `refused` and, of a line,
-//!   `link_marks` mark; `card_slot`, where it lies. `events`, what happens at one of either kind; for octets `octets`, one that
-//!   comes and one that goes, with the frames that these begin and end, and `exchange`, octets taken and given in turn; for frames
-//!   `frames`, which come and go, and on which lines one waits to go. `questions`, what it answers about itself, with what was
-//!   counted of a line, and how many contents more a link takes; `links`, which links it has.
+//! - `card`: a card in C, how it begins and ends. `kept`: a card with its links that wait for room, which `refused` and, of a
+//!   line, `link_marks` mark. `card_slot`: where it lies.
+//! - `events`: what happens at a card of either kind. `octets`: one octet that comes and one that goes, with the frames that these
+//!   begin and end. `exchange`: octets taken and given in turn. `frames`: frames that come and go, and on which lines one waits.
+//! - `questions`: what a card answers about itself, what was counted of a line, and how many contents more a link takes. `links`:
+//!   which links it has.
 //! - `clock`: a clock in C, and its exports; `clock_reports`, the orders of a report; `clock_slot`, where it lies.
 //! - `laws`: what holds of the machine's answers, so that a report has room for each.
 //! - `plain`: the structs and numbers of C, and what they mean.
@@ -20,14 +21,14 @@
 //! # Only tested
 //!
 //! `tests/c/run` and `tests/c/declared`: starts; that all memory is given back; that structs, prototypes and
-//! statuses are as `lapd.h` has them, and its inline functions; every stored script, call by call and by
-//! `lapd_exchange`; that a card of frames and one of octets, to which the same happens at random, tell the same;
-//! that a gateway of 64 lines runs a day with terminals that nobody here wrote. On demand these also beside a card of
+//! statuses are as `lapd.h` has them, and its inline functions. Every stored script is played, call by call and by
+//! `lapd_exchange`. A card of frames and one of octets, to which the same happens at random, tell the same. A gateway
+//! of 64 lines runs a day with terminals that nobody here wrote. On demand these also beside a card of
 //! octets and at a trunk (`tests/interop`).
 //!
 //! # Open
 //!
-//! What a C compiler makes of `lapd.h`; what becomes of a caller that breaks the conditions at its top.
+//! What a C compiler makes of `lapd.h`; what happens to a caller that breaks the conditions at its top.
 #![tactic(auto)]
 
 mod card;

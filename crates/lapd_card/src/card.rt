@@ -18,7 +18,7 @@ use lapd_store::Shelf;
 use model_bits::Head;
 use std::marker::Model;
 
-/// A line card of octets: a card of frames, and at each line a port, which hears frames in the octets that come, and puts
+/// A line card of octets: a card of frames, with a port at each line. A port hears frames in the octets that come, and puts
 /// those that go on the line. What is not of octets it passes on to the card of frames.
 ///
 /// All memory is taken by [`Card::start`]; no other call takes any. Lines are counted from 0, and each call but `state`
@@ -86,7 +86,7 @@ impl<S: Shelf> Card<S> {
         self.report(line, &bare)
     }
 
-    /// Takes an octet as [`Card::octet`] does, and answers without references; none where it ended nothing, as mostly: to make a
+    /// Takes an octet as [`Card::octet`] does, and answers without references; none where it ended nothing, as mostly. To make a
     /// report for each octet would take a tenth of its time. [`Card::contents`] lends contents that it delivered.
     #[inline(always)]
     pub fn hear(&mut self, line: usize, octet: u8) -> Option<BareReport>
@@ -146,8 +146,8 @@ impl<S: Shelf> Card<S> {
     ///
     /// # Errors
     ///
-    /// The first row that holds of those that apply to the request ([`Refusal`] has them in order); `PoolFull` exactly
-    /// where the card holds as many contents as its configuration has slots.
+    /// The first row that holds of those that apply to the request ([`Refusal`] has them in order). `PoolFull` holds
+    /// exactly if the card holds as many contents as its configuration has slots.
     pub fn request(&mut self, line: usize, request: Request<'_>) -> Result<Report<'static>, Refusal>
         requires { line < line_count self.old }
         ensures refused { IfErr result (λ why. (m : machine.OctetCard) → OctetCardStands S.store self.old m
@@ -166,8 +166,8 @@ impl<S: Shelf> Card<S> {
         Ok(Report::of(&bare, None))
     }
 
-    /// Gives the next octet of a line, low bit first. Where fewer than eight bits are left to send, the frame that is next
-    /// is taken, or an idle flag where none waits.
+    /// Gives the next octet of a line, low bit first. If fewer than eight bits are left to send, the frame that is next is
+    /// taken, or an idle flag if none waits.
     #[inline(always)]
     pub fn pull(&mut self, line: usize) -> Pulled
         requires { line < line_count self.old }
@@ -206,7 +206,7 @@ impl<S: Shelf> Card<S> {
         self.frames.state(line, service, tei)
     }
 
-    /// How the frame that a pull of the line began last begins, and how long it is; none where none was begun yet. After a
+    /// How the frame that a pull of the line began last begins, and how long it is; none if none was begun yet. After a
     /// pull that has begun a frame it is that frame, until a pull begins another.
     pub fn begun(&self, line: usize) -> Option<Head>
         requires { line < line_count self.now }
@@ -215,8 +215,8 @@ impl<S: Shelf> Card<S> {
         self.ports[line].begun()
     }
 
-    /// How the frame begins that was heard last at a line, and how long it is, also where it was dropped afterwards; none where
-    /// none was heard yet. Of a frame that is too long to be kept, the length is N201 and five octets, whatever it was.
+    /// How the frame begins that was heard last at a line, and how long it is, also if it was dropped afterwards; none if none
+    /// was heard yet. Of a frame that is too long to be kept, the length is N201 and five octets, whatever it was.
     pub fn latest_heard(&self, line: usize) -> Option<Head>
         requires { line < line_count self.now }
         ensures { (m : machine.OctetCard) → OctetCardStands S.store self.now m → result ≡ head_heard_at line m }

@@ -78,9 +78,9 @@ impl<S: Shelf> FrameCard<S> {
         usize::from(self.config.n201) + 4
     }
 
-    /// Takes a frame that came from a line, from its address to its information, without its check, and tells in the report,
-    /// in which nothing is told yet, what it led to. One that is too short, or longer than N201 has room for, is answered as
-    /// these octets between flags would be (Q.921 clause 2.9). [`FrameCard::contents`] lends contents that it delivers. Where
+    /// Takes a frame that came from a line, from its address to its information, without its check. It tells in the report,
+    /// in which nothing is told yet, what that led to. One that is too short, or longer than N201 has room for, is answered as
+    /// these octets between flags would be (Q.921 clause 2.9). [`FrameCard::contents`] lends contents that it delivers. If
     /// the answer is true, it tells nothing but orders for timers.
     #[inline(always)]
     pub fn frame(&mut self, line: usize, octets: &[u8], report: &mut BareReport) -> bool
@@ -161,12 +161,12 @@ impl<S: Shelf> FrameCard<S> {
     }
 
     /// Writes the next frame to be sent on a line in front of `out`, from its address to its information, without its
-    /// check: a message of TEI management, else unit data, else a frame of a link, each link in its turn (profile);
-    /// none where none waits. The frame is the controller's then, and the octets behind it stay as they were.
+    /// check. It is a message of TEI management, otherwise unit data, otherwise a frame of a link, each link in its turn
+    /// (profile); none if none waits. The frame is the controller's then, and the octets after it stay as they were.
     ///
     /// # Errors
     ///
-    /// [`RoomTooSmall`] where `out` has fewer octets than [`FrameCard::frame_room`], whatever waits. Nothing has
+    /// [`RoomTooSmall`] if `out` has fewer octets than [`FrameCard::frame_room`], whatever waits. Nothing has
     /// changed then.
     pub fn next_frame(
         &mut self,
@@ -197,7 +197,7 @@ impl<S: Shelf> FrameCard<S> {
         Ok(given)
     }
 
-    /// Loads the next frame of a line into its port, and answers its orders for timers; none where no frame waits.
+    /// Loads the next frame of a line into its port, and answers its orders for timers; none if no frame waits.
     #[inline(always)]
     pub(crate) fn load_next(&mut self, line: usize, port: &mut Port) -> Option<ShortList<Order>>
         requires within { line < line_count self.old }
@@ -222,7 +222,7 @@ impl<S: Shelf> FrameCard<S> {
         self.waiting.has(line)
     }
 
-    /// The first line on which a frame waits, of those from one on; none where none waits on any of these. It looks at no
+    /// The first line on which a frame waits, of those from one on; none if none waits on any of these. It looks at no
     /// line, so that many quiet lines cost no more than one.
     #[inline(always)]
     pub fn next_waiting(&self, from: usize) -> Option<usize>
@@ -257,8 +257,8 @@ impl<S: Shelf> FrameCard<S> {
     ///
     /// # Errors
     ///
-    /// The first row that holds of those that apply to the request ([`Refusal`] has them in order); `PoolFull` exactly
-    /// where the card holds as many contents as its configuration has slots.
+    /// The first row that holds of those that apply to the request ([`Refusal`] has them in order). `PoolFull` holds
+    /// exactly if the card holds as many contents as its configuration has slots.
     pub fn request(
         &mut self,
         line: usize,
@@ -317,13 +317,13 @@ impl<S: Shelf> FrameCard<S> {
         self.lines[line].place(tei)
     }
 
-    /// How much room the link of a service with this TEI has for contents: the places of its queue that are left, and the
-    /// slots that are free for all; and its V(A). Whoever was refused for want of room asks again once there is some. Each
+    /// How much room the link of a service with this TEI has for contents, and its V(A). Room is the places of its queue
+    /// that are left, and the slots that are free for all. Whoever was refused for want of room asks again once there is some. Each
     /// contents that is acknowledged gives its place and its slot back, and moves V(A) on by one.
     ///
     /// # Errors
     ///
-    /// There is no such link: `BadTei` where the TEI is over 126, `NoLink` where it is not on the line.
+    /// There is no such link: `BadTei` if the TEI is over 126, `NoLink` if it is not on the line.
     pub fn room(&self, line: usize, service: Service, tei: u8) -> Result<Room, Refusal>
         requires { line < line_count self.now }
         ensures told { (m : machine.Card) → FrameStands S.store self.now m → result ≡ room line service tei m }

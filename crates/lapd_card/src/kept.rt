@@ -43,7 +43,7 @@ impl Kept {
     ///
     /// # Errors
     ///
-    /// `AllocError` where memory is refused.
+    /// `AllocError` if memory is refused.
     pub fn start(alloc: Global, room: usize) -> Result<Kept, AllocError>
         ensures empty { IfOk result (λ sink. replies_in sink ≡ []) }
         ensures room { IfOk result (λ sink. room_in sink ≡ room) }

@@ -1,4 +1,4 @@
-//! A line card that ends D-channels, either side (ITU-T Q.921, modulo 128): octets of its lines go in, and notes for
+//! A line card that ends D-channels, on either side (ITU-T Q.921, modulo 128). Octets of its lines go in. Notes for
 //! layer 3, orders for timers and octets for the lines come out.
 //!
 //! A card has up to 64 lines and one shelf of slots for the contents that wait on them. Each line ends the D-channel of
@@ -22,9 +22,9 @@
 //! }
 //! ```
 //!
-//! A [`Card`] is a [`FrameCard`], which takes and gives whole frames, with a port at each line, which hears frames in the octets
-//! that come, and puts those that go on the line. Where a controller keeps flags, stuffed 0s and checks, the frame card is all
-//! that is needed.
+//! A [`Card`] is a [`FrameCard`], which takes and gives whole frames, with a port at each line. A port hears frames in the octets
+//! that come, and puts those that go on the line. If a controller keeps flags, stuffed 0s and checks, the frame card is all that
+//! is needed.
 //!
 //! - `frame_card`: the card, one call an event, and what it tells of a line: a link's state and room, what was counted.
 //! - `card`: the card of octets: its octets and pulls; what else happens is passed on to the card of frames. `kinds`: a card of
@@ -33,16 +33,16 @@
 //! - `start` with `fault`: how a card begins, and why it does not.
 //! - `stored`: how many octets a card of octets stores, and how many a card of either kind may.
 //!
-//! What the card does is defined below: a row of a link's tables (by state, in `specs/`) and its notes in
-//! `model_link`, those of TEI management in `lapd_tei`, the refusals of a line in `model_line`
-//! (`specs/Refusal`) and of a link in `model_link` (`specs/Requests`), the port in `model_card::ports`. The types of notes and
+//! What the card does is defined below. A row of a link's tables (by state, in `specs/`) and its notes are in
+//! `model_link`, those of TEI management in `lapd_tei`. The refusals of a line are in `model_line`
+//! (`specs/Refusal`), of a link in `model_link` (`specs/Requests`), and the port in `model_card::ports`. The types of notes and
 //! refusals stand in `lapd_frame`, the words of a script in `lapd_script`.
 //!
 //! # Only tested
 //!
-//! Starts, with each fault; an answer that is kept has its contents; long runs; of a card of frames, a room that is too small
-//! (`test_product`), and one list of events (`laws_promises`); frames of each length, and such a card beside one of octets to
-//! which the same happens, through C (`tests/c/run`).
+//! Starts, with each fault; an answer that is kept has its contents; long runs. Of a card of frames, a room that is too small
+//! (`test_product`), and one list of events (`laws_promises`). Through C (`tests/c/run`) frames of each length, and such a card
+//! beside one of octets to which the same happens.
 #![tactic(auto)]
 
 mod card;

@@ -1,4 +1,4 @@
-//! Where the answers of a whole list of events at a card of octets go.
+//! What takes the answers of a whole list of events at a card of octets.
 
 ghost use Rattle.std.specs.Prelude.{◌≡◌, ℕ, OnOk, OnErr};
 ghost use Rattle.model_card.specs.ports.Port.{Answer};

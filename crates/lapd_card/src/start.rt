@@ -19,8 +19,8 @@ impl<S: Shelf> FrameCard<S> {
     ///
     /// # Errors
     ///
-    /// [`CardFault::BadConfig`] names the first field that is out of range. Else [`CardFault::ShelfTooSmall`] where the
-    /// shelf has fewer slots than `slots`, or they are narrower than `n201`, or any is in use. Else
+    /// [`CardFault::BadConfig`] names the first field that is out of range. Otherwise [`CardFault::ShelfTooSmall`]
+    /// where the shelf has fewer slots than `slots`, or they are narrower than `n201`, or any is in use. Otherwise
     /// [`CardFault::OutOfMemory`] where memory is refused. The shelf is dropped then.
     pub fn start(alloc: Global, config: Config, shelf: S) -> Result<FrameCard<S>, CardFault>
         ensures fault { IfSome (start_fault config (S.store shelf)) (λ fault. result ≡ Err fault) }

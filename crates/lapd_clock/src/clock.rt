@@ -44,7 +44,7 @@ impl Clock {
     ///
     /// # Errors
     ///
-    /// `OutOfMemory` where there is no memory for the places.
+    /// `OutOfMemory` if there is no memory for the places.
     pub fn start(alloc: Global, lines: usize, terminals: usize) -> Result<Clock, StartFault>
         requires lines { 1 ≤ lines × lines ≤ 64 }
         requires terminals { 1 ≤ terminals × terminals ≤ 8 }
@@ -61,7 +61,7 @@ impl Clock {
     ///
     /// # Errors
     ///
-    /// `OutOfMemory` where there is no memory for the places.
+    /// `OutOfMemory` if there is no memory for the places.
     pub fn start_with(
         alloc: Global,
         lines: usize,
@@ -141,8 +141,8 @@ impl Clock {
         }
     }
 
-    /// Takes out the timer that falls due first, and answers it with its line, if its moment is
-    /// not later than `now`, in milliseconds. Else the answer is `None`, and nothing changes.
+    /// Takes out the timer that falls due first, and answers it with its line, if its moment is not
+    /// later than `now`, in milliseconds. Otherwise the answer is `None`, and nothing changes.
     ///
     /// The first is the one with the least moment. At one moment it is that of the lowest line, and
     /// there T200 goes before T203, and T203 before T201; T200 and T203 go by TEI, and at one TEI
@@ -171,8 +171,8 @@ impl Clock {
         Some((line, held.timer))
     }
 
-    /// The moment, in milliseconds, of the timer that falls due first, due or not, and `None` where
-    /// no timer runs.
+    /// The moment, in milliseconds, of the timer that falls due first, due or not, and `None` if no
+    /// timer runs.
     pub fn next(&self) -> Option<u64>
         ensures next { result ≡ next_moment self.now }
         ensures least { IfSome result (λ moment. All (λ held. moment ≤ held.moment) self.now.running) }

@@ -17,10 +17,10 @@
 //! # Cost
 //!
 //! All memory is taken by `Clock::start` or `Clock::start_with`: for each line `4 * terminals + 1` places and two moments.
-//! `next`, and `due` where none is due, look at one moment, whatever the lines. `apply` goes over the timers of its one
-//! line, twice, and where their first falls due at another moment, up a tree over the lines as far as that changes what
-//! is first: six steps at most for 64 lines. A timer that is started again keeps its place, and no other moves. Where one
-//! is due, `due` also goes over the lines once, until it finds whose it is.
+//! `next`, and `due` if none is due, look at one moment, whatever the lines. `apply` goes over the timers of its one line,
+//! twice, and where their first falls due at another moment, up a tree over the lines as far as that changes what is
+//! first: six steps at most for 64 lines. A timer that is started again keeps its place, and no other moves. If one is
+//! due, `due` also goes over the lines once, until it finds whose it is.
 //!
 //! # Only tested
 //!

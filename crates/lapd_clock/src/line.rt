@@ -38,8 +38,8 @@ impl Held {
     }
 }
 
-/// Starts a timer, anew in its place where it runs, if the line has a place for it. Where it has none, nothing changes,
-/// as the timer does not run then.
+/// Starts a timer, anew in its place if it runs, if the line has a place for it. If it has none, nothing changes, as
+/// the timer does not run then.
 pub(crate) fn start(running: &mut Vec<Held>, places: usize, held: Held) -> bool
     requires each_once { IsEachOnce running.old.items }
     requires fits { vec_len running.old ≤ places }
@@ -71,7 +71,7 @@ pub(crate) fn stop(running: &mut Vec<Held>, timer: Timer)
     }
 }
 
-/// Where a timer stands, if it runs.
+/// The place of a timer, if it runs.
 fn place_of(running: &[Held], timer: Timer) -> Option<usize>
     ensures line { IfSome result (λ place. place < length running.now) }
     ensures there { IfSome result (λ place. HoldsAt (λ held. is_same held.timer timer ≡ true) running.now place) }
@@ -97,7 +97,7 @@ pub(crate) fn take_first(running: &mut Vec<Held>) -> Held
     running.remove(place)
 }
 
-/// Where the timer stands that falls due first.
+/// The place of the timer that falls due first.
 fn first_place(running: &[Held]) -> usize
     requires { 1 ≤ length running.now }
     ensures { IsFirstBest held_before running.now (length running.now) result }

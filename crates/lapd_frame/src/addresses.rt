@@ -27,7 +27,7 @@ pub struct Address {
     /// The service access point identifier, 0 to 63: 0 is call control, 16 packet mode, 63 layer 2
     /// management (clause 3.3.3).
     pub sapi: u8,
-    /// Whether the frame is a command; else it is a response (clause 3.3.2).
+    /// Whether the frame is a command; otherwise it is a response (clause 3.3.2).
     pub command: bool,
     /// The terminal endpoint identifier, 0 to 127: 0 to 63 is chosen by the user, 64 to 126 by the
     /// network, 127 is the group of all terminals (clause 3.3.4).

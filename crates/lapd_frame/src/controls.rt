@@ -111,8 +111,8 @@ impl Control {
         }
     }
 
-    /// Where the information of such a frame begins, in octets from the frame's first: behind the address and the
-    /// control field, so 3 or 4.
+    /// The place at which the information of such a frame begins: after the octets of the address and of the control
+    /// field, so 3 or 4.
     pub fn start(&self) -> usize
         ensures value { result ≡ start_of self.now }
         ensures bound { result ≤ 4 }

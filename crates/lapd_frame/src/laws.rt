@@ -21,7 +21,7 @@ pub fn one_spelling()
 {}
 
 /// The same holds of a sender, whatever SAPI the second service has on its line (profile): octets that spell a frame of
-/// it spell no other, and it reads again what it writes. Where that SAPI is 16 it reads what the grammar has for its
+/// it spell no other, and it reads again what it writes. If that SAPI is 16, it reads what the grammar has for its
 /// side. This is a law about the definitions in `specs/Senders.antt`; the call does nothing.
 pub fn senders_agree()
     ensures one { (sender : Sender) (frame other : Parts) (octets : List ℕ) →

@@ -60,7 +60,7 @@ fn parse(side: Side, octets: &[u8]) -> Result<Frame<'_>, ReadFault>
     })
 }
 
-/// The octet at a place of a frame; 0 where there is none.
+/// The octet at a place of a frame; 0 if there is none.
 #[inline(always)]
 pub fn octet_at(octets: &[u8], place: usize) -> u8
     ensures { result ≡ get_or octets.now place 0 }

@@ -5,7 +5,7 @@ ghost use Rattle.std.specs.Prelude.{◌≡◌, ◌+◌, ◌≤◌, ◌<◌, [], 
 /// At most four items, in order: the notes of an event, or its timer orders.
 ///
 /// A variant for each length, so that no place is ever without its item, and two lists are equal where their
-/// items are. A list is copied with the answer that holds it, also where that answer is lent.
+/// items are. A list is copied with the answer that holds it, also if that answer is lent.
 #[derive(Clone, Copy, PartialEq, Eq, Debug)]
 pub enum ShortList<T> {
     /// No item.

@@ -10,7 +10,7 @@ use lapd_link::{BareReport, LinkTimer};
 use lapd_store::Shelf;
 
 impl LinkLayer {
-    /// A timer expires. Where it does not run, nothing happens.
+    /// A timer expires. If it does not run, nothing happens.
     pub(crate) fn expire<S: Shelf>(&mut self, timer: Timer, report: &mut BareReport, shelf: &mut S)
         requires stands { Standing self.old (S.store shelf.old) }
         requires clear { IsClear report.old }

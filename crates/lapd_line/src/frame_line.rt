@@ -42,7 +42,7 @@ impl FrameLine {
     ///
     /// # Errors
     ///
-    /// `OutOfMemory` where there is no memory for all the room that it needs.
+    /// `OutOfMemory` if there is no memory for all the room that it needs.
     pub fn start(alloc: Global, config: &Config) -> Result<FrameLine, StartFault>
         requires { IsInRange config.now }
         ensures config { IfOk result (λ line. config_of line ≡ config.now) }
@@ -68,7 +68,7 @@ impl FrameLine {
         })
     }
 
-    /// Takes what is heard, as a deframer tells it, and tells in the report what it led to. Where nothing is heard, nothing
+    /// Takes what is heard, as a deframer tells it, and tells in the report what it led to. If nothing is heard, nothing
     /// happens.
     #[inline(always)]
     pub fn heard<S: Shelf>(
@@ -94,7 +94,7 @@ impl FrameLine {
         }
     }
 
-    /// Counts what was told. Where that is nothing but orders, it says so, and there is nothing to count.
+    /// Counts what was told. If that is nothing but orders, it says so, and there is nothing to count.
     #[tactic(auto, using(crate::proofs::Quiet::quiet_shown))]
     #[inline(always)]
     fn count(&mut self, report: &BareReport) -> bool
@@ -110,7 +110,7 @@ impl FrameLine {
     }
 
     /// Takes a frame that a controller brings, from its address to its information, without its check, and tells in the report
-    /// what it led to. [`FrameLine::contents`] lends contents that it delivers from these octets. Where the answer is true, it
+    /// what it led to. [`FrameLine::contents`] lends contents that it delivers from these octets. If the answer is true, it
     /// tells nothing but orders for timers.
     ///
     /// What it is heard as is what a deframer would hear in its octets on an idle line (`frames_are_heard` of
@@ -160,7 +160,7 @@ impl FrameLine {
         self.counters.told(&[], Some(cause), 0);
     }
 
-    /// A timer expires: T200 or T203 of a link, or T201 of the check of a TEI (Q.921 clause 5.9). Where it does not
+    /// A timer expires: T200 or T203 of a link, or T201 of the check of a TEI (Q.921 clause 5.9). If it does not
     /// run, nothing happens (profile).
     pub fn expire<S: Shelf>(&mut self, timer: Timer, report: &mut BareReport, shelf: &mut S)
         requires clear { IsClear report.old }

@@ -1,5 +1,5 @@
-//! A line of a card: TEI management, the links of its TEIs, unit data, and what goes out; and the port through which a line of
-//! octets hears frames and gives them.
+//! A line of a card: TEI management, the links of its TEIs, unit data, and what goes out. Beside it the port through which a
+//! line of octets hears frames and gives them.
 //!
 //! A [`FrameLine`] takes what happens to it one event at a time, and answers as the machine of `model_line` does, for every
 //! past (`specs/Stands.antt` says what a line stands for). Contents that wait lie on a shelf that other lines use too. After
@@ -7,13 +7,13 @@
 //! ([`FrameLine::frame`], [`FrameLine::next_frame`]); or a [`Port`] does, of octets ([`FrameLine::heard`],
 //! [`FrameLine::load_next`]). A [`Line`] is both together, and answers as `OctetLine` of `model_card::ports` does.
 //!
-//! - `frame_line`: the calls: what is heard, a timer that expires, a request; `came`, what a controller's frames and faults are
-//!   heard as; `next_frame`, what goes out, and `outlet`, where to; `queries`: the state of a link, how much room it has, and how
-//!   many octets the line stores.
+//! - `frame_line`: the calls: what is heard, a timer that expires, a request. `came`: what a controller's frames and faults are
+//!   heard as. `next_frame`: what goes out, and `outlet`, where to.
+//! - `queries`: the state of a link, how much room it has, and how many octets the line stores.
 //! - `port`: the octets of a line; `line`: a line with its port.
-//! - `link_layer`: what the calls change: TEI management, links and units; `addressing`, what is heard; `expiries`, timers;
-//!   `tei_changes`, links that open and are cleared; `requests`, what is requested of a link, of TEI management and as unit data;
-//!   `giving_up`, what waits and is of no link; `pulls`, which frame is next; `held`, what the links store.
+//! - `link_layer`: what the calls change: TEI management, links and units. `addressing`: what is heard. `expiries`: timers.
+//! - `tei_changes`: links that open and are cleared. `requests`: what is requested of a link, of TEI management and as unit data.
+//! - `giving_up`: what waits and is of no link. `pulls`: which frame is next. `held`: what the links store.
 //! - `links`, `units`: the links of all places of the TEI table, and the unit data that waits; `marks`, which links have
 //!   something to give.
 //! - `reports`, `pulled`: the answers; `fault`: why a line can't be started.

@@ -36,7 +36,7 @@ impl Line {
     ///
     /// # Errors
     ///
-    /// `OutOfMemory` where there is no memory for all the room that it needs.
+    /// `OutOfMemory` if there is no memory for all the room that it needs.
     pub fn start(alloc: Global, config: &Config) -> Result<Line, StartFault>
         requires { IsInRange config.now }
         ensures config { IfOk result (λ line. octets_config line ≡ config.now) }
@@ -121,9 +121,9 @@ impl Line {
         Ok(Report::of(&bare, None))
     }
 
-    /// Gives the next octet of the line, low bit first. Where fewer than eight bits are left to send, the frame that is
-    /// next is taken: a message of TEI management, else unit data, else one of a link, each link in its turn; or an
-    /// idle flag where none waits (profile).
+    /// Gives the next octet of the line, low bit first. If fewer than eight bits are left to send, the frame that is
+    /// next is taken: a message of TEI management, otherwise unit data, otherwise one of a link, each link in its turn;
+    /// or an idle flag if none waits (profile).
     pub fn pull<S: Shelf>(&mut self, shelf: &mut S) -> Pulled
         requires { (others : List Owned) × (l : OctetLine) × OctetsStand self.old (S.store shelf.old) others l }
         ensures told { (others : List Owned) (l : OctetLine) → OctetsStand self.old (S.store shelf.old) others l

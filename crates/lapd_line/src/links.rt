@@ -141,7 +141,7 @@ impl Links {
         self.all[number].address(command)
     }
 
-    /// The state of a link, 4 to 8; none where there is no such link.
+    /// The state of a link, 4 to 8; none if there is no such link.
     pub(crate) fn state(&self, number: usize) -> Option<u8>
         ensures { (c : Config) (store : Store) (others : List Owned) (ms : List machine.Link) → number < length self.now → LinksStand c self.now store others ms
             → result ≡ Some (machine.state_number (machine_at ms number).state) }
@@ -149,7 +149,7 @@ impl Links {
         Some(self.all.get(number)?.state())
     }
 
-    /// How much room a link has; none where there is no such link.
+    /// How much room a link has; none if there is no such link.
     pub(crate) fn room<S: Shelf>(&self, number: usize, shelf: &S, slots: u32) -> Option<Room>
         ensures { (c : Config) (terms : Terms) (others : List Owned) (ms : List machine.Link) → number < length self.now → HasTerms self.now number terms
             → LinksStand c self.now (S.store shelf.now) others ms

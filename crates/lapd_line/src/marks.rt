@@ -7,7 +7,7 @@ ghost use Rattle.lapd_line.specs.{NoneFrom, IsLowestFrom, AreMarked, IsMark, IsM
 /// Which of the numbers below 64 are marked: of a line the links that have a frame to give, of a card the lines.
 #[derive(Clone, Copy, Debug)]
 pub struct Marks {
-    /// A bit for each number, which is 1 where it is marked.
+    /// A bit for each number, which is 1 if it is marked.
     bits: u64,
 }
 

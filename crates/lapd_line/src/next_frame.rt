@@ -85,8 +85,9 @@ impl FrameLine {
     ghost use Rattle.lapd_line.specs.{IsLoaded, gave_in, written, Leads, config_of};
     ghost use Rattle.lapd_line.specs.Stands.{LineStands};
 
-    /// Writes the next frame to be sent in front of `out`, without its check: a message of TEI management, else unit data,
-    /// else a frame of a link, each link in its turn (profile); none where none waits. There is room for the longest.
+    /// Writes the next frame to be sent in front of `out`, without its check: a message of TEI management, otherwise unit
+    /// data, otherwise a frame of a link, each link in its turn (profile); none if none waits. There is room for the
+    /// longest.
     pub fn next_frame<S: Shelf>(&mut self, out: &mut [u8], shelf: &mut S) -> Option<NextFrame>
         requires stands { (others : List Owned) × (m : machine.Line) × LineStands self.old (S.store shelf.old) others m }
         requires room { (config_of self.old).n201 + 4 ≤ length out.old }
@@ -108,7 +109,7 @@ impl FrameLine {
     }
 
     /// Loads the next frame into a port of which fewer than eight bits are left to send, and answers its orders for timers;
-    /// none where no frame waits.
+    /// none if no frame waits.
     pub fn load_next<S: Shelf>(
         &mut self,
         port: &mut Port,

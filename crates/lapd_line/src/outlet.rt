@@ -1,4 +1,4 @@
-//! Where an outgoing frame is written: a framer or a buffer.
+//! What an outgoing frame is written to: a framer or a buffer.
 
 ghost use Rattle.std.specs.Prelude.{◌≡◌, ◌+◌, ◌≤◌, ◌++◌, length};
 ghost use Rattle.lapd_line.specs.Loading.{Loading, in_bits, IsFree, Loads, room_in, reference_in};

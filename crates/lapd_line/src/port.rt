@@ -35,7 +35,7 @@ impl Port {
     ///
     /// # Errors
     ///
-    /// `OutOfMemory` where there is no memory for the longest frame each way.
+    /// `OutOfMemory` if there is no memory for the longest frame each way.
     pub fn start(alloc: Global, n201: u16) -> Result<Port, StartFault>
         requires { n201 ≤ 1024 }
         ensures fresh { IfOk result (λ port. PortStands n201 port fresh_port) }
@@ -105,7 +105,7 @@ impl Port {
         }
     }
 
-    /// How the frame that a pull began last begins, and how long it is; none where none was begun yet. So after a pull that
+    /// How the frame that a pull began last begins, and how long it is; none if none was begun yet. So after a pull that
     /// has [`begun`](Pulled::begun) a frame, this is that frame, until a pull begins another.
     pub fn begun(&self) -> Option<Head>
         ensures is { result ≡ self.now.framer.begun }
@@ -114,8 +114,8 @@ impl Port {
         self.framer.begun()
     }
 
-    /// How the frame that was heard last begins, and how long it is, also where it was dropped afterwards; none where none was
-    /// heard yet. Of a frame that is too long to be kept, the length is N201 and five octets, whatever it was.
+    /// How the frame that was heard last begins, and how long it is, also if it was dropped afterwards; none if none was heard
+    /// yet. Of a frame that is too long to be kept, the length is N201 and five octets, whatever it was.
     pub fn heard(&self) -> Option<Head>
         ensures { (n201 : ℕ) (p : machine.Port) → PortStands n201 self.now p → result ≡ head_heard n201 p }
     {

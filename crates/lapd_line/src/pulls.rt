@@ -30,9 +30,9 @@ fn load<O: Outlet>(out: &mut O, sender: Sender, address: Address, control: Contr
 }
 
 impl LinkLayer {
-    /// Takes the frame that is next, if there is one, and loads it: the oldest message of TEI management, else the
-    /// oldest unit data, else what the first of the links has to give, going round from the one after that which was
-    /// served last. Answers the orders for timers.
+    /// Takes the frame that is next, if there is one, and loads it: the oldest message of TEI management, otherwise
+    /// the oldest unit data, otherwise what the first of the links has to give, going round from the one after that
+    /// which was served last. Answers the orders for timers.
     pub(crate) fn take<O: Outlet, S: Shelf>(
         &mut self,
         out: &mut O,
@@ -52,7 +52,7 @@ impl LinkLayer {
         self.take_first(out, shelf)
     }
 
-    /// What the first of these links has to give. It is the first that has a frame; where none is, that costs no call.
+    /// What the first of these links has to give. It is the first that has a frame; if none is, that costs no call.
     #[tactic(auto, using(crate::proofs::PullTakesRound::first_within, crate::proofs::PullTakesRound::first_marked))]
     #[inline(always)]
     fn take_first<O: Outlet, S: Shelf>(

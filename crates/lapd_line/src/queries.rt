@@ -53,7 +53,7 @@ impl FrameLine {
     ///
     /// # Errors
     ///
-    /// There is no such link: `BadTei` where the TEI is over 126, `NoLink` where it is not on the line.
+    /// There is no such link: `BadTei` if the TEI is over 126, `NoLink` if it is not on the line.
     pub fn room<S: Shelf>(
         &self,
         service: Service,

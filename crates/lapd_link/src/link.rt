@@ -30,7 +30,7 @@ impl Link {
     ///
     /// # Errors
     ///
-    /// `OutOfMemory` where there is no room for them.
+    /// `OutOfMemory` if there is no room for them.
     pub fn start(alloc: Global, queue: u8, control: u8) -> Result<Link, StartFault>
         requires queue_low { 1 ≤ queue }
         requires queue_high { queue ≤ 127 }
@@ -61,9 +61,9 @@ impl Link {
         })
     }
 
-    /// The link's TEI (0 to 126) comes to the line: the link, which has to be in state 4, is as one that begins, with a
+    /// The link's TEI (0 to 126) comes to the line. The link has to be in state 4, and is as one that begins: with a
     /// window of `k` (1 to its queue's capacity), `n200` repeats (0 to 10) and at most `n201` octets of information (8
-    /// to 260). That is so on the shelf for which it stood, where that is at least as wide as `n201` (`fresh`).
+    /// to 260). That holds on the shelf for which it stood, if that is at least as wide as `n201` (`fresh`).
     pub fn open(&mut self, service: Service, tei: u8, k: u8, n200: u8, n201: u16)
         requires tei { tei ≤ 126 }
         requires k_low { 1 ≤ k }

@@ -17,7 +17,7 @@ use model_link::{ControlFrame, LinkTimer};
 pub struct Offer {
     /// Command or response, and the control field.
     pub frame: ControlFrame,
-    /// Where on the shelf the contents of an I-frame lie. They stay there until the link's next event.
+    /// The slot of the shelf in which the contents of an I-frame lie. They stay there until the link's next event.
     pub contents: Option<Slot>,
     /// What is to be done with T200 and then T203.
     pub orders: ShortList<Order>,
@@ -26,9 +26,9 @@ pub struct Offer {
 impl Link {
     ghost use Rattle.lapd_link.specs.Stands.{LinkStands};
 
-    /// The next frame to be sent, if there is one: the control frame that has waited longest; else, in state 7, an I-frame
-    /// with the first contents that are unsent, where the terminal is not busy and the window is open; else the
-    /// acknowledgement that is owed.
+    /// The next frame to be sent, if there is one. It is the control frame that has waited longest. Otherwise, in state 7,
+    /// it is an I-frame with the first contents that are unsent, if the terminal is not busy and the window is open.
+    /// Otherwise it is the acknowledgement that is owed.
     #[inline(always)]
     pub fn offer(&mut self) -> Option<Offer>
         requires { (store : Store) × (others : List Owned) × (m : machine.Link) × LinkStands self.old store others m }

@@ -25,7 +25,7 @@ pub struct Outcome<'a> {
 impl<'a> Outcome<'a> {
     ghost use Rattle.lapd_link.specs.Outcome.{told_with, told_of};
 
-    /// What a report says, with the frame's information lent where it is delivered.
+    /// What a report says, with the frame's information lent if it is delivered.
     pub(crate) fn of(report: &BareReport, information: &'a [u8]) -> Outcome<'a>
         ensures { told_of result ≡ told_with information.now report.now }
     {

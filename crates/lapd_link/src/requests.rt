@@ -30,7 +30,7 @@ pub enum LinkRequest<'a> {
 impl Link {
     ghost use Rattle.lapd_link.specs.Stands.{LinkStands, HasRoom};
 
-    /// Layer 3 asks for something, where all users of the shelf together may hold `slots` contents, at most as many as
+    /// Layer 3 asks for something. All users of the shelf together may hold `slots` contents, at most as many as
     /// the shelf has slots. In the report nothing is told yet.
     ///
     /// # Errors

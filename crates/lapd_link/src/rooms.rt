@@ -11,8 +11,8 @@ use model_link::Room;
 impl Link {
     ghost use Rattle.lapd_link.specs.Stands.{LinkStands};
 
-    /// How much room the link has for contents, where all users of the shelf together may hold `slots`, and V(A). It
-    /// says what a request to send more will be refused for; each acknowledgement of contents lets `queue` and V(A)
+    /// How much room the link has for contents, and V(A). All users of the shelf together may hold `slots` contents.
+    /// It says what a request to send more will be refused for. Each acknowledgement of contents lets `queue` and V(A)
     /// rise by one.
     pub fn room<S: Shelf>(&self, shelf: &S, slots: u32) -> Room
         ensures { (others : List Owned) (m : machine.Link) → LinkStands self.now (S.store shelf.now) others m

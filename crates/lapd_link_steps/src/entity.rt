@@ -40,7 +40,7 @@ impl Entity {
     ///
     /// # Errors
     ///
-    /// `AllocError` where there is no room for them.
+    /// `AllocError` if there is no room for them.
     pub fn start(alloc: Global, control: usize) -> Result<Entity, AllocError>
         ensures { IfOk result (λ entity. IsFresh control entity) }
     {

@@ -16,13 +16,13 @@ use model_link::{ControlFrame, LinkTimer, State, Terms};
 pub struct Given {
     /// Command or response, and the control field.
     pub frame: ControlFrame,
-    /// Where in the queue its contents are, if it is an I-frame; 0 is the oldest.
+    /// The place of its contents in the queue, if it is an I-frame; 0 is the oldest.
     pub place: Option<usize>,
 }
 
 impl Entity {
-    /// The next frame, if there is one, while so many contents are queued: the control frame that has waited longest; else
-    /// an I-frame; else the acknowledgement that is owed.
+    /// The next frame, if there is one, while so many contents are queued: the control frame that has waited longest;
+    /// otherwise an I-frame; otherwise the acknowledgement that is owed.
     #[inline(always)]
     pub fn offer(&mut self, terms: &Terms, told: &mut BareReport, queued: usize) -> Option<Given>
         requires { terms.now.k ≤ 127 }

@@ -12,8 +12,8 @@ use model_link::LinkTimer;
 pub(crate) const ALL: u8 = 127;
 
 /// What an event led to, without references. A call is handed one in which nothing is told yet ([`BareReport::nothing`]), and
-/// each level below it writes its own part: rows of the tables all but `orders`, `start` and `cause`, the end of a link's event
-/// `orders`, and the line what is told by no link.
+/// each level below it writes its own part. Rows of the tables write all except `orders`, `start` and `cause`. The end of a
+/// link's event writes `orders`, and the line what is told by no link.
 #[derive(Clone, Copy)]
 pub struct BareReport {
     /// What layer 3 and layer management are told, in order.
@@ -24,7 +24,7 @@ pub struct BareReport {
     pub delivered: bool,
     /// Whether it is told as unit data.
     pub unit: bool,
-    /// Where in the frame the information begins.
+    /// The place in the frame at which the information begins.
     pub start: usize,
     /// Why something was dropped that no link was asked for.
     pub cause: Option<Cause>,

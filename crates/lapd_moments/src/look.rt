@@ -11,8 +11,8 @@ use crate::place::{Place, first_place};
 /// Looks for the place that falls due first, if it does so until `end`. It answers a moment before which no timer falls due,
 /// and the place that falls due then.
 ///
-/// The line with the least bound has that place, if its bound is right. Else the bound is made right, and the next line is
-/// tried. A bound is wrong only where a timer has been stopped, or started anew, since it was made right.
+/// The line with the least bound has that place, if its bound is right. Otherwise the bound is made right, and the next
+/// line is tried. A bound is wrong only if a timer has been stopped, or started anew, since it was made right.
 pub(crate) fn look(
     bounds: &mut [u64],
     places: &[Place],

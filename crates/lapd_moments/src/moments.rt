@@ -48,7 +48,7 @@ impl Moments {
     ///
     /// # Errors
     ///
-    /// `AllocError` where there is no memory for them.
+    /// `AllocError` if there is no memory for them.
     pub fn idle(alloc: Global, lines: usize, terminals: usize) -> Result<Moments, AllocError>
         requires lines { lines ≤ 64 }
         requires terminals { terminals ≤ 8 }
@@ -134,7 +134,7 @@ impl Moments {
         Some((first.line, first.timer))
     }
 
-    /// The moment of the timer that falls due first, due or not, and `None` where no timer runs.
+    /// The moment of the timer that falls due first, due or not, and `None` if no timer runs.
     pub fn next(&mut self) -> Option<u64>
         ensures next { result ≡ first_moment (timers_in self.old) }
         ensures unchanged { self.new ≡ self.old }

@@ -14,7 +14,7 @@ pub(crate) const NEVER: u64 = u64::MAX;
 /// A place of a timer of a line, and the moment at which it falls due, if it runs.
 #[derive(Clone, Copy, Debug)]
 pub(crate) struct Place {
-    /// In milliseconds; [`NEVER`] where it does not run.
+    /// In milliseconds; [`NEVER`] if it does not run.
     pub moment: u64,
     /// Of which line it is.
     pub line: usize,
@@ -64,7 +64,7 @@ pub(crate) fn first_place(places: &[Place]) -> usize
     first
 }
 
-/// Where a timer of a line runs.
+/// The place in which a timer of a line runs.
 pub(crate) fn running_place(places: &[Place], line: usize, timer: Timer) -> Option<usize>
     ensures within { IfSome result (λ place. place < length places.now) }
     ensures there { IfSome result (λ place. HoldsAt (λ p. place_runs line timer p ≡ true) places.now place) }

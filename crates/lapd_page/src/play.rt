@@ -21,9 +21,9 @@ const NO_MEMORY: u32 = 3;
 pub struct PlainEnd {
     /// Octets of the transcript: more than its room, where it did not fit.
     pub transcript: usize,
-    /// Octets of the fault line; 0 where there is no fault.
+    /// Octets of the fault line; 0 if there is no fault.
     pub fault: usize,
-    /// The number of the faulty line, from 1; 0 where there is no fault.
+    /// The number of the faulty line, from 1; 0 if there is no fault.
     pub line: u64,
 }
 

@@ -7,7 +7,7 @@ use crate::jobs::{Job, Limits};
 use crate::values::number;
 use model_line::MOST_N201;
 
-/// What these words ask for, and `None` where they ask for nothing that there is.
+/// What these words ask for, and `None` if they ask for nothing that there is.
 pub fn job<'a>(words: &[&'a str]) -> Option<Job<'a>>
     ensures { seen result ≡ job (texts words.now) }
 {

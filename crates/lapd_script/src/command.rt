@@ -47,7 +47,7 @@ pub enum Command {
     /// Nothing: the line is empty, or begins with `#`.
     Skip,
     /// `card`, `frames`: starts a card with these sizes and limits, which are any numbers of 16 bits. In the line `k16`
-    /// stands last, and it is `k` where it is left out.
+    /// stands last, and it is `k` if it is left out.
     Card(CardKind, Config),
     /// `rx LINE HEX`: octets come from the line.
     Rx {
@@ -88,7 +88,7 @@ pub enum Command {
         line: u16,
         group: CounterGroup,
     },
-    /// A request of layer 3, and the octets that it carries: those of `data` and `unit`, else none.
+    /// A request of layer 3, and the octets that it carries: those of `data` and `unit`, otherwise none.
     Ask {
         line: u16,
         tei: u8,

@@ -28,7 +28,7 @@ pub enum FaultKind {
     SecondCard,
     /// The card line has a configuration that is out of range.
     BadCard,
-    /// The line is about octets where the card is for frames, or about frames where it is for octets.
+    /// The line is about octets if the card is for frames, or about frames if it is for octets.
     WrongCard,
     /// The card does not have the line.
     BadLine,

@@ -25,7 +25,7 @@ const LONGEST_SCRIPT: u64 = 1 << 63;
 pub struct ScriptLines {
     /// The current line with its line feed, and what has been read of the lines after it.
     buffer: Vec<u8>,
-    /// Where the current line begins, where it ends, and where the next one begins.
+    /// The beginning and the end of the current line, and the beginning of the next one.
     start: usize,
     end: usize,
     next: usize,
@@ -53,7 +53,7 @@ impl ScriptLines {
     ///
     /// # Errors
     ///
-    /// `AllocError` where there is no memory for the longest line.
+    /// `AllocError` if there is no memory for the longest line.
     pub fn start(alloc: Global) -> Result<ScriptLines, AllocError>
         ensures left { IfOk result (λ lines. (text : List ℕ) → AreLeft lines (Some text) text) }
         ensures number { IfOk result (λ lines. lines.number ≡ 0) }
@@ -75,7 +75,7 @@ impl ScriptLines {
     ///
     /// # Errors
     ///
-    /// `Script` where the script is too long with that line.
+    /// `Script` if the script is too long with that line.
     pub fn ready(&mut self) -> Result<bool, PlayFault>
         ensures steady { IfErr result (λ fault. (count : ℕ) → (reads_failed fault count ≡ count) × (writes_failed fault count ≡ count)) }
         ensures goes_on { IfOk result (λ more. IsTrue more → self.old.octets < self.new.octets) }
@@ -91,11 +91,11 @@ impl ScriptLines {
         self.take(end, end + 1)
     }
 
-    /// Goes on to the next line, and tells whether there is one. It reads only where no line feed has come yet.
+    /// Goes on to the next line, and tells whether there is one. It reads only if no line feed has come yet.
     ///
     /// # Errors
     ///
-    /// `Read` where a read failed; `Script` where the line is too long, or the script with it.
+    /// `Read` if a read failed; `Script` if the line is too long, or the script with it.
     pub fn advance<S: Source>(&mut self, source: &mut S) -> Result<bool, PlayFault>
         ensures reads { S.failures source.new ≡ reads_failed_by result (S.failures source.old) }
         ensures no_write { IfErr result (λ fault. (count : ℕ) → writes_failed fault count ≡ count) }
@@ -187,7 +187,7 @@ impl ScriptLines {
     }
 
     /// Makes the octets up to `end` the current line, and those from `next` on the lines after it. There is no line
-    /// where no octet is left.
+    /// if no octet is left.
     fn take(&mut self, end: usize, next: usize) -> Result<bool, PlayFault>
         requires after_start { self.old.start ≤ end }
         requires before_next { end ≤ next }
@@ -224,7 +224,7 @@ impl ScriptLines {
     }
 }
 
-/// Where the first line feed stands.
+/// The place of the first line feed.
 fn first_line_feed(octets: &[u8]) -> Option<usize>
     ensures { result ≡ position (λ octet. octet == 10) octets.now }
 {

@@ -166,7 +166,7 @@ fn lengths(words: &[&[u8]]) -> Result<(u32, u32, u32), FaultKind>
     Ok((t200, t203, t201))
 }
 
-/// The numbers of a card line, `user` behind them if the card is the user's side, and `sapi` with the SAPI of the second
+/// The numbers of a card line, `user` after them if the card is the user's side, and `sapi` with the SAPI of the second
 /// service if that is not 16.
 fn card_numbers(words: &[&[u8]]) -> Result<Config, FaultKind>
     ensures read { result ≡ card_numbers (texts words.now) }
@@ -193,7 +193,7 @@ fn for_sapi(numbers: Result<Config, FaultKind>, sapi: &[u8]) -> Result<Config, F
     Ok(numbers)
 }
 
-/// The nine or ten numbers of a card line, and `user` behind them if the card is the user's side.
+/// The nine or ten numbers of a card line, and `user` after them if the card is the user's side.
 fn side_numbers(words: &[&[u8]]) -> Result<Config, FaultKind>
     ensures read { result ≡ side_numbers (texts words.now) }
 {

@@ -55,7 +55,7 @@ fn are_digits(word: &[u8]) -> bool
 
 /// Puts the octets that a word of hexadecimal digits stands for into the beginning of `room`, and tells how many.
 /// `-` stands for no octets, as a word without digits does. `room` has at least half as many places as the word has
-/// digits. Those behind half as many as it has stay as they are.
+/// digits. Those after half as many as it has stay as they are.
 ///
 /// # Errors
 ///

@@ -30,7 +30,7 @@ pub(crate) fn words_of(line: &[u8]) -> ArrayVec<&[u8], MOST_WORDS>
     words
 }
 
-/// The first word, and what stands after its space; `None` where no space is left.
+/// The first word, and what stands after its space; `None` if no space is left.
 fn split_word(rest: &[u8]) -> Option<(&[u8], &[u8])>
     ensures split { IfSome result (λ parts. words_of rest.now ≡ parts.0.now ∷ words_of parts.1.now) }
     ensures shorter { IfSome result (λ parts. length parts.0.now + length parts.1.now < length rest.now) }

@@ -32,7 +32,7 @@ impl Window {
     }
 
     /// V(A), the number of the oldest I-frame that is not acknowledged, or of the next to be sent
-    /// where there is none.
+    /// if there is none.
     pub fn va(&self) -> Seq
         ensures held { result ≡ va_of self.now }
         ensures plain { (a s : ℕ) → WindowStands self.now a s → result ≡ seq a }
@@ -88,7 +88,7 @@ impl Window {
     }
 
     /// Whether one more I-frame may be sent where at most `k` may be outstanding (Q.921 clause
-    /// 5.9.5). Any `k` is taken; where it is at most 127, a yes allows `advance`.
+    /// 5.9.5). Any `k` is taken; if it is at most 127, a yes allows `advance`.
     pub fn may_send(&self, k: u8) -> bool
         ensures held { IsTrue result ↔ (outstanding_of self.now < k) }
         ensures plain { (a s : ℕ) → WindowStands self.now a s → (IsTrue result ↔ (s < a + k)) }

@@ -1,8 +1,8 @@
 //! Plays scripts on a line card: what its lines bring is put on the card, and the transcript of the answers is written.
 //! `docs/FORMAT.md` describes both texts.
 //!
-//! - `setup`: what a script is played on, a card with its timers, and the terminals and listeners of its lines, which obeys
-//!   the lines of a script; `parts`, what it begins with; `exchange`, what happens at the card.
+//! - `setup`: what a script is played on: a card with its timers, and the terminals and listeners of its lines. It obeys the
+//!   lines of a script. `parts`: what it begins with. `exchange`: what happens at the card.
 //! - `player`: plays a script; `memory`, one that lies in memory.
 //! - `program`: the program's words and exit status.
 //! - `machine`: what a script means, and what holds of whole scripts.
@@ -10,7 +10,7 @@
 //! # Only tested
 //!
 //! That the answer to each line is written before more is read than that line needs; that `play_octets` and `show_frame`
-//! of `lapd_script` succeed where there is memory.
+//! of `lapd_script` succeed if there is memory.
 //!
 //! # Open
 //!

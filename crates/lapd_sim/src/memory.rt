@@ -54,8 +54,8 @@ impl Target for Text {
 ///
 /// # Errors
 ///
-/// As [`play`] does, but that no read fails: the transcript of the lines before the fault has been put; where there was
-/// no memory for more of it, `Write`, and a beginning that lacks an octet at least.
+/// As [`play`] does, except that no read fails: the transcript of the lines before the fault has been put. If there was no
+/// memory for more of it, `Write`, and a prefix that lacks an octet at least.
 pub fn play_octets(
     alloc: Global,
     script: &[u8],

@@ -14,11 +14,11 @@ use std::alloc::{AllocError, Global};
 /// As many octets as one line of a script can have pulled: more than it can bring.
 const ROOM: usize = 4096;
 
-/// Plays the script that `source` gives on a card, and writes the transcript to `target`: the answer of each line
-/// before more is read than that line needs (no clause says when; it is tested). It ends with the script, or with the
+/// Plays the script that `source` gives on a card, and writes the transcript to `target`. It writes the answer of each
+/// line before more is read than that line needs (no clause says when; it is tested). It ends with the script, or with the
 /// first fault; what the lines before the fault brought has been written by then.
 ///
-/// All memory is taken at the start and at the card line: where it is refused nothing has been read, or the line that
+/// All memory is taken at the start and at the card line: if it is refused nothing has been read, or the line that
 /// starts the card is the one that is answered.
 #[tactic(auto, using(crate::proofs::Ending::same_target))]
 pub fn play<S: Source, T: Target>(
@@ -160,7 +160,7 @@ impl Player {
     }
 }
 
-/// Obeys a line where there is no card yet: it starts one, or needs one.
+/// Obeys a line if there is no card yet: it starts one, or needs one.
 fn without_card(alloc: Global, command: Command) -> Result<Option<Setup>, LineFault>
     ensures { (buffer : List ℕ) → StartsBy result (without_card (meant buffer command)) }
 {

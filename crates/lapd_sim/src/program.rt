@@ -9,7 +9,7 @@ use lapd_script::{Job, PlayFault, job, refuse, refuse_digits, refuse_words, show
 use lapd_transcript::{Source, Target, write_bound};
 use std::alloc::Global;
 
-/// The exit status where all was done.
+/// The exit status if all was done.
 const DONE: u8 = 0;
 
 /// Does what the words after the program's name ask for, and answers the exit status.
@@ -70,7 +70,7 @@ pub fn serve<S: Source, T: Target, F: Target>(
     }
 }
 
-/// Who sent a frame: the network with `--network`, else the user.
+/// Who sent a frame: the network with `--network`, otherwise the user.
 fn side_of(network: bool) -> Side
     ensures { result ≡ side_of network }
 {

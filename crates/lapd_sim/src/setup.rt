@@ -21,7 +21,8 @@ use std::alloc::Global;
 /// A line of a script was obeyed, or why it was not.
 pub(crate) type Obeyed = Result<(), LineFault>;
 
-/// A card that keeps its own timers; and for each line the terminal that sends, and what listens to the octets that are pulled.
+/// A card that keeps its own timers. For each line it has the terminal that sends, and what listens to the octets that are
+/// pulled.
 #[derive(Drop)]
 pub(crate) struct Setup {
     pub(crate) config: Config,

@@ -18,7 +18,7 @@
 //!
 //! # Only tested
 //!
-//! Starts with 0, 1 and 8,192 slots of 8 and of 260 octets; that a region is taken where there is memory, and given back
+//! Starts with 0, 1 and 8,192 slots of 8 and of 260 octets; that a region is taken if there is memory, and given back
 //! (`tests/memory` counts the blocks).
 //!
 //! # Open

@@ -1,4 +1,4 @@
-//! The memory of a region. Raw pointers stand in this file alone, behind four functions that are proved by hand.
+//! The memory of a region. Raw pointers stand in this file alone, inside four functions that are proved by hand.
 ghost use Rattle.std.specs.Prelude.{◌≡◌, ℕ, ◌+◌, ◌^◌, ◌<◌, ◌≤◌, List, Option, Some, None, map, length, take, drop, replicate, slice_set, IfOk};
 ghost use denote.RawPtr.{Ptr};
 ghost use Rattle.lapd_store.specs.Memory.{octets_own, octets_lent, block_of};
@@ -7,7 +7,7 @@ use std::alloc::{AllocError, Allocator};
 use std::marker::{Model, PhantomData};
 use std::slice;
 
-/// Where a block begins. It owns nothing.
+/// The beginning of a block. It owns nothing.
 #[derive(Clone, Copy)]
 pub(crate) struct Base {
     ptr: *mut u8,

@@ -10,8 +10,8 @@ use std::marker::Model;
 
 /// A block of octets, each of which was written or not; nothing is written in it when it is taken.
 ///
-/// A contract sees it as a list with an entry for each octet: its value where it was written, else `None`. So a read asks
-/// that what it lends was written. Its drop gives the block back.
+/// A contract sees it as a list with an entry for each octet: its value if it was written, otherwise `None`. So a read
+/// asks that what it lends was written. Its drop gives the block back.
 pub(crate) struct Region {
     octets: Octets,
     deed: Deed<Global>,
@@ -40,7 +40,7 @@ impl Region {
     ///
     /// # Errors
     ///
-    /// `AllocError` where there is no memory for them.
+    /// `AllocError` if there is no memory for them.
     pub(crate) fn take(alloc: Global, size: usize) -> Result<Region, AllocError>
         requires { size < 2 ^ 63 }
         ensures { IfOk result (λ region. region ≡ replicate size None) }

@@ -8,7 +8,7 @@ use crate::{Shelf, SlotQueue};
 impl SlotQueue {
     ghost use Rattle.lapd_store.specs.SlotRing.{without_oldest_ones};
 
-    /// Takes out the oldest `count` slots and releases them on their shelf, or all slots where there are fewer.
+    /// Takes out the oldest `count` slots and releases them on their shelf, or all slots if there are fewer.
     ///
     /// The shelf has to keep the queue's messages. It keeps those that are left, beside the same messages of others.
     pub fn release_oldest<S: Shelf>(&mut self, count: usize, shelf: &mut S)

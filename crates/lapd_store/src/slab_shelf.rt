@@ -44,7 +44,7 @@ impl SlabShelf {
     ///
     /// # Errors
     ///
-    /// `OutOfMemory` where there is no room for all of them.
+    /// `OutOfMemory` if there is no room for all of them.
     pub fn start(alloc: Global, slots: u32, width: u16) -> Result<SlabShelf, StartFault>
         requires least { 8 ≤ width }
         requires most { width ≤ 260 }

@@ -33,7 +33,7 @@ impl SlotQueue {
     ///
     /// # Errors
     ///
-    /// `OutOfMemory` where there is no room for them.
+    /// `OutOfMemory` if there is no room for them.
     pub fn start(alloc: Global, capacity: usize) -> Result<SlotQueue, StartFault>
         ensures { IfOk result (λ queue. queue ≡ empty_ring capacity) }
     {
@@ -87,7 +87,7 @@ impl SlotQueue {
         self.ring.push_back(slot);
     }
 
-    /// Takes out the oldest slot, or answers `None` where there is none.
+    /// Takes out the oldest slot, or answers `None` if there is none.
     pub fn pop(&mut self) -> Option<Slot>
         ensures oldest { result ≡ slice_get self.old.slots 0 }
         ensures rest { self.new ≡ without_oldest self.old }

@@ -2,10 +2,10 @@
 
 ghost use Rattle.lapd_tei.specs.Laws.{IsSoundThroughout, ChangesAreTold, LowestIsAssigned, NewIsAssigned, OneIsFree, OneMoreWaits, OneIsLost, OneFewerWaits, UnservedChangesNothing, T201Follows, ExpiredT201Follows, DownGivesUp, DisownSendsRemove, DisownSpares, DisownAllSpares};
 
-/// From the empty table on, after any events and pulls whose requests name TEIs of at most 126, or disown one of at most
-/// 127: no TEI and no Ri stands twice, each TEI is at most 126, at most four assignments are remembered, each of a TEI that
-/// is on the line, at most four messages wait, each with an Ai of at most 127, and a check is of a TEI that is on the line
-/// and has at most one response in each period. This is a law about the definitions in `specs/`; the call does nothing.
+/// TEI management is sound from the empty table on, after any events and pulls whose requests name TEIs of at most 126, or
+/// disown one of at most 127. No TEI and no Ri stands twice, and each TEI is at most 126. At most four assignments are
+/// remembered, each of a TEI that is on the line. At most four messages wait, each with an Ai of at most 127. A check is of
+/// a TEI that is on the line, and has at most one response in each period. This is a law about the definitions in `specs/`; the call does nothing.
 pub fn sound_throughout()
     ensures { IsSoundThroughout }
 {}
@@ -18,10 +18,10 @@ pub fn changes_are_told()
     ensures { ChangesAreTold }
 {}
 
-/// Where a terminal is assigned a TEI, it is the lowest of 64 to 126 that is not on the line, and in a
+/// If a terminal is assigned a TEI, it is the lowest of 64 to 126 that is not on the line, and in a
 /// table of fewer than 63 places one of these is always free. One whose Ri is not remembered gets it,
-/// where there is room for the answer and a place is free. A law about the definitions in `specs/`;
-/// the call does nothing.
+/// if there is room for the answer and a place is free. A law about the definitions in `specs/`; the
+/// call does nothing.
 pub fn lowest_is_assigned()
     ensures lowest { LowestIsAssigned }
     ensures new { NewIsAssigned }
@@ -44,9 +44,9 @@ pub fn unserved_changes_nothing()
     ensures { UnservedChangesNothing }
 {}
 
-/// T201 runs while a TEI is under check, and a caller that obeys the orders runs it then, and only then: an
-/// event has one order at most, a Start of T201 after which a check runs or a Stop after which none does,
-/// and none where T201 goes on as it was; after its own expiry it is started anew, or no check runs. A law
+/// T201 runs while a TEI is under check, and a caller that obeys the orders runs it then, and only then. An event
+/// has one order at most: a Start of T201 after which a check runs, or a Stop after which none does. It has none
+/// if T201 goes on as it was. After its own expiry T201 is started anew, or no check runs. A law
 /// about the definitions in `specs/`; the call does nothing.
 #[tactic(auto, using(crate::proofs::Followed::t201_follows, crate::proofs::Followed::expired_t201_follows))]
 pub fn orders_follow_the_check()
@@ -54,7 +54,7 @@ pub fn orders_follow_the_check()
     ensures expired { ExpiredT201Follows }
 {}
 
-/// Where the line is down (Q.921 annex B, persistent deactivation) no message waits and no check runs. The TEIs and what is
+/// If the line is down (Q.921 annex B, persistent deactivation), no message waits and no check runs. The TEIs and what is
 /// remembered of their assignments stay, and all that is told is that T201 stops, if it ran. A law about the definitions in
 /// `specs/`; the call does nothing.
 #[tactic(auto, using(crate::proofs::GivenUp::down_gives_up))]
@@ -62,7 +62,7 @@ pub fn down_gives_up()
     ensures { DownGivesUp }
 {}
 
-/// A TEI that is not in use is disowned (Q.921 clause 5.3.4): an identity remove of it waits behind the other messages,
+/// A TEI that is not in use is disowned (Q.921 clause 5.3.4): an identity remove of it waits after the other messages,
 /// nothing else changes, and nothing is told. One that is on the line is never disowned, and while any is, all are not. A law
 /// about the definitions in `specs/`; the call does nothing.
 pub fn disowned_is_nobodys()

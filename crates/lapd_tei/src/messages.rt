@@ -33,7 +33,7 @@ pub enum Message {
         /// 0 to 126.
         tei: u8,
     },
-    /// Each terminal with this TEI is to give it up, or each terminal, where it is 127 (clause 5.3.4).
+    /// Each terminal with this TEI is to give it up, or each terminal, if it is 127 (clause 5.3.4).
     IdentityRemove {
         /// 0 to 127.
         tei: u8,

@@ -52,7 +52,7 @@ impl Queue {
         self.messages.len() >= LIMIT
     }
 
-    /// Sends a message: it waits, or it is lost where there is no room. Answers how many were lost.
+    /// Sends a message: it waits, or it is lost if there is no room. Answers how many were lost.
     pub fn send(&mut self, message: Message) -> u8
         ensures lost { result ≡ lost_after self.old 0 }
         ensures waits { self.new ≡ with_message message self.old }

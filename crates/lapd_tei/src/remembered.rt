@@ -56,7 +56,7 @@ impl Memory {
         Some(found.tei)
     }
 
-    /// Remembers an assignment, and forgets the oldest where there is no room for one more.
+    /// Remembers an assignment, and forgets the oldest if there is no room for one more.
     pub fn remember(&mut self, ri: u16, tei: u8)
         ensures { self.new ≡ latest (self.old ++ record { ri = ri; tei = tei } ∷ []) }
     {

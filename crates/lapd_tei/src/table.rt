@@ -12,7 +12,7 @@ const MOST: usize = 8;
 /// The lowest TEI that the network assigns; they end before that of the group (Q.921 clause 3.3.4).
 const LOWEST: u8 = 64;
 
-/// The TEI at each place, `None` where it is free.
+/// The TEI at each place, `None` if it is free.
 #[derive(Drop, Debug)]
 pub(crate) struct Table {
     places: ArrayVec<Option<u8>, MOST>,
@@ -44,7 +44,7 @@ impl Table {
         self.places.as_slice().iter().any(|own| *own == Some(tei))
     }
 
-    /// Whether the TEI is on the line, or any TEI where it is 127, which means all.
+    /// Whether the TEI is on the line, or any TEI if it is 127, which means all.
     pub fn is_in_use(&self, tei: u8) -> bool
         ensures { result ≡ is_in_use tei self.now }
     {

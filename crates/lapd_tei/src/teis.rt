@@ -49,7 +49,7 @@ impl Teis {
     ///
     /// # Errors
     ///
-    /// `OutOfMemory` where there is no memory for the messages that wait.
+    /// `OutOfMemory` if there is no memory for the messages that wait.
     pub fn start(alloc: Global, terminals: usize) -> Result<Teis, StartFault>
         requires { 1 ≤ terminals × terminals ≤ 8 }
         ensures { IfOk result (λ teis. teis ≡ empty terminals) }
@@ -76,7 +76,7 @@ impl Teis {
         }
     }
 
-    /// T201 has expired. Where no check runs, T201 does not run, and nothing happens.
+    /// T201 has expired. If no check runs, T201 does not run, and nothing happens.
     pub fn expire_t201(&mut self) -> TeiOutcome
         ensures told { told_of result ≡ told expiry self.old }
         ensures after { self.new ≡ after expiry self.old }
@@ -92,7 +92,7 @@ impl Teis {
     ///
     /// # Errors
     ///
-    /// `TeiTaken` where it is on the line, else `TableFull` where no place is free.
+    /// `TeiTaken` if it is on the line, otherwise `TableFull` if no place is free.
     pub fn assign(&mut self, tei: u8) -> Result<TeiOutcome, Refusal>
         requires { tei ≤ 126 }
         ensures told { IfOk result (λ outcome. told_of outcome ≡ told (assign tei) self.old) }
@@ -119,7 +119,7 @@ impl Teis {
     ///
     /// # Errors
     ///
-    /// `NoLink` where it is not on the line, else `ControlFull` where no message more may wait.
+    /// `NoLink` if it is not on the line, otherwise `ControlFull` if no message more may wait.
     pub fn remove(&mut self, tei: u8) -> Result<TeiOutcome, Refusal>
         requires { tei ≤ 126 }
         ensures told { IfOk result (λ outcome. told_of outcome ≡ told (remove tei) self.old) }
@@ -142,8 +142,8 @@ impl Teis {
     ///
     /// # Errors
     ///
-    /// `NoLink` where it is not on the line, else `CheckRunning` where a check runs, else `ControlFull` where no message more
-    /// may wait.
+    /// `NoLink` if it is not on the line, otherwise `CheckRunning` if a check runs, otherwise `ControlFull` if no message
+    /// more may wait.
     pub fn check(&mut self, tei: u8) -> Result<TeiOutcome, Refusal>
         requires { tei ≤ 126 }
         ensures told { IfOk result (λ outcome. told_of outcome ≡ told (check tei) self.old) }
@@ -170,7 +170,8 @@ impl Teis {
     ///
     /// # Errors
     ///
-    /// `TeiTaken` where it is on the line, or any TEI is where it is 127; else `ControlFull` where no message more may wait.
+    /// `TeiTaken` if it is on the line, or any TEI is if it is 127; otherwise `ControlFull` if no message more may
+    /// wait.
     pub fn disown(&mut self, tei: u8) -> Result<TeiOutcome, Refusal>
         requires { tei ≤ 127 }
         ensures told { IfOk result (λ outcome. told_of outcome ≡ told (disown tei) self.old) }
@@ -207,7 +208,7 @@ impl Teis {
         }
     }
 
-    /// The place of a TEI in the table, `None` where it is not on the line.
+    /// The place of a TEI in the table, `None` if it is not on the line.
     pub fn place(&self, tei: u8) -> Option<usize>
         ensures place { result ≡ place tei self.now }
         ensures within { IfSome result (λ place. place < length self.now.places) }

@@ -3,9 +3,9 @@
 ghost use Rattle.lapd_terminal.specs.Laws.{IsSoundThroughout, RoomIsEnough, ChangesAreTold, NoneIsTaken, EachWasGiven, T202Follows, ExpiredT202Follows, NumbersGoOn, UnservedChangesNothing, DownGivesUp};
 ghost use Rattle.lapd_terminal.specs.Numbers.{NoneComesAgain, AllComeAgain};
 
-/// From a fresh line of at most eight places on, after any events and pulls whose requests put on the line TEIs of at
-/// most 126: no TEI stands twice, each is at most 126, a TEI that is verified is on the line, and each message that
-/// waits is the request that is outstanding, the verify of the TEI that is verified, or a response for a TEI on the
+/// A line is sound from a fresh one of at most eight places on, after any events and pulls whose requests put on the line
+/// TEIs of at most 126. No TEI stands twice, each is at most 126, and a TEI that is verified is on the line. Each message
+/// that waits is the request that is outstanding, the verify of the TEI that is verified, or a response for a TEI on the
 /// line, none twice. So a place more than the line may have TEIs is enough for them, and none is ever lost. A law about
 /// the definitions in `specs/`; the call does nothing.
 pub fn no_message_is_lost()

@@ -45,7 +45,7 @@ impl Queue {
         self.messages.as_slice().len()
     }
 
-    /// Sends an identity request: in the place of one that waits, else after the others.
+    /// Sends an identity request: in the place of one that waits, otherwise after the others.
     pub fn send_request(&mut self, ri: u16)
         requires { length (with_request ri self.old) ≤ 9 }
         ensures { self.new ≡ with_request ri self.old }

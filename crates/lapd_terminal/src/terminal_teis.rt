@@ -90,7 +90,7 @@ impl TerminalTeis {
     ///
     /// # Errors
     ///
-    /// `TableFull` if no place is free, else `CheckRunning` if a procedure runs.
+    /// `TableFull` if no place is free, otherwise `CheckRunning` if a procedure runs.
     pub fn ask(&mut self) -> Result<TerminalOutcome, Refusal>
         ensures told { IfOk result (λ outcome. told_of outcome ≡ told ask self.old) }
         ensures accepted { OnOk result (refusal ask self.old ≡ None) }
@@ -111,7 +111,7 @@ impl TerminalTeis {
     ///
     /// # Errors
     ///
-    /// `NoLink` if it is not on the line, else `CheckRunning` if a procedure runs.
+    /// `NoLink` if it is not on the line, otherwise `CheckRunning` if a procedure runs.
     pub fn verify(&mut self, tei: u8) -> Result<TerminalOutcome, Refusal>
         ensures told { IfOk result (λ outcome. told_of outcome ≡ told (verify tei) self.old) }
         ensures accepted { OnOk result (refusal (verify tei) self.old ≡ None) }
@@ -132,7 +132,7 @@ impl TerminalTeis {
     ///
     /// # Errors
     ///
-    /// `TeiTaken` if it is on the line, else `TableFull` if no place is free.
+    /// `TeiTaken` if it is on the line, otherwise `TableFull` if no place is free.
     pub fn assign(&mut self, tei: u8) -> Result<TerminalOutcome, Refusal>
         requires { tei ≤ 126 }
         ensures told { IfOk result (λ outcome. told_of outcome ≡ told (assign tei) self.old) }

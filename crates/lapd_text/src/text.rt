@@ -8,7 +8,7 @@ use crate::shown::head_of;
 use lapd_frame::{ReadFault, Side, read};
 
 /// Writes what octets say, as `side` sent them, in front of `out`: the line that `lapdsim frame` prints, or tells of octets that
-/// are no frame, with a 0 in place of its line feed. Whether there was room for it; where not, nothing is written.
+/// are no frame, with a 0 in place of its line feed. Whether there was room for it; if not, nothing is written.
 pub fn write_text(side: Side, octets: &[u8], out: &mut [u8]) -> bool
     ensures { IsPutIn result (told_text side octets.now) out.old out.new }
 {

@@ -56,7 +56,7 @@ impl CardTimers {
     ///
     /// # Errors
     ///
-    /// `AllocError` where there is no memory for them.
+    /// `AllocError` if there is no memory for them.
     pub fn start(
         alloc: Global,
         lines: usize,
@@ -112,7 +112,7 @@ impl CardTimers {
         true
     }
 
-    /// Takes out the timer that is due first, and answers it with its line; none where none is due, and then nothing changes.
+    /// Takes out the timer that is due first, and answers it with its line; none if none is due, and then nothing changes.
     /// Its expiry is then to be handed to the card, and the orders of the answer to be carried out.
     ///
     /// The first is the one with the least moment. At one moment it is that of the lowest line, and there T200 goes before T203,
@@ -130,7 +130,7 @@ impl CardTimers {
         self.moments.due(self.moment)
     }
 
-    /// The moment, in milliseconds, of the timer that falls due first, due or not, and `None` where no timer runs.
+    /// The moment, in milliseconds, of the timer that falls due first, due or not, and `None` if no timer runs.
     pub fn next_moment(&mut self) -> Option<u64>
         ensures next { (m : Card) (c : Clock) → TimersStand self.old m c → result ≡ next_moment c }
         ensures unchanged { self.new ≡ self.old }
@@ -213,7 +213,7 @@ impl CardTimers {
         }
     }
 
-    /// The place of a timer of a line; none where it is one of a TEI that is not on the line.
+    /// The place of a timer of a line; none if it is one of a TEI that is not on the line.
     #[inline(always)]
     fn place<S: Shelf>(&self, card: &FrameCard<S>, line: usize, timer: Timer) -> Option<usize>
         requires line { line < self.now.lines }

@@ -80,7 +80,7 @@ impl TimedCard {
     ///
     /// # Errors
     ///
-    /// [`WrongTime`] where it is before the last moment, or from `2^63` on. Nothing has changed then.
+    /// [`WrongTime`] if it is before the last moment, or from `2^63` on. Nothing has changed then.
     pub fn go_to(&mut self, moment: u64) -> Result<(), WrongTime>
         ensures refused { IsErr result ↔ ((moment < self.old.timers.moment) ⊎ (2 ^ 63 ≤ moment)) }
         ensures unchanged { OnErr result (self.new ≡ self.old) }
@@ -95,7 +95,7 @@ impl TimedCard {
     }
 
     /// What is due first, if anything is: it expires, and the report tells what this led to. The answer is which timer of which
-    /// line it was; none where none is due, and then nothing changes.
+    /// line it was; none if none is due, and then nothing changes.
     pub fn fall_due(&mut self, report: &mut BareReport) -> Option<(usize, Timer)>
         requires clear { IsClear report.old }
         ensures due { (m : Card) (c : Clock) → TimersStand self.old.timers m c → result ≡ option_map named_by (due c) }
@@ -117,7 +117,7 @@ impl TimedCard {
         Some((line, timer))
     }
 
-    /// The moment, in milliseconds, of the timer that falls due first, due or not, and `None` where no timer runs.
+    /// The moment, in milliseconds, of the timer that falls due first, due or not, and `None` if no timer runs.
     pub fn next_moment(&mut self) -> Option<u64>
         ensures next { (m : Card) (c : Clock) → TimersStand self.old.timers m c → result ≡ next_moment c }
         ensures unchanged { self.new ≡ self.old }
@@ -194,7 +194,7 @@ impl TimedCard {
         pulled
     }
 
-    /// Takes a frame that came from a line of a card of frames, as [`FrameCard::frame`](lapd_card::FrameCard::frame) does. Where
+    /// Takes a frame that came from a line of a card of frames, as [`FrameCard::frame`](lapd_card::FrameCard::frame) does. If
     /// the answer is true, the report tells nothing but orders for timers, which have been carried out.
     pub fn frame(&mut self, line: usize, octets: &[u8], report: &mut BareReport) -> bool
         requires kind { kind_of self.old.card ≡ Frames }

@@ -12,7 +12,7 @@
 //!
 //! # Only tested
 //!
-//! That `ReadFrom` and `WriteTo` fail only where their reader or writer did, try interrupted calls again, and
+//! That `ReadFrom` and `WriteTo` fail only if their reader or writer did, try interrupted calls again, and
 //! flush.
 #![tactic(auto)]
 

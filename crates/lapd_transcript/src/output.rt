@@ -105,7 +105,7 @@ impl<'a, T: Target> Page<'a, T> {
         Ok(())
     }
 
-    /// Sends the page to the target, where all was put.
+    /// Sends the page to the target, if all was put.
     pub(crate) fn finish(self, put: Put) -> Put
         ensures { (before : Output) (text : List ℕ) → Puts put before (on T.taken self.entry) text → Writes result before.taken (T.taken self.exit.0.now) (before.page ++ text) }
     {

@@ -1,4 +1,4 @@
-//! Where a script is read from, and where text is written to.
+//! What a script is read from, and what text is written to.
 
 ghost use Rattle.std.specs.Prelude.{◌≡◌, ◌≤◌, ℕ, List, Option, length, IfOk, OnOk, OnErr};
 ghost use Rattle.std.specs.Io.KnownBytes.{ReadConsumes};
@@ -16,7 +16,7 @@ pub struct WriteFailed;
 /// the page and of the text.
 pub type Put = Result<(), WriteFailed>;
 
-/// Where octets are read from. It counts the reads that failed.
+/// What octets are read from. It counts the reads that failed.
 pub trait Source {
     /// How many reads have failed: a number of 64 bits that stays at its greatest value.
     ghost failures: { Self → ℕ };
@@ -24,7 +24,7 @@ pub trait Source {
     /// The octets that it still gives, where it tells.
     ghost remaining: { Self → Option (List ℕ) };
 
-    /// Puts the next octets into the beginning of `buffer`, as many as it likes, and tells how many: 0 where
+    /// Puts the next octets into the beginning of `buffer`, as many as it likes, and tells how many: 0 if
     /// there are no more, or where `buffer` is empty. A read that fails takes none.
     fn read(&mut self, buffer: &mut [u8]) -> Result<usize, ReadFailed>
         ensures within { IfOk result (λ count. count ≤ length buffer.new) }
@@ -33,7 +33,7 @@ pub trait Source {
         ensures octets { ReadConsumes (remaining self.old) (remaining self.new) result buffer.new };
 }
 
-/// Where octets are written to. It counts the writes that failed.
+/// What octets are written to. It counts the writes that failed.
 pub trait Target {
     /// What it has taken, where it tells, and how many writes have failed.
     ghost taken: { Self → Taken };

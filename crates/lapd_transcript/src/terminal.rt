@@ -11,7 +11,7 @@ use std::alloc::{AllocError, Global};
 /// The most octets of information in a frame that a terminal sends, or that is found in what is pulled.
 pub const LONGEST_INFORMATION: u16 = 1024;
 
-/// A frame begins with so many octets of address and control, where it has them.
+/// A frame begins with so many octets of address and control, if it has them.
 const HEAD: usize = 4;
 
 /// The shortest and the longest frame that a terminal sends, in octets without frame check.
@@ -41,7 +41,7 @@ impl Terminal {
     ///
     /// # Errors
     ///
-    /// `AllocError` where there is no memory for the longest frame.
+    /// `AllocError` if there is no memory for the longest frame.
     pub fn start(alloc: Global) -> Result<Terminal, AllocError>
         ensures { IfOk result (λ terminal. Sends terminal (record { items = []; given = 0 })) }
     {

@@ -1,24 +1,25 @@
-//! Laws of the machine of a line that say what it does: what becomes of what layer 3 gave, what is sent next, what
+//! Laws of the machine of a line that say what it does: what happens to what layer 3 gave, what is sent next, what
 //! comes of what was heard, and what a line comes to as its frames are taken.
 //!
-//! The machine itself stands in `model_line`; the laws of a single link in `laws_link`. What an observer sees of a line, the
-//! laws of `laws_trace` say; here stands what those need, and what they leave open. `specs/` has the words of these laws and
-//! of the proofs above: what an event is to the contents of one link (`Share`), how layer 3 learns that a link keeps nothing
-//! (`Loss`), what a call for the next frame takes (`Served`), what comes of what is heard (`Heard`), which frames are told as
-//! lost (`Frames`), which events are those of a link (`Steady`, `Requests`), that one part has each and nothing else changes
-//! (`OneEvent`), what comes of it that a line is down (`Deactivated`, `GoesDown`), which timers are needed and run
-//! (`Timers`), what notes tell (`Knowledge`), all that an answer notes (`Noted`), whose turn it is (`Turns`), how short
-//! answers are (`Short`), the laws (`Laws`, `Machine`), and worked values of the laws and of the machine (`Worked*`).
-//! `Drains` and `Among` say what a line comes to with calls for the next frame, or with other events between them; their
-//! bounds are numbers of calls, and speak of no time. Each law is the contract of a call that does nothing.
+//! The machine itself stands in `model_line`, and the laws of a single link in `laws_link`. The laws of `laws_trace`
+//! say what an observer sees of a line. Here stands what those need, and what they leave open. `specs/` has the words
+//! of these laws and of the proofs above. `Share` is what an event is to the contents of one link, and `Loss` how layer
+//! 3 learns that a link keeps nothing. `Served` is what a call for the next frame takes, `Heard` what comes of what is
+//! heard, and `Frames` which frames are told as lost. `Steady` and `Requests` say which events are those of a link, and
+//! `OneEvent` that one part has each and nothing else changes. `Deactivated` and `GoesDown` are of a line that is down.
+//! `Timers` says which timers are needed and run, `Knowledge` what notes tell, and `Noted` all that an answer notes.
+//! `Turns` says whose turn it is, and `Short` how short answers are. The laws are `Laws` and `Machine`, and worked
+//! values of them and of the machine `Worked*`. `Drains` and `Among` say what a line comes to with calls for the next
+//! frame, or with other events between them. Their bounds are numbers of calls, and speak of no time. Each law is the
+//! contract of a call that does nothing.
 //!
 //! - `machine`, `laws`, `notes`, `progress`, `turns`: the laws.
 //! - `card`: laws of a whole card.
 //!
 //! # Open
 //!
-//! When I-frames and unit data go, one by one; when nothing waits any more where other events of the line come
-//! between calls for its next frame.
+//! When I-frames and unit data go, one by one; when nothing waits any more if other events of the line come between
+//! calls for its next frame.
 #![tactic(auto)]
 
 pub mod card;

@@ -9,13 +9,14 @@ ghost use Rattle.model_line.specs.Taken.{taken};
 ghost use Rattle.laws_line.specs.Served.{HasNothing};
 ghost use Rattle.laws_line.specs.Drains.{after_takes, frames_to_go, most_frames, IsIdling};
 
-/// Calls for the next frame come to an end of what waits. The frames to go are the messages of TEI management and the unit
-/// data that wait, and of each link its control frames, the acknowledgement that it owes, and, in state 7 while the terminal
-/// is not taken for busy, the unsent I-frames that its window has room for (Q.921 clauses 5.6.1 and 5.6.5): none exactly
-/// where nothing waits that may go (`exact`). With such calls alone, after as many as there are frames to go, nothing waits on
-/// the line but I-frames behind a closed window or a terminal that is taken for busy, or of a link that is not in state 7
-/// (`drained`); and then no call takes a frame, and the line stays as it is (`idle`). A configuration gives a number that the
-/// frames to go of its lines are never above (`few`). And after as many calls as frames may be sent none is taken (`ends`).
+/// Calls for the next frame come to an end of what waits. The frames to go are the messages of TEI management and the
+/// unit data that wait, and of each link its control frames and the acknowledgement that it owes. In state 7, while the
+/// terminal is not taken for busy, they are also the unsent I-frames that its window has room for (Q.921 clauses 5.6.1
+/// and 5.6.5). There are none exactly if nothing waits that may go (`exact`). Let there be such calls alone, as many as
+/// there are frames to go. Then nothing waits on the line except I-frames beyond a closed window, of a terminal that is
+/// taken for busy, or of a link that is not in state 7 (`drained`). Then no call takes a frame, and the line stays as
+/// it is (`idle`). A configuration gives a number that the frames to go of its lines are never above (`few`). And after
+/// as many calls as frames may be sent none is taken (`ends`).
 pub fn takes_come_to_an_end()
     ensures exact { (c : Config) (l : Line) → IsSound c l → (frames_to_go c l ≡ 0) ↔ HasNothing c l }
     ensures drained { (c : Config) (n : ℕ) (l : Line) → IsInRange c → IsSound c l → frames_to_go c l ≤ n → HasNothing c (after_takes c n l) }

@@ -20,21 +20,26 @@ pub fn states_follow()
     ensures numbers { (t : Terms) (e : Event) (l : Link) → restarts t e l ≡ numbers_begin (as_heard t e) l.state (after t e l).state }
 {}
 
-/// What waits stays, and each frame that comes to wait has its cause. Control frames that wait stay in their order until an
-/// offer gives them, or the TEI leaves the line. Behind them an event puts the answer that a frame asks for, or the report
-/// of own busy, and then the command whose answer the state that it leads to awaits; what finds no room is told as lost. So
-/// RNR answers a poll under own busy, REJ the first I-frame out of sequence, RR any other (Q.921 clauses 5.5.1 to 5.5.5,
-/// 5.6.2 to 5.6.7 and 5.8.1).
+/// What waits stays, and each frame that comes to wait has its cause. Control frames that wait stay in their order
+/// until an offer gives them, or the TEI leaves the line. After them an event puts the answer that a frame asks for, or
+/// the report of own busy. Then it puts the command whose answer the state that it leads to awaits. What finds no room
+/// is told as lost. So RNR answers a poll under own busy, REJ the first I-frame out of sequence, RR any other (Q.921
+/// clauses 5.5.1 to 5.5.5, 5.6.2 to 5.6.7 and 5.8.1).
 pub fn frames_follow()
     ensures waiting { (t : Terms) (e : Event) (l : Link) → (after t e l).waiting ≡ waiting_left t (as_heard t e) l (after t e l).state }
     ensures lost { (t : Terms) (e : Event) (l : Link) → (told t e l).lost ≡ lost_by t (as_heard t e) l (after t e l).state }
 {}
 
-/// Flags follow what is heard and asked. The terminal is taken for busy by RNR and for free by RR and REJ; own busy is what
-/// layer 3 asked for last; what REJ asked for is awaited until the next I-frame in sequence; an acknowledgement is owed for
-/// each I-frame that is taken, until a frame with N(R) is put, or goes, or the link leaves states 7 and 8. All go off where
-/// an establishment begins. RC counts the expiries of T200 for the command that awaits its answer (Q.921 clauses 5.5.1.3,
-/// 5.5.3.3, 5.6.2 to 5.6.7, 5.7 and 5.8.1).
+/// Flags follow what is heard and asked:
+///
+/// - The terminal is taken for busy by RNR and for free by RR and REJ.
+/// - Own busy is what layer 3 asked for last.
+/// - What REJ asked for is awaited until the next I-frame in sequence.
+/// - An acknowledgement is owed for each I-frame that is taken, until a frame with N(R) is put, or goes, or the link
+///   leaves states 7 and 8.
+///
+/// All go off when an establishment begins. RC counts the expiries of T200 for the command that awaits its answer
+/// (Q.921 clauses 5.5.1.3, 5.5.3.3, 5.6.2 to 5.6.7, 5.7 and 5.8.1).
 pub fn flags_follow()
     ensures peer_busy { (t : Terms) (e : Event) (l : Link) → (after t e l).peer_busy ≡ peer_busy_left (as_heard t e) l (after t e l).state }
     ensures own_busy { (t : Terms) (e : Event) (l : Link) → (after t e l).own_busy ≡ own_busy_left (as_heard t e) l (after t e l).state }
@@ -44,10 +49,11 @@ pub fn flags_follow()
     ensures repeats { (t : Terms) (e : Event) (l : Link) → (after t e l).repeats ≡ repeats_left (as_heard t e) l (after t e l).state }
 {}
 
-/// Layer 3 and layer management are told exactly what the table of notes has, in its order: of a frame by the state that it
-/// meets, which errors A to F and J to O are, the establishments and releases, data of each I-frame that is taken and unit
-/// data of each UI; of the last expiry of T200; of the release of a link that is down; and of the end of the TEI (Q.921
-/// clauses 5.2.3, 5.3.4, 5.5.1 to 5.5.4, 5.6.2, 5.6.7, 5.7 and 5.8, appendix II).
+/// Layer 3 and layer management are told exactly what the table of notes has, in its order. Of a frame they are told,
+/// by the state that it meets, which of the errors A to F and J to O it is, the establishments and releases, data of
+/// each I-frame that is taken, and unit data of each UI. They are told of the last expiry of T200, of the release of a
+/// link that is down, and of the end of the TEI (Q.921 clauses 5.2.3, 5.3.4, 5.5.1 to 5.5.4, 5.6.2, 5.6.7, 5.7 and 5.8,
+/// appendix II).
 pub fn notes_follow()
     ensures notes { (t : Terms) (e : Event) (l : Link) → (told t e l).notes ≡ told_by t (as_heard t e) l (after t e l).state }
 {}

@@ -9,11 +9,15 @@ ghost use Rattle.model_link.specs.Sound.{IsSound};
 ghost use Rattle.laws_link.specs.Effects.{TakesEffect};
 ghost use Rattle.model_link.specs.Requests.{refusal};
 
-/// A request that is granted takes effect. DL-ESTABLISH puts SABME with P=1 behind what waits, and the link awaits UA, in
-/// state 5 with T200 running; DL-RELEASE puts DISC with P=1 there, and the link awaits UA, in state 6 with T200 running, and
-/// keeps nothing; in state 4 it is confirmed at once. DL-DATA: the contents are kept behind what is kept, and nothing is
-/// told. SetBusy and ClearBusy: own busy is on, or off, and where it was not before, RNR or RR with N(R) = V(R) is put
-/// there. A frame that finds as many waiting as may is told as lost (Q.921 clauses 5.5.1.1, 5.5.3.2, 5.6.1 and 5.6.6).
+/// A request that is granted takes effect:
+///
+/// - DL-ESTABLISH puts SABME with P=1 after what waits, and the link awaits UA, in state 5 with T200 running.
+/// - DL-RELEASE puts DISC with P=1 there, and the link awaits UA, in state 6 with T200 running, and keeps nothing. In
+///   state 4 it is confirmed at once.
+/// - DL-DATA: the contents are kept after what is kept, and nothing is told.
+/// - SetBusy and ClearBusy: own busy is on, or off. If it was not before, RNR or RR with N(R) = V(R) is put there.
+///
+/// A frame that finds as many waiting as may is told as lost (Q.921 clauses 5.5.1.1, 5.5.3.2, 5.6.1 and 5.6.6).
 pub fn requests_take_effect()
     ensures takes_effect { (t : Terms) (request : Request) (full : Bool) (l : Link) → IsSound t l → refusal t l full request ≡ None
         → TakesEffect t request l (after t (requested request full) l) (told t (requested request full) l).notes (told t (requested request full) l).lost }

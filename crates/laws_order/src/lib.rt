@@ -1,18 +1,24 @@
 //! The order of what is told at two cards on one wire, whatever else happens at both.
 //!
-//! `specs/` has all that can happen to two cards, at any of their lines (`Happenings`), the laws (`Order`, `Release`,
-//! `InTheEnd`), worked runs that meet their premises and use them (`Worked`, `WorkedRelease`, `WorkedInTheEnd`), and
-//! one that breaks what is said where a premise is left out (`WorkedBroken`). `circuit` has two cards of octets. What
-//! a card does at an event is the machine of `model_card`, of frames; the wire is that of `laws_wire`, and what is seen
-//! at an end is as in the trace of `laws_trace`. Each law is the contract of a call that does nothing.
+//! `specs/` has:
+//!
+//! - `Happenings`: all that can happen to two cards, at any of their lines;
+//! - `Order`, `Release`, `InTheEnd`: the laws;
+//! - `Worked`, `WorkedRelease`, `WorkedInTheEnd`: worked runs that meet their premises and use them;
+//! - `WorkedBroken`: runs that break what is said if a premise is left out.
+//!
+//! `circuit` has two cards of octets. What a card does at an event is the machine of `model_card`, of frames. The wire
+//! is that of `laws_wire`, and what is seen at an end is as in the trace of `laws_trace`. Each law is the contract of a
+//! call that does nothing.
 //!
 //! # Open
 //!
-//! That what was granted is told in the end; that the other end is told of a release behind error H. From where a SABME
-//! of the establishment is still on its way as UA is taken: there `told_in_order` of `laws_wire` holds as long as
-//! neither end is told an error, and `delivered_in_order`, which speaks of each end by itself, does not
-//! (`specs/WorkedBroken`). So the former is no instance of the latter; it says besides that nothing else is told, and
-//! its proof by the phases of a call serves other laws there, too.
+//! That what was granted is told in the end; that the other end is told of a release after error H. Order of both
+//! ends together from where a SABME of the establishment is still in transit as UA is received
+//! (`specs/WorkedBroken`). It holds there by `told_in_order` of `laws_wire` as long as neither end is told an error.
+//! It does not by `delivered_in_order`, which speaks of each end by itself. So the former is no instance of the
+//! latter. It says besides that nothing else is told, and its proof by the phases of a call serves other laws there,
+//! too.
 #![tactic(auto)]
 
 mod circuit;

@@ -12,8 +12,8 @@ ghost use Rattle.laws_promises.specs.PromisesOfOctets.{PromisesOfOctets};
 use lapd_card::{Card, Event, Sink, SinkFault};
 use lapd_store::Shelf;
 
-/// Runs a list of events, as [`Card::drive`] does, whose clauses these are, and keeps all promises: those of what the events
-/// mean to the card of frames inside (`promises`), and those of its octets (`promises_of_octets`).
+/// Runs a list of events, as [`Card::drive`] does, whose clauses these are, and keeps all promises. `promises` are
+/// those of what the events mean to the card of frames inside, and `promises_of_octets` those of its octets.
 ///
 /// # Errors
 ///

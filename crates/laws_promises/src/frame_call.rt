@@ -23,14 +23,14 @@ const LONGEST: usize = MOST_N201 as usize + 4;
 /// Runs a list of events, and hands each reply to the sink, in order. Answers how many events there were.
 ///
 /// Its clauses are those of [`lapd_card::Card::drive`] with the same names. `run` is of a frame that came or a fault in
-/// place of an octet, and of a call for the next frame in place of a pull. The laws of every run say of frames what those
-/// say of what octets mean (`rejects_are_long`: each REJ with a valid N(R) is one of the frames heard that have four octets
-/// or more). The frames that it gives, with those still to be sent, are linear in the octets of the frames that came
-/// (`linear`). And it keeps all promises (`promises`).
+/// place of an octet, and of a call for the next frame in place of a pull. The laws of every run say of frames what
+/// those say of what octets mean. In `rejects_are_long` each REJ with a valid N(R) is one of the frames heard that have
+/// four octets or more. The frames that it gives, with those still to be sent, are linear in the octets of the frames
+/// that came (`linear`). And it keeps all promises (`promises`).
 ///
 /// # Errors
 ///
-/// [`SinkFault`] where the sink failed on a reply: the card stands after that event, and later events have not happened.
+/// [`SinkFault`] if the sink failed on a reply: the card stands after that event, and later events have not happened.
 pub fn drive_frames<S: Shelf, K: FrameSink>(
     card: &mut FrameCard<S>,
     events: &[FrameEvent<'_>],

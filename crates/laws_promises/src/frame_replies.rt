@@ -19,6 +19,6 @@ pub enum FrameReply<'a> {
     Report(Report<'a>),
     /// To a request that was refused. The card is as it was before.
     Refused(Refusal),
-    /// To a call for the next frame; none where none waits.
+    /// To a call for the next frame; none if none waits.
     Next(Option<SentFrame<'a>>),
 }

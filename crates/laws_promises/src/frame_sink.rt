@@ -1,4 +1,4 @@
-//! Where the answers of a whole list of events at a card go.
+//! What takes the answers of a whole list of events at a card.
 
 ghost use Rattle.std.specs.Prelude.{◌≡◌, ℕ, OnOk, OnErr};
 ghost use Rattle.model_line.specs.Event.{Answer};

@@ -88,8 +88,8 @@ impl FrameSink for Expecting {
     }
 }
 
-/// TEI 64 establishes its call control link, and sends contents and asks for an answer; the controller tells a fault; a
-/// timer that does not run expires; and a request is refused.
+/// TEI 64 establishes its call control link, and sends contents and asks for an answer. The controller tells a fault. A
+/// timer that does not run expires, and a request is refused.
 const EVENTS: [FrameEvent<'static>; 9] = [
     FrameEvent::Request(0, Request::Assign(64)),
     FrameEvent::Frame(0, &[0x00, 0x81, 0x7F]),

@@ -1,10 +1,10 @@
 //! What is promised of every list of events at a card, in one record, and the card's own calls with that record in their
 //! contracts.
 //!
-//! `specs/Promises` has the record. Each field is a promise, and the sentence above it says it in words. Of a card of octets it
-//! is said of what the events mean to the card of frames inside; `specs/PromisesOfOctets` has what is promised of the octets
-//! beside. The clauses of [`lapd_card::Card::drive`] say the rest: where the card is after the events, which replies the sink
-//! has taken, what bounds storage and frames, and what stands in the octets.
+//! `specs/Promises` has the record. Each field is a promise, and the sentence above it says it in words. Of a card of
+//! octets it is said of what the events mean to the card of frames inside; `specs/PromisesOfOctets` has what is
+//! promised of the octets beside. The clauses of [`lapd_card::Card::drive`] say the rest. They say where the card is
+//! after the events, which replies the sink has taken, what bounds storage and frames, and what stands in the octets.
 //!
 //! - `frame_call` with `frame_events`, `frame_sink` and `frame_replies`: `drive_frames`, which runs a whole list of events
 //!   at a card of frames, with what a run is, the laws of every run, and the promises. A caller that needs no proof calls

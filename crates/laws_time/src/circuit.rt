@@ -1,26 +1,26 @@
 //! Laws of two cards of octets on one circuit, with their clocks. Each is the contract of a call that does nothing.
 //!
-//! `specs/circuit` has that world (`Clocked`): both lines run at one rate, so many octets are in transit to each end, and
-//! nothing else is in it except requests and noise. Its worked runs (`Worked`) compute: a call from nothing, calls that
-//! cross, an I-frame that is lost and goes again, SABME that is heard just before N200 is used up, a dead line, and noise
-//! that makes a frame of another link. How long an answer takes at most is in `LongEnough`, and worked out in
-//! `WorkedLongEnough`.
+//! `specs/circuit` has that world (`Clocked`): both lines run at one rate, so many octets are in transit to each end,
+//! and nothing else is in it except requests and noise. Its worked runs (`Worked`) compute. There are a call from
+//! nothing, calls that cross, an I-frame that is lost and goes again, and SABME that is heard just before N200 is used
+//! up. There are a dead line, too, and noise that makes a frame of another link. How long an answer takes at most is in
+//! `LongEnough`, and worked out in `WorkedLongEnough`.
 //!
 //! # Open
 //!
-//! That each answer comes: an end that comes to state 8 once the line is clean and quiet leaves it within that time, if both
-//! ends were up as it became so (an end in state 5 does not answer an enquiry, and asks again only as T200 falls due there);
-//! that what was granted arrives in time; and how long a call takes at most. Random and chosen runs broke none of these, if
-//! layer 3 asks for no unit data and is not busy, T200 is at least as long as an answer takes, and noise makes no frame.
+//! That each answer comes: once the line is clean and quiet, and both ends were up as it became so, an end that comes
+//! to state 8 leaves it within that time (an end in state 5 answers no enquiry). That what was granted arrives in time.
+//! How long a call takes at most. Random and chosen runs broke none of these, if layer 3 asks for no unit data and is
+//! not busy, T200 is at least as long as an answer takes, and noise makes no frame.
 
 ghost use Rattle.laws_time.specs.circuit.Ends.{EndsAreTimedCards};
 ghost use Rattle.laws_time.specs.circuit.LongEnough.{AnswersComeInTime};
 
-/// Each end of the clocked circuit is a timed card of octets, as `model_timed` has it. Whatever is asked for at either
-/// end, whatever noise there is, and however many beats passed, the card at an end and its clock came about by steps that
-/// are prompt to the millisecond: events happen at its line, time goes on, and what is due falls due before time goes on
-/// again. So what is proved of every timed card holds of each end. Lines run at an octet a millisecond at least, and each
-/// timer runs for a millisecond at least.
+/// Each end of the clocked circuit is a timed card of octets, as `model_timed` has it. Anything may be asked for at
+/// either end, with any noise, and any number of beats may have passed. Then the card at an end and its clock came
+/// about by steps that are prompt to the millisecond. Events happen at its line, time goes on, and what is due falls
+/// due before time goes on again. So what is proved of every timed card holds of each end. Lines run at an octet a
+/// millisecond at least, and each timer runs for a millisecond at least.
 pub fn ends_are_timed_cards()
     ensures { EndsAreTimedCards }
 {}
@@ -29,7 +29,7 @@ pub fn ends_are_timed_cards()
 /// with P=1 of that end waits or is in transit, and no response with F=1 of the other. So what was asked was lost, or
 /// is not answered, and it is right to ask again (Q.921 clauses 5.5.1.3, 5.5.3.3 and 5.6.7). It holds after any number
 /// of beats from the start, and at any time in the next one, whatever noise there is. T200 runs for at least 2 (L + D)
-/// + 9 (c + c') octet times, and a millisecond more, as moments are whole: L is the longest frame in octets, D octets
+/// + 9 (c + c') octet times, and a millisecond more, as moments are whole. L is the longest frame in octets, D octets
 /// are in transit, and c and c' control frames may wait at the two ends. Noise makes no frame: each frame that is heard
 /// stood at that place in what the other end gave. Layer 3 of each end asks for anything of the link except unit data
 /// and deactivation. (Unit data goes before all frames of a link. With a shorter T200 the law is false,

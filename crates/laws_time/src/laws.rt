@@ -4,16 +4,25 @@ ghost use Rattle.laws_time.specs.Silence.{ADeadLineIsTold};
 ghost use Rattle.laws_time.specs.Watched.{of_frames, of_octets};
 
 /// A dead line is told. Once nothing of a link is heard any more, layer 3 is told of errors and of the release within
-/// so many milliseconds, and of nothing else. It holds at a line of a card of either kind, after anything that happened
-/// since its start, if `Card::state` tells a state from 5 on of the link. From then on nothing of the link is heard,
-/// except unit data; layer 3 asks neither for its establishment nor for its release, and does not deactivate it; and
-/// its TEI stays on the line. Anything else happens. Timers fall due late by a number of milliseconds at most, which is
-/// 0 if the caller is prompt. Then what is told of the link, except data and unit data, is a beginning of this, and
-/// nothing else: from state 7 or 8 error I, error G and the indication of the release; from 5 the last two; from 6
-/// error H and the confirm of the release (Q.921 clauses 5.5.1.3, 5.5.3.3 and 5.6.7). The first of these is told once
-/// (N200 + 1) (T200 + late) are over, and from state 7 T203 + late + T200 + late more. All of them are told, from state
-/// 7 or 8, after (N200 + 1) (T200 + late) more. (An I-frame may go just before T203 falls due: so from state 7 no
-/// sooner bound holds, `specs/WorkedSilence`.)
+/// so many milliseconds, and of nothing else. The law holds at a line of a card of either kind, after anything that
+/// happened since its start, if `Card::state` tells a state from 5 on of the link. From then on:
+///
+/// - nothing of the link is heard, except unit data;
+/// - layer 3 asks neither for its establishment nor for its release, and does not deactivate it;
+/// - its TEI stays on the line;
+/// - anything else happens.
+///
+/// Timers fall due late by a number of milliseconds at most, which is 0 if the caller is prompt. Then what is told of
+/// the link, except data and unit data, is a prefix of this, and nothing else (Q.921 clauses 5.5.1.3, 5.5.3.3 and
+/// 5.6.7):
+///
+/// - from state 7 or 8 error I, error G and the indication of the release;
+/// - from 5 the last two;
+/// - from 6 error H and the confirm of the release.
+///
+/// The first of these is told once (N200 + 1) (T200 + late) are over, and from state 7 T203 + late + T200 + late more.
+/// All of them are told, from state 7 or 8, after (N200 + 1) (T200 + late) more. (An I-frame may be sent just before
+/// T203 falls due: so from state 7 no sooner bound holds, `specs/WorkedSilence`.)
 pub fn a_dead_line_is_told()
     ensures frames { ADeadLineIsTold of_frames }
     ensures octets { ADeadLineIsTold of_octets }

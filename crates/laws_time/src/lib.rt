@@ -1,9 +1,9 @@
-//! Laws of time: what becomes of a link within so many milliseconds. Each law is the contract of a call that does
+//! Laws of time: what happens to a link within so many milliseconds. Each law is the contract of a call that does
 //! nothing.
 //!
 //! A card keeps its own timers here, as `model_timed` has it: an event happens, time goes on, and what is due falls
-//! due. `specs/` has what is seen of a timed card of either kind (`Watched`), a line that goes dead (`Silence`), worked
-//! runs that meet its premises (`WorkedSilence`), and one for each premise that breaks the law without it
+//! due. `specs/` has what is seen of a timed card of either kind (`Watched`), and a line that goes dead (`Silence`).
+//! Worked runs meet its premises (`WorkedSilence`), and for each premise one breaks the law without it
 //! (`WorkedPremises`). `circuit` has two cards of octets on one line, with their clocks.
 #![tactic(auto)]
 

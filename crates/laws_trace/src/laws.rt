@@ -24,33 +24,42 @@ ghost use Rattle.laws_trace.specs.UnitsAreGranted.{UnitsAreGranted};
 ghost use Rattle.laws_trace.specs.UnitsGoOut.{UnitsGoOut, AllUnitsGoOut};
 
 /// Each configuration within the ranges is served: no fault is found in it, and every law here speaks of it. With any
-/// other no card starts (profile). That `Card::start` starts one with it, if its shelf fits and there is memory, no law says.
+/// other no card starts (profile). No law says that `Card::start` starts one with it, if its shelf fits and there is
+/// memory.
 pub fn ranges_are_served()
     ensures { RangesAreServed }
 {}
 
-/// The other side is heard. As frames are read, C/R bit 0 makes a command of one that a card of the network's side hears, and
-/// bit 1 of one that a card of the user's side hears; of what begins on its lines it is the other way round (Q.921 clause
-/// 3.3.2). This is of the words by which the other laws read frames: `heard_side` of a configuration, and its own side.
+/// The other side is heard. As frames are read, C/R bit 0 makes a command of one that a card of the network's side
+/// hears. Bit 1 makes a command of one that a card of the user's side hears. Of what begins on its lines it is the other
+/// way round (Q.921 clause 3.3.2). This is of the words by which the other laws read frames: `heard_side` of a
+/// configuration, and its own side.
 pub fn the_other_side_is_heard()
     ensures { TheOtherSideIsHeard }
 {}
 
 /// Services have their SAPIs. As the other laws read frames, a frame is one of call control, of the second service, or of
 /// layer 2 management, exactly if its first octet has SAPI 0, the SAPI of the configuration, or 63 (Q.921 clause 3.3.3, and
-/// profile). So it is of what a card hears, and of what begins on its lines.
+/// profile). This holds of what a card hears, and of what begins on its lines.
 pub fn services_have_their_sapis()
     ensures { ServicesHaveTheirSapis }
 {}
 
-/// Unit data goes out. The UI frame that a call for the next frame gives, except those of TEI management, is that of the
-/// unit data that has waited longest (`front`): spelled as a UI command with P=0, with its service, its TEI and its contents,
-/// whole. Unit data waits from when it is granted until it begins, so that it goes in order and once; or until the line is
-/// down, when what waits is given up. And a call for the next frame gives none, or a frame of a link, only where none waits:
-/// so unit data goes before frames of links, and, as calls come to an end (`calls_come_to_an_end` of the promises), all of it
-/// goes (`all`). Unit data is granted exactly for a TEI on the line, and from the network's side for the group, of at most
-/// N201 octets, where fewer wait there than the configuration says, and a slot of the pool is free, as [`no_slot_is_lost`]
-/// has them (`granted`; Q.921 clauses 3.6.5, 5.2.2 and 5.9.3, annex B, and profile).
+/// Unit data goes out. A call for the next frame gives a UI frame, except those of TEI management, only of the unit data
+/// that has waited longest (`front`). It is spelled as a UI command with P=0, with its service, its TEI and its
+/// contents, whole. Unit data waits from when it is granted until it begins, so it goes in order and once; or until the
+/// line is down, when what waits is given up.
+///
+/// A call gives none, or a frame of a link, only if no unit data waits. So unit data goes before frames of links, and as
+/// calls come to an end (`calls_come_to_an_end` of the promises), all of it goes (`all`).
+///
+/// Unit data is granted exactly if all of this holds (`granted`):
+///
+/// - its TEI is on the line, or from the network's side it is the group's;
+/// - it has at most N201 octets;
+/// - fewer wait there than the configuration says;
+/// - a slot of the pool is free, as [`no_slot_is_lost`] has them (Q.921 clauses 3.6.5, 5.2.2 and 5.9.3, annex B, and
+///   profile).
 pub fn units_go_out()
     ensures front { Always UnitsGoOut }
     ensures all { Always AllUnitsGoOut }
@@ -58,237 +67,304 @@ pub fn units_go_out()
 {}
 
 /// What begins on a line are frames. Each is one that the grammar has, as that of the card's side, with the SAPI of a
-/// service or of TEI management (Q.921 clauses 2 and 3). So it is a frame of a link, as [`what_is_given_is_due`] has these,
-/// unit data, as [`units_go_out`] has it, or a message of TEI management, as [`teis_are_managed`] has these; and nothing
-/// else begins.
+/// service or of TEI management (Q.921 clauses 2 and 3). So it is a frame of a link, as [`what_is_given_is_due`] has
+/// these, unit data, as [`units_go_out`] has it, or a message of TEI management, as [`teis_are_managed`] has these.
+/// Nothing else begins.
 pub fn frames_are_read()
     ensures { Always FramesAreRead }
 {}
 
-/// What begins on a line are octets. If the contents that were granted and the frames that were heard are octets, each 0 to
-/// 255, each frame that begins consists of octets (Q.921 clauses 2 and 3).
+/// What begins on a line are octets. If the contents that were granted and the frames that were heard are octets, each 0
+/// to 255, each frame that begins consists of octets (Q.921 clauses 2 and 3).
 pub fn frames_are_octets()
     ensures { Always FramesAreOctets }
 {}
 
-/// Links take turns, whatever else happens at the line meanwhile. Between two frames that begin for one link, whose TEI
-/// stays on the line, begins one of every other link that offers one all the while, as whoever watches it has this
+/// Links take turns, whatever else happens at the line meanwhile. Let two frames begin for one link whose TEI stays on
+/// the line. Between them one begins of every other link that offers one all the while, as an observer of it has this
 /// ([`what_is_given_is_due`]; profile).
 pub fn links_take_turns_meanwhile()
     ensures { Always LinksTakeTurnsMeanwhile }
 {}
 
-/// What layer 3 is told was heard. At each event of a line data of a link is told exactly where an I-frame for it comes,
-/// which it takes: in states 7 and 8, while layer 3 is not busy, of at most N201 octets, with an N(S) that counts the
-/// contents told of the link since its numbers began, modulo 128, as whoever watches the link has all this (`Observer` of
-/// specs/). Unit data is told exactly where a UI of at most N201 octets comes to a TEI that was on the line, whatever the
-/// state of its link, or, on the user's side, to the group, TEI 127. The contents that are told are the information of that
-/// frame, and are noted as one or the other, once (Q.921 clauses 3.3.4, 3.5.2.4 to 3.5.2.6, 5.2.2, 5.2.3, 5.5.1.2, 5.6.2,
-/// 5.6.6, 5.7 and 5.9.3).
+/// What layer 3 is told was heard. At each event of a line data of a link is told exactly if an I-frame for it comes
+/// that it takes. It takes one in states 7 and 8, while layer 3 is not busy, of at most N201 octets. Its N(S) has to be,
+/// modulo 128, the number of contents told of the link since its numbers began. All this is as an observer of the link
+/// has it (`Observer` of specs/).
+///
+/// Unit data is told exactly if a UI of at most N201 octets comes to a TEI that was on the line, whatever the state of
+/// its link. On the user's side one to the group, TEI 127, is told, too. The contents that are told are the information
+/// of that frame, and are noted as one or the other, once (Q.921 clauses 3.3.4, 3.5.2.4 to 3.5.2.6, 5.2.2, 5.2.3,
+/// 5.5.1.2, 5.6.2, 5.6.6, 5.7 and 5.9.3).
 pub fn what_is_told_was_heard()
     ensures { Always WhatIsToldWasHeard }
 {}
 
-/// What is given of a link is due. A call for the next frame gives no frame of a link, UI apart, but what the link offers,
-/// as whoever watches it has this (`Outgoing` of specs/), whole (`due`): the control frame that has waited longest; where
-/// none waits, an I-frame, where one may go and contents are kept that have not gone, or are to go again; else, where an
-/// acknowledgement is owed, RR with F=0. And a call gives no frame only where no link of a TEI on the line offers any
-/// (`none`). As calls come to an end (`calls_come_to_an_end` of the promises), all goes that waits, is owed or may go.
+/// What is given of a link is due. A call for the next frame gives a frame of a link, except UI, only as the link offers
+/// it, whole (`due`). What it offers an observer knows (`Outgoing` of specs/). First is the control frame that has
+/// waited longest. If none waits, it is an I-frame, if one may go and contents are kept that have not gone, or are to go
+/// again. Otherwise it is RR with F=0, if an acknowledgement is owed. And a call gives no frame only if no link of a TEI
+/// on the line offers any (`none`). As calls come to an end (`calls_come_to_an_end` of the promises), all goes that
+/// waits, is owed or may go.
 ///
-/// An I-frame may go in state 7, so that no recovery runs, while the terminal is not busy by the last RR, RNR or REJ, and
-/// fewer than k are outstanding. It has P=0, as N(S) the number that goes next, V(S), so that they go again in order, from
-/// the number to which REJ or the end of a recovery set back, and none is passed over; and the contents that the link
-/// keeps at V(S), counted from V(A) on. A link keeps data from when it is granted, in order, each once, until V(A) goes on
-/// by it, in states 7 and 8 by the N(R) that is heard; or until its TEI leaves, or layer 3 learns that all is lost: by a
-/// release or a deactivation that is granted, an indication of the establishment, or an indication or a confirm of the
-/// release, which are told as [`news_is_told`] has them. So contents stay where the numbers begin and none of these is told.
+/// **I-frames.** One may go in state 7, so that no recovery runs, while the terminal is not busy by the last RR, RNR or
+/// REJ, and fewer than k are outstanding. It has P=0. Its N(S) is the number that goes next, V(S). So I-frames go again
+/// in order, from the number to which REJ or the end of a recovery set V(S) back, and none is passed over. It has the
+/// contents that the link keeps at V(S), counted from V(A) on.
 ///
-/// Control frames wait from when they are due, except the last of a moment, as many as its answer counts as lost, until
-/// they begin, the link is deactivated, or its TEI leaves the line. Due are, by the state of the link before: UA to SABME,
-/// and to DISC, with F = P, except DM to SABME in state 6, and to DISC in states 4 and 5; in states 7 and 8 REJ, with F =
-/// P, to the first I-frame of at most N201 octets, since data was told or the numbers began, of which nothing is told
-/// though layer 3 is not busy, RNR or RR with F=1 to each other such I-frame with P=1, and to RR, RNR and REJ that are
-/// commands with P=1, and RNR or RR with F=0 where layer 3 comes to be busy, or is so no more; and, with P=1, SABME, DISC
-/// or an enquiry where the link comes to state 5, 6 or 8, and again where T200 expires and leaves it there. A receipt, and
-/// an enquiry, is RNR while layer 3 is busy and RR while it is not.
+/// **What is kept.** A link keeps data from when it is granted, in order, each once, until V(A) passes it, in states 7
+/// and 8 by the N(R) that is heard. It keeps it no longer if its TEI leaves, or layer 3 learns that all is lost. Layer 3
+/// learns it by a release or a deactivation that is granted, an indication of the establishment, or an indication or a
+/// confirm of the release, which are told as [`news_is_told`] has them. So contents stay when the numbers begin and none
+/// of these is told.
 ///
-/// N(R) is the number of contents told of the link since its numbers began, modulo 128: of an I-frame, and of RR that goes by
-/// itself, as it begins, and else as the frame was due. An acknowledgement is owed for data that is told, until a frame of
-/// the link is due, or one begins that did not wait, or the link leaves states 7 and 8, or comes there. So all that is told
-/// is acknowledged, by the last N(R) that goes, unless a frame was told as lost, or the link left states 7 and 8, or its
-/// numbers began anew, before that went (Q.921 clauses 3.5.1, 3.5.2.1 to 3.5.2.6, 5.3.4, 5.5, 5.6, 5.7, 5.8.1 and 5.10.3).
+/// **Control frames** wait from when they are due until they begin, the link is deactivated, or its TEI leaves the line.
+/// The last of a moment do not, as many as its answer counts as lost. These are due, by the state of the link before:
+///
+/// - UA to SABME and to DISC, with F = P; but DM to SABME in state 6, and to DISC in states 4 and 5.
+/// - In states 7 and 8 REJ, with F = P, to an I-frame of at most N201 octets of which nothing is told though layer 3 is
+///   not busy. It is due to the first such frame since data was told or the numbers began.
+/// - In states 7 and 8 RNR or RR with F=1 to each other such I-frame with P=1, and to RR, RNR and REJ that are commands
+///   with P=1.
+/// - In states 7 and 8 RNR or RR with F=0 as layer 3 comes to be busy, or is so no more.
+/// - With P=1, SABME, DISC or an enquiry as the link comes to state 5, 6 or 8, and again as T200 expires and leaves it
+///   there.
+///
+/// An acknowledgement, and an enquiry, is RNR while layer 3 is busy and RR while it is not.
+///
+/// **N(R)** is the number of contents told of the link since its numbers began, modulo 128. An I-frame, and an RR that
+/// goes by itself, has it as it begins; another frame as it was due.
+///
+/// **An acknowledgement is owed** for data that is told. It is owed no more once a frame of the link is due, or one
+/// begins that did not wait, or the link leaves states 7 and 8, or comes there. So the last N(R) that goes acknowledges
+/// all that is told. It may not if, before that went, a frame was told as lost, the link left states 7 and 8, or its
+/// numbers began anew (Q.921 clauses 3.5.1, 3.5.2.1 to 3.5.2.6, 5.3.4, 5.5, 5.6, 5.7, 5.8.1 and 5.10.3).
 pub fn what_is_given_is_due()
     ensures due { Always GivenIsDue }
     ensures none { Always DueIsGiven }
 {}
 
 /// What answers a poll, SABME or DISC is given within a number of calls for the next frame. It waits in the queue of its
-/// link, as [`what_is_given_is_due`] has it, unless it is told as lost. And all that is in the queue of a link is given, in
-/// order, by the calls for the next frame of the line among the events that follow. Each frame, of two alike, too, has a
-/// call of its own. This holds whatever else happens and whatever was lost, as long as the TEI stays on the line, to an
-/// observer, and the link is not deactivated, once there are enough calls. These are more than the
-/// frames that the configuration lets go before: four messages of TEI management (on the user's side there is none), all
-/// unit data that may wait, one frame of every link for each other control frame that the link has room for, and one of
-/// each other link, with each message of TEI management and each unit data that comes meanwhile. So 72 calls are enough
-/// with eight terminals, 4 unit data and 4 control frames if none of these comes (Q.921 clauses 5.5.1.2, 5.5.3.2, 5.6.2
-/// to 5.6.7, 5.7 and 5.8.1, and profile).
+/// link, as [`what_is_given_is_due`] has it, unless it is told as lost. And all that is in the queue of a link is given,
+/// in order, by the calls for the next frame of the line among the events that follow. Each frame, of two alike, too,
+/// has a call of its own. This holds once there are enough calls, whatever else happens and whatever was lost. The TEI
+/// stays on the line, to an observer, and the link is not deactivated.
+///
+/// There have to be more calls than frames that the configuration lets go before. These are four messages of TEI
+/// management (on the user's side there is none), and all unit data that may wait. Beside these there are one frame of
+/// every link for each other control frame that the link has room for, and one of each other link. Each message of TEI
+/// management and each unit data that comes meanwhile counts, too. So with eight terminals, 4 unit data and 4 control
+/// frames 72 calls are enough, if none of these comes (Q.921 clauses 5.5.1.2, 5.5.3.2, 5.6.2 to 5.6.7, 5.7 and 5.8.1,
+/// and profile).
 pub fn answers_are_given()
     ensures { Always QueueIsSent }
 {}
 
-/// What is due joins the queue. Something happens at a line, and the answer to it tells no frame as lost. Then each control
-/// frame of a link that is due by it, as [`what_is_given_is_due`] has these, joins the end of the link's queue. This is of the
-/// observer's words alone, and so of every card.
+/// What is due joins the queue. Something happens at a line, and the answer to it tells no frame as lost. Then each
+/// control frame of a link that is due by it, as [`what_is_given_is_due`] has these, joins the end of the link's queue.
+/// This is of the observer's words alone, and so of every card.
 pub fn what_is_due_joins_the_queue()
     ensures { Always AnswersAreSent }
 {}
 
-/// Answers suit events. A call for the next frame is answered by a frame or by none. A request is granted, so that what is
-/// told answers it, or refused. What is heard, and an expiry, are answered by what is told, and by no refusal and no frame.
+/// Answers suit events. A call for the next frame is answered by a frame or by none. A request is granted, so that what
+/// is told answers it, or refused. What is heard, and an expiry, are answered by what is told, and by no refusal and no
+/// frame.
 pub fn answers_suit_events()
     ensures { Always AnswersSuit }
 {}
 
-/// Nothing is lost in vain. Of the control frames of a link that become due by an event, as [`what_is_given_is_due`] has
-/// them, while its TEI stays on the line, an answer tells as many as lost as find no place beside those of the link that
-/// wait, which are at most as many as the configuration says; and where none of any link becomes due, as many as messages
-/// of TEI management are, by [`teis_are_managed`]: one where four are owed and another is, and else none (profile).
+/// Nothing is lost without need. Let control frames of a link become due by an event, as [`what_is_given_is_due`] has
+/// them, while its TEI stays on the line. Then an answer tells as many as lost as find no place beside those of the link
+/// that wait. At most as many wait as the configuration says. If none of any link becomes due, it tells as many as
+/// messages of TEI management are lost, by [`teis_are_managed`]. That is one if four are owed and another is, and none
+/// otherwise (profile).
 pub fn nothing_is_lost_in_vain()
     ensures { Always NoLossInVain }
 {}
 
-/// TEIs are managed as the procedures say. After whatever happened to a card, what the answer to an event of a line
-/// shows of TEI management is exactly what is due by that event, as whoever watches the line knows (`Managing` of
-/// specs/): the notes of TEIs, the orders of T201, and the frames with SAPI 63 that begin. A terminal that asks for a
-/// TEI by an Ri is owed the one that is held for this Ri; or the lowest from 64 on that is not on the line, while that
-/// has fewer than the configuration has terminals, which is told; or a denial; and where there is no room for the
-/// answer, nothing. A check of a TEI on the line begins by a granted request, and by a verify while none runs: its
-/// terminals are asked, where fewer than four messages are owed, and T201 is started; both once more as it expires. As
-/// it expires again the check is over, and a TEI of which no terminal answered is told as removed. Where a second one
-/// answers in one of the periods, it is told that two have it, and they are owed a removal, as they are by a granted
-/// request; and the TEI leaves. Those of a TEI that is disowned are owed one, too. As a check is over, T201 is stopped.
-/// Messages begin as the line is called for its next frame, before all other frames, the oldest first, whole, each
-/// once; at most four are owed. Where the line is down none is owed any more, a check that runs is over, and T201 is
-/// stopped. And management is granted exactly to put a TEI of at most 126 on a line that does not have it and has room,
-/// and, on the network's side and while fewer than four messages are owed, to remove one that is on the line, to check
-/// it while no check runs, and to disown one that is not on the line, or all TEIs while none is. The user's side serves
-/// no message (Q.921 clauses 4.1.1.5, 5.3.1 to 5.3.5, annex B and profile).
+/// TEIs are managed as the procedures say. Whatever happened to a card, the answer to an event of a line shows exactly
+/// what is due of TEI management by that event. An observer of the line knows what is due (`Managing` of specs/). It is
+/// the notes of TEIs, the orders of T201, and the frames with SAPI 63 that begin.
+///
+/// **Requests of terminals.** A terminal that asks for a TEI by an Ri is owed the one that is held for this Ri.
+/// Otherwise it is owed the lowest from 64 on that is not on the line, which is told, while that has fewer than the
+/// configuration has terminals; or a denial. If there is no room for the answer, it is owed nothing.
+///
+/// **Checks.** A check of a TEI on the line begins by a granted request, and by a verify while none runs. Its terminals
+/// are asked, if fewer than four messages are owed, and T201 is started; both once more as it expires. As it expires
+/// again the check is over, and a TEI of which no terminal answered is told as removed. If a second one answers in one
+/// of the periods, it is told that two have it, they are owed a removal, and the TEI leaves. As a check is over, T201 is
+/// stopped.
+///
+/// **Removals** are owed by a granted request, too, and the TEI leaves. The terminals of a TEI that is disowned are owed
+/// one.
+///
+/// **Messages** begin as the line is called for its next frame, before all other frames, the oldest first, whole, each
+/// once. At most four are owed. As the line is down none is owed any more, a check that runs is over, and T201 is
+/// stopped.
+///
+/// **Granted** is exactly this. A TEI of at most 126 is put on a line that does not have it and has room. On the
+/// network's side more is granted, while fewer than four messages are owed. One that is on the line is removed, or
+/// checked while no check runs. One that is not on the line is disowned, or all TEIs while none is. The user's side
+/// serves no message (Q.921 clauses 4.1.1.5, 5.3.1 to 5.3.5, annex B and profile).
 pub fn teis_are_managed()
     ensures { Always TeisAreManaged }
 {}
 
-/// Timers are timely. After whatever happened to a card, the orders of the timers of a link in the answer to an event of
-/// its line are exactly those that are due, T200's first: one is started where it runs then, and it did not run, or is
-/// started anew; and it is stopped where it ran, up to its expiry, and runs no more. T200 runs where an answer is awaited:
-/// in states 5, 6 and 8, and in state 7 where an I-frame is outstanding, or the terminal is busy. Outstanding are those
-/// that went and are not acknowledged, except those that are to go again, since REJ or the end of a recovery. T203 runs
-/// where none is, in state 7; and neither in state 4, nor where the TEI is not on the line. One is started anew where the
-/// link moves to another state, or T200 expires and leaves it in its own, and, in state 7, because of a frame. For T200
-/// this is RNR, and RR, or I while the terminal is not busy, whose N(R) acknowledges an I-frame; for T203 it is RR, REJ, I
-/// or SABME. So T200 runs on from an earlier I-frame or enquiry when further I-frames go (clause 5.6.1), when a frame
-/// acknowledges nothing, and in state 8 until the enquiry is answered (clause 5.6.7); and no UI, XID, UA, request for data
-/// or call for a frame starts a timer anew that runs (Q.921 clauses 5.5.1, 5.5.3, 5.6.1 to 5.6.7, 5.9.1, 5.9.8 and 5.10.3).
+/// Timers are timely. Whatever happened to a card, the answer to an event of a line orders for the timers of a link
+/// exactly what is due, for T200 first. One is started if it runs then and did not run before, or is started anew. It is
+/// stopped if it ran, up to its expiry, and runs no more.
+///
+/// - **T200 runs** while an answer is awaited: in states 5, 6 and 8, and in state 7 if an I-frame is outstanding, or the
+///   terminal is busy. Outstanding are those that went and are not acknowledged, except those that are to go again,
+///   since REJ or the end of a recovery.
+/// - **T203 runs** in state 7 if T200 does not. Neither runs in state 4, nor if the TEI is not on the line.
+/// - **Started anew** is one as the link moves to another state, or as T200 expires and leaves it in its own. In state 7
+///   frames start it anew. For T200 this is RNR, and RR, or I while the terminal is not busy, whose N(R) acknowledges an
+///   I-frame. For T203 it is RR, REJ, I or SABME.
+///
+/// So T200 runs on from an earlier I-frame or enquiry as further I-frames go (clause 5.6.1), as a frame acknowledges
+/// nothing, and in state 8 until the enquiry is answered (clause 5.6.7). And no UI, XID, UA, request for data or call
+/// for a frame starts a timer anew that runs (Q.921 clauses 5.5.1, 5.5.3, 5.6.1 to 5.6.7, 5.9.1, 5.9.8 and 5.10.3).
 pub fn timers_are_timely()
     ensures { Always TimersAreTimely }
 {}
 
-/// Timers run where they are due. At a caller's that obeys the orders T200 and T203 of a link run exactly where
-/// [`timers_are_timely`] has it, after every list of events (Q.921 clauses 5.9.1, 5.9.8 and 5.10.3).
+/// Timers run while they are due. At a caller's that obeys the orders T200 and T203 of a link run exactly while
+/// [`timers_are_timely`] has it so, after every list of events (Q.921 clauses 5.9.1, 5.9.8 and 5.10.3).
 pub fn timers_run()
     ensures { Always TimersRun }
 {}
 
 /// Links move as the procedures lead them. After every list of events `Card::state` tells of a link the state in which
-/// whoever watches the line has it (`Observer` of specs/), and none where its TEI is not on the line. As the TEI comes,
-/// that is 4; and then 7 by SABME in states 4, 7 and 8, by UA with F=1 in state 5, and, in state 8, by RR, RNR or REJ as
-/// a response with F=1 whose N(R) is valid; 4 by DISC in states 7 and 8, by DM with F=1 in states 5 and 6, by UA with F=1
-/// in state 6, and by a deactivation in any state; 5 by a request to establish it in state 4, by DM with F=0 in state 7,
-/// and in states 7 and 8 by FRMR, an invalid N(R), a malformed frame, and an I-frame that is too long, and by any DM in
-/// state 8; 6 by a request to release it in states 7 and 8; 8 by the expiry of the timer that runs in state 7. As T200
-/// expires in states 5, 6 and 8, the link leaves them, for 4, 4 and 5, where it has expired N200 times before since the
-/// link came there. Nothing else moves a link. So a link awaits an answer through N200 expiries, and no more (Q.921
+/// an observer of the line has it (`Observer` of specs/), and none if its TEI is not on the line. As the TEI comes, that
+/// is 4. Then it is
+///
+/// - 7 by SABME in states 4, 7 and 8, and by UA with F=1 in state 5;
+/// - 7 in state 8 by RR, RNR or REJ as a response with F=1 whose N(R) is valid;
+/// - 4 by DISC in states 7 and 8, and by a deactivation in any state;
+/// - 4 by DM with F=1 in states 5 and 6, and by UA with F=1 in state 6;
+/// - 5 by a request to establish it in state 4, and by DM with F=0 in state 7;
+/// - 5 in states 7 and 8 by FRMR, an invalid N(R), a malformed frame, and an I-frame that is too long, and in state 8 by
+///   any DM;
+/// - 6 by a request to release it in states 7 and 8;
+/// - 8 by the expiry of the timer that runs in state 7.
+///
+/// As T200 expires in states 5, 6 and 8, the link leaves them, for 4, 4 and 5, if it has expired N200 times before since
+/// the link came there. Nothing else moves a link. So a link awaits an answer through N200 expiries, and no more (Q.921
 /// clauses 3.5.2.3, 5.3, 5.5.1 to 5.5.5, 5.6.7, 5.7, 5.8, 5.9.2 and 5.10.3, and annex B).
 pub fn links_move()
     ensures { Always LinksMove }
 {}
 
-/// News of links is told, and errors. In the answer to an event the notes of a link, but for data and unit data, are
-/// exactly what is due, errors first; and there is none where its TEI was not on the line. A link whose TEI leaves
-/// ends. News is: an establish indication where the link comes from state 4 to state 7; from state 5 a confirm, where
-/// layer 3 asked for that establishment, and if this side began it, or the terminal establishes a link anew by SABME,
-/// an indication exactly where an I-frame is outstanding, as [`timers_are_timely`] has it, in state 5 as it was where
-/// the link came there; a release confirm where it comes from state 6 to its end or to state 4, or is released in state
-/// 4; a release indication where it comes there from another state; and XID that is heard of it. So no confirm is told
-/// that layer 3 did not ask for, none twice, and no end of a link goes untold. Errors are, by letter, in states 7 and
-/// 8: A, a response with F=1 in state 7; B and E, DM with F=1 and F=0; F, SABME; J, an invalid N(R); K, FRMR; L, N and
-/// O, what is malformed, of wrong size or too long; in any state C and D, UA with F=1 that no command asked for, and
-/// any with F=0; and G, H and I, where T200 gives up states 5, 6 and 8 (Q.921 clauses 4.1.1.1, 4.1.1.2, 4.1.1.7, 5.5.1,
-/// 5.5.3, 5.6.7, 5.7, 5.8 and appendix II).
+/// News of links is told, and errors. In the answer to an event the notes of a link, except data and unit data, are
+/// exactly what is due, errors first. There is none if its TEI was not on the line. A link whose TEI leaves ends. News
+/// is:
+///
+/// - an establish indication as the link comes from state 4 to state 7;
+/// - as it comes to state 7 from state 5, a confirm if layer 3 asked for that establishment;
+/// - an establish indication, too, if this side began it, or the terminal establishes a link anew by SABME. It is told
+///   exactly if an I-frame is outstanding, as [`timers_are_timely`] has it; in state 5 as it was when the link came
+///   there;
+/// - a release confirm as it comes from state 6 to its end or to state 4, or is released in state 4;
+/// - a release indication as it comes there from another state;
+/// - XID that is heard of it.
+///
+/// So no confirm is told that layer 3 did not ask for, none twice, and no end of a link goes untold. Errors are, by
+/// letter,
+///
+/// - in states 7 and 8: B and E, DM with F=1 and F=0; F, SABME; J, an invalid N(R); K, FRMR;
+/// - there, too: A, a response with F=1 in state 7; L, N and O, what is malformed, of wrong size or too long;
+/// - in any state: C and D, UA with F=1 that no command asked for, and any with F=0;
+/// - G, H and I, as T200 gives up states 5, 6 and 8 (Q.921 clauses 4.1.1.1, 4.1.1.2, 4.1.1.7, 5.5.1, 5.5.3, 5.6.7, 5.7,
+///   5.8 and appendix II).
 pub fn news_is_told()
     ensures { Always NewsIsTold }
 {}
 
 /// Granted requests take effect. Each request of a link, by layer 3 or to deactivate it, is answered by how the link
-/// stands, as whoever watches it has this (`effect` of specs/ has the rows). It is refused for the first of these
-/// reasons that holds: the TEI is over 126; it is not on the line; the state does not serve the request, as 4 serves
-/// the establishment, 4, 7 and 8 the release, and 7 and 8 data, and that layer 3 is busy, or is so no more; the data
-/// has more than N201 octets; the link keeps as many contents as it may; no slot of the pool is free, as
-/// [`no_slot_is_lost`] has these. Else it is granted, and takes effect at once. `Card::state` tells 5 of a link that is
-/// to be established, and 6 of one that is to be released. SABME or DISC waits then, and layer 3 is told of the answer,
-/// or that none comes, as [`news_is_told`] has it. The release of a link in state 4 is confirmed in the answer. Data
-/// comes behind what the link keeps. RNR or RR waits where layer 3 comes to be busy, or is so no more. A link that is
-/// deactivated is in state 4, has nothing to send, and its end is told in the answer. What waits, and what is kept,
-/// goes as [`what_is_given_is_due`] has it. A frame comes behind those that wait, and is lost where these are as many
-/// as may wait. Which of the other requests are granted, and what they come to, [`teis_are_managed`] and [`units_go_out`]
-/// say; for which reason they are refused, the table of refusals alone (`refused` of `Card::drive`; Q.921 clauses 5.5.1.1,
-/// 5.5.3.1, 5.5.3.2, 5.6.1 and 5.6.6, annex B and profile).
+/// stands, as an observer of it has this (`effect` of specs/ has the rows). It is refused for the first of these reasons
+/// that holds:
+///
+/// - the TEI is over 126, or it is not on the line;
+/// - the state does not serve the request. State 4 serves the establishment, and 4, 7 and 8 the release. States 7 and 8
+///   serve data, and that layer 3 is busy, or is so no more;
+/// - the data has more than N201 octets;
+/// - the link keeps as many contents as it may;
+/// - no slot of the pool is free, as [`no_slot_is_lost`] has these.
+///
+/// Otherwise it is granted, and takes effect at once:
+///
+/// - `Card::state` tells 5 of a link that is to be established, and 6 of one that is to be released. SABME or DISC waits
+///   then, and layer 3 is told of the answer, or that none comes, as [`news_is_told`] has it. The release of a link in
+///   state 4 is confirmed in the answer.
+/// - Data comes after what the link keeps.
+/// - RNR or RR waits as layer 3 comes to be busy, or is so no more.
+/// - A link that is deactivated is in state 4, has nothing to send, and its end is told in the answer.
+///
+/// What waits, and what is kept, goes as [`what_is_given_is_due`] has it. A frame comes after those that wait, and is
+/// lost if these are as many as may wait. [`teis_are_managed`] and [`units_go_out`] say which of the other requests are
+/// granted, and what they come to. For which reason they are refused, the table of refusals alone says (`refused` of
+/// `Card::drive`; Q.921 clauses 5.5.1.1, 5.5.3.1, 5.5.3.2, 5.6.1 and 5.6.6, annex B and profile).
 pub fn granted_requests_take_effect()
     ensures { Always RequestsTakeEffect }
 {}
 
-/// Rooms are told as they are. Of each link whose TEI is on the line the places of its queue are those that
-/// `FrameCard::room` tells as left and those of the contents that the link keeps, as [`what_is_given_is_due`] has them:
-/// so contents take a place until they are acknowledged, or layer 3 learns that they are lost, and none is lost
-/// silently. The slots of the pool are those that it tells as left and those that are taken, as [`no_slot_is_lost`] has
-/// them. Of a link in state 7 or 8 V(A) is told, which is the N(R) that was heard of it last, 0 where none was since
-/// its numbers began. By what is left, of the queue and of the pool, the next request for data is refused, as
-/// [`granted_requests_take_effect`] has it; in the other states for the state, so no data is granted there that nothing
-/// keeps (Q.921 clauses 3.5.2.3, 5.5.1.1, 5.5.1.2, 5.5.3.1, 5.5.3.2 and 5.7, and profile).
+/// Rooms are told as they are. Let a link's TEI be on the line. Some places of its queue `FrameCard::room` tells as
+/// left; all others have the contents that the link keeps, as [`what_is_given_is_due`] has them. So contents take a
+/// place until they are acknowledged, or layer 3 learns that they are lost, and none is lost silently. The slots of the
+/// pool are those that it tells as left and those that are taken, as [`no_slot_is_lost`] has them.
+///
+/// Of a link in state 7 or 8 V(A) is told, which is the N(R) that was heard of it last, and 0 if none was since its
+/// numbers began. By what is left, of the queue and of the pool, the next request for data is refused, as
+/// [`granted_requests_take_effect`] has it. In the other states it is refused for the state, so no data is granted there
+/// that nothing keeps (Q.921 clauses 3.5.2.3, 5.5.1.1, 5.5.1.2, 5.5.3.1, 5.5.3.2 and 5.7, and profile).
 pub fn rooms_are_told()
     ensures { Always RoomsAreTold }
 {}
 
-/// No slot of the pool is lost. The lines of a card together take no more slots than it has, and a request finds the pool
-/// full only where they take all of them, to whoever watches the lines: one for each unit data that waits, as
-/// [`units_go_out`] has it, and one for each contents that a link keeps, as [`what_is_given_is_due`] has it. So a slot is
-/// free again as soon as its unit data begins, or its contents are acknowledged, or either is given up (profile).
+/// No slot of the pool is lost. The lines of a card together take no more slots than it has. A request finds the pool
+/// full only if they take all of them, to an observer of the lines. These are one for each unit data that waits, as
+/// [`units_go_out`] has it, and one for each contents that a link keeps, as [`what_is_given_is_due`] has it. So a slot
+/// is free again as soon as its unit data begins, or its contents are acknowledged, or either is given up (profile).
 pub fn no_slot_is_lost()
     ensures { Always NoSlotIsLost }
 {}
 
-/// The cause of each drop is told. The answer to an event of a line names a cause exactly if one is due by that event. It is
-/// the one that is due, and the answer says nothing else. No cause is due by a request, an expiry or a call for the next
-/// frame. Of what is heard one is due in these cases, whatever happened to the card before.
+/// The cause of each drop is told. The answer to an event of a line names a cause exactly if one is due by that event.
+/// It is the one that is due, and the answer says nothing else. No cause is due by a request, an expiry or a call for
+/// the next frame. Of what is heard one is due in these cases, whatever happened to the card before.
 ///
-/// A stretch that is no frame has its own cause: `Abort`, `Ragged`, `Short` or `Fcs`. A frame has `Extension` if its extension
-/// bits are not those of two octets, and `Sapi` if its SAPI is not 0, 16 or 63. It has `Tei` if its SAPI is 0 or 16 and its
-/// TEI is not on the line, and if its SAPI is 63 and its TEI is not 127. On the user's side a UI with SAPI 0 or 16, TEI 127
-/// and at most N201 octets has none. A frame for a link whose TEI is on the line has `Unserved` if the link does not serve
-/// it in the state that [`links_move`] tells. In states 7 and 8 a link serves each frame, also one that is malformed. In
-/// states 4, 5 and 6 it serves SABME, DISC, UA, XID and UI, and in states 5 and 6 DM with F=1. In no state it serves a UI of
-/// more than N201 octets, nor a UI or XID that was too long to keep. A frame for TEI management has `Unserved`, too, but on
-/// the network's side a UI has none if its information is one of three messages: it asks for a TEI with Ai 127; it answers
-/// the check that runs; it asks for a check of a TEI on the line, and none runs. [`teis_are_managed`] has the TEIs on the line
-/// and the check (Q.921 clauses 2.6, 2.7, 2.9, 2.10, 3.3.1 to 3.3.4, 5.3.1 to 5.3.5 and 5.8.5, annex B, and profile).
+/// A stretch that is no frame has its own cause: `Abort`, `Ragged`, `Short` or `Fcs`. A frame has `Extension` if its
+/// extension bits are not those of two octets, and `Sapi` if its SAPI is not 0, 16 or 63. It has `Tei` if its SAPI is 0
+/// or 16 and its TEI is not on the line, and if its SAPI is 63 and its TEI is not 127. On the user's side a UI with SAPI
+/// 0 or 16, TEI 127 and at most N201 octets has none.
+///
+/// A frame for a link whose TEI is on the line has `Unserved` if the link does not serve it in the state that
+/// [`links_move`] tells. In states 7 and 8 a link serves each frame, also one that is malformed. In states 4, 5 and 6 it
+/// serves SABME, DISC, UA, XID and UI, and in states 5 and 6 DM with F=1. In no state it serves a UI of more than N201
+/// octets, nor a UI or XID that was too long to keep.
+///
+/// A frame for TEI management has `Unserved`, too. On the network's side a UI has none if its information is one of
+/// three messages. It asks for a TEI with Ai 127. Or it answers the check that runs. Or it asks for a check of a TEI on
+/// the line, and none runs. [`teis_are_managed`] has the TEIs on the line and the check (Q.921 clauses 2.6, 2.7, 2.9,
+/// 2.10, 3.3.1 to 3.3.4, 5.3.1 to 5.3.5 and 5.8.5, annex B, and profile).
 pub fn causes_are_told()
     ensures { Always CausesAreTold }
 {}
 
-/// Counters count what is seen, and what is dropped. The moments of a run at a line show to its counters what is seen there,
-/// name by name, whatever happened before: of a frame that is heard or begins its kind, its octets, whether it is a poll, and
-/// the message of TEI management in it; of notes each; for each answer that names a cause one drop of that cause, as
-/// [`causes_are_told`] has these; and the frames that were lost. They show nothing else. So by `counters` and
-/// `counters_add_up` of `Card::drive` the counters of a line are numbers of these (profile).
+/// Counters count what is seen, and what is dropped. The moments of a run at a line show to its counters what is seen
+/// there, name by name, whatever happened before:
+///
+/// - of a frame that is heard or begins its kind, its octets, whether it is a poll, and the message of TEI management in
+///   it;
+/// - each note;
+/// - for each answer that names a cause one drop of that cause, as [`causes_are_told`] has these;
+/// - the frames that were lost.
+///
+/// They show nothing else. So by `counters` and `counters_add_up` of `Card::drive` the counters of a line are numbers of
+/// these (profile).
 pub fn counters_count()
     ensures { CountersCount }
 {}

@@ -1,11 +1,11 @@
 //! Laws of the trace of a line: of what an observer of it sees, in order of time.
 //!
 //! Most laws hold from a fresh card of a configuration in range, for every list of events at its lines, and for every line;
-//! the others say of what. `specs/` has the trace (`Trace`), what whoever watches the line knows of its TEIs (`Managing`),
-//! of a link (`Observer`) and of what it keeps (`Outgoing`), by the procedures of Q.921; what is due of a link by that, in
-//! four lists: notes (`News`), orders (`TimersAreTimely`), control frames that come to wait (`ControlFrames`) and what
-//! goes next (`FramesAreDue`); and a file for each law, with worked values of it. Each law is the contract of a call that
-//! does nothing.
+//! the others say of what. `specs/` has the trace (`Trace`). It has what an observer knows of the TEIs of the line
+//! (`Managing`), of a link (`Observer`) and of what it keeps (`Outgoing`), by the procedures of Q.921. What is due of a link by
+//! that stands in four lists: notes (`News`), orders (`TimersAreTimely`), control frames that come to wait (`ControlFrames`)
+//! and what goes next (`FramesAreDue`). There is a file for each law, with worked values of it. Each law is the contract of a
+//! call that does nothing.
 //!
 //! - `laws`: the laws.
 //! - `octets`: what they come to in the octets of a line.

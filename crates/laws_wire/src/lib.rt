@@ -1,24 +1,31 @@
 //! Laws of two cards on one wire: a line of a card of the network's side faces a line of one of the user's, and what
-//! one gives the other takes. There is nothing to call: each law is the contract of a function that does nothing.
+//! one sends the other receives. There is nothing to call: each law is the contract of a function that does nothing.
 //!
-//! `specs/` has the wire and what can happen at its ends (`Wire`), a call between two cards that have just begun, in
-//! the words of the events and answers of a card alone (`Call`), the same where frames are lost and timers expire
-//! (`Losing`), a T200 that is long enough (`Timely`), what it recovers (`Recovering`; `StillTimely`, where it expires
-//! as no turn is left), also under traffic (`Arriving`), and where UA is lost or an end is busy (`Answering`), that such
-//! a call comes to rest (`Settling`), its end (`Ending`), how often T200 may expire (`Counted`), how many turns there
-//! are at most (`Resting`), two cards that face each other by links in state 7 (`Facing`), and worked values that
-//! compute (`Worked`, `WorkedLosing`, `WorkedRecovering`, `WorkedArriving`, `WorkedAnswering`, `WorkedSettling`,
-//! `WorkedReports`, `WorkedEnding`, `WorkedCounted`, `WorkedResting`). What a card does at an event is the machine of
-//! `model_card`, of frames; the laws of two links are those of `laws_link`.
+//! `specs/` has:
+//!
+//! - `Wire`: the wire, and what can happen at its ends;
+//! - `Call`: a call between two cards that have just begun, in the words of the events and answers of a card alone;
+//! - `Losing`: the same with frames that are lost and timers that expire;
+//! - `Timely`: a T200 that is long enough. `Recovering` has what it recovers, `StillTimely` the same if it expires as
+//!   no turn is left;
+//! - `Arriving`: what it recovers under traffic;
+//! - `Answering`: the same if UA is lost or an end is busy. `Settling`: that such a call comes to rest. `Ending`: its
+//!   end;
+//! - `Counted`: how often T200 may expire. `Resting`: how many turns there are at most;
+//! - `Facing`: two cards that face each other by links in state 7;
+//! - `Worked..`: worked values that compute.
+//!
+//! What a card does at an event is the machine of `model_card`, of frames. The laws of two links are those of
+//! `laws_link`.
 //!
 //! # Open
 //!
-//! What is told after an error other than F of a lost UA. Whether rest is reached after such an error, or behind a
-//! release (that the weight of `proofs/Weighing` falls there was not tried). What arrives where UA is lost or an end is
+//! What is told after an error other than F of a lost UA. Whether rest is reached after such an error, or after a
+//! release (that the weight of `proofs/Weighing` falls there was not tried). What arrives if UA is lost or an end is
 //! busy, while data is asked for on and on (while an end is heard to be busy T200 of the other runs on). That all
-//! arrives with no expiry where nothing is lost, no I-frame comes to a busy end, and each of its reports finds a place
-//! to wait (else it is not so: `specs/WorkedReports`). Losses where both ends call, with other requests, links or lines,
-//! or from elsewhere than nothing. That a given T200 is long enough.
+//! arrives with no expiry if nothing is lost, no I-frame comes to a busy end, and each of its reports finds a place to
+//! wait (without that it is false: `specs/WorkedReports`). Losses if both ends call, with other requests, links or
+//! lines, or from elsewhere than nothing. That a given T200 is long enough.
 #![tactic(auto)]
 
 mod answering;

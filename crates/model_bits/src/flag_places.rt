@@ -2,8 +2,8 @@
 
 ghost use Rattle.model_bits.specs.FlagLaws.{GapBetweenFlags, FlagsThatShare, FirstAbortAfterFlag};
 
-/// A law: where a flag ends at two places of a stream and at none between, the second brings what the gap between
-/// them makes of itself, whatever came before; and nothing where the two share their 0 (Q.921 clauses 2.2 and 2.9).
+/// A law: let a flag end at two places of a stream and at none between. Then the second brings what the gap between them
+/// makes of itself, whatever came before. It brings nothing if the two share their 0 (Q.921 clauses 2.2 and 2.9).
 #[tactic(auto, using(crate::proofs::FlagPlaces::gap_between_flags))]
 pub fn flag_after_flag()
     ensures gap { GapBetweenFlags }

@@ -15,8 +15,8 @@ pub fn stuffed_texts()
     ensures { StuffedTexts }
 {}
 
-/// A law: the octets that are found for a text between two flags are those of which a sender makes that text,
-/// and none are found exactly where there are none (Q.921 clauses 2.6 and 2.9).
+/// A law: the octets that are found for a text between two flags are those of which a sender makes that text. None
+/// are found exactly if there are none (Q.921 clauses 2.6 and 2.9).
 #[tactic(auto, using(crate::proofs::StuffingOctets::octets_of_texts))]
 pub fn octets_of_a_text()
     ensures octets { OctetsAreThoseSent }

@@ -1,12 +1,11 @@
 //! The machine of a whole card, as definitions: its lines are machines of their own, which share nothing but the
 //! pool of slots for contents (profile).
 //!
-//! `specs/` has the card and its events (`Card`, `Event`), what each event makes of it and what it answers
-//! (`Machine`), whole lists of events (`Run`), which cards come about (`Reached`), what is counted of them (`Counts`,
-//! `Counted`, `Stored`), of single events too (`ByEvent`, `Drops`), what a link delivers (`Numbered`), one line beside the
-//! others (`Isolation`), what is promised of whole lists of events (`Promises`), and the laws, which say of which cards and
-//! lists (`Laws`). Nothing of these is of octets on a line: a card of octets is this card with a port at each line
-//! ([`ports`]).
+//! `specs/` has the card and its events (`Card`, `Event`), and what each event makes of it and what it answers
+//! (`Machine`). It has whole lists of events (`Run`), and which cards come about (`Reached`). What is counted of them is in
+//! `Counts`, `Counted` and `Stored`, of single events in `ByEvent` and `Drops`. It has what a link delivers (`Numbered`), and
+//! one line beside the others (`Isolation`). What is promised of whole lists is `Promises`, and `Laws` says of which cards and
+//! lists. Nothing of these is of octets on a line: a card of octets is this card with a port at each line ([`ports`]).
 //!
 //! The code of a card stands above, in another crate.
 //!

@@ -74,7 +74,7 @@ pub enum Field {
 }
 
 impl Config {
-    /// The first field that is out of range, in the order of the fields; none where all are in range.
+    /// The first field that is out of range, in the order of the fields; none if all are in range.
     #[tactic(auto, unfolding(crate::specs::Config::sapi_fault))]
     pub fn fault(&self) -> Option<Field>
         ensures { result ≡ first_fault self.now }

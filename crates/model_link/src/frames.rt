@@ -6,7 +6,7 @@ use lapd_frame::Control;
 /// link's service and TEI.
 #[derive(Clone, Copy, PartialEq, Eq, Debug)]
 pub struct ControlFrame {
-    /// Whether it is a command; else it is a response (Q.921 clause 3.3.2).
+    /// Whether it is a command; otherwise it is a response (Q.921 clause 3.3.2).
     pub command: bool,
     /// Its control field, with the numbers that held when the frame was made.
     pub control: Control,

@@ -16,10 +16,9 @@ ghost use Rattle.model_link.specs.Rises.{RisesByEvent, may_send, grows, sent, se
 ghost use Rattle.model_link.specs.Sound.{IsInRange, IsSound, IsGiven};
 ghost use Rattle.model_link.specs.TwoEnds.{Ends, StepAt, doing_all, Begins, StayUp, Agree};
 
-/// A link is sound as it begins, and every event keeps it sound: its numbers are in order and
-/// within the window (Q.921 clause 5.6.1), nothing is queued where it must not be, no acknowledgement is
-/// owed while its own receiver is busy, and its contents and its control frames keep within their
-/// capacities.
+/// A link is sound as it begins, and every event keeps it sound. Its numbers are in order and within the window (Q.921
+/// clause 5.6.1). Nothing is queued where it must not be. No acknowledgement is owed while its own receiver is busy.
+/// Its contents and its control frames keep within their capacities.
 pub fn stays_sound()
     ensures begins { (t : Terms) → IsInRange t → IsSound t fresh }
     ensures each { (t : Terms) (e : Event) (l : Link) → IsInRange t → IsSound t l → IsSound t (after t e l) }
@@ -31,10 +30,10 @@ pub fn stays_sound()
         length (queue_of (after t e l)) ≤ length (queue_of l) + grows t e l }
 {}
 
-/// What a link may still send without anything else happening rises by no more than an event's
-/// price, what the event sends included: 2 for a frame, and k more for an REJ with a valid N(R) in
-/// state 7 or 8; k + 1 for the expiry of the running timer; 1 for an accepted request; else 0. So
-/// no terminal can make a link a source of frames.
+/// What a link may still send without anything else happening rises by no more than an event's price, what the event
+/// sends included. The price is 2 for a frame, and k more for an REJ with a valid N(R) in state 7 or 8; k + 1 for the
+/// expiry of the running timer; 1 for an accepted request; otherwise 0. So no terminal can make a link a source of
+/// frames.
 pub fn rises()
     ensures event { (t : Terms) (e : Event) (l : Link) → IsInRange t → IsSound t l → RisesByEvent t e l }
     // A frame that goes was waiting, with at most one other that it makes needless.
@@ -45,11 +44,10 @@ pub fn rises()
         sent_in_all t es l + may_send t (after_all t es l) ≤ may_send t l + price_of_all t es l }
 {}
 
-/// What a link delivers since an establishment are, in order, the contents of the first eligible
-/// I-frame with N(S) 0, of the first after it with N(S) 1, and so on modulo 128; after the last
-/// one, no eligible frame has the next number. V(R) counts them (Q.921 clauses 3.5.2.4 to
-/// 3.5.2.6). An I-frame is eligible where it has at most N201 octets and meets state 7 or 8 with
-/// own busy off; an establishment is an event in which the numbers are set to zero, or the link is
+/// What a link delivers since an establishment are, in order, the contents of the first eligible I-frame with N(S) 0,
+/// of the first after it with N(S) 1, and so on modulo 128. After the last one, no eligible frame has the next number.
+/// V(R) counts them (Q.921 clauses 3.5.2.4 to 3.5.2.6). An I-frame is eligible if it has at most N201 octets and meets
+/// state 7 or 8 with own busy off. An establishment is an event in which the numbers are set to zero, or the link is
 /// cleared.
 pub fn numbered()
     ensures begins { IsNumbered nothing_yet fresh }
@@ -60,9 +58,9 @@ pub fn numbered()
     ensures always { (t : Terms) (es : List Event) → IsNumbered (with_all t es fresh nothing_yet) (after_all t es fresh) }
 {}
 
-/// An event tells at most two notes and gives at most two orders, of which at most one starts a timer, and the clearing
-/// of a link gives at most one note and one order. There is a note of data exactly where contents are delivered, one of
-/// unit data exactly where that is told, and no event delivers both contents and unit data.
+/// An event tells at most two notes and gives at most two orders, of which at most one starts a timer. The clearing of
+/// a link gives at most one note and one order. There is a note of data exactly if contents are delivered, and one of
+/// unit data exactly if that is told. No event delivers both contents and unit data.
 pub fn tells_little()
     ensures notes { (t : Terms) (e : Event) (l : Link) → length (told t e l).notes ≤ 2 }
     ensures data { (t : Terms) (e : Event) (l : Link) → list_any is_data (told t e l).notes ≡ is_some (told t e l).delivered }
@@ -78,11 +76,10 @@ pub fn unserved_stays()
     ensures { (t : Terms) (what : Received) (l : Link) → (told t (received what) l).unserved ≡ true → after t (received what) l ≡ l }
 {}
 
-/// Two links that face each other, each in state 7 with its numbers zero and its flags off, and
-/// with nothing on the way between them. Whatever layer 3 asks for on either side, whatever timers
-/// expire, and whatever frames are lost, as long as those that are not keep their order: while both
-/// links stay in states 7 and 8, each has delivered exactly the first contents that the other
-/// accepted, in order, as many as its V(R) counts; and the other takes no more of them for
+/// Two links face each other, each in state 7 with its numbers zero and its flags off, and with nothing in transit
+/// between them. Layer 3 may ask for anything on either side, and any timers may expire. Frames may be lost, if those
+/// that are not keep their order. While both links stay in states 7 and 8, each has delivered exactly the first
+/// contents that the other accepted, in order, as many as its V(R) counts. The other takes no more of them for
 /// acknowledged (Q.921 clauses 5.6 and 5.8.1). The ends may have different terms.
 pub fn two_ends()
     ensures near { (ds : List StepAt) (e : Ends) → Begins e.near → Begins e.far → StayUp ds e →

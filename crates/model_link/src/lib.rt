@@ -1,12 +1,12 @@
-//! The machine of one data link, as definitions: what each event of a link of one TEI and one
-//! service does to it, and what it answers (Q.921 clause 5, states 4 to 8 of annex B, either
-//! side, multiple-frame operation modulo 128).
+//! The machine of one data link, as definitions: what each event of a link of one TEI and one service does to it, and
+//! what it answers. It is of Q.921 clause 5, states 4 to 8 of annex B, on either side, in multiple-frame operation
+//! modulo 128.
 //!
-//! `specs/` has the machine, one equation for each row of its tables; its worked values are in
-//! `laws_link`. It reads from the link's state and its events (`Link`, `Events`) by what is answered
-//! (`Told`) and the words of the tables (`Steps`, `Words`) to the rows of each state (`TeiAssigned`,
-//! `AwaitingEstablishment`, `AwaitingRelease`, `MultipleFrame`, `Established`, `TimerRecovery`), to
-//! requests and offers (`Requests`, `Offers`), and to the whole (`Machine`).
+//! `specs/` has the machine, one equation for each row of its tables; its worked values are in `laws_link`. Read the
+//! link's state and its events first (`Link`, `Events`). Then come what is answered (`Told`) and the words of the
+//! tables (`Steps`, `Words`), and the rows of each state (`TeiAssigned`, `AwaitingEstablishment`, `AwaitingRelease`,
+//! `MultipleFrame`, `Established`, `TimerRecovery`). Requests and offers (`Requests`, `Offers`) and the whole
+//! (`Machine`) are last.
 //!
 //! The code of a link stands above, in other crates. Here are the plain types that it shares with
 //! the definitions:

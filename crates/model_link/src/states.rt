@@ -23,9 +23,9 @@ ghost use Rattle.model_link.specs.Link.{state_number};
 ///                               +---+      (7 and 8)      +---+
 /// ```
 ///
-/// What is marked (7 and 8) goes from both. No answer comes where T200 expires after N200 repeats. An error is a DM with
-/// F=0, in state 8 also one with F=1 and an enquiry without answer, an FRMR, an N(R) that is not valid, and a malformed
-/// frame. Where its TEI leaves the line, a link comes to 4 from every state.
+/// What is marked (7 and 8) goes from both. No answer comes if T200 expires after N200 repeats. An error is a DM with
+/// F=0, an FRMR, an N(R) that is not valid, and a malformed frame; in state 8 also a DM with F=1 and an enquiry without
+/// answer. If its TEI leaves the line, a link comes to 4 from every state.
 #[derive(Clone, Copy, PartialEq, Eq, Debug)]
 pub enum State {
     /// State 4: the link is down.

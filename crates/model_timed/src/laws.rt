@@ -5,10 +5,10 @@ ghost use Rattle.model_timed.specs.Octets.{octets};
 ghost use Rattle.model_timed.specs.RunTheSame.{OctetTimersRunTheSame, TimersRunTheSame};
 ghost use Rattle.model_timed.specs.TimersAreTrue.{TimersAreTrue};
 
-/// Timers are true. After any steps of a card of either kind that are prompt to so many milliseconds, each timer that is due was
-/// started, and neither stopped nor expired since; its length has passed since then, and at most so many milliseconds more. So
-/// if the steps are prompt to the millisecond, each expiry comes exactly its length after the last start. And none is passed
-/// over.
+/// Timers are true. Let a card of either kind take any steps that are prompt to so many milliseconds. Then each timer
+/// that is due was started, and neither stopped nor expired since. Its length has passed since then, and at most so
+/// many milliseconds more. So if the steps are prompt to the millisecond, each expiry comes exactly its length after
+/// the last start. And none is passed over.
 #[tactic(auto, using(crate::proofs::True::timers_are_true))]
 pub fn timers_are_true()
     ensures frames { TimersAreTrue frames }

@@ -46,7 +46,7 @@ fn comes(
     report.notes() == notes && card.contents(0, frame, &report) == contents
 }
 
-/// Whether this is the next frame of line 0: no octets where none waits.
+/// Whether this is the next frame of line 0: no octets if none waits.
 fn goes(card: &mut FrameCard<SlabShelf>, frame: &[u8]) -> bool
     requires { line_count card.old ≡ 1 }
     ensures { line_count card.new ≡ 1 }

@@ -31,7 +31,7 @@ pub fn usual_card(alloc: Global) -> Result<Card<SlabShelf>, Fail>
     Ok(Card::start(alloc, USUAL, SlabShelf::start(alloc, 64, 260)?)?)
 }
 
-/// Why a card does not start with a shelf of so many slots of this width, 8 to 260; none where it does.
+/// Why a card does not start with a shelf of so many slots of this width, 8 to 260; none if it does.
 fn fault(alloc: Global, config: Config, slots: u32, width: u16) -> Result<Option<CardFault>, Fail>
     requires least { 8 ≤ width }
     requires most { width ≤ 260 }

@@ -48,7 +48,7 @@ struct Text {
     ends: Vec<usize>,
 }
 
-/// Does so many rounds on 64 lines in turn, each octet that comes on a line followed by one that is pulled there. Where a
+/// Does so many rounds on 64 lines in turn, each octet that comes on a line followed by one that is pulled there. If a
 /// round ends, the flags do not go on whole, so one thing more is dropped.
 pub fn busy(alloc: Global, rounds: u32) -> Result<Done, Fault> {
     let mut card = started(alloc, LINES)?;

@@ -4,7 +4,7 @@ use lapd_card::CardFault;
 use std::alloc::{AllocError, AllocFailed};
 use std::io;
 
-/// What the program ends with where it does not end well.
+/// What the program ends with if it does not end well.
 #[derive(Clone, Copy, Debug)]
 pub enum Fault {
     /// The words are not a work and a number of rounds.

@@ -218,7 +218,7 @@ static UNNUMBERED: [(&str, Event); 14] = [
     ("I over N201", Event::Malformed(Malformed::Overlong)),
 ];
 
-/// Frames with numbers, where no link is up: the numbers do not matter.
+/// Frames with numbers, if no link is up: the numbers do not matter.
 pub fn numbered_down() -> &'static [(&'static str, Event)] {
     &NUMBERED_DOWN
 }

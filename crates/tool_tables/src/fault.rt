@@ -2,7 +2,7 @@
 
 use std::io;
 
-/// What the program ends with where it does not end well.
+/// What the program ends with if it does not end well.
 #[derive(Clone, Copy, Debug)]
 pub enum Fault {
     /// There is no memory for a link, for TEI management or for the page.

@@ -153,7 +153,7 @@ fn contents(cell: &mut Text, sent: &[Option<Offer>]) {
     }
 }
 
-/// The state after, where it is another.
+/// The state after, if it is another.
 fn state(cell: &mut Text, before: u8, after: u8) {
     if before != after {
         cell.item("**");

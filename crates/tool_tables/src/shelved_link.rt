@@ -15,7 +15,7 @@ const ROOM: u32 = 2;
 pub struct ShelvedLink {
     /// The link, opened.
     pub link: Link,
-    /// Where its contents lie.
+    /// The slot in which its contents lie.
     pub shelf: SlabShelf,
 }
 

@@ -33,7 +33,7 @@ fn parts_of(control: Control) -> (&'static str, bool, Option<Seq>) {
     }
 }
 
-/// P of a command; F of a response, which is the event's P where it has one and they are equal.
+/// P of a command; F of a response, which is the event's P if it has one and they are equal.
 fn bit_of(command: bool, pf: bool, polled: Option<bool>) -> &'static str {
     match (command, pf) {
         (true, true) => " P=1",

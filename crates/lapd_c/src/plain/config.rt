@@ -37,7 +37,7 @@ pub struct PlainConfig {
     pub sapi: u16,
 }
 
-/// The side of a number: 0 the network's, else the user's.
+/// The side of a number: 0 the network's, otherwise the user's.
 pub fn side_in(side: u16) -> Side
     ensures { result ≡ side_in side }
 {

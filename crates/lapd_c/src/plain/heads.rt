@@ -9,9 +9,9 @@ use model_bits::Head;
 #[repr(C)]
 #[derive(Clone, Copy)]
 pub struct PlainHead {
-    /// 3 or more; 0 where there is no frame.
+    /// 3 or more; 0 if there is no frame.
     pub length: u16,
-    /// 0 behind the frame's end.
+    /// 0 after the frame's end.
     pub octets: [u8; 4],
 }
 

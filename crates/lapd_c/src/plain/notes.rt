@@ -16,7 +16,7 @@ pub struct PlainNote {
     pub service: u8,
     /// The TEI that it is about.
     pub tei: u8,
-    /// The letter of an error, in ASCII; else 0.
+    /// The letter of an error, in ASCII; otherwise 0.
     pub error: u8,
 }
 
@@ -57,7 +57,7 @@ fn of_link(note: u8, service: Service, tei: u8) -> PlainNote
     }
 }
 
-/// The number of a cause, 1 to 8; 0 where there is none.
+/// The number of a cause, 1 to 8; 0 if there is none.
 pub fn cause_number(cause: Option<Cause>) -> u8
     ensures { result ≡ cause_number cause }
 {

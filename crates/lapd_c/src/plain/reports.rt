@@ -17,7 +17,7 @@ const MOST_OCTETS: usize = MOST_N201 as usize;
 /// The greatest number of a line that a report has room for; no card has so many lines.
 const MOST_LINE: usize = 65535;
 
-/// What an event led to. Behind the numbers of notes and orders, and behind `length`, the arrays may hold anything.
+/// What an event led to. After as many as there are notes, orders and octets, the arrays may hold anything.
 #[repr(C)]
 #[derive(Clone, Copy)]
 pub struct PlainReport {
@@ -25,13 +25,13 @@ pub struct PlainReport {
     pub note_count: u8,
     /// 0 to 4.
     pub order_count: u8,
-    /// 1 to 8, or 0 where nothing was dropped.
+    /// 1 to 8, or 0 if nothing was dropped.
     pub cause: u8,
     /// How many frames found no room to wait.
     pub lost: u8,
-    /// Of a pull: 1 where it began a frame; else 0.
+    /// Of a pull: 1 if it began a frame; otherwise 0.
     pub begun: u8,
-    /// 1 where contents were delivered; else 0.
+    /// 1 if contents were delivered; otherwise 0.
     pub delivered: u8,
     /// Octets of contents.
     pub length: u16,
@@ -41,11 +41,11 @@ pub struct PlainReport {
     pub orders: [PlainOrder; 4],
     /// The contents.
     pub contents: [u8; 260],
-    /// Of the next frame: 1 where another frame waits on its line; else 0.
+    /// Of the next frame: 1 if another frame waits on its line; otherwise 0.
     pub more: u8,
-    /// 1 where a link that was refused contents has room again; else 0.
+    /// 1 if a link that was refused contents has room again; otherwise 0.
     pub reopened: u8,
-    /// Where one has, its service: 0 or 16.
+    /// If one has, its service: 0 or 16.
     pub reopened_service: u8,
     /// And its TEI, 0 to 126.
     pub reopened_tei: u8,

@@ -13,8 +13,8 @@ pub const DATA: u8 = 3;
 ///
 /// # Errors
 ///
-/// `WRONG_REQUEST` where the number is that of no request; else `WRONG_SERVICE`; else `WRONG_LENGTH` where there are
-/// contents and the request has none.
+/// `WRONG_REQUEST` if the number is that of no request; otherwise `WRONG_SERVICE`; otherwise `WRONG_LENGTH` if
+/// there are contents and the request has none.
 pub fn request_in(request: u8, service: u8, tei: u8, contents: &[u8]) -> Result<Request<'_>, u32>
     ensures read { read_of result ≡ request_in request service tei contents.now }
     ensures wrong { IfErr result (λ wrong. 10 < wrong) }

@@ -77,7 +77,7 @@ pub fn field_status(field: Field) -> u32
 ///
 /// # Errors
 ///
-/// [`WRONG_SERVICE`] where it is neither 0 nor 16.
+/// [`WRONG_SERVICE`] if it is neither 0 nor 16.
 #[inline(always)]
 pub fn service_in(service: u8) -> Result<Service, u32>
     ensures service { result ≡ service_in service }

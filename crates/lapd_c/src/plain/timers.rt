@@ -92,7 +92,7 @@ impl PlainTimer {
     ///
     /// # Errors
     ///
-    /// `WRONG_TIMER` where the number is that of no timer; of a link's timer `WRONG_SERVICE`, then `WRONG_TEI`.
+    /// `WRONG_TIMER` if the number is that of no timer; of a link's timer `WRONG_SERVICE`, then `WRONG_TEI`.
     #[inline(always)]
     pub fn timer(&self) -> Result<Timer, u32>
         ensures { result ≡ timer_in self.now }
@@ -130,7 +130,7 @@ impl PlainOrder {
     ///
     /// # Errors
     ///
-    /// `WRONG_ORDER` where the number is that of no order; else as of its timer.
+    /// `WRONG_ORDER` if the number is that of no order; otherwise as of its timer.
     #[inline(always)]
     pub fn order(&self) -> Result<Order, u32>
         ensures { result ≡ order_in self.now }
@@ -147,7 +147,7 @@ impl PlainOrder {
 ///
 /// # Errors
 ///
-/// `WRONG_SERVICE` where the number is that of no service; else `WRONG_TEI` where the TEI is over 126.
+/// `WRONG_SERVICE` if the number is that of no service; otherwise `WRONG_TEI` if the TEI is over 126.
 #[inline(always)]
 pub fn link_in(service: u8, tei: u8) -> Result<(Service, u8), u32>
     ensures { result ≡ link_in service tei }

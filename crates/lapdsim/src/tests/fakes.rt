@@ -3,7 +3,7 @@
 use lapd_sim::{ReadFailed, Source, Target, WriteFailed, serve};
 use std::alloc::Global;
 
-/// Gives its octets in pieces, and then fails, where it has as many good reads only.
+/// Gives its octets in pieces, and then fails, if it has as many good reads only.
 #[derive(Drop)]
 pub struct Pieces<'a> {
     rest: &'a [u8],
@@ -55,7 +55,7 @@ impl Source for Pieces<'_> {
     }
 }
 
-/// Keeps what is written to it, and fails, where it has as many good writes only. A write of no octets does not count.
+/// Keeps what is written to it, and fails, if it has as many good writes only. A write of no octets does not count.
 #[derive(Drop)]
 pub struct Page {
     text: Vec<u8>,

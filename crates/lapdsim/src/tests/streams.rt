@@ -163,7 +163,7 @@ fn a_fault_says_what_its_line_tells(rt: HostRuntime) -> std::result::Result<(), 
     Ok(())
 }
 
-/// A script in memory: its transcript comes behind what was there.
+/// A script in memory: its transcript comes after what was there.
 #[test]
 fn plays_octets(rt: HostRuntime) {
     for worked in WORKED.iter() {

@@ -10,7 +10,7 @@ pub struct Worked {
     pub transcript: &'static [u8],
     /// In how many writes.
     pub writes: usize,
-    /// Where the lines that write anything end, and where their answers do.
+    /// The ends of the lines that write anything, and of their answers.
     answers: [(usize, usize); 3],
 }
 

@@ -1,19 +1,19 @@
-//! What a card does, over whole runs. Each law is the contract of a call that does nothing. Where its comment names a field of
-//! `Promises` (crate `laws_promises`), the comment of the field says it in words.
+//! What a card does, over whole runs. Each law is the contract of a call that does nothing. If its comment names a
+//! field of `Promises` (crate `laws_promises`), the comment of the field says it in words.
 
 ghost use Rattle.laws_line.specs.card.GoesDown.{LinesGoDown};
 ghost use Rattle.laws_line.specs.card.Laws.{OneEvent, OthersAreLeft, CausesTold};
 
-/// In every moment one part of one line has one event, and all else is as it was. A frame for a link of a TEI on the
-/// line, also one that the grammar does not have, or that is too long, the expiry of a timer of it, or a request of
-/// it that is granted, is this event of the link, and changes nothing else; the answer tells what the link tells. A
-/// message of TEI management, the expiry of T201, or a request of management that is granted, is this event of TEI
-/// management; the links of a TEI that comes or leaves are as ones that begin, the others stay, and noted is what
-/// TEI management notes, and what the links of a TEI that leaves tell as they end. Unit data whose request was
-/// granted waits, whole, behind what waits. Where the line is down, no unit data, no message of TEI management and
-/// no check are left, and all that is told is that T201 stops. A call for the next frame leaves its line, and
-/// answers, as the machine of the line does. Whatever else comes changes nothing, and nothing is told (clauses 2.2 to 2.7, 3.6.1, 5.2.2,
-/// 5.3, 5.8.5, annex B and the profile).
+/// In every moment one part of one line has one event, and all else is as it was. Some are an event of a link, which
+/// changes nothing else; the answer tells what the link tells. These are a frame for a link of a TEI on the line, also
+/// one that the grammar does not have or that is too long, the expiry of a timer of it, and a request of it that is
+/// granted. Others are an event of TEI management: a message of it, the expiry of T201, and a request of management
+/// that is granted. Then the links of a TEI that comes or leaves are as ones that begin, and the others stay. Noted is
+/// what TEI management notes, and what the links of a TEI that leaves tell as they end. Unit data whose request was
+/// granted waits, whole, after what waits. If the line is down, no unit data, no message of TEI management and no check
+/// are left, and all that is told is that T201 stops. A call for the next frame leaves its line, and answers, as the
+/// machine of the line does. Whatever else comes changes nothing, and nothing is told (clauses 2.2 to 2.7, 3.6.1,
+/// 5.2.2, 5.3, 5.8.5, annex B and the profile).
 pub fn one_event()
     ensures { OneEvent }
 {}
@@ -23,16 +23,16 @@ pub fn others_stay()
     ensures { OthersAreLeft }
 {}
 
-/// A line goes down, whatever happens at the other lines meanwhile. Where all that happens at it is that it is down, and that
-/// each link of a TEI on it is deactivated, in any order, each once or more often, nothing waits on it then, and the next call
-/// for a frame gives none; each link is in state 4, as one that begins; no timer is needed; and the TEIs stay (Q.921 annex B,
-/// persistent deactivation).
+/// A line goes down, whatever happens at the other lines meanwhile. Let all that happens at it be that it is down, and
+/// that each link of a TEI on it is deactivated, in any order, each once or more often. Then nothing waits on it, and
+/// the next call for a frame gives none. Each link is in state 4, as one that begins; no timer is needed; and the TEIs
+/// stay (Q.921 annex B, persistent deactivation).
 pub fn lines_go_down()
     ensures { LinesGoDown }
 {}
 
-/// Of what is heard and is no frame why it is none is all that is answered, and of a frame of TEI management on the user's side
-/// that it is not served: `causes_are_told`.
+/// Of what is heard and is no frame all that is answered is why it is none. Of a frame of TEI management on the user's
+/// side it is that it is not served: `causes_are_told`.
 pub fn causes_are_told()
     ensures { CausesTold }
 {}

@@ -1,15 +1,15 @@
-//! Laws of whole runs of a card that say what it does: what becomes of what layer 3 gave, what is sent next, and what
+//! Laws of whole runs of a card that say what it does: what happens to what layer 3 gave, what is sent next, and what
 //! comes of what was heard.
 //!
-//! The machine itself, and the laws that say what a card never does, stand in `model_card`; the laws of a line beside
-//! this module, and those of a link in `laws_link`. `specs/card` has what holds in a moment (`OneEvent`), what holds of a list of events (`Promises`), and in brief,
-//! beside what the laws of the trace of a line say (`Brief`), which timers a caller runs (`Timers`), what calls for
-//! the next frame of a line come to (`Among`, `PromisesOfTakes`, of octets `WaitingIsHeard`), that a line goes down
-//! (`GoesDown`), the laws, which say of which cards and lists (`Laws`, `Machine`), and
-//! worked values of the laws and of the machine, also some that break them (`Worked*`). Each law is the contract of a
-//! call that does nothing.
-//! `laws_promises` has what is promised of a list of events in one record, `Promises`: a law here names the fields
-//! that it proves, and their comments say it in words.
+//! The machine itself, and the laws that say what a card never does, stand in `model_card`. The laws of a line stand
+//! beside this module, and those of a link in `laws_link`. `specs/card` has what holds in a moment (`OneEvent`), and
+//! what holds of a list of events (`Promises`). `Brief` has it in brief, beside what the laws of the trace of a line
+//! say. There are which timers a caller runs (`Timers`), and that a line goes down (`GoesDown`). What calls for the
+//! next frame of a line come to is in `Among` and `PromisesOfTakes`, of octets in `WaitingIsHeard`. The laws say of
+//! which cards and lists (`Laws`, `Machine`). There are worked values of the laws and of the machine, also some that
+//! break them (`Worked*`). Each law is the contract of a call that does nothing. `laws_promises` has what is promised
+//! of a list of events in one record, `Promises`. A law here names the fields that it proves, and their comments say it
+//! in words.
 //!
 //! - `machine`, `laws`, `progress`: the laws.
 

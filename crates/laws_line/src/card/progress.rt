@@ -13,8 +13,8 @@ ghost use Rattle.laws_line.specs.card.PromisesOfTakes.{Wherever, WaitingIsTaken,
 ghost use Rattle.laws_line.specs.card.WaitingIsHeard.{WaitingIsHeard};
 
 /// Calls for the next frame of a line serve it, wherever in a list of events they come, and whatever happens at the
-/// other lines of its card meanwhile: the control frames that wait on a link are given in order, each by one of them
-/// (`taken`), and they come to an end (`ended`), within as many as the configuration says. `answers_are_given` of
+/// other lines of its card meanwhile. The control frames that wait on a link are given in order, each by one of them
+/// (`taken`). They come to an end within as many calls as the configuration says (`ended`). `answers_are_given` of
 /// `laws_trace` and `calls_come_to_an_end` of `Promises` stand on it.
 pub fn takes_serve_wherever()
     ensures taken { (m : Card) (events : List Event) → IsSound m → AreAtLines m events → Wherever WaitingIsTaken m events }

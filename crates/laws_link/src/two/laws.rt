@@ -13,23 +13,24 @@ ghost use Rattle.model_link.specs.TwoEnds.{Ends, StepAt, doing_all, Begins, Stay
 ghost use Rattle.laws_link.specs.two.Rounds.{rounds, IsReady, IsTaken, HasUnsent, HasArrived};
 ghost use Rattle.laws_link.specs.two.Timely.{StayTimely, CanRecover};
 
-/// A busy terminal is asked again: in states 7 and 8 a link that takes its terminal for busy runs T200, whatever
-/// happened to it since its TEI came to the line; so when T200 expires it asks, and the answer tells whether the
-/// terminal is still busy (Q.921 clauses 5.6.5 and 5.6.7). In state 8 T200 runs always, and an establishment begins with
-/// a terminal that is not taken for busy.
+/// A busy terminal is asked again. In states 7 and 8 a link that takes its terminal for busy runs T200, whatever
+/// happened to it since its TEI came to the line. So when T200 expires it asks, and the answer tells whether the
+/// terminal is still busy (Q.921 clauses 5.6.5 and 5.6.7). In state 8 T200 runs always, and an establishment begins
+/// with a terminal that is not taken for busy.
 pub fn busy_is_heeded()
     ensures begins { Heeds fresh }
     ensures each { (t : Terms) (e : Event) (l : Link) → Heeds l → Heeds (after t e l) }
     ensures always { (t : Terms) (es : List Event) → Heeds (after_all t es fresh) }
 {}
 
-/// What layer 3 hands over arrives, on ways that lose nothing. Two links face each other in state 7, neither side is
-/// busy, and nothing waits or is on its way; what either has sent the other has delivered, and owes an acknowledgement
-/// for what is outstanding; and what is to come fits the other's N201. In a round the near end sends its next frame, if
-/// it has one, and the far end receives it; then the far end sends its next, and the near end receives it. Where
-/// neither has more than u contents unsent, u + 1 rounds suffice: all contents that layer 3 gave on either side are
-/// delivered at the other, in order, and acknowledged; both links are in state 7, and neither has anything more to say
-/// (Q.921 clause 5.6). The ends may have different terms, and any windows.
+/// What layer 3 hands over arrives, if nothing is lost. Two links face each other in state 7, neither side is busy, and
+/// nothing waits or is in transit. What either has sent the other has delivered, and owes an acknowledgement for what
+/// is outstanding. What is to come fits the other's N201. In a round the near end sends its next frame, if it has one,
+/// and the far end receives it; then the far end sends its next, and the near end receives it.
+///
+/// Let neither have more than u contents unsent. Then u + 1 rounds suffice. All contents that layer 3 gave on either
+/// side are delivered at the other, in order, and acknowledged. Both links are in state 7, and neither has anything
+/// more to say (Q.921 clause 5.6). The ends may have different terms, and any windows.
 pub fn contents_arrive()
     ensures near { (u : ℕ) (e : Ends) → IsReady e.near → IsReady e.far → IsTaken e.near e.far → IsTaken e.far e.near →
         HasUnsent u e.near → HasUnsent u e.far →
@@ -39,16 +40,18 @@ pub fn contents_arrive()
         HasArrived e.far.link.contents (rounds (u + 1) e).far (rounds (u + 1) e).near }
 {}
 
-/// Losses are recovered. Two links face each other in states 7 and 8, and all frames in flight were lost, whatever the
-/// two were doing: their V(S) may be beyond what was received, either may have sent REJ, take the other for busy, or
+/// Losses are recovered. Two links face each other in states 7 and 8, and all frames in transit were lost, whatever the
+/// two were doing. Their V(S) may be beyond what was received. Either may have sent REJ, take the other for busy, or
 /// wait for the answer to an enquiry. At neither a control frame waits to be sent: if one does, this law says nothing.
-/// Neither is busy itself, and each can repeat an enquiry; what the other has received lies between V(A) and V(S). Once
-/// T200 expires where it runs, and nothing more is lost, u + 3 rounds suffice, where neither has more than u contents
-/// that were not received: all contents that layer 3 gave on either side are delivered at the other, in order, and
-/// acknowledged; both links are in state 7, and neither has anything more to say (Q.921 clauses 5.6.7 and 5.8.1). So it
-/// is with any two links that came from an establishment by whatever was done to them, as long as both stayed in states
-/// 7 and 8 (`reached_near`, `reached_far`): of them only what `CanRecoverFrom` says has to be asked, where the two have
-/// the same N201.
+/// Neither is busy itself, and each can repeat an enquiry. What the other has received lies between V(A) and V(S).
+///
+/// T200 expires if it runs, and nothing more is lost. Let neither have more than u contents that were not received.
+/// Then u + 3 rounds suffice. All contents that layer 3 gave on either side are delivered at the other, in order, and
+/// acknowledged. Both links are in state 7, and neither has anything more to say (Q.921 clauses 5.6.7 and 5.8.1).
+///
+/// The same holds of any two links that came from an establishment by whatever was done to them, as long as both stayed
+/// in states 7 and 8 (`reached_near`, `reached_far`). If the two have the same N201, only what `CanRecoverFrom` says
+/// has to be asked of them.
 pub fn losses_are_recovered()
     ensures near { (u : ℕ) (e : Ends) → IsCutOff e.near e.far → IsCutOff e.far e.near → HasMissing u e.near e.far → HasMissing u e.far e.near →
         HasArrived e.near.link.contents (rounds (u + 3) (with_t200_expired e)).near (rounds (u + 3) (with_t200_expired e)).far }
@@ -66,12 +69,14 @@ pub fn losses_are_recovered()
         HasArrived (doing_all ds e).far.link.contents (rounds (u + 3) (with_t200_expired (doing_all ds e))).far (rounds (u + 3) (with_t200_expired (doing_all ds e))).near }
 {}
 
-/// Two links stay up while neither is behind: from an establishment on, whatever layer 3 asks for but a release, whatever
-/// frames are lost as long as the others keep their order, and whenever timers expire as long as an enquiry can still be
-/// repeated, both stay in states 7 and 8, and so have delivered exactly the first contents that the other accepted, as
-/// long as before each step neither's V(S) is below the other's V(R). The two have the same N201. So nothing leads two
-/// links out of states 7 and 8 but a release, repeats that are used up, and a V(S) that went back too far; the last takes
-/// a T200 that is too short (`specs/WorkedUntimely`). A timely T200 rules it out: [`links_stay_up`].
+/// Two links stay up while V(S) of neither is too low. They have the same N201, and begin with an establishment. Layer
+/// 3 asks for anything except a release. Frames are lost, as long as the others keep their order. Timers expire as long
+/// as an enquiry can still be repeated. Before each step neither's V(S) is below the other's V(R). Then both stay in
+/// states 7 and 8, and so have delivered exactly the first contents that the other accepted.
+///
+/// So three things alone lead two links out of states 7 and 8: a release, repeats that are used up, and a V(S) that
+/// went back too far. The last takes a T200 that is too short (`specs/WorkedUntimely`). A timely T200 rules it out:
+/// [`links_stay_up`].
 pub fn stay_up_while_ahead()
     ensures up { (ds : List StepAt) (e : Ends) → Begins e.near → Begins e.far → e.near.terms.n201 ≡ e.far.terms.n201 → StayAhead ds e →
         StayUp ds e }
@@ -81,16 +86,20 @@ pub fn stay_up_while_ahead()
         Agree (doing_all ds e).far (doing_all ds e).near }
 {}
 
-/// Two links stay up where T200 is long enough. From an establishment on, whatever layer 3 asks for but a release,
-/// whatever frames are lost as long as the others keep their order, and whenever timers expire as long as an enquiry can
-/// be repeated and T200 is timely, which is that in state 8 it expires only where no enquiry of this end and no response
-/// with F=1 of the other waits or is on its way (a lost one is not): both stay in states 7 and 8, neither's V(S) is ever
-/// below the other's V(R), and so each has delivered exactly the first contents that the other accepted, in order and
-/// none twice (Q.921 clauses 5.6.4 and 5.6.7). The two have the same N201. And wherever such a run has led them, losses
-/// are recovered (`recovered_near`, `recovered_far`): where nothing waits or is on its way, neither is busy itself, and
-/// each can repeat an enquiry, once T200 expires where it runs u + 3 rounds without loss suffice, where neither has more
-/// than u contents that were not received. That T200 has to be timely is needed: `specs/WorkedUntimely` is a run in
-/// which it is not, and contents are delivered twice.
+/// Two links stay up if T200 is long enough. They have the same N201, and begin with an establishment. Layer 3 asks for
+/// anything except a release. Frames are lost, as long as the others keep their order. Timers expire as long as an
+/// enquiry can be repeated and T200 is timely. It is timely if in state 8 it expires only while no enquiry of this end
+/// and no response with F=1 of the other waits or is in transit (a lost one is not).
+///
+/// Then both stay in states 7 and 8, and neither's V(S) is ever below the other's V(R). So each has delivered exactly
+/// the first contents that the other accepted, in order and none twice (Q.921 clauses 5.6.4 and 5.6.7).
+///
+/// Wherever such a run has led them, losses are recovered (`recovered_near`, `recovered_far`). Nothing waits or is in
+/// transit, neither is busy itself, and each can repeat an enquiry. T200 expires if it runs, and nothing more is lost.
+/// If neither has more than u contents that were not received, u + 3 rounds suffice.
+///
+/// That T200 has to be timely is needed: in the run of `specs/WorkedUntimely` it is not, and contents are delivered
+/// twice.
 pub fn links_stay_up()
     ensures up { (ds : List StepAt) (e : Ends) → Begins e.near → Begins e.far → e.near.terms.n201 ≡ e.far.terms.n201 → StayTimely ds e →
         StayUp ds e }

@@ -1,11 +1,14 @@
 //! Laws of progress over the machine of `model_link`: of a link alone, and of two links that face each other. There is
 //! nothing to call: each law is the contract of a function that does nothing.
 //!
-//! `specs/two` has the statements: what waits and what goes (`Waits`), a busy terminal (`Heeds`), the timer that a link
-//! needs (`Needed`), two ends in rounds (`Rounds`) and in turns of any order (`AnyOrder`), two ends whose frames were
-//! lost (`CutOff`), an end that is busy itself (`OwnBusy`) and is no more (`BusyOver`), what keeps two links up
-//! (`Ahead`, `Timely`); and worked values that compute (`Worked*`, and `WorkedUntimely`, a run in which T200 is too
-//! short).
+//! `specs/two` has the statements:
+//!
+//! - what waits and what is sent (`Waits`), a busy terminal (`Heeds`), and the timer that a link needs (`Needed`);
+//! - two ends in rounds (`Rounds`), in turns of any order (`AnyOrder`), and after their frames were lost (`CutOff`);
+//! - an end that is busy itself (`OwnBusy`), and is no more (`BusyOver`);
+//! - what keeps two links up (`Ahead`, `Timely`);
+//! - worked values that compute (`Worked..`); `WorkedUntimely` is a run in which T200 is too short.
+//!
 //! `docs/TWO-CARDS.md` says it in words.
 //!
 //! - `laws`: two links that face each other;

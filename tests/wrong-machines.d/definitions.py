@@ -5,7 +5,7 @@ import re
 import shutil
 
 # The crates that define machines and state laws, those of cards and of laws, and what a copy of one doesn't have.
-MACHINES = re.compile(r"^(model|laws)_|^lapd_tei$")
+MACHINES = re.compile(r"^(model|laws)_|^lapd_(tei|terminal)$")
 LAWS = re.compile(r"^laws_|^model_card$")
 DROPPED = "proofs", "out", "must-fail", "wrong-bodies.txt"
 # A worked value: its statement, what it unfolds, and its proof by computing, alone or field by field.

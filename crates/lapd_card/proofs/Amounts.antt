@@ -1,7 +1,10 @@
 -- How many octets a card stores, line by line and port by port, and that they are few.
 use Rattle.lapd_card.proofs.Vocabulary.{◌≡◌, ℕ, ◌+◌, ◌*◌, ◌≤◌, ◌<◌, List, [], ◌∷◌, length, take, get_or, refl, sym, ap, subst, ◌∙◌, arith, Fits, w32, w64, mul-le-mul_left, sum_by_more, sum_by-cons, sum_by, take_all, Config, IsInRange, held_in, octets_of, stored_in, ranges_of, FrameLine, Card, stored, limit, IsReached, reached-sound, stored_within_limit, Store, stored_octets, Held, line_count}
 use Rattle.lapd_card.proofs.Vocabulary.{FrameStands, HasPast}
+use Rattle.std.specs.Prelude.{true, false, cond}
 use Rattle.model_line.specs.Line as line
+use Rattle.model_line.specs.Line.{is_terminal}
+use Rattle.model_line.specs.Stored.{held_most}
 use Rattle.model_card.specs.ports.Stored as octets
 use Rattle.lapd_card.proofs.OneLine.{Called, lines-all, few-lines}
 use Rattle.lapd_card.proofs.OneEvent.{octets_is}
@@ -19,22 +22,31 @@ sums c (m ∷ ms) = joined (held_in c m) (octets_of c m) _ _ _ _ _ (sum_by-cons 
     joined h o hs os ss h' o' first second {s'} third rest = omega (arith, first, second, third, rest)
 
 -- the limits are small numbers
-limit_most : (lines terminals control slots n201 : ℕ) → lines ≤ 64 → terminals ≤ 8 → control ≤ 16 → slots ≤ 8192 → n201 ≤ 260 → lines * (8 * control * terminals + 32 + 12) + slots * n201 + lines * (2 * n201 + 10) ≤ 2232192
-limit_most lines terminals control slots n201 few_lines few_terminals few_control few_slots narrow = grind (arith, mul-le-mul_left)
+limit_most : (lines terminals control slots n201 held : ℕ) → lines ≤ 64 → terminals ≤ 8 → control ≤ 16 → slots ≤ 8192 → n201 ≤ 260 → held ≤ 72 → lines * (8 * control * terminals + held) + slots * n201 + lines * (2 * n201 + 10) ≤ 2233984
+limit_most lines terminals control slots n201 held few_lines few_terminals few_control few_slots narrow few = grind (arith, mul-le-mul_left)
 
-pub octets_small : (c : Config) → IsInRange c → octets.limit c ≤ 2232192
-octets_small c range = grind (arith, ranges_of, limit_most)
+held_small : (c : Config) → IsInRange c → held_most c ≤ 72
+held_small c range =
+    elim (is_terminal c) as (λ b. cond b (8 * (c.terminals + 1)) (32 + 12) ≤ 72) [
+      | true ↦ omega (arith, (ranges_of c range).terminals.most)
+      | false ↦ omega arith
+    ]
 
-pub limit_small : (c : Config) → IsInRange c → limit c ≤ 2232192
+pub octets_small : (c : Config) → IsInRange c → octets.limit c ≤ 2233984
+octets_small c range =
+    let r = ranges_of c range in
+    limit_most c.lines c.terminals c.control c.slots c.n201 (held_most c) r.lines.most r.terminals.most r.control.most r.slots.most r.n201.most (held_small c range)
+
+pub limit_small : (c : Config) → IsInRange c → limit c ≤ 2233984
 limit_small c range = omega (arith, octets_small c range)
 
-stored_small : (m : Card) → IsReached m → stored m ≤ 2232192
+stored_small : (m : Card) → IsReached m → stored m ≤ 2233984
 stored_small m reached = omega (arith, stored_within_limit.now m (reached-sound m reached), limit_small m.config reached.config)
 
-pub fits_32 : (n : ℕ) → n ≤ 2232192 → Fits w32 n
+pub fits_32 : (n : ℕ) → n ≤ 2233984 → Fits w32 n
 fits_32 n small = grind (arith, small)
 
-pub fits_64 : (n : ℕ) → n ≤ 2232192 → Fits w64 n
+pub fits_64 : (n : ℕ) → n ≤ 2233984 → Fits w64 n
 fits_64 n small = grind (arith, small)
 
 -- what a card stores
@@ -47,7 +59,7 @@ module _ {S : Type 0} (store : S → Store) {card self : Held S} (same : card �
 
   -- which is few
   pub stored_few : {held lying : ℕ} → ((m : Card) → FrameStands store self m → held ≡ sum_by (held_in m.config) m.lines) → lying ≡ stored_octets (store card.shelf)
-      → held + lying ≤ 2232192
+      → held + lying ≤ 2233984
   stored_few is lie =
       let (m, s) = subst (HasPast store) same past in
       omega (arith, stored_is is lie m s, stored_small m s.reached)

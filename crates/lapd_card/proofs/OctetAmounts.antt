@@ -24,7 +24,7 @@ module _ {S : Type 0} (store : S → Store) {card self : Held S} (same : card �
       let few = subst (λ c. c.lines ≤ 64) s.frames.config (ranges_of m.card.config s.reached.config).lines.most in
       omega (arith, few, ports-all store card past)
 
-  pub frames_small : {n : ℕ} → n ≤ limit card.frames.config → n ≤ 2232192
+  pub frames_small : {n : ℕ} → n ≤ limit card.frames.config → n ≤ 2233984
   frames_small few = grind (arith, limit_small)
 
   pub of_machine : {items : List Port} → items ≡ card.ports → (m : OctetCard) → OctetCardStands store card m → length items ≡ length m.ports
@@ -39,7 +39,7 @@ module _ {S : Type 0} (store : S → Store) {card self : Held S} (same : card �
       is = is_x ∙ ap (λ ls. get_or ls i x) is;
     }
 
-    pub few_held : {held one : ℕ} → held ≤ 2232192 + i * 530 → one ≤ 530 → i < length items → Fits w32 (held + one)
+    pub few_held : {held one : ℕ} → held ≤ 2233984 + i * 530 → one ≤ 530 → i < length items → Fits w32 (held + one)
     few_held so_far few here = grind (arith, few_ports)
 
     pub all_held : length items ≤ i → (m : OctetCard) → OctetCardStands store card m → sum_by (held_at m.card.config.n201) (take i m.ports) ≡ sum_by (held_at m.card.config.n201) m.ports

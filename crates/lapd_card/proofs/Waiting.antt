@@ -6,7 +6,7 @@ use Rattle.std.specs.Option.{option_or, unwrap_or}
 use Rattle.model_line.proofs.Offered.{fresh_gives_nothing}
 use Rattle.model_line.specs.Line as machine
 use Rattle.lapd_line.proofs.NextSteps.{nothing_waits}
-use Rattle.model_line.specs.Taken.{Taken, first_taken, next_of, round, taken, with_given_frame}
+use Rattle.model_line.specs.Taken.{Taken, first_taken, message_taken, next_of, round, taken, with_given_frame}
 use Rattle.lapd_line.specs.Waiting as lines
 use Rattle.model_link.specs.Link as link
 use Rattle.model_link.specs.Machine.{given}
@@ -85,8 +85,13 @@ fresh_takes_none c (number ∷ numbers) =
     let nothing : given t (machine.link_at number (fresh_line c)) ≡ None = ap (given t) (all_same (machine.link_count c) number link.fresh) ∙ fresh_gives_nothing t in
     ap (λ g. option_or (option_map (with_given_frame c (fresh_line c) number t) g) (first_taken c (fresh_line c) numbers)) nothing ∙ fresh_takes_none c numbers
 
+no_message : (c : Config) → message_taken c (fresh_line c) ≡ None
+no_message c = grind arith
+
 pub fresh_waits : (c : Config) → lines.has_next c (fresh_line c) ≡ false
-fresh_waits c = ap is_some (fresh_takes_none c (round c (fresh_line c)))
+fresh_waits c =
+    ap (λ o. is_some (option_or o (first_taken c (fresh_line c) (round c (fresh_line c))))) (no_message c)
+    ∙ ap is_some (fresh_takes_none c (round c (fresh_line c)))
 
 pub none_marked_first : (c : Config) (marks : Marks) → AreMarked marks (λ number. false) → AreMarked marks (waits_on (fresh c))
 none_marked_first c marks h = of_lines marks (fresh c) (grind (arith, nat_lt, all_same, fresh_waits))

@@ -1,5 +1,5 @@
 -- What a card holds.
-use Rattle.std.specs.Prelude.{◌≡◌, ℕ, ◌+◌, List, refl}
+use Rattle.std.specs.Prelude.{◌≡◌, ℕ, ◌+◌, List, refl, None}
 use Rattle.std.specs.Coded.{Coded, code_by, coded×, coded_list}
 use Rattle.lapd_frame.specs.declared.addresses.Side.TheVariants.{Network}
 use Rattle.model_card.specs.Stored.{limit}
@@ -34,5 +34,5 @@ abbrev pub room_for_frames : {S : Type 0} → Held S → ℕ
 room_for_frames card = card.config.n201 + 4
 
 -- What a card may store, of eight terminals, four control frames, N201 of 260 and 64 slots.
-few_octets : limit (record { lines = 1; terminals = 8; k = 7; k16 = 7; queue = 8; unit_queue = 4; control = 4; slots = 64; n201 = 260; n200 = 3; side = Network; sapi = 16 }) ≡ 16940
+few_octets : limit (record { lines = 1; terminals = 8; k = 7; k16 = 7; queue = 8; unit_queue = 4; control = 4; slots = 64; n201 = 260; n200 = 3; side = Network; sapi = 16; seed = None }) ≡ 16940
 few_octets = refl

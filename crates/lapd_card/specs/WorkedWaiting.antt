@@ -15,7 +15,7 @@ use Rattle.model_card.specs.Machine.{after}
 use Rattle.lapd_card.specs.Waiting.{has_next, next_waiting}
 
 abbrev four_lines : Config
-four_lines = record { lines = 4; terminals = 2; k = 7; k16 = 7; queue = 8; unit_queue = 4; control = 4; slots = 64; n201 = 260; n200 = 3; side = Network; sapi = 16 }
+four_lines = record { lines = 4; terminals = 2; k = 7; k16 = 7; queue = 8; unit_queue = 4; control = 4; slots = 64; n201 = 260; n200 = 3; side = Network; sapi = 16; seed = None }
 
 abbrev asked_at : ℕ → Card → Card
 asked_at number card = after (at number (line.request (Unit Call 127 (8 ∷ [])))) card

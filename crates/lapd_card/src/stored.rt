@@ -1,10 +1,11 @@
 //! How many octets a card may store, and how many a card of octets does.
 
-ghost use Rattle.std.specs.Prelude.{◌≡◌};
+ghost use Rattle.std.specs.Prelude.{◌≡◌, ◌≤◌};
 ghost use Rattle.model_card.specs.Stored as frames;
 ghost use Rattle.model_card.specs.ports.Card as machine;
 ghost use Rattle.model_card.specs.ports.Stored.{stored, limit};
 ghost use Rattle.model_line.specs.Sound.{IsInRange};
+ghost use Rattle.model_line.specs.Stored.{held_most};
 ghost use Rattle.lapd_card.specs.Stands.{OctetCardStands};
 
 use crate::card::Card;
@@ -28,8 +29,21 @@ pub fn frame_limit(config: &Config) -> u32
     ensures { result ≡ frames.limit config.now }
 {
     let control = 8 * u32::from(config.control) * u32::from(config.terminals);
-    let line = control + 32 + 12;
+    let line = control + most_held(config);
     u32::from(config.lines) * line + u32::from(config.slots) * u32::from(config.n201)
+}
+
+/// Of messages that wait on a line, and of assignments that are remembered.
+fn most_held(config: &Config) -> u32
+    requires { IsInRange config.now }
+    ensures most { result ≡ held_most config.now }
+    ensures few { result ≤ 72 }
+{
+    if config.is_terminal() {
+        8 * (u32::from(config.terminals) + 1)
+    } else {
+        32 + 12
+    }
 }
 
 impl<S: Shelf> Card<S> {

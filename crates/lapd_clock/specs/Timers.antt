@@ -29,7 +29,7 @@ pub record Timers : Type 0 where
   pub lengths : Lengths
   pub running : List Expiry
 
--- a clock at its start: for each terminal T200 and T203 of two links, and for each line T201
+-- a clock at its start: for each terminal T200 and T203 of two links, and for each line T201 or T202
 abbrev pub idle_with : Lengths → ℕ → ℕ → Timers
 idle_with lengths lines terminals = record { lines = lines; places = 4 * terminals + 1; lengths = lengths; running = [] }
 

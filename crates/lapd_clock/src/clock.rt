@@ -57,7 +57,7 @@ impl Clock {
     /// A clock on which no timer runs, for 1 to 64 lines of 1 to 8 terminals, with these lengths.
     ///
     /// Each line has `4 * terminals + 1` places for running timers: T200 and T203 of two links for
-    /// each terminal, and T201.
+    /// each terminal, and T201 or T202.
     ///
     /// # Errors
     ///
@@ -145,7 +145,7 @@ impl Clock {
     /// later than `now`, in milliseconds. Otherwise the answer is `None`, and nothing changes.
     ///
     /// The first is the one with the least moment. At one moment it is that of the lowest line, and
-    /// there T200 goes before T203, and T203 before T201; T200 and T203 go by TEI, and at one TEI
+    /// there T200 goes before T203, and T203 before T201 and T202; T200 and T203 go by TEI, and at one TEI
     /// that of the call link goes first (profile).
     pub fn due(&mut self, now: u64) -> Option<(usize, Timer)>
         ensures due { result ≡ due_at self.old now }

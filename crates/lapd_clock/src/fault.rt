@@ -22,4 +22,7 @@ pub enum LengthFault {
     /// T201 of each line.
     #[error("T201 is out of range")]
     T201,
+    /// T202 of each line of a terminal.
+    #[error("T202 is out of range")]
+    T202,
 }

@@ -1,7 +1,7 @@
 //! The timers of a card's lines: which of them run, and which falls due first.
 //!
 //! A line of LAPD has T200 and T203 for each link, so two of each for each
-//! terminal (one link for each service), and one T201 (Q.921 clause 5.9). Its events order timers
+//! terminal (one link for each service), and one T201 or, at a terminal, T202 (Q.921 clause 5.9). Its events order timers
 //! started and stopped. A `Clock` keeps the moment at which each running timer falls due, and
 //! gives the timers back one after the other as their moments come. It reads no clock of its own:
 //! moments are numbers that its caller hands in, in milliseconds.

@@ -1,5 +1,5 @@
 -- No two counters stand at one place.
-use Rattle.lapd_count.proofs.Vocabulary.{◌≡◌, List, [], ◌∷◌, get_or, refl, sym, ap, ◌∙◌, Abort, Ragged, Short, Fcs, Extension, Sapi, Tei, Unserved, Counter, Frames, Octets, Polls, Overlong, Dropped, Errors, EstablishIndications, EstablishConfirms, ReleaseIndications, ReleaseConfirms, Data, Units, Xids, Assigned, Removed, Doubled, Lost, Messages, Heard, Begun, place, PlacesAreNames}
+use Rattle.lapd_count.proofs.Vocabulary.{◌≡◌, List, [], ◌∷◌, get_or, refl, sym, ap, ◌∙◌, Abort, Ragged, Short, Fcs, Extension, Sapi, Tei, Unserved, Counter, Frames, Octets, Polls, Overlong, Dropped, Errors, EstablishIndications, EstablishConfirms, ReleaseIndications, ReleaseConfirms, Data, Units, Xids, Assigned, Removed, Doubled, Denied, Unassigned, RemovedAll, Lost, Messages, Heard, Begun, place, PlacesAreNames}
 use Rattle.lapd_frame.specs.declared.notes.ErrorCode.TheVariants as code
 use Rattle.lapd_count.specs.declared.kinds.Kind.TheVariants as kind
 use Rattle.lapd_count.specs.declared.messages.MessageType.TheVariants as message
@@ -22,7 +22,7 @@ names =
     Errors code.K ∷ Errors code.L ∷ Errors code.N ∷ Errors code.O ∷
     EstablishIndications ∷ EstablishConfirms ∷ ReleaseIndications ∷ ReleaseConfirms ∷
     Data ∷ Units ∷ Xids ∷ Assigned ∷
-    Removed ∷ Doubled ∷ Lost ∷
+    Removed ∷ Doubled ∷ Denied ∷ Unassigned ∷ RemovedAll ∷ Lost ∷
     Messages Heard message.IdentityRequest ∷ Messages Heard message.IdentityAssigned ∷ Messages Heard message.IdentityDenied ∷
     Messages Heard message.IdentityCheckRequest ∷ Messages Heard message.IdentityCheckResponse ∷ Messages Heard message.IdentityRemove ∷
     Messages Heard message.IdentityVerify ∷
@@ -92,6 +92,9 @@ named Xids = refl
 named Assigned = refl
 named Removed = refl
 named Doubled = refl
+named Denied = refl
+named Unassigned = refl
+named RemovedAll = refl
 named Lost = refl
 named (Messages Heard message.IdentityRequest) = refl
 named (Messages Heard message.IdentityAssigned) = refl

@@ -10,7 +10,7 @@ pub use Rattle.lapd_count.specs.Kinds.{kind_of}
 pub use Rattle.lapd_count.specs.Laws.{ControlsHaveKinds, CountersAreNumbers, PlacesAreNames}
 pub use Rattle.lapd_count.specs.Shown.{note_shown}
 pub use Rattle.lapd_count.specs.declared.counter.Counter.{Counter}
-pub use Rattle.lapd_count.specs.declared.counter.Counter.TheVariants.{Assigned, Data, Doubled, Dropped, Errors, EstablishConfirms, EstablishIndications, Frames, Lost, Messages, Octets, Overlong, Polls, ReleaseConfirms, ReleaseIndications, Removed, Units, Xids}
+pub use Rattle.lapd_count.specs.declared.counter.Counter.TheVariants.{Assigned, Data, Denied, Doubled, Dropped, Errors, EstablishConfirms, EstablishIndications, Frames, Lost, Messages, Octets, Overlong, Polls, ReleaseConfirms, ReleaseIndications, Removed, RemovedAll, Unassigned, Units, Xids}
 pub use Rattle.lapd_count.specs.declared.counter.Way.TheVariants.{Begun, Heard}
 pub use Rattle.lapd_count.specs.declared.counters.Counters.{Counters}
 pub use Rattle.lapd_count.specs.declared.kinds.Kind.{Kind}

@@ -20,11 +20,11 @@ place (Polls way) = 26 + tag_of the_way way
 place Overlong = 28
 place (Dropped cause) = 29 + tag_of the_cause cause
 place (Errors code) = 37 + tag_of the_code code
-place (Messages way message) = 62 + 7 * tag_of the_way way + tag_of the_message message
+place (Messages way message) = 65 + 7 * tag_of the_way way + tag_of the_message message
 place other = 45 + tag_of the_type other
 
 abbrev pub count : ℕ
-count = 76
+count = 79
 
 -- The greatest value of a counter, at which it stays.
 abbrev pub most : ℕ

@@ -9,7 +9,7 @@ use Rattle.lapd_frame.specs.declared.notes.Note.{Note}
 use Rattle.lapd_frame.specs.declared.notes.Note.TheVariants as note
 use Rattle.lapd_frame.specs.Grammar.{cr_bit, other_side}
 use Rattle.lapd_count.specs.declared.counter.Counter.{Counter}
-use Rattle.lapd_count.specs.declared.counter.Counter.TheVariants.{Frames, Octets, Polls, Overlong, Dropped, Errors, EstablishIndications, EstablishConfirms, ReleaseIndications, ReleaseConfirms, Data, Units, Xids, Assigned, Removed, Doubled, Lost, Messages}
+use Rattle.lapd_count.specs.declared.counter.Counter.TheVariants.{Frames, Octets, Polls, Overlong, Dropped, Errors, EstablishIndications, EstablishConfirms, ReleaseIndications, ReleaseConfirms, Data, Units, Xids, Assigned, Removed, Doubled, Denied, Unassigned, RemovedAll, Lost, Messages}
 use Rattle.lapd_count.specs.declared.counter.Way.{Way}
 use Rattle.lapd_count.specs.declared.counter.Way.TheVariants.{Heard, Begun}
 use Rattle.lapd_count.specs.Counters.{More}
@@ -65,6 +65,9 @@ counter_of (note.Error service tei code) = Errors code
 counter_of (note.Assigned tei) = Assigned
 counter_of (note.Removed tei) = Removed
 counter_of (note.Doubled tei) = Doubled
+counter_of note.Denied = Denied
+counter_of note.Unassigned = Unassigned
+counter_of note.RemoveAll = RemovedAll
 counter_of (note.Xid service tei) = Xids
 
 abbrev pub note_shown : Note → More

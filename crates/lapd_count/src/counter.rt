@@ -54,6 +54,12 @@ pub enum Counter {
     Removed,
     /// TEIs that left the line, since two terminals answered a check.
     Doubled,
+    /// How often the network had no TEI for this terminal.
+    Denied,
+    /// How often the network assigned no TEI, as often as this terminal asked.
+    Unassigned,
+    /// How often the network removed all TEIs of this terminal, when more than one was on the line.
+    RemovedAll,
     /// Control frames and messages of TEI management that found no room to wait.
     Lost,
     /// Messages of TEI management, of this name: good UI frames with SAPI 63 and TEI 127 that have one (Q.921 clause 5.3.1).
@@ -66,7 +72,7 @@ impl Counter {
     #[inline(always)]
     pub fn place(self) -> usize
         ensures value { result ≡ place self }
-        ensures bound { result < 76 }
+        ensures bound { result < 79 }
     {
         match self {
             Counter::Frames(Way::Heard, kind) => kind as usize,
@@ -88,9 +94,12 @@ impl Counter {
             Counter::Assigned => 58,
             Counter::Removed => 59,
             Counter::Doubled => 60,
-            Counter::Lost => 61,
-            Counter::Messages(Way::Heard, message) => 62 + message as usize,
-            Counter::Messages(Way::Begun, message) => 69 + message as usize,
+            Counter::Denied => 61,
+            Counter::Unassigned => 62,
+            Counter::RemovedAll => 63,
+            Counter::Lost => 64,
+            Counter::Messages(Way::Heard, message) => 65 + message as usize,
+            Counter::Messages(Way::Begun, message) => 72 + message as usize,
         }
     }
 }

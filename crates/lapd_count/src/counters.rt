@@ -15,7 +15,7 @@ use lapd_frame::{Note, Side, octet_at};
 use model_bits::{Cause, Head, Heard};
 
 /// How many counters there are.
-const COUNT: usize = 76;
+const COUNT: usize = 79;
 
 /// What was counted of a line: a number of 64 bits for each [`Counter`], which stays at its greatest value once it is there.
 #[derive(Clone, Copy, PartialEq, Eq, Debug)]
@@ -39,7 +39,7 @@ impl Counters {
     }
 
     /// All of them, each at its [`place`](Counter::place).
-    pub fn values(&self) -> [u64; 76]
+    pub fn values(&self) -> [u64; 79]
         ensures { result ≡ self.now.values }
     {
         self.values
@@ -62,7 +62,7 @@ impl Counters {
     #[cold]
     #[inline(never)]
     fn fill(&mut self, place: usize)
-        requires { place < 76 }
+        requires { place < 79 }
         ensures { self.new.values ≡ set self.old.values place 18446744073709551615 }
     {
         self.values[place] = u64::MAX;
@@ -198,6 +198,9 @@ fn counter_of(note: &Note) -> Counter
         Note::Assigned(_) => Counter::Assigned,
         Note::Removed(_) => Counter::Removed,
         Note::Doubled(_) => Counter::Doubled,
+        Note::Denied => Counter::Denied,
+        Note::Unassigned => Counter::Unassigned,
+        Note::RemoveAll => Counter::RemovedAll,
         Note::Xid(..) => Counter::Xids,
     }
 }

@@ -32,6 +32,13 @@ pub enum Note {
     Removed(u8),
     /// The TEI left the line, since two terminals answered an identity check (clause 5.3.4).
     Doubled(u8),
+    /// The network has no TEI for this terminal, which goes on asking (clause 5.3.2). It names no TEI.
+    Denied,
+    /// The network assigned no TEI, as often as this terminal asked (clause 5.3.2.1). It names no TEI.
+    Unassigned,
+    /// The network removes each TEI of this terminal, and more than one is on the line: all are to be taken off by request
+    /// (clause 5.3.4).
+    RemoveAll,
     /// An XID frame was received. It is not answered (profile).
     Xid(Service, u8),
 }

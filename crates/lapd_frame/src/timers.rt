@@ -11,6 +11,8 @@ pub enum Timer {
     T203(Service, u8),
     /// Responses to an identity check are awaited (clause 5.9.6).
     T201,
+    /// A terminal awaits a TEI, or a check of one, for which it has asked (clauses 5.9.4 and 5.9.7).
+    T202,
 }
 
 /// What is to be done with a timer. Each timer runs at most once.

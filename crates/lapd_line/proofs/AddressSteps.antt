@@ -1,6 +1,6 @@
 -- What is heard, by whom it is for.
-use Rattle.lapd_line.proofs.Vocabulary.{arith, ◌≡◌, ℕ, Bool, true, false, not, ◌&&◌, nat_le, ◌==◌, ◌≤◌, List, [], ◌∷◌, Option, Some, None, Err, length, drop, sym, ap, ◌∙◌, cond, subst, eqb-true, drop_of_length-le, Address, Side, Note, Service, ShortList, Parts, service_of, listed, Unserved, Control, ReadFault, Management, Owned, Store, Config, LineTold, Line, addressed, at_place, to_service}
-use Rattle.lapd_line.proofs.Vocabulary.{group_tei, drop_for, message_of, aim_of_long, aim_of_reading, Aim, at_none, at_management, of_aim, group_told, told_of_ui, told_of_group, told_at, managed_at, at_side, has_management, Addressee, LinkLayer, BareReport, addressee, of_service, aim_at, is_ui, message_at, group_service, LayerStands, Serves, always, told_in, IsClear}
+use Rattle.lapd_line.proofs.Vocabulary.{management_of, arith, ◌≡◌, ℕ, Bool, true, false, not, ◌&&◌, nat_le, ◌==◌, ◌≤◌, List, [], ◌∷◌, Option, Some, None, Err, length, drop, sym, ap, ◌∙◌, cond, subst, eqb-true, drop_of_length-le, Address, Side, Note, Service, ShortList, Parts, service_of, listed, Unserved, Control, ReadFault, Management, Owned, Store, Config, LineTold, Line, addressed, at_place, to_service}
+use Rattle.lapd_line.proofs.Vocabulary.{group_tei, drop_for, message_of, aim_of_long, aim_of_reading, Aim, at_none, at_management, of_aim, group_told, told_of_ui, told_of_group, told_at, managed_at, at_side, is_network, is_terminal, serves_messages, dropped, Network, User, Call, refl, ◌||◌, Addressee, LinkLayer, BareReport, addressee, of_service, aim_at, is_ui, message_at, group_service, LayerStands, Serves, always, told_in, IsClear}
 use Rattle.lapd_frame.specs.declared.notes.Note.TheVariants as notes
 use Rattle.model_link.specs.Events as link
 use Rattle.lapd_tei.specs.Events as teis
@@ -34,7 +34,7 @@ module _ (l : Line) (what : link.Received) (to_management : Aim) where
   addressed-aimed address = grind (arith, to_service-aimed)
 
 pub aimed : (e : LinkLayer) (s : Store) (others : List Owned) (m : Line) (address : Address) (what : link.Received) (to_management : Aim) (whom : Addressee)
-    → whom ≡ addressee e.teis address → LayerStands e s others m → addressed m address what to_management ≡ aim_at whom what to_management
+    → whom ≡ addressee (management_of e.teis) address → LayerStands e s others m → addressed m address what to_management ≡ aim_at whom what to_management
 aimed e s others m address what to_management whom is st = grind (arith, addressed-aimed)
 
 -- octets that are no more than so many have nothing after them
@@ -46,15 +46,22 @@ pub long_fault : (c : Config) (m : Line) (fault : ReadFault) → aim_of_long m (
 long_fault c m fault = grind arith
 
 -- a frame of layer 2 management
-pub message_of_ui : (side : Side) (k : Control) (info : List ℕ) → is_ui k ≡ true → has_management side ≡ true → message_at side k info ≡ at_management (teis.message info)
-message_of_ui side k info is ours = grind arith
+pub message_of_ui : (c : Config) (parts : Parts) → is_ui parts.control ≡ true → serves_messages c parts.address ≡ true → message_at c parts ≡ at_management (teis.message parts.info)
+message_of_ui c parts is ours =
+    ap (λ b. cond b (cond (serves_messages c parts.address) (at_management (teis.message parts.info)) (drop_for Unserved)) (drop_for Unserved)) is
+    ∙ ap (λ b. cond b (at_management (teis.message parts.info)) (drop_for Unserved)) ours
 
 -- and one that is not served
-pub no_ui : (side : Side) (k : Control) (info : List ℕ) → is_ui k ≡ false → message_at side k info ≡ drop_for Unserved
-no_ui side k info is = ap (λ b. cond b (managed_at side (teis.message info)) (drop_for Unserved)) is
+pub no_ui : (c : Config) (parts : Parts) → is_ui parts.control ≡ false → message_at c parts ≡ drop_for Unserved
+no_ui c parts is = ap (λ b. cond b (cond (serves_messages c parts.address) (at_management (teis.message parts.info)) (drop_for Unserved)) (drop_for Unserved)) is
 
-pub not_ours : (side : Side) (k : Control) (info : List ℕ) → has_management side ≡ false → message_at side k info ≡ drop_for Unserved
-not_ours side k info other = grind arith
+pub not_ours : (c : Config) (parts : Parts) → serves_messages c parts.address ≡ false → message_at c parts ≡ drop_for Unserved
+not_ours c parts other =
+    ap (λ b. cond (is_ui parts.control) (cond b (at_management (teis.message parts.info)) (drop_for Unserved)) (drop_for Unserved)) other ∙ either (is_ui parts.control)
+  where
+    either : (b : Bool) → cond b (drop_for Unserved) (drop_for Unserved) ≡ drop_for Unserved
+    either true = refl
+    either false = refl
 
 -- its SAPI is that of no service
 pub managed_sapi : (m : Management) (address : Address) → to.Management ≡ addressee m address → service_of address.sapi ≡ None
@@ -71,8 +78,19 @@ module _ (c : Config) (parts : Parts) where
   no_group : (side : Side) (told : LineTold) → service_of parts.address.sapi ≡ None → told_at c side parts told ≡ told
   no_group side told none = grind arith
 
-  pub message_sided : service_of parts.address.sapi ≡ None → at_side c parts (message_of parts.control parts.info) ≡ message_at c.side parts.control parts.info
-  message_sided none = grind (arith, ui_rows, no_group)
+  managed_as : (side : Side) → c.side ≡ side → managed_at c parts side (teis.message parts.info) ≡ cond (serves_messages c parts.address) (at_management (teis.message parts.info)) (drop_for Unserved)
+  managed_as Network is = ap (λ s. cond (is_network s || (is_terminal c && parts.address.command)) (at_management (teis.message parts.info)) (drop_for Unserved)) (sym is)
+  managed_as User is = ap (λ s. cond (is_network s || (is_terminal c && parts.address.command)) (at_management (teis.message parts.info)) (drop_for Unserved)) (sym is)
+
+  sided : (b : Bool) → service_of parts.address.sapi ≡ None → at_side c parts (cond b (at_management (teis.message parts.info)) (drop_for Unserved))
+      ≡ cond b (managed_at c parts c.side (teis.message parts.info)) (drop_for Unserved)
+  sided true none = refl
+  sided false none = ap at_none (no_group c.side (dropped Unserved) none)
+
+  pub message_sided : service_of parts.address.sapi ≡ None → at_side c parts (message_of parts.control parts.info) ≡ message_at c parts
+  message_sided none =
+      ap (at_side c parts) (ui_rows c Call parts.control parts.info (dropped Unserved)).0 ∙ sided (is_ui parts.control) none
+      ∙ ap (λ x. cond (is_ui parts.control) x (drop_for Unserved)) (managed_as c.side refl)
 
 -- What is told of a frame for nobody, by the service whose unit data it brings.
 abbrev pub told_by_service : Option Service → List ℕ → LineTold → LineTold
@@ -98,7 +116,7 @@ module _ (c : Config) (parts : Parts) (told : LineTold) where
   by_service o = grind (arith, none_either, by_group)
 
   by_side : (side : Side) → told_at c side parts told
-      ≡ told_by_service (cond (not (has_management side) && ((parts.address.tei == group_tei) && is_served)) (service_of parts.address.sapi) None) parts.info told
+      ≡ told_by_service (cond (not (is_network side) && ((parts.address.tei == group_tei) && is_served)) (service_of parts.address.sapi) None) parts.info told
   by_side side = grind (arith, by_service)
 
   pub told_is : (o : Option Service) → o ≡ group_service c parts → told_at c c.side parts told ≡ told_by_service o parts.info told

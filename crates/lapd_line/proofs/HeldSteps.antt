@@ -2,6 +2,12 @@
 use Rattle.lapd_line.proofs.Vocabulary.{◌≡◌, ℕ, ◌+◌, ◌*◌, ◌/◌, ◌<◌, ◌≤◌, Bool, List, [], ◌∷◌, length, reverse, nat_lt, cond, Option, Some, refl, ap, zero, suc, ◌∙◌, arith, ltb-false, All-head, All-tail, sum_by-cons, same_Some, All, sum_by, range_with_len, option_map_or, unwrap_or, bits, octets_held, kept_count, open_gap, unstuffed, room_for, Network, Owned, Store, Link, Fits, terms_of}
 use Rattle.lapd_line.proofs.Vocabulary.{Terms, frame_of, held, IsWaitingFrame, Config, Line, link_count, service_at, terms, IsSoundAt, held_by_link, LinkLayer, LayerStands, HasTerms, LinksStand, machine_at}
 use Rattle.lapd_frame.specs.Grammar.{spelling}
+use Rattle.lapd_tei.specs.Machine as tei
+use Rattle.lapd_terminal.specs.Machine as terminals
+use Rattle.model_line.proofs.StoredBounds.{managed_few}
+use Rattle.model_line.specs.Stored.{held_most}
+use Rattle.lapd_line.proofs.Vocabulary.{true, false, IsInRange, Managing, Own, held_by, is_terminal, management_of, own_of, ranges_of, terminal_in}
+use Rattle.lapd_line.specs.declared.managing.Managing.TheVariants as kind
 use Rattle.model_link.specs.Link as machine
 use Rattle.lapd_line.proofs.LayerSteps.{beside_links, links_part}
 
@@ -69,3 +75,21 @@ gap_few room size o four = grind (arith, kept_few, nat_lt)
 
 pub received_few : (n201 : ℕ) (octets : List ℕ) → octets_held n201 octets ≤ n201 + 6
 received_few n201 octets = gap_few (room_for n201) (λ g. length (unstuffed (reverse g)) / 8) (open_gap (reverse (bits octets))) (omega arith)
+
+-- what TEI management holds, of either kind
+pub managed_is : (e : LinkLayer) (store : Store) (others : List Owned) (m : Line) → LayerStands e store others m → held_by e.teis ≡ tei.held m.management + terminals.held (terminal_in m)
+managed_is e store others m st = go e.teis st.management st.own
+  where
+    go : (x : Managing) → m.management ≡ management_of x → m.own ≡ own_of x → held_by x ≡ tei.held m.management + terminals.held (terminal_in m)
+    go (kind.Network b) management own = omega (arith, ap tei.held management, ap (λ (o : Own). length o.waiting) own)
+    go (kind.Terminal b) management own = omega (arith, ap tei.held management, ap (λ (o : Own). length o.waiting) own)
+
+pub most_few : (c : Config) → IsInRange c → held_most c ≤ 72
+most_few c ranged =
+    elim (is_terminal c) as (λ b. cond b (8 * (c.terminals + 1)) (32 + 12) ≤ 72) [
+      | true ↦ omega (arith, (ranges_of c ranged).terminals.most)
+      | false ↦ omega arith
+    ]
+
+pub few_managed : (e : LinkLayer) (store : Store) (others : List Owned) (m : Line) → LayerStands e store others m → held_by e.teis ≤ held_most e.config
+few_managed e store others m st = omega (arith, managed_is e store others m st, managed_few e.config m st.sound)

@@ -1,12 +1,18 @@
 -- Requests, and why they are refused.
-use Rattle.lapd_line.proofs.Vocabulary.{◌≡◌, ℕ, ◌+◌, ◌||◌, Bool, true, false, not, ◌≤◌, nat_lt, List, [], ◌∷◌, length, Option, Some, None, refl, sym, ap, subst, ◌∙◌, cond, arith, option_map_or, ltb-false, none-some, prefix_len, list_any, Refusal, BadTei, NoLink, WrongState, Service, serves, Terms, Places, is_on, place_of, IsAt, is_on-at, place_of-is, Config, Line, has_tei, link_of, link_in}
+use Rattle.lapd_line.proofs.Vocabulary.{management_of, ◌≡◌, ℕ, ◌+◌, ◌||◌, Bool, true, false, not, ◌≤◌, nat_lt, List, [], ◌∷◌, length, Option, Some, None, refl, sym, ap, subst, ◌∙◌, cond, arith, option_map_or, ltb-false, none-some, prefix_len, list_any, Refusal, BadTei, NoLink, WrongState, Service, serves, Terms, Places, is_on, place_of, IsAt, is_on-at, place_of-is, Config, Line, has_tei, link_of, link_in}
 use Rattle.lapd_line.proofs.Vocabulary.{place_in, terms, link_number, with_link, refusal, Establish, Release, Data, SetBusy, ClearBusy, Assign, Remove, Check, Owned, Store, Link, told_with, at_link, of_aim, told_of_link, at_requested, Marks, LinkLayer, BareReport, LayerStands, Standing, Serves, Sets, TellsOf, HasTerms, Refuses, machine_at, told_in, link_refusal, management_refusal, Deactivate}
-use Rattle.lapd_line.proofs.Vocabulary.{Disown}
+use Rattle.lapd_line.proofs.Vocabulary.{AskTei, Disown, Managing, Own, Request, VerifyTei, has_management, is_network, is_terminal, is_terminals, own_of, terminal_with}
 use Rattle.model_link.specs.Events as link
 use Rattle.model_link.specs.Link as machine
 use Rattle.model_link.specs.Machine as answers
 use Rattle.model_link.specs.Requests as links
 use Rattle.lapd_tei.specs.Events as teis
+use Rattle.lapd_frame.specs.declared.refusals.Refusal.TheVariants.{WrongSide}
+use Rattle.lapd_tei.specs.Machine.{Management}
+use Rattle.lapd_terminal.specs.Events as terminals
+use Rattle.lapd_line.specs.declared.managing.Managing.TheVariants as kind
+use Rattle.lapd_line.specs.Requests.{is_bad, may_ask, refusal_at, request_asked}
+use Rattle.lapd_line.specs.declared.requests.TeiRequest.{TeiRequest}
 use Rattle.lapd_line.specs.Links as all
 use Rattle.lapd_line.proofs.LayerSteps.{beside_links, links_part, named, numbered, at_link_serves}
 use Rattle.lapd_line.specs.declared.requests.TeiRequest.TheVariants as tei_request
@@ -36,21 +42,83 @@ module _ (c : Config) (full : Bool) (service : Service) (tei : ℕ) (l : Line) w
   data_rows contents = with_rest _ _ (turned (serves (link_of service tei l).state (link.Data contents)) (Some WrongState) _)
 
 -- and those of a request of management
-pub assign_rows : (c : Config) (full : Bool) (tei : ℕ) (l : Line) → refusal c full (Assign tei) l ≡ management_refusal c.side tei_request.Assign tei l
-unfolding teis.refusal
-assign_rows c full tei l = refl
+no_network : (c : Config) → is_terminal c ≡ true → is_network c.side ≡ false
+no_network c is = grind arith
 
-pub remove_rows : (c : Config) (full : Bool) (tei : ℕ) (l : Line) → refusal c full (Remove tei) l ≡ management_refusal c.side tei_request.Remove tei l
-unfolding teis.refusal
-remove_rows c full tei l = refl
+module _ (c : Config) (full : Bool) (l : Line) where
+  abbrev Rows : Request → TeiRequest → ℕ → Managing → Type 0
+  Rows r asked tei x = is_terminals x ≡ is_terminal c → l.management ≡ management_of x → l.own ≡ own_of x → refusal c full r l ≡ management_refusal c asked tei x
 
-pub check_rows : (c : Config) (full : Bool) (tei : ℕ) (l : Line) → refusal c full (Check tei) l ≡ management_refusal c.side tei_request.Check tei l
-unfolding teis.refusal
-check_rows c full tei l = refl
+  abbrev sided : Bool → Bool → Option Refusal → Option Refusal
+  sided may bad rest = cond (not may) (Some WrongSide) (cond bad (Some BadTei) rest)
 
-pub disown_rows : (c : Config) (full : Bool) (tei : ℕ) (l : Line) → refusal c full (Disown tei) l ≡ management_refusal c.side tei_request.Disown tei l
-unfolding teis.refusal
-disown_rows c full tei l = refl
+  -- where the side is a wrong one, nothing else is looked at
+  wrong : (may bad : Bool) (x y : Option Refusal) → may ≡ false → sided may bad x ≡ sided may bad y
+  wrong may bad x y is = ap (λ b. sided b bad x) is ∙ ap (λ b. sided b bad y) (sym is)
+
+  assign_rows : (tei : ℕ) (x : Managing) → Rows (Assign tei) tei_request.Assign tei x
+  unfolding teis.refusal
+  assign_rows tei (kind.Network m) k management own = ap (λ x. sided true (nat_lt 126 tei) (teis.refusal (teis.assign tei) x)) management
+  assign_rows tei (kind.Terminal t) k management own = ap (λ x. sided true (nat_lt 126 tei) (teis.refusal (teis.assign tei) x)) management
+
+  remove_rows : (tei : ℕ) (x : Managing) → Rows (Remove tei) tei_request.Remove tei x
+  unfolding teis.refusal
+  remove_rows tei (kind.Network m) k management own = ap (λ x. sided (has_management c) (nat_lt 126 tei) (teis.refusal (teis.remove tei) x)) management
+  remove_rows tei (kind.Terminal t) k management own = ap (λ x. sided (has_management c) (nat_lt 126 tei) (teis.refusal (teis.remove tei) x)) management
+
+  check_rows : (tei : ℕ) (x : Managing) → Rows (Check tei) tei_request.Check tei x
+  unfolding teis.refusal
+  check_rows tei (kind.Network m) k management own = ap (λ x. sided (is_network c.side) (nat_lt 126 tei) (teis.refusal (teis.check tei) x)) management
+  check_rows tei (kind.Terminal t) k management own = wrong (is_network c.side) (nat_lt 126 tei) _ _ (no_network c (sym k))
+
+  disown_rows : (tei : ℕ) (x : Managing) → Rows (Disown tei) tei_request.Disown tei x
+  unfolding teis.refusal
+  disown_rows tei (kind.Network m) k management own = ap (λ x. sided (is_network c.side) (nat_lt 127 tei) (teis.refusal (teis.disown tei) x)) management
+  disown_rows tei (kind.Terminal t) k management own = wrong (is_network c.side) (nat_lt 127 tei) _ _ (no_network c (sym k))
+
+  -- a terminal's rows read the table and the procedure
+  abbrev asks : Management → Own → Option Refusal
+  asks m own = terminals.refusal terminals.ask (terminal_with m own)
+
+  ask_rows : (tei : ℕ) (x : Managing) → Rows AskTei tei_request.Ask tei x
+  ask_rows tei (kind.Network m) k management own = wrong (is_terminal c) false _ _ (sym k)
+  ask_rows tei (kind.Terminal t) k management own =
+      ap (λ m. sided (is_terminal c) false (asks m l.own)) management ∙ ap (λ o. sided (is_terminal c) false (asks (management_of (kind.Terminal t)) o)) own
+
+  abbrev verifies : ℕ → Management → Own → Option Refusal
+  verifies tei m own = terminals.refusal (terminals.verify tei) (terminal_with m own)
+
+  verify_rows : (tei : ℕ) (x : Managing) → Rows (VerifyTei tei) tei_request.Verify tei x
+  verify_rows tei (kind.Network m) k management own = wrong (is_terminal c) (nat_lt 126 tei) _ _ (sym k)
+  verify_rows tei (kind.Terminal t) k management own =
+      ap (λ m. sided (is_terminal c) (nat_lt 126 tei) (verifies tei m l.own)) management
+      ∙ ap (λ o. sided (is_terminal c) (nat_lt 126 tei) (verifies tei (management_of (kind.Terminal t)) o)) own
+
+  pub all_rows : (asked : TeiRequest) (tei : ℕ) (x : Managing) → Rows (request_asked asked tei) asked tei x
+  all_rows tei_request.Assign tei x = assign_rows tei x
+  all_rows tei_request.Remove tei x = remove_rows tei x
+  all_rows tei_request.Check tei x = check_rows tei x
+  all_rows tei_request.Disown tei x = disown_rows tei x
+  all_rows tei_request.Ask tei x = ask_rows tei x
+  all_rows tei_request.Verify tei x = verify_rows tei x
+
+-- so a request of management is refused for its side, for the TEI that it names, or by TEI management, or it is granted
+module _ (e : LinkLayer) (s : Store) (others : List Owned) (m : Line) (st : LayerStands e s others m) (asked : TeiRequest) (tei : ℕ) where
+  its_rows : refusal e.config false (request_asked asked tei) m ≡ management_refusal e.config asked tei e.teis
+  its_rows = all_rows e.config false m asked tei e.teis st.kind st.management st.own
+
+  pub wrong_side : may_ask e.config asked ≡ false → refusal e.config false (request_asked asked tei) m ≡ Some WrongSide
+  wrong_side is = its_rows ∙ ap (λ b. cond (not b) (Some WrongSide) (cond (is_bad asked tei) (Some BadTei) (refusal_at asked tei e.teis))) is
+
+  pub bad_one : may_ask e.config asked ≡ true → is_bad asked tei ≡ true → refusal e.config false (request_asked asked tei) m ≡ Some BadTei
+  bad_one may bad =
+      its_rows ∙ ap (λ b. cond (not b) (Some WrongSide) (cond (is_bad asked tei) (Some BadTei) (refusal_at asked tei e.teis))) may
+      ∙ ap (λ b. cond b (Some BadTei) (refusal_at asked tei e.teis)) bad
+
+  pub by_management : {why : Option Refusal} → may_ask e.config asked ≡ true → is_bad asked tei ≡ false → refusal_at asked tei e.teis ≡ why → refusal e.config false (request_asked asked tei) m ≡ why
+  by_management may bad is =
+      its_rows ∙ ap (λ b. cond (not b) (Some WrongSide) (cond (is_bad asked tei) (Some BadTei) (refusal_at asked tei e.teis))) may
+      ∙ ap (λ b. cond b (Some BadTei) (refusal_at asked tei e.teis)) bad ∙ is
 
 -- a granted request does the same, whether the pool is full or not
 pub granted_same : (t : Terms) (m : machine.Link) (full : Bool) (request : link.Request) → links.refusal t m full request ≡ None → links.refusal t m false request ≡ None
@@ -70,18 +138,18 @@ off_line places tei = grind (arith, nat_lt, none-some, none_any, ltb-false)
 
 -- where the link of a request is, the link refuses, or not
 module _ (e : LinkLayer) (s : Store) (others : List Owned) (m : Line) (st : LayerStands e s others m) (service : Service) (tei : ℕ) (full : Bool) (request : link.Request) where
-  pub no_link : nat_lt 126 tei ≡ false → place_of tei e.teis.places ≡ None → link_refusal e.config full service tei request m ≡ Some NoLink
+  pub no_link : nat_lt 126 tei ≡ false → place_of tei (management_of e.teis).places ≡ None → link_refusal e.config full service tei request m ≡ Some NoLink
   no_link low none =
       ap (λ b. cond b (Some BadTei) (cond (not (has_tei tei m)) (Some NoLink) (links.refusal (terms e.config service tei) (link_of service tei m) full request))) low
-      ∙ ap (λ b. cond (not b) (Some NoLink) (links.refusal (terms e.config service tei) (link_of service tei m) full request)) (ap (λ t. is_on tei t.places) st.management ∙ off_line e.teis.places tei none)
+      ∙ ap (λ b. cond (not b) (Some NoLink) (links.refusal (terms e.config service tei) (link_of service tei m) full request)) (ap (λ t. is_on tei t.places) st.management ∙ off_line (management_of e.teis).places tei none)
 
-  pub asked : (place number : ℕ) (why : Option Refusal) → nat_lt 126 tei ≡ false → place_of tei e.teis.places ≡ Some place → (place ≤ 8 → number ≡ link_number place service)
+  pub asked : (place number : ℕ) (why : Option Refusal) → nat_lt 126 tei ≡ false → place_of tei (management_of e.teis).places ≡ Some place → (place ≤ 8 → number ≡ link_number place service)
       → Refuses number full request e.links s why → link_refusal e.config full service tei request m ≡ why
   asked place number why low here exact refuses =
-      let at = (place_of-is e.teis.places tei place here).1 in
+      let at = (place_of-is (management_of e.teis).places tei place here).1 in
       let n = named e s others m service tei place st at in
       let same : number ≡ link_number place service = numbered e s tei place (others, m, st) at exact in
-      let on : has_tei tei m ≡ true = ap (λ t. is_on tei t.places) st.management ∙ is_on-at e.teis.places place tei at in
+      let on : has_tei tei m ≡ true = ap (λ t. is_on tei t.places) st.management ∙ is_on-at (management_of e.teis).places place tei at in
       let this : link_of service tei m ≡ machine_at m.links (link_number place service) = ap (λ o. option_map_or (link_in m service) o machine.fresh) (ap (λ t. place_of tei t.places) st.management ∙ here) in
       ap (λ b. cond b (Some BadTei) (cond (not (has_tei tei m)) (Some NoLink) (links.refusal (terms e.config service tei) (link_of service tei m) full request))) low
       ∙ ap (λ b. cond (not b) (Some NoLink) (links.refusal (terms e.config service tei) (link_of service tei m) full request)) on
@@ -90,29 +158,29 @@ module _ (e : LinkLayer) (s : Store) (others : List Owned) (m : Line) (st : Laye
 
 -- a deactivation is refused where there is no link, and granted where there is one
 module _ (e : LinkLayer) (s : Store) (others : List Owned) (m : Line) (st : LayerStands e s others m) (service : Service) (tei : ℕ) where
-  pub deactivated_refused : nat_lt 126 tei ≡ false → place_of tei e.teis.places ≡ None → refusal e.config false (Deactivate service tei) m ≡ Some NoLink
+  pub deactivated_refused : nat_lt 126 tei ≡ false → place_of tei (management_of e.teis).places ≡ None → refusal e.config false (Deactivate service tei) m ≡ Some NoLink
   deactivated_refused low none =
       ap (λ b. cond b (Some BadTei) (cond (not (has_tei tei m)) (Some NoLink) None)) low
-      ∙ ap (λ b. cond (not b) (Some NoLink) None) (ap (λ t. is_on tei t.places) st.management ∙ off_line e.teis.places tei none)
+      ∙ ap (λ b. cond (not b) (Some NoLink) None) (ap (λ t. is_on tei t.places) st.management ∙ off_line (management_of e.teis).places tei none)
 
-  pub deactivated_granted : (place : ℕ) → nat_lt 126 tei ≡ false → place_of tei e.teis.places ≡ Some place → refusal e.config false (Deactivate service tei) m ≡ None
+  pub deactivated_granted : (place : ℕ) → nat_lt 126 tei ≡ false → place_of tei (management_of e.teis).places ≡ Some place → refusal e.config false (Deactivate service tei) m ≡ None
   deactivated_granted place low here =
-      let at = (place_of-is e.teis.places tei place here).1 in
+      let at = (place_of-is (management_of e.teis).places tei place here).1 in
       ap (λ b. cond b (Some BadTei) (cond (not (has_tei tei m)) (Some NoLink) None)) low
-      ∙ ap (λ b. cond (not b) (Some NoLink) None) (ap (λ t. is_on tei t.places) st.management ∙ is_on-at e.teis.places place tei at)
+      ∙ ap (λ b. cond (not b) (Some NoLink) None) (ap (λ t. is_on tei t.places) st.management ∙ is_on-at (management_of e.teis).places place tei at)
 
 -- what is granted is the same, whether the pool is full or not
 same_step : (t : Terms) (l : machine.Link) (full : Bool) (request : link.Request) → links.refusal t l full request ≡ None → answers.course t (link.requested request full) l ≡ answers.course t (link.requested request false) l
 same_step t l full request granted = grind (arith, granted_same)
 
 pub asked_serves : (e : LinkLayer) (s t : Store) (new : List Link) (has_frame : Marks) (service : Service) (tei place number : ℕ) (full : Bool) (request : link.Request) (answer : BareReport) (outcome : BareReport) {looked : Bool}
-    → Standing e s → place_of tei e.teis.places ≡ Some place → (place ≤ 8 → number ≡ link_number place service)
+    → Standing e s → place_of tei (management_of e.teis).places ≡ Some place → (place ≤ 8 → number ≡ link_number place service)
     → TellsOf number new looked → Sets number looked e.has_frame has_frame → Refuses number full request e.links s None
     → all.Serves number (link.requested request full) [] e.links s new t answer
     → told_in [] outcome ≡ told_of_link (told_with [] answer)
     → Serves (λ m. at_requested service tei request (place_in m tei)) [] e s (record e { links = new; has_frame = has_frame }) t outcome
 asked_serves e s t new has_frame service tei place number full request answer outcome standing here exact looks sets refuses served told =
-    let at = (place_of-is e.teis.places tei place here).1 in
+    let at = (place_of-is (management_of e.teis).places tei place here).1 in
     let same : number ≡ link_number place service = numbered e s tei place standing at exact in
     let whole = at_link_serves {octets = []} {outcome = outcome} standing at exact looks sets served told in
     record {
@@ -122,7 +190,7 @@ asked_serves e s t new has_frame service tei place number full request answer ou
       told = λ others m st. whole.told others m st ∙ ap (λ o. o.told) (one others m st at same);
     }
   where
-    one : (others : List Owned) (m : Line) → LayerStands e s others m → IsAt e.teis.places place tei → number ≡ link_number place service
+    one : (others : List Owned) (m : Line) → LayerStands e s others m → IsAt (management_of e.teis).places place tei → number ≡ link_number place service
         → of_aim e.config (at_link service tei place (link.requested request full)) m ≡ of_aim e.config (at_requested service tei request (place_in m tei)) m
     one others m st at same =
         let n = named e s others m service tei place st at in

@@ -1,11 +1,13 @@
 -- Lemmas: steps of a line, of its links and of its TEI management; what is next; ports; rooms.
 pub mod Vocabulary
+mod ManagingSteps
 pub mod LinkSteps
 pub mod Quiet
 mod Silent
 pub mod MarkBits
 pub mod AwakeSteps
 pub mod LayerSteps
+pub mod MessageTakes
 pub mod AddressSteps
 pub mod TeiChangeSteps
 pub mod LineSteps

@@ -1,6 +1,6 @@
 -- Which message of TEI management a frame has that is taken.
 use Rattle.lapd_line.proofs.Vocabulary.{◌≡◌, ℕ, Bool, true, false, List, [], ◌∷◌, ◌++◌, get_or, Option, Some, None, option_map, option_map_or, option_or, slice_get, refl, sym, ap, ◌∙◌, subst, cond, head_of, head_shown, begun_shown, message_shown, type_shown, has_message, type_of, Side, Network, User, Service, Control, Ui, unwrap_or, spelling, sapi_of, Config, Taken, taken, none-some}
-use Rattle.lapd_line.proofs.Vocabulary.{same_Some, More, Begun, Head, Message, IdentityAssigned, IdentityDenied, IdentityCheckRequest, IdentityRemove, Line, UnitData, terms_at, link_at, unit_taken, link_taken, first_taken, with_message, with_unit, with_given_frame, round, Given}
+use Rattle.lapd_line.proofs.Vocabulary.{same_Some, More, Begun, Head, Message, IdentityAssigned, IdentityDenied, IdentityCheckRequest, IdentityRemove, Line, UnitData, terms_at, link_at, unit_taken, link_taken, first_taken, with_unit, with_given_frame, round, Given}
 use Rattle.std.proofs.Common.{arith, ◌+◌, ◌*◌, ◌/◌, ◌≤◌, ◌==◌}
 use Rattle.std.proofs.lemmas.Bool.{ne_eqb}
 use Rattle.lapd_frame.specs.Grammar.{cr_bit}
@@ -8,6 +8,13 @@ use Rattle.lapd_frame.specs.Senders.{exchanged}
 use Rattle.lapd_frame.proofs.AddressField.{cr_bit-small}
 use Rattle.lapd_frame.proofs.Naming.{service-below}
 use Rattle.lapd_tei.specs.Messages.{frame_of}
+use Rattle.lapd_terminal.specs.Messages as own_messages
+use Rattle.lapd_terminal.specs.declared.messages.Message.{Message as OwnMessage}
+use Rattle.lapd_terminal.specs.declared.messages.Message.TheVariants.{IdentityRequest, IdentityCheckResponse, IdentityVerify}
+use Rattle.lapd_line.proofs.ManagingSteps.{message_of_kind}
+use Rattle.lapd_line.proofs.Vocabulary.{Managing, first_type, is_terminal, is_terminals, management_of, offered_by, own_of}
+use Rattle.lapd_line.specs.Managing.{without_message}
+use Rattle.lapd_line.specs.declared.managing.Managing.TheVariants as kind
 use Rattle.lapd_line.proofs.Vocabulary.{Sender, own_side}
 use Rattle.model_link.specs.Machine as links
 
@@ -67,19 +74,39 @@ of_links c m (number ∷ numbers) {k} is = go (of_links c m numbers) (link_taken
     go others None none is = others is
     go others (Some x) some is = of_link c m number (some ∙ is)
 
+-- a terminal's frame, too
+of_own_message : (message : OwnMessage) → message_shown Begun (own_messages.frame_of message) ≡ type_shown Begun (own_messages.type_of message)
+of_own_message (IdentityRequest ri) = refl
+of_own_message (IdentityCheckResponse ri tei) = refl
+of_own_message (IdentityVerify tei) = refl
+
 -- so what is taken shows the message that waits first
-pub message_is : (c : Config) (m : Line) {k : Taken} → taken c m ≡ Some k
-    → message_shown Begun k.frame ≡ type_counted (option_map type_of (slice_get m.management.waiting 0))
-message_is c m {k} is = go (slice_get m.management.waiting 0) is
+pub message_is : (c : Config) (x : Managing) (m : Line) → is_terminals x ≡ is_terminal c → m.management ≡ management_of x → m.own ≡ own_of x → {k : Taken} → taken c m ≡ Some k
+    → message_shown Begun k.frame ≡ type_counted (first_type x)
+message_is c x m same management own {k} is = by_kind x (sym (ap (λ o. option_or o rest) (message_of_kind c x m same management own)) ∙ is)
   where
+    rest : Option Taken
+    rest = option_or (unit_taken c m) (first_taken c m (round c m))
+
     others : (o : Option Taken) → unit_taken c m ≡ o → option_or o (first_taken c m (round c m)) ≡ Some k → IsOfService k
     others None none is = of_links c m (round c m) is
     others (Some x) some is = of_unit c m (some ∙ is)
 
-    go : (o : Option Message) → option_or (option_map (with_message m) (option_map (frame_of c.side) o)) (option_or (unit_taken c m) (first_taken c m (round c m))) ≡ Some k
-        → message_shown Begun k.frame ≡ type_counted (option_map type_of o)
-    go None is = none_shown k.frame (others (unit_taken c m) refl is)
-    go (Some message) is = ap (λ (t : Taken). message_shown Begun t.frame) (sym (same_Some _ _ is)) ∙ of_message c.side message
+    to_taken : Managing → List ℕ → Taken
+    to_taken x octets = record { frame = octets; orders = []; line = record m { management = management_of (without_message x); own = own_of (without_message x) } }
+
+    of_network : (x : Managing) (o : Option Message) → option_or (option_map (to_taken x) (option_map (frame_of c.side) o)) rest ≡ Some k → message_shown Begun k.frame ≡ type_counted (option_map type_of o)
+    of_network x None is = none_shown k.frame (others (unit_taken c m) refl is)
+    of_network x (Some message) is = ap (λ (t : Taken). message_shown Begun t.frame) (sym (same_Some _ _ is)) ∙ of_message c.side message
+
+    of_terminal : (x : Managing) (o : Option OwnMessage) → option_or (option_map (to_taken x) (option_map own_messages.frame_of o)) rest ≡ Some k
+        → message_shown Begun k.frame ≡ type_counted (option_map own_messages.type_of o)
+    of_terminal x None is = none_shown k.frame (others (unit_taken c m) refl is)
+    of_terminal x (Some message) is = ap (λ (t : Taken). message_shown Begun t.frame) (sym (same_Some _ _ is)) ∙ of_own_message message
+
+    by_kind : (x : Managing) → option_or (option_map (to_taken x) (offered_by c.side x)) rest ≡ Some k → message_shown Begun k.frame ≡ type_counted (first_type x)
+    by_kind (kind.Network b) is = of_network (kind.Network b) (slice_get b.waiting 0) is
+    by_kind (kind.Terminal b) is = of_terminal (kind.Terminal b) (slice_get b.waiting 0) is
 
 -- and a frame that begins shows its head and its message
 pub head_and_message : (side : Side) (octets : List ℕ) (head : Option Head) (type : Option ℕ) → head ≡ head_of octets → message_shown Begun octets ≡ type_counted type

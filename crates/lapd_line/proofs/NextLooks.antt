@@ -1,7 +1,8 @@
 -- Whether a frame waits.
 use Rattle.lapd_line.proofs.Vocabulary.{◌≡◌, ℕ, zero, suc, ◌+◌, ◌-◌, ◌<◌, ◌≤◌, Bool, true, false, ◌||◌, List, [], ◌∷◌, slice_get, Option, Some, None, is_some, option_map, option_or, option_map_or, refl, sym, ap, ◌∙◌, arith, false≢true, inl, inr, cases_eq, same_Some, length-map, Side, Owned, Store, Terms, Given, given, terms_of, Config, Line, UnitData, link_at, link_count, terms_at, Taken}
-use Rattle.lapd_line.proofs.Vocabulary.{link_taken, first_taken, round, with_given_frame, LinkLayer, IsMark, AreMarked, gives, gives_at, machine_at, terms_in, LayerStands, AreFor, QueuedUnit, cases_lt, slice_get_within, offered, has_next}
+use Rattle.lapd_line.proofs.Vocabulary.{link_taken, first_taken, round, with_given_frame, LinkLayer, IsMark, AreMarked, gives, gives_at, machine_at, terms_in, LayerStands, AreFor, QueuedUnit, cases_lt, slice_get_within, offered_by, message_taken, unit_taken, has_next}
 use Rattle.lapd_line.proofs.AwakeSteps.{awake_gives, marked}
+use Rattle.lapd_line.proofs.ManagingSteps.{message_of_kind}
 use Rattle.lapd_line.proofs.PullTakesLinks.{Known, known, low_link, among, none_of, asleep_gives_nothing, round_is}
 
 some_or : (x y : Option Taken) → is_some (option_or x y) ≡ (is_some x || is_some y)
@@ -93,19 +94,27 @@ module _ (e : LinkLayer) (s : Store) (others : List Owned) (m : Line) (st : Laye
           some_one ∙ sym is
 
   -- a message, unit data or a frame of a link
-  waits_is : (message unit link : Bool) → message ≡ is_some (offered e.config.side e.teis) → unit ≡ is_some (slice_get e.units.waiting 0)
+  waits_is : (message unit link : Bool) → message ≡ is_some (offered_by e.config.side e.teis) → unit ≡ is_some (slice_get e.units.waiting 0)
       → is_some (first_taken e.config m (round e.config m)) ≡ link → (message || (unit || link)) ≡ has_next e.config m
-  waits_is message unit link is_message is_unit is_link = grind (arith, is_some, some_map, slice_get, unit_waits, some_or)
+  waits_is message unit link is_message is_unit is_link =
+      let some_message : is_some (message_taken e.config m) ≡ message =
+      ap is_some (message_of_kind e.config e.teis m st.kind st.management st.own) ∙ some_map _ (offered_by e.config.side e.teis) ∙ sym is_message in
+      let some_unit : is_some (unit_taken e.config m) ≡ unit = some_map _ (slice_get m.units 0) ∙ unit_waits e.units.waiting m.units st.addressed ∙ sym is_unit in
+      sym (some_or (message_taken e.config m) (option_or (unit_taken e.config m) (first_taken e.config m (round e.config m)))
+      ∙ ap (λ b. is_some (message_taken e.config m) || b) (some_or (unit_taken e.config m) (first_taken e.config m (round e.config m)))
+      ∙ ap (λ b. b || (is_some (unit_taken e.config m) || is_some (first_taken e.config m (round e.config m)))) some_message
+      ∙ ap (λ b. message || (b || is_some (first_taken e.config m (round e.config m)))) some_unit
+      ∙ ap (λ b. message || (unit || b)) is_link)
 
   pub waits_with_link : (true ≡ false → AreMarked e.has_frame (λ number. false)) → (true ≡ true → (number : ℕ) × (number < 64) × IsMark e.has_frame number true) → true ≡ has_next e.config m
   waits_with_link none some =
-      let message : Bool = is_some (offered e.config.side e.teis) in
+      let message : Bool = is_some (offered_by e.config.side e.teis) in
       let unit : Bool = is_some (slice_get e.units.waiting 0) in
       sym (ap (λ b. message || b) (or_true unit) ∙ or_true message) ∙ waits_is message unit true refl refl (links_wait true none some)
 
-  pub waits_with_message : ((side : Side) → true ≡ is_some (offered side e.teis)) → true ≡ has_next e.config m
+  pub waits_with_message : ((side : Side) → true ≡ is_some (offered_by side e.teis)) → true ≡ has_next e.config m
   waits_with_message is_message = waits_is true (is_some (slice_get e.units.waiting 0)) (is_some (first_taken e.config m (round e.config m))) (is_message e.config.side) refl refl
 
   pub waits_with_unit : {unit : Bool} → (false ≡ false → AreMarked e.has_frame (λ number. false)) → (false ≡ true → (number : ℕ) × (number < 64) × IsMark e.has_frame number true)
-      → ((side : Side) → false ≡ is_some (offered side e.teis)) → unit ≡ is_some (slice_get e.units.waiting 0) → unit ≡ has_next e.config m
+      → ((side : Side) → false ≡ is_some (offered_by side e.teis)) → unit ≡ is_some (slice_get e.units.waiting 0) → unit ≡ has_next e.config m
   waits_with_unit {unit} none some is_message is_unit = sym (or_false unit) ∙ waits_is false unit false (is_message e.config.side) is_unit (links_wait false none some)

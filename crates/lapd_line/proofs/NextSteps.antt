@@ -1,5 +1,5 @@
 -- What a call for the next frame does to a line.
-use Rattle.lapd_line.proofs.Vocabulary.{◌≡◌, ℕ, ◌+◌, ◌≤◌, false, List, [], ◌++◌, length, take, drop, take-append_seam, Option, Some, None, IfSome, is_some, option_map, refl, sym, ap, ◌∙◌, subst, arith, option_map_or, Counters, More, with_all, begun_shown, message_shown, type_of, slice_get, listed, ShortList, Order, Owned, Store, Config, next, gave, after, answer, Taken, taken, next_of, line_of}
+use Rattle.lapd_line.proofs.Vocabulary.{◌≡◌, ℕ, ◌+◌, ◌≤◌, false, List, [], ◌++◌, length, take, drop, take-append_seam, Option, Some, None, IfSome, is_some, option_map, refl, sym, ap, ◌∙◌, subst, arith, option_map_or, Counters, More, with_all, begun_shown, message_shown, Managing, first_type, listed, ShortList, Order, Owned, Store, Config, next, gave, after, answer, Taken, taken, next_of, line_of}
 use Rattle.lapd_line.proofs.Vocabulary.{TakesSoundly, taken_sound, answer_shown, FrameLine, LinkLayer, IsNext, Loading, in_octets, Took, Takes, TakesNext, Leads, config_of, gave_in, length-append, drop-append-drop, has_next, LineStands, Begun}
 use Rattle.model_line.specs.Event as line_event
 use Rattle.model_line.specs.Line as machine
@@ -63,23 +63,23 @@ module _ {old : FrameLine} {s : Store} {f : Loading} {mid : FrameLine} {t : Stor
   none_leads none = next_leads mid.counters [] refl (λ others m st. ap (answer_shown (config_of old).side) (gave_none none others m st).0)
 
 -- a frame was taken: these are its octets and orders
-pub record Gave (c : Config) (m : machine.Line) (orders : List Order) (f g : Loading) : Type 0 where
+pub record Gave (c : Config) (x : Managing) (m : machine.Line) (orders : List Order) (f g : Loading) : Type 0 where
   pub frame : line_event.NextFrame
   pub is : answer c next m ≡ gave (Some frame)
   pub loaded : IsNext (Some frame) (Some orders) f g
   pub size : length frame.octets ≤ c.n201 + 4
-  pub message : message_shown Begun frame.octets ≡ type_counted (option_map type_of (slice_get m.management.waiting 0))
+  pub message : message_shown Begun frame.octets ≡ type_counted (first_type x)
 
 pub gave_one : {old : FrameLine} {s : Store} {f : Loading} {mid : FrameLine} {t : Store} {g : Loading} {given : Option (List Order)} {orders : List Order} → TakesNext old s f mid t g given → given ≡ Some orders
-    → (others : List Owned) (m : machine.Line) → LineStands old s others m → Gave (config_of old) m orders f g
+    → (others : List Owned) (m : machine.Line) → LineStands old s others m → Gave (config_of old) old.layer.teis m orders f g
 unfolding answer
 gave_one {old} {f = f} {g = g} {orders = orders} h some others m st =
     go (taken (config_of old) m) refl (subst (λ o. IsNext (option_map next_of (taken (config_of old) m)) o f g) some (h.next others m st)) (taken_sound (config_of old) st.layer.range m st.layer.sound)
   where
     go : (o : Option Taken) → taken (config_of old) m ≡ o → IsNext (option_map next_of o) (Some orders) f g → IfSome o (TakesSoundly (config_of old) m)
-        → Gave (config_of old) m orders f g
+        → Gave (config_of old) old.layer.teis m orders f g
     go None is gone whole = absurd gone
-    go (Some k) is one whole = record { frame = next_of k; is = ap (λ o. gave (option_map next_of o)) is; loaded = one; size = whole.size; message = message_is (config_of old) m is }
+    go (Some k) is one whole = record { frame = next_of k; is = ap (λ o. gave (option_map next_of o)) is; loaded = one; size = whole.size; message = message_is (config_of old) old.layer.teis m st.layer.kind st.layer.management st.layer.own is }
 
 -- what is shown of it
 pub given_is : (c : Config) (m : machine.Line) (frame : line_event.NextFrame) (octets : List ℕ) → answer c next m ≡ gave (Some frame) → frame.octets ≡ octets

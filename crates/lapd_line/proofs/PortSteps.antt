@@ -1,5 +1,5 @@
 -- What a port does.
-use Rattle.lapd_line.proofs.Vocabulary.{arith, ◌≡◌, ℕ, ◌≤◌, Bool, false, List, [], ◌∷◌, ◌++◌, length, take, slice_get, Option, Some, None, is_some, option_map, option_to_list, fold, fold-append, ◌⊎◌, refl, sym, ap, ◌∙◌, subst, append_assoc, le-ltb, same_Some, option_map_or, unwrap_or, bits, low_bits, number_of, Framing, runs_low, refilled, with_idle, Item, frame, line_text, bits-push, heard_in}
+use Rattle.lapd_line.proofs.Vocabulary.{first_type, arith, ◌≡◌, ℕ, ◌≤◌, Bool, false, List, [], ◌∷◌, ◌++◌, length, take, slice_get, Option, Some, None, is_some, option_map, option_to_list, fold, fold-append, ◌⊎◌, refl, sym, ap, ◌∙◌, subst, append_assoc, le-ltb, same_Some, option_map_or, unwrap_or, bits, low_bits, number_of, Framing, runs_low, refilled, with_idle, Item, frame, line_text, bits-push, heard_in}
 use Rattle.lapd_line.proofs.Vocabulary.{Head, head_shown, listed, ShortList, Order, Owned, Store, next, answer_shown, answer, without_octets, Cause, in_bits, Loading, TakesNext, FrameLine, Management, type_of, config_of, orders_taken, IsLoaded, IsSaid, PortStands, or_heard, or_latest, with_frame, left_is, one_item, text_of, Port, Ended, IsTextOf, LineStands, Answer, NextFrame, given_in}
 use Rattle.lapd_bits.specs.declared.ended.Ended.TheVariants as ended
 use Rattle.model_bits.specs.Framer as framer
@@ -80,14 +80,14 @@ module _ {old : FrameLine} {s : Store} {mid : FrameLine} {t : Store} (port : Por
       })
 
   -- and what is shown of it is its head, and the message that waited first
-  pub head_is : {orders : List Order} {head : Option Head} {type : Option ℕ} → given ≡ Some orders → head ≡ g.begun → type ≡ option_map type_of (slice_get old.layer.teis.waiting 0)
+  pub head_is : {orders : List Order} {head : Option Head} {type : Option ℕ} → given ≡ Some orders → head ≡ g.begun → type ≡ first_type old.layer.teis
       → (others : List Owned) (m : lines.Line) → LineStands old s others m
       → answer_shown (config_of old).side (answer (config_of old) next m) ≡ option_map_or (λ x. head_shown (config_of old).side x ++ type_counted type) head []
   head_is {head = head} {type = type} some is first others m st =
       let one = gave_one h some others m st in
       given_is (config_of old) m one.frame one.frame.octets one.is refl
       ∙ head_and_message (config_of old).side one.frame.octets head type (is ∙ one.loaded.1.1)
-      (one.message ∙ ap (λ (t : Management). type_counted (option_map type_of (slice_get t.waiting 0))) st.layer.management ∙ ap type_counted (sym first))
+      (one.message ∙ ap type_counted (sym first))
 
 -- The framer gave this octet.
 pub record Gives (f g : Framing) (octet : ℕ) : Type 0 where

@@ -68,6 +68,7 @@ without_unit e s t others m u st is free =
     stands_as st e.teis (without_oldest e.units) t others (record m { units = drop 1 m.units }) (refl, refl, refl, refl) (subst (λ x. e.config.n201 ≤ x.width) (sym free) st.wide)
     (record {
       management = st.sound.management;
+      own = st.sound.own;
       places = st.sound.places;
       count = st.sound.count;
       links = st.sound.links;
@@ -75,7 +76,7 @@ without_unit e s t others m u st is free =
       few_units = omega (arith, st.sound.few_units, length-drop 1 m.units);
       turn = st.sound.turn;
     })
-    st.management o.addressed ((beside_units e s others m st).back t (unit_pairs (drop 1 e.units.waiting) (drop 1 m.units)) (o.released t free))
+    (st.management, st.own, st.kind) o.addressed ((beside_units e s others m st).back t (unit_pairs (drop 1 e.units.waiting) (drop 1 m.units)) (o.released t free))
 
 pub none_for : (us : List QueuedUnit) (ds : List UnitData) → None ≡ slice_get us 0 → AreFor us ds → slice_get ds 0 ≡ None
 none_for [] [] none h = refl

@@ -1,6 +1,7 @@
 -- An expiry and a request deliver nothing.
-use Rattle.lapd_line.proofs.Vocabulary.{arith, ◌≡◌, ℕ, false, List, [], Option, Some, None, refl, ap, ◌∙◌, sym, option_or, Service, Timer, Config, Line, LineTold, of_aim, of_change, Aim, at_link, at_management, at_timer, aim_of_expiry, at_requested, at_deactivated, aim_of_request, Request, Terms, Course, link_in, terms, BareReport, told_in, told_beside, Change, LinkTimer, event_row}
+use Rattle.lapd_line.proofs.Vocabulary.{arith, ◌≡◌, ℕ, true, false, cond, List, [], Option, Some, None, refl, ap, ◌∙◌, sym, option_or, Service, Timer, Config, Line, LineTold, of_aim, of_change, Aim, at_link, at_management, at_no_link, at_terminal, at_a_terminal, is_terminal, of_network, of_terminal_if, without_units, at_timer, aim_of_expiry, at_requested, at_deactivated, aim_of_request, Request, Terms, Course, link_in, terms, BareReport, told_in, told_beside, Change, LinkTimer, event_row}
 use Rattle.lapd_tei.specs.Events as teis
+use Rattle.lapd_terminal.specs.Events as terminals
 use Rattle.model_link.specs.Events as link
 use Rattle.model_link.specs.Steps.{begun}
 use Rattle.model_link.specs.Words
@@ -32,8 +33,26 @@ module _ (c : Config) (m : Line) where
   change_silent : (l : Line) (o : Option Change) (t : LineTold) → t.contents ≡ None → (of_change c o t l).told.contents ≡ None
   change_silent l o t e = grind arith
 
+  terminal_silent : (e : terminals.Event) → Silent (at_terminal e)
+  terminal_silent e = change_silent _ _ _ refl
+
+  terminal_if_silent : (o : Option terminals.Event) → (of_terminal_if c o m).told.contents ≡ None
+  terminal_if_silent None = refl
+  terminal_if_silent (Some e) = terminal_silent e
+
   management_silent : (e : teis.Event) → Silent (at_management e)
-  management_silent e = change_silent _ _ _ refl
+  management_silent e =
+      elim (is_terminal c) as (λ b. (cond b (of_terminal_if c (at_a_terminal e) m) (of_network c e m)).told.contents ≡ None) [
+        | true ↦ terminal_if_silent (at_a_terminal e)
+        | false ↦ change_silent _ _ _ refl
+      ]
+
+  down_silent : Silent at_no_link
+  down_silent =
+      elim (is_terminal c) as (λ b. (cond b (of_terminal_if c (at_a_terminal teis.down) (without_units m)) (of_network c teis.down (without_units m))).told.contents ≡ None) [
+        | true ↦ change_silent _ _ _ refl
+        | false ↦ change_silent _ _ _ refl
+      ]
 
   timer_silent : (service : Service) (tei : ℕ) (timer : LinkTimer) (o : Option ℕ) → Silent (at_timer service tei timer o)
   timer_silent service tei timer None = refl
@@ -48,10 +67,10 @@ module _ (c : Config) (m : Line) where
   deactivated_silent service tei (Some place) = link_silent service tei place link.cleared tt
 
   pub expiry_silent : (timer : Timer) → (of_aim c (aim_of_expiry timer m) m).told.contents ≡ None
-  expiry_silent timer = grind (arith, timer_silent, management_silent)
+  expiry_silent timer = grind (arith, timer_silent, management_silent, terminal_silent)
 
   pub request_silent : (r : Request) → (of_aim c (aim_of_request r m) m).told.contents ≡ None
-  request_silent r = grind (arith, requested_silent, deactivated_silent, management_silent, change_silent)
+  request_silent r = grind (arith, requested_silent, deactivated_silent, management_silent, terminal_silent, down_silent)
 
 -- so a report of it tells the same with no contents beside it
 pub silent_told : (o : BareReport) {t : LineTold} → told_in [] o ≡ t → t.contents ≡ None → told_beside None o ≡ t

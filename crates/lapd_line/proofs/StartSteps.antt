@@ -1,6 +1,7 @@
 -- A line begins: what its parts are, and that they stand for an empty past.
-use Rattle.lapd_line.proofs.Vocabulary.{◌≡◌, ℕ, ◌≤◌, List, [], ◌∷◌, ◌++◌, length, replicate, Some, None, refl, sym, ap, subst, ◌∙◌, arith, get_or-replicate, All-nil, All-cons, All-head, All-tail, All, zip, Owned, Holds, pairs_of, Store, empty_store, Holds-empty, Management, empty, Link, terms_of, fresh, queue_of, Config, place_at, link_count, fresh_line, IsInRange, fresh_sound, place_within}
+use Rattle.lapd_line.proofs.Vocabulary.{◌≡◌, ℕ, ◌≤◌, List, [], ◌∷◌, ◌++◌, length, replicate, Some, None, refl, sym, ap, subst, ◌∙◌, arith, get_or-replicate, All-nil, All-cons, All-head, All-tail, All, zip, Owned, Holds, pairs_of, Store, empty_store, Holds-empty, Managing, Link, terms_of, fresh, queue_of, Config, place_at, link_count, fresh_line, IsInRange, fresh_sound, place_within}
 use Rattle.lapd_line.proofs.Vocabulary.{ranges_of, Marks, AreMarked, false, LayerStands, LinkFits, links_pairs, IsBegun, AreBegun, UnitRing, AreFor, empty_ring, unit_pairs}
+use Rattle.lapd_line.specs.Managing.{IsBegunBy}
 use Rattle.lapd_link.specs.Stands as link
 use Rattle.lapd_link.specs.Stands.{slots_of}
 use Rattle.lapd_line.proofs.AwakeSteps.{awake_first}
@@ -34,14 +35,16 @@ absurd_none : {A : Type 0} {x : ℕ} → None ≡ Some x → A
 absurd_none h = cc
 
 -- the entities, of parts that were just started
-pub layer_fresh : (c : Config) (teis : Management) (links : List Link) (units : UnitRing) (has_frame : Marks) → IsInRange c → teis ≡ empty c.terminals → AreBegun c links → units ≡ empty_ring c.unit_queue → AreMarked has_frame (λ number. false)
+pub layer_fresh : (c : Config) (teis : Managing) (links : List Link) (units : UnitRing) (has_frame : Marks) → IsInRange c → IsBegunBy c teis → AreBegun c links → units ≡ empty_ring c.unit_queue → AreMarked has_frame (λ number. false)
     → (store : Store) (others : List Owned) → c.n201 ≤ store.width → Holds store others
     → LayerStands (record { config = c; teis = teis; links = links; units = units; turn = 0; has_frame = has_frame }) store others (fresh_line c)
 layer_fresh c teis links units has_frame ranged is_teis b is_units none store others wide held = record {
   range = ranged;
   wide = wide;
   sound = fresh_sound c ranged;
-  management = sym is_teis;
+  management = sym is_teis.management;
+  own = sym is_teis.own;
+  kind = is_teis.kind;
   count = b.count;
   links = subst (λ n. All (LinkFits c) (zip links (replicate n fresh))) b.count (links_fit c links b.begun);
   terms = λ number tei within at.

@@ -17,7 +17,7 @@ held_of x s others m st = st.layer.held
 -- and where another shelf holds it, the entities stand there too,
 pub on_shelf : {e : LinkLayer} {s t : Store} {others rest : List Owned} {m : machine_line.Line} → LayerStands e s others m → e.config.n201 ≤ t.width
     → Holds t ((links_pairs e.links m.links ++ unit_pairs e.units.waiting m.units) ++ rest) → LayerStands e t rest m
-on_shelf {e} {t = t} {rest = rest} {m} st wide held = stands_as st e.teis e.units t rest m (refl, refl, refl, refl) wide st.sound st.management st.addressed held
+on_shelf {e} {t = t} {rest = rest} {m} st wide held = stands_as st e.teis e.units t rest m (refl, refl, refl, refl) wide st.sound (st.management, st.own, st.kind) st.addressed held
 
 -- and so does the line
 pub stands_on : (x : FrameLine) (s : Store) (others : List Owned) (m : machine_line.Line) → LineStands x s others m → (t : Store) (rest : List Owned) → (config_of x).n201 ≤ t.width → Holds t (line_pairs x m ++ rest)

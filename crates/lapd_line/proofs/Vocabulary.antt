@@ -1,5 +1,5 @@
 -- The words with which the proofs of this crate speak, from where they are defined.
-pub use Rattle.std.proofs.Common.{Bool, Err, IfErr, IfSome, IsSome, List, None, Ok, OnOk, Option, Result, Some, [], ap, append_assoc, arith, cond, drop, drop-drop, eqb-true, false, get_or, inl, inr, is_some, length, length-append, length-drop, nat_le, nat_lt, not, option_map, option_to_list, refl, replicate, reverse, set, slice_get, subst, suc, sym, take, true, vec_len, w64, zero, ℕ, ⊎_elim, ◌&&◌}
+pub use Rattle.std.proofs.Common.{Bool, Err, IfErr, IfOk, IfSome, IsSome, List, None, Ok, OnOk, Option, Result, Some, [], ap, append_assoc, arith, cond, drop, drop-drop, eqb-true, false, get_or, inl, inr, is_some, length, length-append, length-drop, nat_le, nat_lt, not, option_map, option_to_list, refl, replicate, reverse, set, slice_get, subst, suc, sym, take, true, vec_len, w64, zero, ℕ, ⊎_elim, ◌&&◌}
 pub use Rattle.std.proofs.Common.{◌*◌, ◌++◌, ◌+◌, ◌-◌, ◌/◌, ◌<◌, ◌==◌, ◌^◌, ◌||◌, ◌∙◌, ◌∷◌, ◌≡◌, ◌≢◌, ◌≤◌, ◌⊎◌, fold}
 pub use Rattle.std.proofs.Math.ListN.{drop_of_length-le}
 pub use Rattle.std.proofs.Math.Nat.{div-le_self}
@@ -42,7 +42,7 @@ pub use Rattle.lapd_frame.specs.declared.services.Service.TheVariants.{Call, Pac
 pub use Rattle.lapd_frame.specs.declared.short_lists.ShortList.{ShortList}
 pub use Rattle.lapd_frame.specs.declared.timers.Order.{Order}
 pub use Rattle.lapd_frame.specs.declared.timers.Timer.{Timer}
-pub use Rattle.lapd_line.specs.Addressing.{addressee, aim_at, group_service, is_ui, message_at, of_service}
+pub use Rattle.lapd_line.specs.Addressing.{addressee, aim_at, group_service, is_ui, message_at, of_service, serves_messages}
 pub use Rattle.lapd_line.specs.Awake.{AreAwake, TellsOf, gives, gives_at}
 pub use Rattle.lapd_line.specs.Counted.{bare_shown, with_counted}
 pub use Rattle.lapd_line.specs.LinkLayer.{Serves, Standing, LayerStands, aim_of_event, always}
@@ -53,7 +53,9 @@ pub use Rattle.lapd_line.specs.Octets.{OctetsLead, OctetsStand, octets_config}
 pub use Rattle.lapd_line.specs.Ports.{IsLoaded, IsSaid, PortStands, Pulls, latest_frame, or_latest, with_frame}
 pub use Rattle.lapd_line.specs.Pulls.{HasTaken, Takes, TakesNext, Took, orders_taken}
 pub use Rattle.lapd_line.specs.Reports.{IsClear, gave_in, pulled_of, report_told, told_beside, told_in}
-pub use Rattle.lapd_line.specs.Requests.{event_of, link_refusal, management_refusal}
+pub use Rattle.lapd_line.specs.Managing.{first_type, held_by, is_terminals, management_of, offered_by, own_of}
+pub use Rattle.lapd_line.specs.declared.managing.Managing.{Managing}
+pub use Rattle.lapd_line.specs.Requests.{asked_aim, link_refusal, management_refusal}
 pub use Rattle.lapd_line.specs.Stands.{Leads, LeadsIfHeard, LineStands, answer_if_heard, config_of, pairs_of as line_pairs}
 pub use Rattle.lapd_line.specs.Starts.{AreBegun, IsBegun}
 pub use Rattle.lapd_line.specs.TeiChanges.{Changing, IsAnswerTo, with_management}
@@ -107,21 +109,21 @@ pub use Rattle.model_line.proofs.Sides.{unit_tei}
 pub use Rattle.model_line.proofs.Starts.{expiry_starts}
 pub use Rattle.model_line.specs.Counted.{answer_shown, counted, shown}
 pub use Rattle.model_line.specs.Counts.{may_send}
-pub use Rattle.model_line.specs.Effect.{Aim, at_link, at_management, at_no_link, at_none, at_units, of_aim, of_change, of_management, told_of_link, told_of_management, unserved_cause, with_cleared, with_opened, without_units}
+pub use Rattle.model_line.specs.Effect.{Aim, at_a_terminal, at_link, at_management, at_no_link, at_none, at_terminal, at_units, of_aim, of_change, of_management, of_network, of_terminal, of_terminal_if, told_of_link, told_of_management, told_of_terminal, unserved_cause, with_cleared, with_opened, without_units}
 pub use Rattle.model_line.specs.Event.{Answer, Event, LineTold, NextFrame, dropped, expiry, gave, given_in, hears, next, nothing, told}
 pub use Rattle.model_line.specs.Expiry.{aim_of_expiry, at_timer}
 pub use Rattle.model_line.specs.Laws.{orders_in}
-pub use Rattle.model_line.specs.Line.{Line, UnitData, fresh_line, has_tei, link_at, link_count, link_in, link_number, link_of, place_at, place_in, service_at, state_in, state_of, tei_at, terms, terms_at, window, with_link}
+pub use Rattle.model_line.specs.Line.{Line, Own, UnitData, is_terminal, terminal_in, terminal_with, with_terminal, fresh_line, has_tei, link_at, link_count, link_in, link_number, link_of, place_at, place_in, service_at, state_in, state_of, tei_at, terms, terms_at, window, with_link}
 pub use Rattle.model_line.specs.Machine.{unless_refused, unless_refused_told}
 unfoldable pub use Rattle.model_line.specs.Machine.{after, answer}
 pub use Rattle.model_line.specs.Heard.{addressed, aim_of_long, aim_of_reading, at_place, drop_for, group_tei, heard_side, message_of, to_service, unless_at_link}
-pub use Rattle.model_line.specs.Taken.{Taken, first_taken, line_of, link_taken, message_taken, next_of, own_side, round, taken, unit_taken, with_given_frame, with_message, with_unit}
+pub use Rattle.model_line.specs.Taken.{Taken, first_taken, line_of, link_taken, message_taken, next_of, own_side, round, taken, unit_taken, with_given_frame, with_message, with_own_message, with_unit}
 pub use Rattle.model_line.specs.Refusal.{Row, bad_tei, bad_tei_or_group, first_that_holds, no_link, no_link_nor_group, pool_full, queue_full, refusal, too_long, unit_queue_full, wrong_state}
-pub use Rattle.model_line.specs.Request.{Assign, Check, ClearBusy, Data, Deactivate, Disown, Down, Establish, Release, Remove, Request, SetBusy, Unit, request_of}
+pub use Rattle.model_line.specs.Request.{AskTei, Assign, Check, ClearBusy, Data, Deactivate, Disown, Down, Establish, Release, Remove, Request, SetBusy, Unit, VerifyTei, request_of}
 pub use Rattle.model_line.specs.Requested.{aim_of_request, at_deactivated, at_requested}
 pub use Rattle.model_line.specs.Room.{unless}
-pub use Rattle.model_line.specs.Sides.{at_side, group_told, has_management, last_unit_tei, managed_at, told_at, told_of_group, told_of_ui}
-pub use Rattle.model_line.specs.Sound.{IsInRange, IsSound, IsSoundAt, IsUnitData}
+pub use Rattle.model_line.specs.Sides.{at_side, group_told, has_management, is_network, last_unit_tei, managed_at, told_at, told_of_group, told_of_ui}
+pub use Rattle.model_line.specs.Sound.{IsInRange, IsOfSide, IsSound, IsSoundAt, IsUnitData}
 pub use Rattle.model_line.specs.Stored.{unit_contents, held_by_link, octets_by_link, octets_of, slots_by_link, slots_of, sum_of_links, total_length, unit_length}
 pub use Rattle.model_line.specs.declared.config.Config.{Config}
 pub use Rattle.model_card.proofs.OfPorts.TextGoesOn.{left_is, one_item, text_of}
@@ -158,6 +160,6 @@ pub use Rattle.model_card.specs.ports.Codec.{IsTextOf}
 pub use Rattle.model_line.specs.Came.{cause_of}
 pub use Rattle.model_link.proofs.Rows.{event_row}
 pub use Rattle.model_link.specs.declared.timers.LinkTimer.{LinkTimer}
-pub use Rattle.std.proofs.lemmas.Result.{IfErr-weaker}
+pub use Rattle.std.proofs.lemmas.Result.{IfErr-weaker, IfOk-weaker}
 pub use Rattle.std.proofs.lemmas.Slice.{drop-append-drop}
 pub use Rattle.std.specs.Borrow.{Bor}

@@ -1,8 +1,7 @@
 -- For whom a frame is, by its address.
-use Rattle.std.specs.Prelude.{ℕ, ◌==◌, Bool, true, false, not, ◌&&◌, nat_le, List, length, Option, Some, None, if◌then◌else◌}
+use Rattle.std.specs.Prelude.{ℕ, ◌==◌, Bool, true, false, not, ◌&&◌, ◌||◌, nat_le, List, length, Option, Some, None, if◌then◌else◌}
 use Rattle.model_bits.specs.declared.heard.Cause.TheVariants.{Sapi, Tei, Unserved}
 use Rattle.lapd_frame.specs.declared.addresses.Address.{Address}
-use Rattle.lapd_frame.specs.declared.addresses.Side.{Side}
 use Rattle.lapd_frame.specs.declared.controls.Control.{Control}
 use Rattle.lapd_frame.specs.declared.controls.Control.TheVariants as control
 use Rattle.lapd_frame.specs.declared.services.Service.{Service}
@@ -14,8 +13,9 @@ use Rattle.lapd_tei.specs.Machine.{Management, place}
 use Rattle.lapd_tei.specs.Sound.{IsAt}
 use Rattle.model_line.specs.declared.config.Config.{Config}
 use Rattle.model_line.specs.Heard.{management_sapi, group_tei, drop_for}
-use Rattle.model_line.specs.Sides.{managed_at, has_management}
-use Rattle.model_line.specs.Effect.{Aim, at_link}
+use Rattle.model_line.specs.Sides.{is_network}
+use Rattle.model_line.specs.Effect.{Aim, at_link, at_management}
+use Rattle.model_line.specs.Line.{is_terminal}
 use Rattle.lapd_line.specs.declared.addressing.Addressee.{Addressee}
 use Rattle.lapd_line.specs.declared.addressing.Addressee.TheVariants as to
 
@@ -37,14 +37,19 @@ abbrev pub is_ui : Control → Bool
 is_ui (control.Ui p) = true
 is_ui other = false
 
--- A frame of layer 2 management: UI alone is served, on the network's side.
-abbrev pub message_at : Side → Control → List ℕ → Aim
-message_at side k info = if is_ui k then managed_at side (teis.message info) else drop_for Unserved
+-- A frame of layer 2 management: UI alone is served, at the network's side, and at a terminal, which serves commands alone.
+abbrev pub serves_messages : Config → Address → Bool
+serves_messages c address = is_network c.side || (is_terminal c && address.command)
+
+abbrev pub message_at : Config → Parts → Aim
+message_at c parts =
+    if is_ui parts.control then (if serves_messages c parts.address then at_management (teis.message parts.info) else drop_for Unserved)
+    else drop_for Unserved
 
 -- Of the frames for nobody a side may serve this one: on the user's, a UI to the group of at most N201 octets,
 abbrev pub serves_group : Config → Parts → Bool
 serves_group c parts =
-    not (has_management c.side) && ((parts.address.tei == group_tei) && (is_ui parts.control && nat_le (length parts.info) c.n201))
+    not (is_network c.side) && ((parts.address.tei == group_tei) && (is_ui parts.control && nat_le (length parts.info) c.n201))
 
 -- with the SAPI of a service.
 abbrev pub group_service : Config → Parts → Option Service

@@ -7,7 +7,7 @@ use Rattle.lapd_store.specs.Ownership.{Owned, Holds}
 use Rattle.lapd_store.specs.Store.{Store, SameLimits}
 use Rattle.model_line.specs.declared.config.Config.{Config}
 use Rattle.model_line.specs.Event.{nothing}
-use Rattle.model_line.specs.Line.{Line, link_count, place_at, service_at, tei_at, terms}
+use Rattle.model_line.specs.Line.{Line, is_terminal, link_count, place_at, service_at, tei_at, terms}
 use Rattle.model_line.specs.Heard.{aim_of_heard}
 use Rattle.model_line.specs.Effect.{Aim, at_none, of_aim}
 use Rattle.model_line.specs.Sound.{IsInRange, IsSound}
@@ -15,6 +15,7 @@ use Rattle.lapd_line.specs.declared.link_layer.LinkLayer.{LinkLayer}
 use Rattle.lapd_link_steps.specs.declared.report.BareReport.{BareReport}
 use Rattle.lapd_line.specs.Awake.{AreAwake}
 use Rattle.lapd_line.specs.Links.{LinkFits, HasTerms, links_pairs}
+use Rattle.lapd_line.specs.Managing.{management_of, own_of, is_terminals}
 use Rattle.lapd_line.specs.Units.{AreFor, unit_pairs}
 use Rattle.lapd_line.specs.Reports.{told_in}
 
@@ -23,7 +24,10 @@ pub record LayerStands (e : LinkLayer) (store : Store) (others : List Owned) (m 
   pub range : IsInRange e.config
   pub wide : e.config.n201 ≤ store.width
   pub sound : IsSound e.config m
-  pub management : m.management ≡ e.teis
+  -- TEI management is of the kind that the configuration says
+  pub management : m.management ≡ management_of e.teis
+  pub own : m.own ≡ own_of e.teis
+  pub kind : is_terminals e.teis ≡ is_terminal e.config
   pub count : length e.links ≡ link_count e.config
   pub links : All (LinkFits e.config) (zip e.links m.links)
   -- the links of a TEI on the line have its parameters

@@ -1,6 +1,5 @@
 -- Why a request of a link is refused, and what one of management.
-use Rattle.std.specs.Prelude.{ℕ, Bool, true, not, nat_lt, Option, Some, if◌then◌else◌}
-use Rattle.lapd_frame.specs.declared.addresses.Side.{Side}
+use Rattle.std.specs.Prelude.{ℕ, Bool, true, false, not, nat_lt, Option, Some, if◌then◌else◌}
 use Rattle.lapd_frame.specs.declared.refusals.Refusal.{Refusal}
 use Rattle.lapd_frame.specs.declared.refusals.Refusal.TheVariants.{BadTei, NoLink, WrongSide}
 use Rattle.lapd_frame.specs.declared.services.Service.{Service}
@@ -8,8 +7,15 @@ use Rattle.model_link.specs.Events as link
 use Rattle.model_link.specs.Requests as links
 use Rattle.lapd_tei.specs.Events as teis
 use Rattle.model_line.specs.declared.config.Config.{Config}
-use Rattle.model_line.specs.Sides.{has_management}
-use Rattle.model_line.specs.Line.{Line, has_tei, link_of, terms}
+use Rattle.lapd_tei.specs.Machine.{Management}
+use Rattle.lapd_terminal.specs.Events as terminals
+use Rattle.lapd_terminal.specs.Machine.{Terminal}
+use Rattle.model_line.specs.Effect.{Aim, at_management, at_terminal}
+use Rattle.model_line.specs.Request.{Request, Assign, Remove, Check, Disown, AskTei, VerifyTei}
+use Rattle.model_line.specs.Sides.{has_management, is_network}
+use Rattle.model_line.specs.Line.{Line, has_tei, is_terminal, link_of, terms}
+use Rattle.lapd_line.specs.declared.managing.Managing.{Managing}
+use Rattle.lapd_line.specs.declared.managing.Managing.TheVariants as kind
 use Rattle.lapd_line.specs.declared.requests.TeiRequest.{TeiRequest}
 use Rattle.lapd_line.specs.declared.requests.TeiRequest.TheVariants as tei_request
 
@@ -21,29 +27,67 @@ link_refusal c full service tei request l =
     else links.refusal (terms c service tei) (link_of service tei l) full request
 
 -- What is asked of TEI management, as its event.
-abbrev pub event_of : TeiRequest → ℕ → teis.Event
-event_of tei_request.Assign tei = teis.assign tei
-event_of tei_request.Remove tei = teis.remove tei
-event_of tei_request.Check tei = teis.check tei
-event_of tei_request.Disown tei = teis.disown tei
+abbrev pub asked_aim : TeiRequest → ℕ → Aim
+asked_aim tei_request.Assign tei = at_management (teis.assign tei)
+asked_aim tei_request.Remove tei = at_management (teis.remove tei)
+asked_aim tei_request.Check tei = at_management (teis.check tei)
+asked_aim tei_request.Disown tei = at_management (teis.disown tei)
+asked_aim tei_request.Ask tei = at_terminal terminals.ask
+asked_aim tei_request.Verify tei = at_terminal (terminals.verify tei)
 
--- Each side puts a TEI on the line; the network's alone takes one off, checks one, or disowns one.
-abbrev pub may_ask : Side → TeiRequest → Bool
-may_ask side tei_request.Assign = true
-may_ask side tei_request.Remove = has_management side
-may_ask side tei_request.Check = has_management side
-may_ask side tei_request.Disown = has_management side
+-- Each side puts a TEI on the line, and takes one off if it has TEI management. The network's alone checks one or disowns one,
+-- and a terminal alone asks for one and has it verified.
+abbrev pub may_ask : Config → TeiRequest → Bool
+may_ask c tei_request.Assign = true
+may_ask c tei_request.Remove = has_management c
+may_ask c tei_request.Check = is_network c.side
+may_ask c tei_request.Disown = is_network c.side
+may_ask c tei_request.Ask = is_terminal c
+may_ask c tei_request.Verify = is_terminal c
 
--- The greatest TEI that may be named: that of a terminal, or all of them where they are disowned.
-abbrev pub last_tei : TeiRequest → ℕ
-last_tei tei_request.Assign = 126
-last_tei tei_request.Remove = 126
-last_tei tei_request.Check = 126
-last_tei tei_request.Disown = 127
+-- The TEI that it names is no terminal's, or where a TEI is disowned, not that of all either. (One that is asked for is not
+-- named.)
+abbrev pub is_bad : TeiRequest → ℕ → Bool
+is_bad tei_request.Assign tei = nat_lt 126 tei
+is_bad tei_request.Remove tei = nat_lt 126 tei
+is_bad tei_request.Check tei = nat_lt 126 tei
+is_bad tei_request.Disown tei = nat_lt 127 tei
+is_bad tei_request.Ask tei = false
+is_bad tei_request.Verify tei = nat_lt 126 tei
+
+-- It, as a request of the line.
+abbrev pub request_asked : TeiRequest → ℕ → Request
+request_asked tei_request.Assign tei = Assign tei
+request_asked tei_request.Remove tei = Remove tei
+request_asked tei_request.Check tei = Check tei
+request_asked tei_request.Disown tei = Disown tei
+request_asked tei_request.Ask tei = AskTei
+request_asked tei_request.Verify tei = VerifyTei tei
+
+-- Why TEI management itself refuses: of the network's side, and of a terminal.
+abbrev pub network_refusal : TeiRequest → ℕ → Management → Option Refusal
+network_refusal tei_request.Assign tei m = teis.refusal (teis.assign tei) m
+network_refusal tei_request.Remove tei m = teis.refusal (teis.remove tei) m
+network_refusal tei_request.Check tei m = teis.refusal (teis.check tei) m
+network_refusal tei_request.Disown tei m = teis.refusal (teis.disown tei) m
+network_refusal tei_request.Ask tei m = Some WrongSide
+network_refusal tei_request.Verify tei m = Some WrongSide
+
+abbrev pub terminal_refusal : TeiRequest → ℕ → Terminal → Option Refusal
+terminal_refusal tei_request.Assign tei t = terminals.refusal (terminals.assign tei) t
+terminal_refusal tei_request.Remove tei t = terminals.refusal (terminals.remove tei) t
+terminal_refusal tei_request.Check tei t = Some WrongSide
+terminal_refusal tei_request.Disown tei t = Some WrongSide
+terminal_refusal tei_request.Ask tei t = terminals.refusal terminals.ask t
+terminal_refusal tei_request.Verify tei t = terminals.refusal (terminals.verify tei) t
+
+abbrev pub refusal_at : TeiRequest → ℕ → Managing → Option Refusal
+refusal_at asked tei (kind.Network m) = network_refusal asked tei m
+refusal_at asked tei (kind.Terminal t) = terminal_refusal asked tei t
 
 -- The side has to be the right one, and the TEI one that may be named; then TEI management refuses, or not.
-abbrev pub management_refusal : Side → TeiRequest → ℕ → Line → Option Refusal
-management_refusal side asked tei l =
-    if not (may_ask side asked) then Some WrongSide
-    else if nat_lt (last_tei asked) tei then Some BadTei
-    else teis.refusal (event_of asked tei) l.management
+abbrev pub management_refusal : Config → TeiRequest → ℕ → Managing → Option Refusal
+management_refusal c asked tei x =
+    if not (may_ask c asked) then Some WrongSide
+    else if is_bad asked tei then Some BadTei
+    else refusal_at asked tei x

@@ -1,7 +1,7 @@
 //! What a line hears, and which of its entities it is for.
 
 ghost use Rattle.std.specs.Prelude.{◌≡◌, ℕ, ◌≤◌, List, [], drop, length, Ok, Err};
-ghost use Rattle.lapd_line.specs.{heard_of, parts_of, long_reading, start_of, Unserved, dropped, addressed, aim_of_long, aim_of_reading, drop_for, heard_side, unless_at_link, has_management, told_at, is_ui, received_of, info_of, addressee, group_service, message_at, IsAtPlace, Standing, Serves, always, aim_of_event, octets_of, told_in, IsClear};
+ghost use Rattle.lapd_line.specs.{heard_of, parts_of, long_reading, start_of, Unserved, dropped, addressed, aim_of_long, aim_of_reading, drop_for, heard_side, unless_at_link, is_network, serves_messages, management_of, told_at, is_ui, received_of, info_of, addressee, group_service, message_at, IsAtPlace, Standing, Serves, always, aim_of_event, octets_of, told_in, IsClear};
 ghost use Rattle.model_link.specs.Events as link;
 
 use crate::link_layer::LinkLayer;
@@ -31,9 +31,9 @@ fn is_ui(control: Control) -> bool
     matches!(control, Control::Ui { .. })
 }
 
-/// Whether a side has TEI management: the network's alone.
-pub(crate) fn has_management(side: Side) -> bool
-    ensures { result ≡ has_management side }
+/// Whether it is the network's side.
+pub(crate) fn is_network(side: Side) -> bool
+    ensures { result ≡ is_network side }
 {
     matches!(side, Side::Network)
 }
@@ -63,7 +63,7 @@ impl LinkLayer {
             Err(fault) => return self.faulty(fault, octets.len(), report, shelf),
         };
         match self.addressee(frame.address) {
-            Addressee::Management => self.message(frame.control, frame.info, report, shelf),
+            Addressee::Management => self.message(frame, report, shelf),
             Addressee::Link(service, tei, place) => {
                 let received = Received::Frame(frame);
                 self.receive(
@@ -102,7 +102,7 @@ impl LinkLayer {
     fn group_service(&self, frame: Frame<'_>) -> Option<Service>
         ensures { result ≡ group_service self.now.config (parts_of frame.entry) }
     {
-        if has_management(self.config.side) || frame.address.tei != GROUP {
+        if is_network(self.config.side) || frame.address.tei != GROUP {
             return None;
         }
         if !is_ui(frame.control) || frame.info.len() > usize::from(self.config.n201) {
@@ -203,30 +203,31 @@ impl LinkLayer {
         }
     }
 
-    /// A frame of layer 2 management. UI alone is served, on the network's side.
+    /// A frame of layer 2 management. UI alone is served.
     #[cold]
-    fn message<S: Shelf>(
-        &mut self,
-        control: Control,
-        info: &[u8],
-        report: &mut BareReport,
-        shelf: &mut S,
-    )
+    fn message<S: Shelf>(&mut self, frame: Frame<'_>, report: &mut BareReport, shelf: &mut S)
         requires stands { Standing self.old (S.store shelf.old) }
         requires clear { IsClear report.old }
-        ensures { (octets : List ℕ) → Serves (always (message_at self.old.config.side control info.now)) octets self.old (S.store shelf.old) self.new (S.store shelf.new) report.new }
+        ensures { (octets : List ℕ) → Serves (always (message_at self.old.config (parts_of frame.entry))) octets self.old (S.store shelf.old) self.new (S.store shelf.new) report.new }
     {
-        if !is_ui(control) || !has_management(self.config.side) {
+        if !is_ui(frame.control) || !self.serves_messages(frame.address) {
             return tell_drop(report, Cause::Unserved);
         }
-        let told = self.teis.message(info);
+        let told = self.teis.message(frame.info);
         self.change(told, report, shelf);
+    }
+
+    /// Whether messages of TEI management that have this address are served.
+    fn serves_messages(&self, address: Address) -> bool
+        ensures { result ≡ serves_messages self.now.config address }
+    {
+        is_network(self.config.side) || (self.config.is_terminal() && address.command)
     }
 
     /// For whom a frame is.
     fn addressee(&self, address: Address) -> Addressee
-        ensures is { result ≡ addressee self.now.teis address }
-        ensures at { IsAtPlace self.now.teis result }
+        ensures is { result ≡ addressee (management_of self.now.teis) address }
+        ensures at { IsAtPlace (management_of self.now.teis) result }
     {
         if address.sapi == MANAGEMENT {
             return if address.tei == GROUP {

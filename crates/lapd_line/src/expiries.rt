@@ -23,6 +23,10 @@ impl LinkLayer {
                 let told = self.teis.expire_t201();
                 self.change(told, report, shelf);
             }
+            Timer::T202 => {
+                let told = self.teis.expire_t202();
+                self.change(told, report, shelf);
+            }
         }
     }
 

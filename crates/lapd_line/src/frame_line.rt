@@ -11,6 +11,7 @@ use crate::came::{came, cause_of, octets_of};
 use crate::fault::StartFault;
 use crate::link_layer::LinkLayer;
 use crate::links::Links;
+use crate::managing::Managing;
 use crate::marks::Marks;
 use crate::reports::tell_drop;
 use crate::units::Units;
@@ -18,7 +19,6 @@ use lapd_count::Counters;
 use lapd_frame::{Refusal, Timer};
 use lapd_link::BareReport;
 use lapd_store::Shelf;
-use lapd_tei::Teis;
 use model_bits::{Cause, Heard};
 use model_line::{Config, Fault, Request};
 use std::alloc::Global;
@@ -51,7 +51,7 @@ impl FrameLine {
             → Holds store others → LineStands line store others (machine.fresh_line config.now)) }
         ensures counters { IfOk result (λ line. line.counters ≡ none_counted) }
     {
-        let teis = Teis::start(alloc, usize::from(config.terminals))?;
+        let teis = Managing::start(alloc, config)?;
         let links = Links::start(alloc, config)?;
         let units = Units::start(alloc, usize::from(config.unit_queue))?;
         let layer = LinkLayer {
@@ -160,8 +160,8 @@ impl FrameLine {
         self.counters.told(&[], Some(cause), 0);
     }
 
-    /// A timer expires: T200 or T203 of a link, or T201 of the check of a TEI (Q.921 clause 5.9). If it does not
-    /// run, nothing happens (profile).
+    /// A timer expires: T200 or T203 of a link, T201 of the check of a TEI, or T202 of a terminal (Q.921 clause 5.9). If it
+    /// does not run, nothing happens (profile).
     pub fn expire<S: Shelf>(&mut self, timer: Timer, report: &mut BareReport, shelf: &mut S)
         requires clear { IsClear report.old }
         requires stands { (others : List Owned) × (m : machine.Line) × LineStands self.old (S.store shelf.old) others m }

@@ -12,6 +12,7 @@
 //! - `queries`: the state of a link, how much room it has, and how many octets the line stores.
 //! - `port`: the octets of a line; `line`: a line with its port.
 //! - `link_layer`: what the calls change: TEI management, links and units. `addressing`: what is heard. `expiries`: timers.
+//! - `managing`: TEI management, of the network's side or of a terminal.
 //! - `tei_changes`: links that open and are cleared. `requests`: what is requested of a link, of TEI management and as unit data.
 //! - `giving_up`: what waits and is of no link. `pulls`: which frame is next. `held`: what the links store.
 //! - `links`, `units`: the links of all places of the TEI table, and the unit data that waits; `marks`, which links have
@@ -33,6 +34,7 @@ mod held;
 mod line;
 mod link_layer;
 mod links;
+mod managing;
 mod marks;
 mod next_frame;
 mod outlet;

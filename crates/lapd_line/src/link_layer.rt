@@ -1,24 +1,24 @@
 //! The data link layer entities of a line: TEI management, the links, and the unit data that waits.
 
 ghost use Rattle.std.specs.Prelude.{◌≡◌, ℕ, ◌≤◌, List, drop};
-ghost use Rattle.lapd_line.specs.{at_link, received_of, info_of, IsAt, Standing, Serves, always, IsClear};
+ghost use Rattle.lapd_line.specs.{at_link, received_of, info_of, IsAt, Standing, Serves, always, IsClear, management_of};
 ghost use Rattle.model_link.specs.Events as event;
 ghost use Rattle.model_line.specs.Line as machine;
 
 use crate::links::Links;
+use crate::managing::Managing;
 use crate::marks::Marks;
 use crate::units::Units;
 use lapd_frame::Service;
 use lapd_link::{BareReport, Received};
 use lapd_store::Shelf;
-use lapd_tei::Teis;
 use model_line::Config;
 
 /// What a line has beside its counters.
 #[derive(Debug, Drop)]
 pub(crate) struct LinkLayer {
     pub(crate) config: Config,
-    pub(crate) teis: Teis,
+    pub(crate) teis: Managing,
     pub(crate) links: Links,
     pub(crate) units: Units,
     /// The link at which the next round begins.
@@ -52,7 +52,7 @@ impl LinkLayer {
         report: &mut BareReport,
         shelf: &mut S,
     )
-        requires at { IsAt self.old.teis.places place tei }
+        requires at { IsAt (management_of self.old.teis).places place tei }
         requires clear { IsClear report.old }
         requires stands { Standing self.old (S.store shelf.old) }
         ensures { (octets : List ℕ) → info_of received.entry ≡ drop start octets

@@ -29,6 +29,18 @@ fn load<O: Outlet>(out: &mut O, sender: Sender, address: Address, control: Contr
     out.load(&head[..len], info);
 }
 
+/// Loads a message of TEI management: its address and control field have four octets together with the first of its
+/// information.
+fn load_message<O: Outlet>(out: &mut O, octets: [u8; 8])
+    requires free { IsFree (O.loading out.old) }
+    requires room { 4 ≤ room_in (O.loading out.old) }
+    ensures room { room_in (O.loading out.new) ≡ room_in (O.loading out.old) }
+    ensures reference { reference_in (O.loading out.new) ≡ reference_in (O.loading out.old) }
+    ensures loaded { Loads octets (O.loading out.old) (O.loading out.new) }
+{
+    out.load(&octets[..4], &octets[4..]);
+}
+
 impl LinkLayer {
     /// Takes the frame that is next, if there is one, and loads it: the oldest message of TEI management, otherwise
     /// the oldest unit data, otherwise what the first of the links has to give, going round from the one after that
@@ -123,7 +135,7 @@ impl LinkLayer {
         ensures { (store : Store) → Takes (λ c m. message_taken c m) self.old store (O.loading out.old) self.new store (O.loading out.new) (orders_taken result) }
     {
         let octets = self.teis.offer(self.config.side)?;
-        out.load(&octets[..4], &octets[4..]);
+        load_message(out, octets);
         Some(ShortList::none())
     }
 

@@ -1,9 +1,10 @@
 //! Read-only queries of a line.
 
-ghost use Rattle.std.specs.Prelude.{◌≡◌, ◌≤◌, ◌-◌, List};
+ghost use Rattle.std.specs.Prelude.{◌≡◌, ◌≤◌, ◌+◌, ◌-◌, List};
 ghost use Rattle.lapd_line.specs.{Owned, Store, used_slots, held_in, has_next, config_of};
 ghost use Rattle.model_line.specs.Line as machine;
 ghost use Rattle.model_line.specs.Room.{room_in};
+ghost use Rattle.model_line.specs.Stored.{held_most};
 
 use crate::frame_line::FrameLine;
 use crate::link_layer::link_number;
@@ -90,7 +91,7 @@ impl FrameLine {
         requires { (store : Store) × (others : List Owned) × (m : machine.Line) × LineStands self.now store others m }
         ensures held { (store : Store) (others : List Owned) (m : machine.Line) → LineStands self.now store others m
             → result ≡ held_in (config_of self.now) m }
-        ensures few { result ≤ 1068 }
+        ensures few { result ≤ 1024 + held_most (config_of self.now) }
     {
         self.layer.teis.held() + self.layer.held_by_links()
     }

@@ -1,28 +1,31 @@
 //! What layer 3 and management ask for.
 
 ghost use Rattle.std.specs.Prelude.{◌≡◌, ◌≤◌, ◌==◌, ◌||◌, ℕ, false, List, [], length, Some, None, IfOk, IfErr, OnOk, OnErr, nat_le};
-ghost use Rattle.lapd_line.specs.{Service, Owned, Store, used_slots, told_of, IsShort, is_on, Line, at_management, at_units, refusal, request_of, aim_of_request, at_deactivated, at_requested, last_unit_tei, event_of, link_refusal, management_refusal, may_ask, last_tei, Standing, Serves, always, IsClear};
-ghost use Rattle.lapd_tei.specs.Events as teis;
-ghost use Rattle.lapd_tei.specs.Laws.{IsInRange};
+ghost use Rattle.lapd_line.specs.{Service, Owned, Store, used_slots, Answers, IsShort, is_on, management_of, Line, at_units, refusal, request_of, aim_of_request, at_deactivated, at_requested, last_unit_tei, asked_aim, is_bad, link_refusal, network_refusal, request_asked, terminal_refusal, may_ask, Standing, Serves, always, IsClear};
+ghost use Rattle.lapd_line.specs.declared.managing.Managing.TheVariants as kind;
 ghost use Rattle.model_line.specs.Line as machine;
 ghost use Rattle.model_line.specs.Request as asked;
 
-use crate::addressing::has_management;
+use crate::addressing::is_network;
 use crate::link_layer::{LinkLayer, link_number};
+use crate::managing::outcome_of;
 use crate::units::QueuedUnit;
 use lapd_frame::{GROUP, LAST_TEI, Refusal, Service, Side};
 use lapd_link::{BareReport, LinkRequest};
 use lapd_store::Shelf;
 use lapd_tei::{TeiOutcome, Teis};
-use model_line::Request;
+use lapd_terminal::TerminalTeis;
+use model_line::{Config, Request};
 
 /// What is asked of TEI management about a TEI.
 #[derive(Clone, Copy)]
-enum TeiRequest {
+pub(crate) enum TeiRequest {
     Assign,
     Remove,
     Check,
     Disown,
+    Ask,
+    Verify,
 }
 
 /// The greatest TEI to which a side sends unit data: the network's to the group, the user's to no more than a terminal's.
@@ -36,43 +39,65 @@ fn last_unit_tei(side: Side) -> u8
 }
 
 impl TeiRequest {
-    /// Whether a side may be asked for it: TEI management is the network's.
-    fn is_for(self, side: Side) -> bool
-        ensures { result ≡ may_ask side self }
+    /// Whether a card may be asked for it.
+    fn is_for(self, config: &Config) -> bool
+        ensures { result ≡ may_ask config.now self }
     {
         match self {
             TeiRequest::Assign => true,
-            TeiRequest::Remove | TeiRequest::Check | TeiRequest::Disown => has_management(side),
+            TeiRequest::Remove => is_network(config.side) || config.is_terminal(),
+            TeiRequest::Check | TeiRequest::Disown => is_network(config.side),
+            TeiRequest::Ask | TeiRequest::Verify => config.is_terminal(),
         }
     }
 
-    /// The greatest TEI that it may name: that of a terminal, or 127 for all of them.
-    fn last_tei(self) -> u8
-        ensures { result ≡ last_tei self }
+    /// Whether it may not name this TEI: of those that name one, none names a TEI over 126, but 127 may be disowned.
+    fn is_bad(self, tei: u8) -> bool
+        ensures { result ≡ is_bad self tei }
     {
         match self {
-            TeiRequest::Assign | TeiRequest::Remove | TeiRequest::Check => LAST_TEI,
-            TeiRequest::Disown => GROUP,
+            TeiRequest::Assign | TeiRequest::Remove | TeiRequest::Check | TeiRequest::Verify => tei
+                > LAST_TEI,
+            TeiRequest::Disown => tei > GROUP,
+            TeiRequest::Ask => false,
         }
     }
 
-    /// Asks it of TEI management.
-    fn put(self, tei: u8, table: &mut Teis) -> Result<TeiOutcome, Refusal>
-        requires { tei ≤ last_tei self }
-        ensures range { IsInRange (event_of self tei) }
-        ensures told { IfOk result (λ outcome. told_of outcome ≡ teis.told (event_of self tei) table.old) }
-        ensures accepted { OnOk result (teis.refusal (event_of self tei) table.old ≡ None) }
-        ensures refused { IfErr result (λ why. teis.refusal (event_of self tei) table.old ≡ Some why) }
-        ensures after { table.new ≡ teis.after (event_of self tei) table.old }
+    /// Asks it of the network's side.
+    pub fn put(self, tei: u8, own: &mut Teis) -> Result<TeiOutcome, Refusal>
+        requires { is_bad self tei ≡ false }
+        ensures answers { IfOk result (Answers (asked_aim self tei) (kind.Network own.old) (kind.Network own.new)) }
+        ensures accepted { OnOk result (network_refusal self tei own.old ≡ None) }
+        ensures refused { IfErr result (λ why. network_refusal self tei own.old ≡ Some why) }
+        ensures unchanged { OnErr result (own.new ≡ own.old) }
         ensures short { IfOk result IsShort }
-        ensures unchanged { OnErr result (table.new ≡ table.old) }
     {
         match self {
-            TeiRequest::Assign => table.assign(tei),
-            TeiRequest::Remove => table.remove(tei),
-            TeiRequest::Check => table.check(tei),
-            TeiRequest::Disown => table.disown(tei),
+            TeiRequest::Assign => own.assign(tei),
+            TeiRequest::Remove => own.remove(tei),
+            TeiRequest::Check => own.check(tei),
+            TeiRequest::Disown => own.disown(tei),
+            TeiRequest::Ask | TeiRequest::Verify => Err(Refusal::WrongSide),
         }
+    }
+
+    /// Asks it of a terminal.
+    pub fn put_to_terminal(self, tei: u8, own: &mut TerminalTeis) -> Result<TeiOutcome, Refusal>
+        requires { is_bad self tei ≡ false }
+        ensures answers { IfOk result (Answers (asked_aim self tei) (kind.Terminal own.old) (kind.Terminal own.new)) }
+        ensures accepted { OnOk result (terminal_refusal self tei own.old ≡ None) }
+        ensures refused { IfErr result (λ why. terminal_refusal self tei own.old ≡ Some why) }
+        ensures unchanged { OnErr result (own.new ≡ own.old) }
+        ensures short { IfOk result IsShort }
+    {
+        let told = match self {
+            TeiRequest::Assign => own.assign(tei)?,
+            TeiRequest::Remove => own.remove(tei)?,
+            TeiRequest::Check | TeiRequest::Disown => return Err(Refusal::WrongSide),
+            TeiRequest::Ask => own.ask()?,
+            TeiRequest::Verify => own.verify(tei)?,
+        };
+        Ok(outcome_of(told))
     }
 }
 
@@ -109,6 +134,8 @@ impl LinkLayer {
             Request::Remove(tei) => return self.manage(TeiRequest::Remove, tei, report, shelf),
             Request::Check(tei) => return self.manage(TeiRequest::Check, tei, report, shelf),
             Request::Disown(tei) => return self.manage(TeiRequest::Disown, tei, report, shelf),
+            Request::AskTei => return self.manage(TeiRequest::Ask, 0, report, shelf),
+            Request::VerifyTei(tei) => return self.manage(TeiRequest::Verify, tei, report, shelf),
             Request::Establish(service, tei) => (service, tei, LinkRequest::Establish),
             Request::Release(service, tei) => (service, tei, LinkRequest::Release),
             Request::Data(service, tei, contents) => (service, tei, LinkRequest::Data(contents)),
@@ -206,21 +233,21 @@ impl LinkLayer {
         requires stands { Standing self.old (S.store shelf.old) }
         requires clear { IsClear report.old }
         ensures refused { IfErr result (λ why. (others : List Owned) (m : Line) → LayerStands self.old (S.store shelf.old) others m
-            → management_refusal self.old.config.side asked tei m ≡ Some why) }
+            → refusal self.old.config false (request_asked asked tei) m ≡ Some why) }
         ensures unchanged { OnErr result (self.new ≡ self.old) }
         ensures kept { OnErr result (shelf.new ≡ shelf.old) }
         ensures untold { OnErr result (report.new ≡ report.old) }
         ensures granted { OnOk result ((others : List Owned) (m : Line) → LayerStands self.old (S.store shelf.old) others m
-            → management_refusal self.old.config.side asked tei m ≡ None) }
-        ensures served { OnOk result (Serves (always (at_management (event_of asked tei))) [] self.old (S.store shelf.old) self.new (S.store shelf.new) report.new) }
+            → refusal self.old.config false (request_asked asked tei) m ≡ None) }
+        ensures served { OnOk result (Serves (always (asked_aim asked tei)) [] self.old (S.store shelf.old) self.new (S.store shelf.new) report.new) }
     {
-        if !asked.is_for(self.config.side) {
+        if !asked.is_for(&self.config) {
             return Err(Refusal::WrongSide);
         }
-        if tei > asked.last_tei() {
+        if asked.is_bad(tei) {
             return Err(Refusal::BadTei);
         }
-        match asked.put(tei, &mut self.teis) {
+        match self.teis.ask(asked, tei) {
             Ok(told) => {
                 self.change(told, report, shelf);
                 Ok(())
@@ -287,7 +314,7 @@ impl LinkLayer {
 
     /// Whether there may be someone for unit data: the group, or a terminal whose TEI is on the line.
     fn has_receiver(&self, tei: u8) -> bool
-        ensures { result ≡ ((tei == 127) || is_on tei self.now.teis.places) }
+        ensures { result ≡ ((tei == 127) || is_on tei (management_of self.now.teis).places) }
     {
         tei == GROUP || self.teis.place(tei).is_some()
     }

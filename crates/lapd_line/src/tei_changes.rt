@@ -1,9 +1,10 @@
 //! What TEI management leads to: links that open and links that are cleared.
 
 ghost use Rattle.std.specs.Prelude.{◌≡◌, ℕ, ◌≤◌, ◌+◌, List, [], length, Some};
-ghost use Rattle.lapd_line.specs.{listed, Management, Gained, Left, told_of, IsShort, at_management, told_of_link, told_of_management, with_cleared, IsClear, told_in, IsAnswerTo, Changing, with_management, Serves, always};
+ghost use Rattle.lapd_line.specs.{listed, Gained, Left, told_of, IsShort, told_of_link, told_of_management, with_cleared, IsClear, told_in, IsAnswerTo, Changing, with_management, Serves, always};
 ghost use Rattle.lapd_link.specs.Outcome as link;
-ghost use Rattle.lapd_tei.specs.Events as teis;
+ghost use Rattle.lapd_line.specs.declared.managing.Managing.{Managing};
+ghost use Rattle.model_line.specs.Effect.{Aim};
 
 use crate::link_layer::{LinkLayer, link_number};
 use lapd_frame::Service;
@@ -51,8 +52,8 @@ impl LinkLayer {
         requires changing { Changing self.old (S.store shelf.old) told }
         requires clear { IsClear report.old }
         requires short { IsShort told }
-        ensures { (e : teis.Event) (before : Management) (octets : List ℕ) → IsAnswerTo e before self.old.teis told
-            → Serves (always (at_management e)) octets (with_management before self.old) (S.store shelf.old) self.new (S.store shelf.new) report.new }
+        ensures { (aim : Aim) (before : Managing) (octets : List ℕ) → IsAnswerTo self.old.config aim before self.old.teis told
+            → Serves (always aim) octets (with_management before self.old) (S.store shelf.old) self.new (S.store shelf.new) report.new }
     {
         match told.change {
             None => tell_management(report, told),
@@ -73,8 +74,8 @@ impl LinkLayer {
         requires changing { Changing self.old (S.store shelf.old) told }
         requires clear { IsClear report.old }
         requires gained { told.change ≡ Some (Gained tei place) }
-        ensures { (e : teis.Event) (before : Management) (octets : List ℕ) → IsAnswerTo e before self.old.teis told
-            → Serves (always (at_management e)) octets (with_management before self.old) (S.store shelf.old) self.new (S.store shelf.new) report.new }
+        ensures { (aim : Aim) (before : Managing) (octets : List ℕ) → IsAnswerTo self.old.config aim before self.old.teis told
+            → Serves (always aim) octets (with_management before self.old) (S.store shelf.old) self.new (S.store shelf.new) report.new }
     {
         let call = link_number(place, Service::Call);
         self.links.open(call, Service::Call, tei, &self.config);
@@ -96,8 +97,8 @@ impl LinkLayer {
         requires clear { IsClear report.old }
         requires short { IsShort told }
         requires left { told.change ≡ Some (Left tei place) }
-        ensures { (e : teis.Event) (before : Management) (octets : List ℕ) → IsAnswerTo e before self.old.teis told
-            → Serves (always (at_management e)) octets (with_management before self.old) (S.store shelf.old) self.new (S.store shelf.new) report.new }
+        ensures { (aim : Aim) (before : Managing) (octets : List ℕ) → IsAnswerTo self.old.config aim before self.old.teis told
+            → Serves (always aim) octets (with_management before self.old) (S.store shelf.old) self.new (S.store shelf.new) report.new }
     {
         let (first, second) = (
             link_number(place, Service::Call),

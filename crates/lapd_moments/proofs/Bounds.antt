@@ -85,7 +85,7 @@ pub its-line-there : (each : ℕ) (bounds : List ℕ) (ps : List Place) (place :
 its-line-there each bounds ps place u h within at_it = subst (λ n. n < length bounds) (sym (own-line each bounds ps place u h within at_it)) (line-there each place bounds ps h within)
 
 -- places at which no timer runs
-pub idle : (each lines : ℕ) (ps : List Place) → lines ≤ 64 → 1 ≤ each → each ≤ 33 → length ps ≡ lines * each → AreOfLines each ps → AreIdleSoFar ps → AreBounded each (replicate lines never) ps
+pub idle : (each lines : ℕ) (ps : List Place) → lines ≤ 64 → 1 ≤ each → each ≤ 34 → length ps ≡ lines * each → AreOfLines each ps → AreIdleSoFar ps → AreBounded each (replicate lines never) ps
 idle each lines ps few some few_each count of_lines rest = record {
   few_lines = omega (arith, few, length-replicate lines never);
   some = some;

@@ -1,12 +1,11 @@
 -- Each timer of a link is at its place alone.
 use Rattle.lapd_clock.proofs.Vocabulary.{◌≡◌, ◌≢◌, ℕ, zero, suc, ◌<◌, ◌≤◌, Bool, true, false, cond, ◌&&◌, ◌==◌, List, [], ◌∷◌, length, filter, refl, sym, ap, ◌∙◌, subst, arith, nat_tests, inl, inr, cases_lt, cases_eq, AllByRecursion, Timer, is_same, Expiry, is_of, never, nat_eq_equiv, eq_by_cmp_equiv, set}
 use Rattle.lapd_clock.proofs.TimerOrder.{same_timer, timer_total}
-use Rattle.lapd_clock.specs.Timer.{T201}
 use Rattle.lapd_frame.specs.declared.services.Service.{Service}
 use Rattle.model_link.specs.declared.timers.LinkTimer.{LinkTimer}
 use Rattle.model_line.specs.Line.{service_at, place_at, link_number}
 use Rattle.lapd_moments.specs.Places.{is_running, at, with_timer, without_timer, IsItsPlace, RunsAt}
-use Rattle.lapd_moments.specs.OfCard.{timer_of, OfLink, OfLine, IsLayout, HoldsOwn, HoldsT201, Holds, AreApart}
+use Rattle.lapd_moments.specs.OfCard.{timer_of, line_timer, OfLink, OfLine, IsLayout, HoldsOwn, HoldsLine, Holds, AreApart}
 use Rattle.lapd_moments.proofs.Standing.{runs, rests, All-in_order}
 
 abbrev Each : (Expiry → Type 0) → List Expiry → Type 0
@@ -62,9 +61,12 @@ parts k m s r t u e = grind arith
 number_is : (number : ℕ) → link_number (place_at number) (service_at number) ≡ number
 number_is number = grind (arith, nat_tests)
 
-module _ (lines links : ℕ) (slot : ℕ → ℕ → LinkTimer → ℕ) (t201 : ℕ → ℕ) (IsOn : ℕ → ℕ → ℕ → Type 0) (es : List Expiry) (h : Holds lines links slot t201 IsOn es) (on : AreApart lines IsOn) where
-  no_t201 : (m : LinkTimer) (s : Service) (t : ℕ) → T201 ≡ timer_of m s t → ⊥
-  no_t201 m s t e = grind arith
+module _ (lines links : ℕ) (slot : ℕ → ℕ → LinkTimer → ℕ) (line_slot : Bool → ℕ → ℕ) (IsOn : ℕ → ℕ → ℕ → Type 0) (es : List Expiry) (h : Holds lines links slot line_slot IsOn es) (on : AreApart lines IsOn) where
+  no_link : (which : Bool) (m : LinkTimer) (s : Service) (t : ℕ) → line_timer which ≡ timer_of m s t → ⊥
+  no_link which m s t e = grind arith
+
+  which_is : (which its : Bool) → line_timer which ≡ line_timer its → which ≡ its
+  which_is which its e = grind arith
 
   -- a link's timer, of a TEI that is at its place
   module _ (line number tei : ℕ) (k : LinkTimer) (line_there : line < lines) (number_there : number < links) (on_line : IsOn line (place_at number) tei) where
@@ -90,11 +92,11 @@ module _ (lines links : ℕ) (slot : ℕ → ℕ → LinkTimer → ℕ) (t201 : 
         let numbers : of.number ≡ number = sym (number_is of.number) ∙ ap (λ n. link_number n (service_at of.number)) place ∙ ap (link_number (place_at number)) p.service ∙ number_is number in
         apart (of.is ∙ ap (λ n. slot n of.number of.timer) same_line ∙ ap (λ n. slot line n of.timer) numbers ∙ ap (slot line number) p.timer)
 
-    other-line : (j : ℕ) → OfLine lines t201 j → (at j es).moment < never → is_of line timer (at j es) ≡ true → ⊥
+    other-line : (j : ℕ) → OfLine lines line_slot j → (at j es).moment < never → is_of line timer (at j es) ≡ true → ⊥
     other-line j of soon is =
-        let there = subst (λ n. HoldsT201 of.line (at n es)) (sym of.is) (h.at_lines of.line of.line_there) in
+        let there = subst (λ n. HoldsLine of.which of.line (at n es)) (sym of.is) (h.at_lines of.line of.which of.line_there) in
         let split = both ((at j es).line == line) (is_same (at j es).timer timer) is in
-        no_t201 k (service_at number) tei (sym (there.its soon) ∙ equal (at j es).timer timer split.1)
+        no_link of.which k (service_at number) tei (sym (there.its soon) ∙ equal (at j es).timer timer split.1)
 
     other : (j : ℕ) → j < length es → j ≢ i → (at j es).moment < never → is_of line timer (at j es) ≡ false
     other j within apart soon =
@@ -114,35 +116,39 @@ module _ (lines links : ℕ) (slot : ℕ → ℕ → LinkTimer → ℕ) (t201 : 
           (who.1.1 ∙ ap (timer_of k (service_at number)) (on.alone line (place_at number) who.0 tei line_there who.1.0 on_line));
     }
 
-  -- and a line's T201
-  module _ (line : ℕ) (line_there : line < lines) where
-    beside-link : (j : ℕ) → OfLink lines links slot j → (at j es).moment < never → is_of line T201 (at j es) ≡ true → ⊥
+  -- and a line's own
+  module _ (line : ℕ) (which : Bool) (line_there : line < lines) where
+    abbrev its_timer : Timer
+    its_timer = line_timer which
+
+    beside-link : (j : ℕ) → OfLink lines links slot j → (at j es).moment < never → is_of line its_timer (at j es) ≡ true → ⊥
     beside-link j of soon is =
-        let split = both ((at j es).line == line) (is_same (at j es).timer T201) is in
+        let split = both ((at j es).line == line) (is_same (at j es).timer its_timer) is in
         let there = subst (λ n. HoldsOwn IsOn of.line of.number of.timer (at n es)) (sym of.is) (h.at_links of.line of.number of.timer of.line_there of.number_there) in
         let who = there.its soon in
-        no_t201 of.timer (service_at of.number) who.0 (sym (equal (at j es).timer T201 split.1) ∙ who.1.1)
+        no_link which of.timer (service_at of.number) who.0 (sym (equal (at j es).timer its_timer split.1) ∙ who.1.1)
 
-    beside-line : (j : ℕ) → OfLine lines t201 j → j ≢ t201 line → is_of line T201 (at j es) ≡ true → ⊥
-    beside-line j of apart is =
-        let there = subst (λ n. HoldsT201 of.line (at n es)) (sym of.is) (h.at_lines of.line of.line_there) in
-        let split = both ((at j es).line == line) (is_same (at j es).timer T201) is in
-        apart (of.is ∙ ap t201 (sym there.line_is ∙ same_number (at j es).line line split.0))
+    beside-line : (j : ℕ) → OfLine lines line_slot j → j ≢ line_slot which line → (at j es).moment < never → is_of line its_timer (at j es) ≡ true → ⊥
+    beside-line j of apart soon is =
+        let there = subst (λ n. HoldsLine of.which of.line (at n es)) (sym of.is) (h.at_lines of.line of.which of.line_there) in
+        let split = both ((at j es).line == line) (is_same (at j es).timer its_timer) is in
+        let same : of.which ≡ which = which_is of.which which (sym (there.its soon) ∙ equal (at j es).timer its_timer split.1) in
+        apart (of.is ∙ ap (λ w. line_slot w of.line) same ∙ ap (line_slot which) (sym there.line_is ∙ same_number (at j es).line line split.0))
 
-    beside-all : (j : ℕ) → j < length es → j ≢ t201 line → (at j es).moment < never → is_of line T201 (at j es) ≡ false
+    beside-all : (j : ℕ) → j < length es → j ≢ line_slot which line → (at j es).moment < never → is_of line its_timer (at j es) ≡ false
     beside-all j within apart soon =
-        (elim (is_of line T201 (at j es)) as (λ b. is_of line T201 (at j es) ≡ b → b ≡ false) [
-          | true ↦ λ is. absurd (elim (h.layout.each j within) [ inl of ↦ beside-link j of soon is | inr of ↦ beside-line j of apart is ])
+        (elim (is_of line its_timer (at j es)) as (λ b. is_of line its_timer (at j es) ≡ b → b ≡ false) [
+          | true ↦ λ is. absurd (elim (h.layout.each j within) [ inl of ↦ beside-link j of soon is | inr of ↦ beside-line j of apart soon is ])
           | false ↦ λ _. refl
         ]) refl
 
-    pub t201_place : IsItsPlace (t201 line) line T201 es
-    t201_place = record {
-      within = h.layout.t201_there line line_there;
-      line_is = (h.at_lines line line_there).line_is;
-      only = All-in_order (λ e. is_of line T201 e ≡ false) (filter is_running (without_timer (t201 line) es))
-          (but_one (λ e. is_of line T201 e ≡ false) es (t201 line) (record (at (t201 line) es) { moment = never }) (omega arith) beside-all);
-      its = λ soon. itself (at (t201 line) es) line T201 (h.at_lines line line_there).line_is ((h.at_lines line line_there).its soon);
+    pub line_place : IsItsPlace (line_slot which line) line its_timer es
+    line_place = record {
+      within = h.layout.line_slot_there line which line_there;
+      line_is = (h.at_lines line which line_there).line_is;
+      only = All-in_order (λ e. is_of line its_timer e ≡ false) (filter is_running (without_timer (line_slot which line) es))
+          (but_one (λ e. is_of line its_timer e ≡ false) es (line_slot which line) (record (at (line_slot which line) es) { moment = never }) (omega arith) beside-all);
+      its = λ soon. itself (at (line_slot which line) es) line its_timer (h.at_lines line which line_there).line_is ((h.at_lines line which line_there).its soon);
     }
 
 -- ---- a stop, and a line that changes
@@ -172,23 +178,23 @@ replaced P es i j z within own was =
       | inr apart ↦ subst P (sym (at_other es i j z apart)) was
     ]
 
-module _ (lines links : ℕ) (slot : ℕ → ℕ → LinkTimer → ℕ) (t201 : ℕ → ℕ) (IsOn : ℕ → ℕ → ℕ → Type 0) (es : List Expiry) (h : Holds lines links slot t201 IsOn es) where
+module _ (lines links : ℕ) (slot : ℕ → ℕ → LinkTimer → ℕ) (line_slot : Bool → ℕ → ℕ) (IsOn : ℕ → ℕ → ℕ → Type 0) (es : List Expiry) (h : Holds lines links slot line_slot IsOn es) where
   never_runs : never < never → ⊥
   never_runs e = omega (arith, e)
 
-  pub holds_stopped : (i : ℕ) → i < length es → Holds lines links slot t201 IsOn (without_timer i es)
+  pub holds_stopped : (i : ℕ) → i < length es → Holds lines links slot line_slot IsOn (without_timer i es)
   holds_stopped i within = record {
-    layout = subst (λ n. IsLayout lines links n slot t201) (sym (length_set es i _)) h.layout;
+    layout = subst (λ n. IsLayout lines links n slot line_slot) (sym (length_set es i _)) h.layout;
     at_links = λ line number k there within_links. replaced (HoldsOwn IsOn line number k) es i (slot line number k) _ within
         (λ same was. record { line_is = ap (λ n. (at n es).line) (sym same) ∙ was.line_is; its = λ soon. absurd (never_runs soon) }) (h.at_links line number k there within_links);
-    at_lines = λ line there. replaced (HoldsT201 line) es i (t201 line) _ within
-        (λ same was. record { line_is = ap (λ n. (at n es).line) (sym same) ∙ was.line_is; its = λ soon. absurd (never_runs soon) }) (h.at_lines line there);
+    at_lines = λ line which there. replaced (HoldsLine which line) es i (line_slot which line) _ within
+        (λ same was. record { line_is = ap (λ n. (at n es).line) (sym same) ∙ was.line_is; its = λ soon. absurd (never_runs soon) }) (h.at_lines line which there);
   }
 
   -- Where the TEIs of what runs are at their places elsewhere, too, what runs is held there.
   pub holds_moved : (New : ℕ → ℕ → ℕ → Type 0) → ((line number tei : ℕ) (k : LinkTimer) → line < lines → number < links → (at (slot line number k) es).moment < never
       → (at (slot line number k) es).line ≡ line → (at (slot line number k) es).timer ≡ timer_of k (service_at number) tei
-      → IsOn line (place_at number) tei → New line (place_at number) tei) → Holds lines links slot t201 New es
+      → IsOn line (place_at number) tei → New line (place_at number) tei) → Holds lines links slot line_slot New es
   holds_moved New stay = record {
     layout = h.layout;
     at_links = λ line number k there within. let was = h.at_links line number k there within in
@@ -198,12 +204,12 @@ module _ (lines links : ℕ) (slot : ℕ → ℕ → LinkTimer → ℕ) (t201 : 
 
   -- A timer is started that is of the TEI at its link's place.
   pub holds_started : (line number tei moment : ℕ) (k : LinkTimer) → line < lines → number < links → IsOn line (place_at number) tei
-      → Holds lines links slot t201 IsOn (with_timer (slot line number k) (timer_of k (service_at number) tei) moment es)
+      → Holds lines links slot line_slot IsOn (with_timer (slot line number k) (timer_of k (service_at number) tei) moment es)
   holds_started line number tei moment k there within on_line =
       let i = slot line number k in
       let i_there = h.layout.slot_there line number k there within in
       record {
-        layout = subst (λ n. IsLayout lines links n slot t201) (sym (length_set es i _)) h.layout;
+        layout = subst (λ n. IsLayout lines links n slot line_slot) (sym (length_set es i _)) h.layout;
         at_links = λ line' number' k' there' within'. replaced (HoldsOwn IsOn line' number' k') es i (slot line' number' k') _ i_there
             (λ same was.
             let is = h.layout.apart line number line' number' k k' within within' (sym same) in
@@ -218,42 +224,42 @@ module _ (lines links : ℕ) (slot : ℕ → ℕ → LinkTimer → ℕ) (t201 : 
               );
             })
             (h.at_links line' number' k' there' within');
-        at_lines = λ line' there'. replaced (HoldsT201 line') es i (t201 line') _ i_there
-            (λ same was. absurd (h.layout.beside line number line' k within same)) (h.at_lines line' there');
+        at_lines = λ line' which there'. replaced (HoldsLine which line') es i (line_slot which line') _ i_there
+            (λ same was. absurd (h.layout.beside line number line' k which within same)) (h.at_lines line' which there');
       }
 
-  -- Or a line's T201 is.
-  pub holds_t201 : (line moment : ℕ) → line < lines → Holds lines links slot t201 IsOn (with_timer (t201 line) T201 moment es)
-  holds_t201 line moment there =
-      let i_there = h.layout.t201_there line there in
+  -- Or one of a line's own is.
+  pub holds_line : (line moment : ℕ) (which : Bool) → line < lines → Holds lines links slot line_slot IsOn (with_timer (line_slot which line) (line_timer which) moment es)
+  holds_line line moment which there =
+      let i_there = h.layout.line_slot_there line which there in
       record {
-        layout = subst (λ n. IsLayout lines links n slot t201) (sym (length_set es (t201 line) _)) h.layout;
-        at_links = λ line' number' k' there' within'. replaced (HoldsOwn IsOn line' number' k') es (t201 line) (slot line' number' k') _ i_there
-            (λ same was. absurd (h.layout.beside line' number' line k' within' (sym same))) (h.at_links line' number' k' there' within');
-        at_lines = λ line' there'. replaced (HoldsT201 line') es (t201 line) (t201 line') _ i_there
-            (λ same was. record { line_is = ap (λ n. (at n es).line) (sym same) ∙ was.line_is; its = λ soon. refl }) (h.at_lines line' there');
+        layout = subst (λ n. IsLayout lines links n slot line_slot) (sym (length_set es (line_slot which line) _)) h.layout;
+        at_links = λ line' number' k' there' within'. replaced (HoldsOwn IsOn line' number' k') es (line_slot which line) (slot line' number' k') _ i_there
+            (λ same was. absurd (h.layout.beside line' number' line k' which within' (sym same))) (h.at_links line' number' k' there' within');
+        at_lines = λ line' which' there'. replaced (HoldsLine which' line') es (line_slot which line) (line_slot which' line') _ i_there
+            (λ same was. record { line_is = ap (λ n. (at n es).line) (sym same) ∙ was.line_is; its = λ soon. ap line_timer (sym (h.layout.two line' line which' which same)) }) (h.at_lines line' which' there');
       }
 
 -- What is found anywhere runs at its own place.
-module _ (lines links : ℕ) (slot : ℕ → ℕ → LinkTimer → ℕ) (t201 : ℕ → ℕ) (IsOn : ℕ → ℕ → ℕ → Type 0) (es : List Expiry) (h : Holds lines links slot t201 IsOn es) (on : AreApart lines IsOn) where
+module _ (lines links : ℕ) (slot : ℕ → ℕ → LinkTimer → ℕ) (line_slot : Bool → ℕ → ℕ) (IsOn : ℕ → ℕ → ℕ → Type 0) (es : List Expiry) (h : Holds lines links slot line_slot IsOn es) (on : AreApart lines IsOn) where
   found_link : (i line : ℕ) (timer : Timer) → RunsAt i line timer es → OfLink lines links slot i → IsItsPlace i line timer es
   found_link i line timer found of =
       let there = subst (λ n. HoldsOwn IsOn of.line of.number of.timer (at n es)) (sym of.is) (h.at_links of.line of.number of.timer of.line_there of.number_there) in
       let split = both ((at i es).line == line) (is_same (at i es).timer timer) found.its in
       let who = there.its found.runs in
       let its : IsItsPlace (slot of.line of.number of.timer) of.line (timer_of of.timer (service_at of.number) who.0) es =
-      its_place lines links slot t201 IsOn es h on of.line of.number who.0 of.timer of.line_there of.number_there who.1.0 in
+      its_place lines links slot line_slot IsOn es h on of.line of.number who.0 of.timer of.line_there of.number_there who.1.0 in
       subst (λ n. IsItsPlace i n timer es) (sym there.line_is ∙ same_number (at i es).line line split.0)
       (subst (λ x. IsItsPlace i of.line x es) (sym who.1.1 ∙ equal (at i es).timer timer split.1)
       (subst (λ n. IsItsPlace n of.line (timer_of of.timer (service_at of.number) who.0) es) (sym of.is) its))
 
-  found_line : (i line : ℕ) (timer : Timer) → RunsAt i line timer es → OfLine lines t201 i → IsItsPlace i line timer es
+  found_line : (i line : ℕ) (timer : Timer) → RunsAt i line timer es → OfLine lines line_slot i → IsItsPlace i line timer es
   found_line i line timer found of =
-      let there = subst (λ n. HoldsT201 of.line (at n es)) (sym of.is) (h.at_lines of.line of.line_there) in
+      let there = subst (λ n. HoldsLine of.which of.line (at n es)) (sym of.is) (h.at_lines of.line of.which of.line_there) in
       let split = both ((at i es).line == line) (is_same (at i es).timer timer) found.its in
       subst (λ n. IsItsPlace i n timer es) (sym there.line_is ∙ same_number (at i es).line line split.0)
       (subst (λ x. IsItsPlace i of.line x es) (sym (there.its found.runs) ∙ equal (at i es).timer timer split.1)
-      (subst (λ n. IsItsPlace n of.line T201 es) (sym of.is) (t201_place lines links slot t201 IsOn es h on of.line of.line_there)))
+      (subst (λ n. IsItsPlace n of.line (line_timer of.which) es) (sym of.is) (line_place lines links slot line_slot IsOn es h on of.line of.which of.line_there)))
 
   pub found_place : (i line : ℕ) (timer : Timer) → RunsAt i line timer es → IsItsPlace i line timer es
   found_place i line timer found = elim (h.layout.each i found.within) [

@@ -8,7 +8,7 @@ use Rattle.lapd_moments.specs.declared.place.Place.{Place}
 pub record AreBounded (each : ℕ) (bounds : List ℕ) (ps : List Place) : Type 0 where
   pub few_lines : length bounds ≤ 64
   pub some : 1 ≤ each
-  pub few : each ≤ 33
+  pub few : each ≤ 34
   pub count : length ps ≡ length bounds * each
   pub of_line : (i : ℕ) (d : Place) → i < length ps → (get_or ps i d).line ≡ i / each
   pub bounded : (i : ℕ) (d : Place) → i < length ps → (get_or ps i d).moment < never → slice_index bounds (i / each) ≤ (get_or ps i d).moment

@@ -3,7 +3,7 @@
 //! A clock (`lapd_clock`) finds a timer by looking at those of its line. Whoever knows the place of each timer starts and stops
 //! it there, and looks at no other.
 //!
-//! - `moments`: `Moments`, a place for each timer of each link of each line, and for each line's T201.
+//! - `moments`: `Moments`, a place for each timer of each link of each line, and for each line's T201 and T202.
 //! - `look`: which place falls due first. `place`: one place. `timers`: which timer goes first at one moment.
 #![tactic(auto)]
 

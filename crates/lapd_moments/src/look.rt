@@ -58,7 +58,7 @@ fn least(bounds: &[u64]) -> usize
 
 /// Which of the places of a line falls due first.
 fn first_of_line(places: &[Place], each: usize, line: usize) -> usize
-    requires each { 1 ≤ each × each ≤ 33 }
+    requires each { 1 ≤ each × each ≤ 34 }
     requires line { line < 64 }
     requires within { line * each + each ≤ length places.now }
     ensures { IsFirstOfLine result each line places.now }

@@ -44,7 +44,7 @@ impl Moments {
     ghost use Rattle.lapd_moments.specs.Places.{AreIdle};
 
     /// The places of so many lines of so many terminals, at which no timer runs: of each line one for T200 and
-    /// one for T203 of each link, and one for T201.
+    /// one for T203 of each link, one for T201, and one for T202.
     ///
     /// # Errors
     ///
@@ -52,9 +52,9 @@ impl Moments {
     pub fn idle(alloc: Global, lines: usize, terminals: usize) -> Result<Moments, AllocError>
         requires lines { lines ≤ 64 }
         requires terminals { terminals ≤ 8 }
-        ensures { IfOk result (λ moments. AreIdle lines (4 * terminals + 1) moments) }
+        ensures { IfOk result (λ moments. AreIdle lines (4 * terminals + 2) moments) }
     {
-        let each = 4 * terminals + 1;
+        let each = 4 * terminals + 2;
         let bounds = vec![in alloc; NEVER; lines]?;
         let mut places = Vec::with_capacity(alloc, lines * each)?;
         for line in 0..lines {

@@ -46,7 +46,7 @@ grouped ra rb rc = do
   a ← ra
   b ← rb
   c ← rc
-  Ok (record { lines = a.0; terminals = a.1; k = a.2; queue = b.0; unit_queue = b.1; control = b.2; slots = c.0; n201 = c.1; n200 = c.2; k16 = a.2; side = Network; sapi = 16 })
+  Ok (record { lines = a.0; terminals = a.1; k = a.2; queue = b.0; unit_queue = b.1; control = b.2; slots = c.0; n201 = c.1; n200 = c.2; k16 = a.2; side = Network; sapi = 16; seed = None })
 
 -- nine words,
 pub nine_given : (words : List (Bor (List ℕ))) → length words ≡ 9

@@ -39,7 +39,7 @@ nine_numbers (lines ∷ terminals ∷ k ∷ queue ∷ unit_queue ∷ control ∷
   a ← three_numbers lines terminals k
   b ← three_numbers queue unit_queue control
   c ← three_numbers slots n201 n200
-  Ok (record { lines = a.0; terminals = a.1; k = a.2; queue = b.0; unit_queue = b.1; control = b.2; slots = c.0; n201 = c.1; n200 = c.2; k16 = a.2; side = Network; sapi = 16 })
+  Ok (record { lines = a.0; terminals = a.1; k = a.2; queue = b.0; unit_queue = b.1; control = b.2; slots = c.0; n201 = c.1; n200 = c.2; k16 = a.2; side = Network; sapi = 16; seed = None })
 nine_numbers _ = Err BadNumberOfWords
 
 -- nine numbers, or ten: the tenth is the window of packet links; and the word `user` behind them, if the card is the user's

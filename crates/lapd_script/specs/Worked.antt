@@ -24,22 +24,22 @@ empty = refl
 comment : read (codes "# anything") ≡ Ok skip
 comment = refl
 
-nine : read (codes "card 1 8 7 8 4 4 64 260 3") ≡ Ok (card Octets (record { lines = 1; terminals = 8; k = 7; queue = 8; unit_queue = 4; control = 4; slots = 64; n201 = 260; n200 = 3; k16 = 7; side = Network; sapi = 16 }))
+nine : read (codes "card 1 8 7 8 4 4 64 260 3") ≡ Ok (card Octets (record { lines = 1; terminals = 8; k = 7; queue = 8; unit_queue = 4; control = 4; slots = 64; n201 = 260; n200 = 3; k16 = 7; side = Network; sapi = 16; seed = None }))
 nine = refl
 
-ten : read (codes "card 1 8 7 8 4 4 64 260 3 015") ≡ Ok (card Octets (record { lines = 1; terminals = 8; k = 7; queue = 8; unit_queue = 4; control = 4; slots = 64; n201 = 260; n200 = 3; k16 = 15; side = Network; sapi = 16 }))
+ten : read (codes "card 1 8 7 8 4 4 64 260 3 015") ≡ Ok (card Octets (record { lines = 1; terminals = 8; k = 7; queue = 8; unit_queue = 4; control = 4; slots = 64; n201 = 260; n200 = 3; k16 = 15; side = Network; sapi = 16; seed = None }))
 ten = refl
 
-of_user : read (codes "card 1 8 7 8 4 4 64 260 3 user") ≡ Ok (card Octets (record { lines = 1; terminals = 8; k = 7; queue = 8; unit_queue = 4; control = 4; slots = 64; n201 = 260; n200 = 3; k16 = 7; side = User; sapi = 16 }))
+of_user : read (codes "card 1 8 7 8 4 4 64 260 3 user") ≡ Ok (card Octets (record { lines = 1; terminals = 8; k = 7; queue = 8; unit_queue = 4; control = 4; slots = 64; n201 = 260; n200 = 3; k16 = 7; side = User; sapi = 16; seed = None }))
 of_user = refl
 
-ten_of_user : read (codes "card 1 8 7 8 4 4 64 260 3 15 user") ≡ Ok (card Octets (record { lines = 1; terminals = 8; k = 7; queue = 8; unit_queue = 4; control = 4; slots = 64; n201 = 260; n200 = 3; k16 = 15; side = User; sapi = 16 }))
+ten_of_user : read (codes "card 1 8 7 8 4 4 64 260 3 15 user") ≡ Ok (card Octets (record { lines = 1; terminals = 8; k = 7; queue = 8; unit_queue = 4; control = 4; slots = 64; n201 = 260; n200 = 3; k16 = 15; side = User; sapi = 16; seed = None }))
 ten_of_user = refl
 
-with_sapi : read (codes "card 1 8 7 8 4 4 64 260 3 sapi 62") ≡ Ok (card Octets (record { lines = 1; terminals = 8; k = 7; queue = 8; unit_queue = 4; control = 4; slots = 64; n201 = 260; n200 = 3; k16 = 7; side = Network; sapi = 62 }))
+with_sapi : read (codes "card 1 8 7 8 4 4 64 260 3 sapi 62") ≡ Ok (card Octets (record { lines = 1; terminals = 8; k = 7; queue = 8; unit_queue = 4; control = 4; slots = 64; n201 = 260; n200 = 3; k16 = 7; side = Network; sapi = 62; seed = None }))
 with_sapi = refl
 
-all_words : read (codes "frames 1 8 7 8 4 4 64 260 3 15 user sapi 63") ≡ Ok (card Frames (record { lines = 1; terminals = 8; k = 7; queue = 8; unit_queue = 4; control = 4; slots = 64; n201 = 260; n200 = 3; k16 = 15; side = User; sapi = 63 }))
+all_words : read (codes "frames 1 8 7 8 4 4 64 260 3 15 user sapi 63") ≡ Ok (card Frames (record { lines = 1; terminals = 8; k = 7; queue = 8; unit_queue = 4; control = 4; slots = 64; n201 = 260; n200 = 3; k16 = 15; side = User; sapi = 63; seed = None }))
 all_words = refl
 
 no_sapi : read (codes "card 1 8 7 8 4 4 64 260 3 sapi 65536") ≡ Err BadNumber
@@ -73,7 +73,7 @@ a_frame : read (codes "in 63 00817F") ≡ Ok (into 63 (0 ∷ 129 ∷ 127 ∷ [])
 unfolding decode_pairs
 a_frame = refl
 
-for_frames : read (codes "frames 1 8 7 8 4 4 64 260 3") ≡ Ok (card Frames (record { lines = 1; terminals = 8; k = 7; queue = 8; unit_queue = 4; control = 4; slots = 64; n201 = 260; n200 = 3; k16 = 7; side = Network; sapi = 16 }))
+for_frames : read (codes "frames 1 8 7 8 4 4 64 260 3") ≡ Ok (card Frames (record { lines = 1; terminals = 8; k = 7; queue = 8; unit_queue = 4; control = 4; slots = 64; n201 = 260; n200 = 3; k16 = 7; side = Network; sapi = 16; seed = None }))
 for_frames = refl
 
 no_frame : read (codes "failed 0 ragged") ≡ Ok (failed 0 Ragged)

@@ -253,6 +253,7 @@ fn nine_numbers(words: &[&[u8]]) -> Result<Config, FaultKind>
         k16: first.2,
         side: Side::Network,
         sapi: 16,
+        seed: None,
     })
 }
 

@@ -29,7 +29,7 @@ waits_begins s t end m h = record {
 
 -- its timers run a millisecond at least
 sound : (l : rust_lengths.Lengths) → AreInRange (lengths_of l)
-sound l = record { t200 = l.least.0; t203 = l.least.1; t201 = l.least.2; t200_most = l.most.0; t203_most = l.most.1; t201_most = l.most.2 }
+sound l = record { t200 = l.least.0; t203 = l.least.1; t201 = l.least.2; t202 = l.least.3; t200_most = l.most.0; t203_most = l.most.1; t201_most = l.most.2; t202_most = l.most.3 }
 
 in_range : (s : rust.Setup) (m : Setup) → SetupStands s m → AreInRange m.clock.lengths
 in_range s m h = subst AreInRange (sym h.timers.clock_is.lengths) (sound s.timed.timers.lengths)

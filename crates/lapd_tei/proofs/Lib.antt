@@ -2,6 +2,7 @@
 pub mod Vocabulary
 pub mod Lists
 pub mod Tables
+pub mod Named
 pub mod Memories
 pub mod SoundWords
 mod Walk

@@ -1,6 +1,6 @@
 -- The TEIs of a line, each at a place of a table.
-use Rattle.std.specs.Prelude.{ℕ, Bool, true, false, not, ◌==◌, ◌||◌, List, Option, Some, None}
-use Rattle.std.specs.List.{find, position, list_any, range_with_len}
+use Rattle.std.specs.Prelude.{ℕ, Bool, true, false, not, ◌==◌, ◌||◌, List, [], ◌∷◌, Option, Some, None, if◌then◌else◌}
+use Rattle.std.specs.List.{filter_map, find, position, list_any, range_with_len}
 
 -- the TEI at each place, `None` where the place is free
 abbrev pub Places : Type 0
@@ -44,3 +44,14 @@ is_off places tei = not (is_on tei places)
 -- the lowest of them that is not on the line
 abbrev pub free_tei : Places → Option ℕ
 free_tei places = find (is_off places) automatic
+
+-- The TEIs on the line, by their places, and those that an Ai names (clause 5.3.1): each by 127, or this one, if it is on the
+-- line.
+abbrev pub itself : Option ℕ → Option ℕ
+itself tei = tei
+
+abbrev pub teis_on : Places → List ℕ
+teis_on places = filter_map itself places
+
+abbrev pub named : ℕ → Places → List ℕ
+named tei places = if tei == 127 then teis_on places else if is_on tei places then tei ∷ [] else []

@@ -4,7 +4,7 @@
 //! - `teis`: [`Teis`], all of it; each call is one event, and answers a [`TeiOutcome`]. `teis/checks`: how a check begins,
 //!   goes on and ends.
 //! - `outcome`: what an event led to.
-//! - `table`: the TEIs of a line, each at a place.
+//! - `table`: [`Table`], the TEIs of a line, each at a place.
 //! - `remembered`: the latest assignments, for requests that come again.
 //! - `check`: the check of a TEI that runs.
 //! - `queue`: the messages that wait to be sent.
@@ -39,4 +39,5 @@ pub use laws::{
 pub use messages::Message;
 pub use outcome::{Change, TeiOutcome};
 pub use remembered::Remembered;
+pub use table::Table;
 pub use teis::Teis;

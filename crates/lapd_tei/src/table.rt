@@ -1,7 +1,7 @@
 //! The table of the TEIs of a line.
 
-ghost use Rattle.std.specs.Prelude.{◌≡◌, ◌<◌, ◌≤◌, Some, None, length, replicate, set, IfSome};
-ghost use Rattle.lapd_tei.specs.{Places, is_on, is_in_use, place_of, free_place, free_tei, freed};
+ghost use Rattle.std.specs.Prelude.{◌≡◌, ◌<◌, ◌≤◌, [], ◌∷◌, ◌++◌, Some, None, length, replicate, set, IfSome};
+ghost use Rattle.lapd_tei.specs.{Places, is_on, is_in_use, named, place_of, free_place, free_tei, freed, teis_on};
 
 use arrayvec::ArrayVec;
 use lapd_frame::GROUP;
@@ -12,9 +12,9 @@ const MOST: usize = 8;
 /// The lowest TEI that the network assigns; they end before that of the group (Q.921 clause 3.3.4).
 const LOWEST: u8 = 64;
 
-/// The TEI at each place, `None` if it is free.
+/// The TEIs of a line, each at a place, on either side of it: the TEI at each place, `None` if it is free.
 #[derive(Drop, Debug)]
-pub(crate) struct Table {
+pub struct Table {
     places: ArrayVec<Option<u8>, MOST>,
 }
 
@@ -80,6 +80,20 @@ impl Table {
         (LOWEST..GROUP).find(|tei| !self.is_on(*tei))
     }
 
+    /// The TEIs that an Ai names: each that is on the line, by place, or this one, if it is on the line.
+    pub fn named(&self, tei: u8) -> ArrayVec<u8, MOST>
+        ensures { result.items ≡ named tei self.now }
+    {
+        if tei == GROUP {
+            return self.teis();
+        }
+        let mut one = ArrayVec::new();
+        if self.is_on(tei) {
+            one.push(tei);
+        }
+        one
+    }
+
     /// Puts a TEI at a place.
     pub fn put(&mut self, place: usize, tei: u8)
         requires { place < length self.old }
@@ -96,5 +110,27 @@ impl Table {
         let place = self.place_of(tei)?;
         self.places[place] = None;
         Some(place)
+    }
+
+    // The TEIs that are on the line, by place.
+    #[tactic(auto, using(crate::proofs::Named::teis_more, crate::proofs::Named::teis_room))]
+    fn teis(&self) -> ArrayVec<u8, MOST>
+        ensures { result.items ≡ teis_on self.now }
+    {
+        let mut teis = ArrayVec::new();
+        for own in self.places.as_slice() {
+            add(&mut teis, *own);
+        }
+        teis
+    }
+}
+
+// The TEI at one place more, if there is one.
+fn add(teis: &mut ArrayVec<u8, MOST>, own: Option<u8>)
+    requires { length teis.old.items < 8 }
+    ensures { teis.new.items ≡ teis.old.items ++ teis_on (own ∷ []) }
+{
+    if let Some(tei) = own {
+        teis.push(tei);
     }
 }

@@ -7,7 +7,9 @@ mod Walk
 mod Answered
 pub mod Told
 pub mod Numbered
+pub mod Rising
 pub mod Served
+pub mod Noted
 pub mod LawLemmas
 pub mod Given
 pub mod GivenUp

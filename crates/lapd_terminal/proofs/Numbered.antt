@@ -1,5 +1,5 @@
 -- Each message that is made has the next reference number, and the numbers go on once for each.
-use Rattle.lapd_terminal.proofs.Vocabulary.{◌≡◌, ℕ, zero, suc, ◌+◌, ◌<◌, ◌≤◌, inl, inr, Bool, true, false, cond, List, [], ◌∷◌, ◌++◌, length, get_or, filter, position, position-Some, fold, Option, Some, None, refl, sym, subst, ap, ◌∙◌, arith, All, All-append, All-cons, All-nil, All-set, All-filter_by, list_any, count_by, sum_by-set, sum_by_push, Terminal, Procedure, Message}
+use Rattle.lapd_terminal.proofs.Vocabulary.{◌≡◌, ℕ, zero, suc, ◌+◌, ◌<◌, ◌≤◌, inl, inr, Bool, true, false, cond, List, [], ◌∷◌, ◌++◌, length, get_or, filter, max, position, position-Some, fold, Option, Some, None, refl, sym, subst, ap, ◌∙◌, arith, All, All-append, All-cons, All-nil, All-set, All-filter_by, list_any, count_by, sum_by-set, sum_by_push, Terminal, Procedure, Message}
 use Rattle.lapd_terminal.proofs.Vocabulary.{IdentityRequest, IdentityCheckResponse, IdentityVerify, is_other, is_request, is_response, is_verified, is_verify, next_number, put_at, with_verify}
 use Rattle.lapd_terminal.proofs.Counted.{count-filter}
 use Rattle.lapd_terminal.proofs.Walk.{OfEvents, of_event}
@@ -132,7 +132,7 @@ each_on_again m (tei ∷ teis) most c h =
     let rest = each_on_again m teis (most + 1) (answer tei c) (responds m most tei (end_verifying_of tei c) (ends m most tei c h)) in
     record { count = rest.count; few = omega (arith, rest.few); on = rest.on }
 
-answers_on : (m : Terminal) (teis : List ℕ) → length teis ≤ length m.places + 1 → Counts m (length m.places + 1) (fold answered (begun m) teis).now
+answers_on : (m : Terminal) (teis : List ℕ) → length teis ≤ max 1 (length m.places) → Counts m (length m.places + 1) (fold answered (begun m) teis).now
 answers_on m teis short =
     let all = each_on_again m teis 0 (begun m) (record { count = 0; few = omega arith; on = as_it_was m }) in
     record { count = all.count; few = omega (arith, all.few); on = all.on }
@@ -167,7 +167,7 @@ ways e m = record {
   verifies_again = λ tei made runs few. none m _ (verifies_on m _ tei refl refl);
   takes = λ octets ri tei attempts place is heard runs off low at. none m _ (kept m is_response _ refl refl);
   is_denied = none m m (as_it_was m);
-  answers = λ teis all short. answers_on m teis short;
+  answers = λ octets teis is all short. answers_on m teis short;
   is_removed = λ tei. none m _ (leaves_on m tei);
   is_told = none m m (as_it_was m);
   gives_up_asking = none m _ (kept m is_response _ refl refl);

@@ -59,7 +59,7 @@ ways e m range sound = record {
   takes = λ octets ri tei attempts place is heard runs off low at.
       record { sound = sound_ended _ (sound_joined m tei place off at low sound); moves = moved_in m.places tei place off at low };
   is_denied = record { sound = sound; moves = refl };
-  answers = λ teis all short.
+  answers = λ octets teis is all short.
       let stays = answers_stay m teis all sound in
       leads_answers m (fold answered (begun m) teis) stays.sound stays.places (answers_each m teis).change;
   is_removed = λ tei. leads_removed m tei sound;

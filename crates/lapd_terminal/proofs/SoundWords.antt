@@ -1,8 +1,9 @@
 -- What the words of the table keep.
-use Rattle.lapd_terminal.proofs.Vocabulary.{◌≡◌, ℕ, zero, suc, ◌+◌, ◌*◌, ◌<◌, ◌≤◌, ◌==◌, ◌||◌, Bool, true, false, cond, List, [], ◌∷◌, ◌++◌, length, length-set, set, get_or, drop, filter, replicate, Option, Some, None, IfSome, ap, subst, refl, sym, ◌∙◌, arith, All, AllByRecursion, All-nil, All-cons, All-from_recursion, nat_tests, same_number, false≢true, list_any, Places}
+use Rattle.lapd_terminal.proofs.Vocabulary.{◌≡◌, ℕ, zero, suc, ◌+◌, ◌*◌, ◌<◌, ◌≤◌, ◌==◌, ◌||◌, Bool, true, false, cond, List, [], ◌∷◌, ◌++◌, length, length-set, max, set, get_or, drop, filter, replicate, Option, Some, None, IfSome, ap, subst, refl, sym, ◌∙◌, arith, All, AllByRecursion, All-nil, All-cons, All-from_recursion, nat_tests, same_number, false≢true, list_any, Places}
 use Rattle.lapd_terminal.proofs.Vocabulary.{free_place, is_on, place_of, freed, table-empty, table-freed, table-put, on-freed, on-put, on-range, IsSoundTable, Terminal, fresh, Procedure, Asking, Verifying, Message, IdentityRequest, IdentityCheckResponse, IdentityVerify, action_of, next_number, IsSound, IsSoundProcedure, IsSoundQueue, is_due, is_other, is_response}
-use Rattle.lapd_terminal.proofs.Vocabulary.{is_response_of, is_verified, is_verify, is_request, position, put_at, may_ask, may_verify, with_request, with_verify, named, itself, teis_on, take, take_more, length-take, filter_map-append, length-append, slice_get, slice_get_within, get_or_from_slice_get}
+use Rattle.lapd_terminal.proofs.Vocabulary.{is_response_of, is_verified, is_verify, is_request, position, put_at, may_ask, may_verify, with_request, with_verify, named, itself, teis_on, take, length-append, slice_get, slice_get_within, get_or_from_slice_get}
 use Rattle.std.proofs.Math.Nat.{mod-lt}
+use Rattle.lapd_tei.proofs.Named.{teis_few}
 use Rattle.lapd_terminal.proofs.Queues.{IsDueAt, queue-kept, queue-stays, queue-rest, queue-more, queue-asked, queue-verified, queue-length, no_response}
 
 -- as a line begins
@@ -174,15 +175,6 @@ named_on tei places =
       ] refl
     ]
 
--- Each place more adds the TEI that it has.
-pub teis_more : (places : Places) (i : ℕ) (d : Option ℕ) → i < length places → teis_on (take (i + 1) places) ≡ teis_on (take i places) ++ teis_on (get_or places i d ∷ [])
-teis_more places i d within = ap teis_on (take_more places i d within) ∙ filter_map-append itself (take i places) (get_or places i d ∷ [])
-
-pub teis_few : (places : Places) → length (teis_on places) ≤ length places
-teis_few [] = omega arith
-teis_few (None ∷ places) = omega (arith, teis_few places)
-teis_few (Some tei ∷ places) = omega (arith, teis_few places)
-
 -- The same, as the code's values have it.
 pub ended_is : (m : Terminal) (waiting : List Message) → waiting ≡ filter is_response m.waiting → IsSound m → IsSound (record m { procedure = None; waiting = waiting })
 ended_is m waiting e sound = subst (λ w. IsSound (record m { procedure = None; waiting = w })) (sym e) (sound_ended m sound)
@@ -235,22 +227,15 @@ room_to_respond m tei on none sound =
 pub low_front : (m : Terminal) (message : Message) → IsSound m → slice_get m.waiting 0 ≡ Some message → action_of message < 128
 low_front m message sound e = low_action m 0 message sound (slice_get_within m.waiting 0 message e) (get_or_from_slice_get m.waiting 0 message message e)
 
-pub named_few : (tei : ℕ) (places : Places) → length (named tei places) ≤ length places + 1
+pub named_few : (tei : ℕ) (places : Places) → length (named tei places) ≤ max 1 (length places)
 named_few tei places =
-    elim (tei == 127) as (λ b. length (cond b (teis_on places) (cond (is_on tei places) (tei ∷ []) [])) ≤ length places + 1) [
+    elim (tei == 127) as (λ b. length (cond b (teis_on places) (cond (is_on tei places) (tei ∷ []) [])) ≤ max 1 (length places)) [
       | true ↦ omega (arith, teis_few places)
-      | false ↦ elim (is_on tei places) as (λ b. length (cond b (tei ∷ []) []) ≤ length places + 1) [
+      | false ↦ elim (is_on tei places) as (λ b. length (cond b (tei ∷ []) []) ≤ max 1 (length places)) [
         | true ↦ omega arith
         | false ↦ omega arith
       ]
     ]
-
--- the TEIs of the first places have room
-pub teis_room : (places : Places) (teis : List ℕ) (i : ℕ) → teis ≡ teis_on (take i places) → i < length places → length places ≤ 8 → length teis < 8
-teis_room places teis i e within few =
-    let none_more : length (take i places) ≤ i = omega (arith, length-take i places) in
-    let fits : length teis ≤ length (take i places) = subst (λ all. length all ≤ length (take i places)) (sym e) (teis_few (take i places)) in
-    omega arith
 
 -- a TEI that is verified is on the line, and may be verified again
 pub verified_on : (m : Terminal) (tei attempts : ℕ) → m.procedure ≡ Some (Verifying tei attempts) → IsSound m → (is_on tei m.places ≡ true) × (may_verify tei m.procedure ≡ true)

@@ -63,7 +63,7 @@ ways e m = record {
   takes = λ octets ri tei attempts place is heard runs off low at.
       record { follows = refl; given = inr (octets, ri, attempts, is, heard, runs); idle = λ is. absurd (false≢true is) };
   is_denied = record { follows = refl; given = tt; idle = λ is. absurd (false≢true is) };
-  answers = λ teis all short. answers_by e m teis;
+  answers = λ octets teis is all short. answers_by e m teis;
   is_removed = λ tei. removed_by e m tei;
   is_told = record { follows = refl; given = tt; idle = λ is. absurd (false≢true is) };
   gives_up_asking = record { follows = refl; given = tt; idle = λ is. absurd (false≢true is) };

@@ -1,5 +1,5 @@
 -- The words with which the proofs of this crate speak, from where they are defined.
-pub use Rattle.std.proofs.Common.{Bool, IfSome, IsSome, List, None, Option, Some, [], ap, arith, cond, drop, false, get_or, inl, inr, is_some, length, length-append, length-set, length-drop, length-take, nat_le, nat_lt, not, refl, replicate, rules, set, slice_get, subst, suc, sym, take, true, zero, ℕ, ◌&&◌, ◌++◌, ◌+◌, ◌-◌, ◌*◌, ◌<◌, ◌==◌, ◌||◌, ◌∙◌, ◌∷◌, ◌≡◌, ◌≤◌, ◌⊎◌}
+pub use Rattle.std.proofs.Common.{Bool, IfSome, IsSome, List, None, Option, Some, [], ap, arith, cond, drop, false, get_or, inl, inr, is_some, length, length-append, length-set, length-drop, length-take, max, nat_le, nat_lt, not, refl, replicate, rules, set, slice_get, subst, suc, sym, take, true, zero, ℕ, ◌&&◌, ◌++◌, ◌+◌, ◌-◌, ◌*◌, ◌<◌, ◌==◌, ◌||◌, ◌∙◌, ◌∷◌, ◌≡◌, ◌≤◌, ◌⊎◌}
 pub use Rattle.std.proofs.lemmas.Grind.{common_steps}
 pub use Rattle.std.proofs.lemmas.List.Sums.{count_by-le-length, fails_before_first, fold_more, get_or-le-sum_by, length-filter, sum_by-cons, sum_by-set, sum_by-take-drop, sum_by_push}
 pub use Rattle.std.proofs.lemmas.List.Filters.{length-filter_both}
@@ -22,6 +22,6 @@ pub use Rattle.lapd_terminal.specs.Machine.{Asking, Procedure, Terminal, Verifyi
 pub use Rattle.lapd_terminal.specs.Messages.{IdentityCheckResponse, IdentityRequest, IdentityVerify, Message, action_of}
 pub use Rattle.lapd_terminal.specs.Numbers.{next_number}
 pub use Rattle.lapd_terminal.specs.Outcome.{terminal_of}
-pub use Rattle.lapd_terminal.specs.Rows.{itself, named, teis_on}
+pub use Rattle.lapd_tei.specs.Table.{itself, named, teis_on}
 pub use Rattle.lapd_terminal.specs.Sound.{IsSound, IsSoundProcedure, IsSoundQueue, has_slot, is_asked, is_due, may_ask, may_verify, slot_of}
 pub use Rattle.lapd_terminal.specs.Words.{is_other, is_request, is_response, is_response_of, is_verified, is_verify, put_at, with_request, with_verify}

@@ -1,5 +1,5 @@
 -- Every event ends in one of a few ways: the rows of the table are walked once, for any claim.
-use Rattle.lapd_terminal.proofs.Vocabulary.{◌≡◌, ℕ, ◌+◌, ◌≤◌, ◌==◌, ◌&&◌, nat_le, nat_lt, Bool, true, false, not, cond, is_some, List, [], ◌∷◌, length, All, Option, Some, None, refl, sym, subst, ap, arith, nat_tests, none-some, false≢true, same_number, fold, is_on, free_place, Terminal, Procedure, Asking, Verifying, may_ask, may_verify, named}
+use Rattle.lapd_terminal.proofs.Vocabulary.{◌≡◌, ℕ, ◌+◌, ◌≤◌, ◌==◌, ◌&&◌, max, nat_le, nat_lt, Bool, true, false, not, cond, is_some, List, [], ◌∷◌, length, All, Option, Some, None, refl, sym, subst, ap, arith, nat_tests, none-some, false≢true, same_number, fold, is_on, free_place, Terminal, Procedure, Asking, Verifying, may_ask, may_verify, named}
 use Rattle.lapd_terminal.proofs.SoundWords.{named_on, named_few}
 use Rattle.lapd_frame.specs.declared.refusals.Refusal.{Refusal}
 use Rattle.lapd_frame.specs.declared.refusals.Refusal.TheVariants.{NoLink, TeiTaken, TableFull, CheckRunning}
@@ -22,7 +22,7 @@ pub record OfEvents (e : Event) (m : Terminal) (E : Course → Type 0) : Type 0 
   pub takes : (octets : List ℕ) (ri tei attempts place : ℕ) → e ≡ message octets → heard_in octets ≡ Some (IdentityAssigned ri tei) → m.procedure ≡ Some (Asking ri attempts)
       → is_on tei m.places ≡ false → tei ≤ 126 → free_place m.places ≡ Some place → E (note (Assigned tei) (end_procedure (join tei place (begun m))))
   pub is_denied : E (note Denied (begun m))
-  pub answers : (teis : List ℕ) → All (λ tei. is_on tei m.places ≡ true) teis → length teis ≤ length m.places + 1 → E (fold answered (begun m) teis)
+  pub answers : (octets teis : List ℕ) → e ≡ message octets → All (λ tei. is_on tei m.places ≡ true) teis → length teis ≤ max 1 (length m.places) → E (fold answered (begun m) teis)
   pub is_removed : (tei : ℕ) → E (removed tei (begun m))
   pub is_told : E (note RemoveAll (begun m))
   pub gives_up_asking : E (give_up_asking (begun m))
@@ -99,9 +99,9 @@ module _ (e : Event) (m : Terminal) (E : Course → Type 0) (w : OfEvents e m E)
   of_denied ri (Some (Verifying own attempts)) = w.is_unserved
 
   -- checks and removals
-  of_checked : (teis : List ℕ) → All (λ tei. is_on tei m.places ≡ true) teis → length teis ≤ length m.places + 1 → E (checked teis (begun m))
-  of_checked [] all short = w.is_unserved
-  of_checked (tei ∷ teis) all short = w.answers (tei ∷ teis) all short
+  of_checked : (octets teis : List ℕ) → e ≡ message octets → All (λ tei. is_on tei m.places ≡ true) teis → length teis ≤ max 1 (length m.places) → E (checked teis (begun m))
+  of_checked octets [] is all short = w.is_unserved
+  of_checked octets (tei ∷ teis) is all short = w.answers octets (tei ∷ teis) is all short
 
   of_removed : (teis : List ℕ) → E (removed_each teis (begun m))
   of_removed [] = w.is_unserved
@@ -112,7 +112,7 @@ module _ (e : Event) (m : Terminal) (E : Course → Type 0) (w : OfEvents e m E)
   of_serve octets None is heard = w.is_unserved
   of_serve octets (Some (IdentityAssigned ri tei)) is heard = of_assigned octets ri tei m.procedure is heard refl
   of_serve octets (Some (IdentityDenied ri)) is heard = of_denied ri m.procedure
-  of_serve octets (Some (IdentityCheckRequest tei)) is heard = of_checked (named tei m.places) (named_on tei m.places) (named_few tei m.places)
+  of_serve octets (Some (IdentityCheckRequest tei)) is heard = of_checked octets (named tei m.places) is (named_on tei m.places) (named_few tei m.places)
   of_serve octets (Some (IdentityRemove tei)) is heard = of_removed (named tei m.places)
 
   -- an expiry of T202

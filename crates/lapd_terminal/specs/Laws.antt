@@ -1,5 +1,5 @@
 -- What holds of TEI management of a terminal, beside what its rows say.
-use Rattle.std.specs.Prelude.{◌≡◌, ℕ, ◌+◌, ◌≤◌, ◌<◌, ◌⊎◌, Bool, true, false, is_some, List, [], ◌∷◌, length, get_or, All, Option, Some, None}
+use Rattle.std.specs.Prelude.{◌≡◌, ℕ, ◌+◌, ◌≤◌, ◌<◌, ◌⊎◌, Bool, true, false, is_some, List, [], ◌∷◌, length, max, get_or, All, Option, Some, None}
 use Rattle.std.specs.List.{count_by}
 use Rattle.lapd_tei.specs.Laws.{Moves}
 use Rattle.lapd_tei.specs.declared.outcome.Change.{Change}
@@ -51,6 +51,14 @@ IsSoundThroughout = (terminals seed : ℕ) (acts : List Act) → terminals ≤ 8
 abbrev pub RoomIsEnough : Type 0
 RoomIsEnough = (terminals seed : ℕ) (acts : List Act) → terminals ≤ 8 → seed < 65536 → AreInRange acts
     → length (after_acts acts (fresh terminals seed)).waiting ≤ terminals + 1
+
+-- An event lets one message more wait at most; a check of all TEIs, one for each.
+abbrev pub more_most : Event → Terminal → ℕ
+more_most (message octets) m = max 1 (length m.places)
+more_most other m = 1
+
+abbrev pub FewMoreWait : Type 0
+FewMoreWait = (e : Event) (m : Terminal) → length (after e m).waiting ≤ length m.waiting + more_most e m
 
 -- The change that is told of an event is the change of the table: a TEI that was not on the line has taken the lowest
 -- free place, or a TEI has left its place free.

@@ -1,7 +1,8 @@
 -- The table of TEI management of a terminal (Q.921 clause 5.3): one equation for each row.
 use Rattle.std.specs.Prelude.{ℕ, ◌+◌, Bool, not, ◌&&◌, ◌==◌, nat_le, nat_lt, List, [], ◌∷◌, Option, Some, None, if◌then◌else◌}
-use Rattle.std.specs.List.{filter_map, fold}
+use Rattle.std.specs.List.{fold}
 use Rattle.lapd_tei.specs.Table.{Places, is_on, free_place}
+pub use Rattle.lapd_tei.specs.Table.{named}
 use Rattle.lapd_terminal.specs.Messages.{Heard, IdentityAssigned, IdentityDenied, IdentityCheckRequest, IdentityRemove}
 use Rattle.lapd_terminal.specs.Machine.{most_requests, most_verifies, Procedure, Asking, Verifying, Assigned, Removed, Denied, Unassigned, RemoveAll}
 use Rattle.lapd_terminal.specs.Words.{Course, Step, ◌then◌, nothing_happens, note, unserved, ask, verify, end_procedure, end_verifying_of, respond, join, leave}
@@ -39,15 +40,6 @@ denied ri (Some (Verifying own attempts)) = unserved
 -- The network checks a TEI, or all by Ai 127 (clause 5.3.3.2): each that is on the line is answered for, by its place,
 -- in a message of its own (profile: one Ai a response). The check is what a verify asks for, so verifying of the TEI
 -- ends.
-abbrev pub itself : Option ℕ → Option ℕ
-itself tei = tei
-
-abbrev pub teis_on : Places → List ℕ
-teis_on places = filter_map itself places
-
-abbrev pub named : ℕ → Places → List ℕ
-named tei places = if tei == 127 then teis_on places else if is_on tei places then tei ∷ [] else []
-
 abbrev pub answer : ℕ → Step
 answer tei = end_verifying_of tei then respond tei
 

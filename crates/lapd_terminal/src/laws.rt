@@ -1,16 +1,17 @@
 //! What holds of the table of TEI management of a terminal itself.
 
-ghost use Rattle.lapd_terminal.specs.Laws.{IsSoundThroughout, RoomIsEnough, ChangesAreTold, NoneIsTaken, EachWasGiven, T202Follows, ExpiredT202Follows, NumbersGoOn, UnservedChangesNothing, DownGivesUp};
+ghost use Rattle.lapd_terminal.specs.Laws.{IsSoundThroughout, RoomIsEnough, FewMoreWait, ChangesAreTold, NoneIsTaken, EachWasGiven, T202Follows, ExpiredT202Follows, NumbersGoOn, UnservedChangesNothing, DownGivesUp};
 ghost use Rattle.lapd_terminal.specs.Numbers.{NoneComesAgain, AllComeAgain};
 
 /// A line is sound from a fresh one of at most eight places on, after any events and pulls whose requests put on the line
 /// TEIs of at most 126. No TEI stands twice, each is at most 126, and a TEI that is verified is on the line. Each message
 /// that waits is the request that is outstanding, the verify of the TEI that is verified, or a response for a TEI on the
-/// line, none twice. So a place more than the line may have TEIs is enough for them, and none is ever lost. A law about
-/// the definitions in `specs/`; the call does nothing.
+/// line, none twice. So a place more than the line may have TEIs is enough for them, and none is ever lost. An event lets
+/// one more wait at most, or one for each TEI of the line. A law about the definitions in `specs/`; the call does nothing.
 pub fn no_message_is_lost()
     ensures sound { IsSoundThroughout }
     ensures room { RoomIsEnough }
+    ensures more { FewMoreWait }
 {}
 
 /// The change that is told of an event is the change of the table. And no TEI is taken by itself: one comes to the line

@@ -1,10 +1,9 @@
 //! TEI management of one line, at a terminal (Q.921 clause 5.3): how it asks for a TEI, answers checks, has a TEI
-//! verified, and gives one up. The network's side is `lapd_tei`.
+//! verified, and gives one up. The network's side is `lapd_tei`, whose table of the TEIs it has.
 //!
 //! - `terminal_teis`: [`TerminalTeis`], all of it; each call is one event, and answers a [`TerminalOutcome`].
 //!   `terminal_teis/served`: what a message of the network leads to. `terminal_teis/words`: the words of the table.
 //! - `outcome`: what an event led to.
-//! - `table`: the TEIs of a line, each at a place.
 //! - `procedure`: what the terminal has asked the network for.
 //! - `queue`: the messages that wait to be sent.
 //! - `messages`, `heard`: the messages of the terminal and of the network.
@@ -24,7 +23,6 @@ mod messages;
 mod outcome;
 mod procedure;
 mod queue;
-mod table;
 mod terminal_teis;
 
 pub use laws::{

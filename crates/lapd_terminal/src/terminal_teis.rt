@@ -13,8 +13,8 @@ use crate::heard::Heard;
 use crate::outcome::TerminalOutcome;
 use crate::procedure::{Procedure, stop_of};
 use crate::queue::Queue;
-use crate::table::Table;
 use lapd_frame::Refusal;
+use lapd_tei::Table;
 use std::marker::Model;
 
 /// TEI management of one line of a terminal (Q.921 clause 5.3).

@@ -32,7 +32,7 @@ unfolding in_order
 none-in es all = sym (ap in_order (none-run es all))
 
 -- A start.
-pub started : (lines terminals : ℕ) (lengths : Lengths) (es : List Expiry) → AreIdle lines (4 * terminals + 1) es → (c : Config) → c.lines ≡ lines → c.terminals ≡ terminals → IsInRange c
+pub started : (lines terminals : ℕ) (lengths : Lengths) (es : List Expiry) → AreIdle lines (4 * terminals + 2) es → (c : Config) → c.lines ≡ lines → c.terminals ≡ terminals → IsInRange c
     → AreKept as_they_are (record { lines = lines; terminals = terminals; lengths = lengths; now = 0; moments = es }) (cards.fresh c) (stopped lengths)
 started lines terminals lengths es idle c lines_are terminals_are ranged = record {
   reached = reached-fresh c ranged;
@@ -55,10 +55,10 @@ on-lines : (lines : ℕ) (es : List Expiry) → ((i : ℕ) → i < length es →
 on-lines lines [] each = tt
 on-lines lines (e ∷ es) each = (each 0 (omega arith), on-lines lines es (λ i within. each (suc i) (omega (arith, within))))
 
-pub idle-on-lines : (lines terminals : ℕ) (es : List Expiry) → AreIdle lines (4 * terminals + 1) es → AreOnLines lines es
+pub idle-on-lines : (lines terminals : ℕ) (es : List Expiry) → AreIdle lines (4 * terminals + 2) es → AreOnLines lines es
 idle-on-lines lines terminals es idle =
     All-from_recursion (λ e. e.line < lines) es
-    (on-lines lines es (λ i within. subst (λ n. n < lines) (sym (idle.of_line i within)) (in_lines i lines (4 * terminals + 1) (omega arith) (subst (λ n. i < n) idle.count within))))
+    (on-lines lines es (λ i within. subst (λ n. n < lines) (sym (idle.of_line i within)) (in_lines i lines (4 * terminals + 2) (omega arith) (subst (λ n. i < n) idle.count within))))
 
 stay-on-lines : (lines : ℕ) (es : List Expiry) (i : ℕ) (z : Expiry) → (i < length es → z.line < lines) → OnLines lines es → OnLines lines (set es i z)
 stay-on-lines lines [] i z own all = tt

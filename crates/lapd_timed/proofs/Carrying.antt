@@ -1,15 +1,15 @@
 -- Orders that are carried out in places.
-use Rattle.std.proofs.Common.{◌≡◌, inl, inr, ℕ, ◌+◌, ◌*◌, ◌<◌, List, Option, Some, None, IsSome, option_map, refl, sym, ap, ◌∙◌, subst}
+use Rattle.std.proofs.Common.{◌≡◌, inl, inr, Bool, true, false, ℕ, ◌+◌, ◌*◌, ◌<◌, List, Option, Some, None, IsSome, option_map, refl, sym, ap, ◌∙◌, subst}
 use Rattle.std.proofs.lemmas.Bool.{false≢true}
 use Rattle.std.proofs.lemmas.Option.{none-some, same_Some}
 use Rattle.lapd_clock.specs.Firsts.{never}
-use Rattle.lapd_clock.specs.Timer.{Timer, T200, T203, T201, Start, Stop, duration}
+use Rattle.lapd_clock.specs.Timer.{Timer, T200, T203, T201, T202, Start, Stop, duration}
 use Rattle.lapd_clock.specs.Timers.{Expiry, with_expiry, without}
 use Rattle.lapd_frame.specs.declared.services.Service.{Service}
-use Rattle.lapd_moments.specs.OfCard.{Holds, AreApart, slot_of, t201_of, timer_of}
+use Rattle.lapd_moments.specs.OfCard.{Holds, AreApart, slot_of, line_slot_of, timer_of, line_timer}
 use Rattle.lapd_moments.specs.Places.{timers_in, with_timer, without_timer, IsItsPlace}
 use Rattle.lapd_moments.proofs.InPlace.{started_in_place, stopped_in_place, stopped_nowhere}
-use Rattle.lapd_moments.proofs.OfCard.{its_place, t201_place, found_place, holds_started, holds_stopped, holds_t201}
+use Rattle.lapd_moments.proofs.OfCard.{its_place, line_place, found_place, holds_started, holds_stopped, holds_line}
 use Rattle.lapd_tei.proofs.Tables.{place_of-is}
 use Rattle.lapd_tei.specs.Sound.{IsSoundTable}
 use Rattle.model_card.specs.Card.{Card, line_at}
@@ -79,8 +79,8 @@ module _ (m : Card) (e : Event) (reached : IsReached m) (here : e.line < m.confi
   abbrev slot : ℕ → ℕ → LinkTimer → ℕ
   slot = slot_of h.terminals
 
-  abbrev t201 : ℕ → ℕ
-  t201 = t201_of h.terminals
+  abbrev line_slot : Bool → ℕ → ℕ
+  line_slot = line_slot_of h.terminals
 
   there : (line : ℕ) → line < h.lines → line < m.config.lines
   there line within = subst (λ n. line < n) (sym amid.lines) within
@@ -88,7 +88,7 @@ module _ (m : Card) (e : Event) (reached : IsReached m) (here : e.line < m.confi
   -- the place of a timer is its own
   record Own (i line : ℕ) (timer : Timer) : Type 0 where
     its : IsItsPlace i line timer h.moments
-    holds : (moment : ℕ) → Holds h.lines (2 * h.terminals) slot t201 (IsOnAmid e m) (with_timer i timer moment h.moments)
+    holds : (moment : ℕ) → Holds h.lines (2 * h.terminals) slot line_slot (IsOnAmid e m) (with_timer i timer moment h.moments)
 
   of-link : (line : ℕ) → line < h.lines → (k : LinkTimer) (service : Service) (tei p : ℕ) → place_in (line_at line (after e m)) tei ≡ Some p
       → Own (slot line (link_number p service) k) line (timer_of k service tei)
@@ -101,15 +101,15 @@ module _ (m : Card) (e : Event) (reached : IsReached m) (here : e.line < m.confi
       let is : timer_of k (service_at number) tei ≡ timer_of k service tei = ap (λ s. timer_of k s tei) (service_at-number p service) in
       record {
         its = subst (λ x. IsItsPlace (slot line number k) line x h.moments) is
-            (its_place h.lines (2 * h.terminals) slot t201 (IsOnAmid e m) h.moments amid.places lines-apart line number tei k within (number_within p h.terminals service few) on);
-        holds = λ moment. subst (λ x. Holds h.lines (2 * h.terminals) slot t201 (IsOnAmid e m) (with_timer (slot line number k) x moment h.moments)) is
-            (holds_started h.lines (2 * h.terminals) slot t201 (IsOnAmid e m) h.moments amid.places line number tei moment k within (number_within p h.terminals service few) on);
+            (its_place h.lines (2 * h.terminals) slot line_slot (IsOnAmid e m) h.moments amid.places lines-apart line number tei k within (number_within p h.terminals service few) on);
+        holds = λ moment. subst (λ x. Holds h.lines (2 * h.terminals) slot line_slot (IsOnAmid e m) (with_timer (slot line number k) x moment h.moments)) is
+            (holds_started h.lines (2 * h.terminals) slot line_slot (IsOnAmid e m) h.moments amid.places line number tei moment k within (number_within p h.terminals service few) on);
       }
 
-  of-t201 : (line : ℕ) → line < h.lines → Own (t201 line) line T201
-  of-t201 line within = record {
-    its = t201_place h.lines (2 * h.terminals) slot t201 (IsOnAmid e m) h.moments amid.places lines-apart line within;
-    holds = λ moment. holds_t201 h.lines (2 * h.terminals) slot t201 (IsOnAmid e m) h.moments amid.places line moment within;
+  of-line : (line : ℕ) → line < h.lines → (which : Bool) → Own (line_slot which line) line (line_timer which)
+  of-line line within which = record {
+    its = line_place h.lines (2 * h.terminals) slot line_slot (IsOnAmid e m) h.moments amid.places lines-apart line which within;
+    holds = λ moment. holds_line h.lines (2 * h.terminals) slot line_slot (IsOnAmid e m) h.moments amid.places line moment which within;
   }
 
   own : (line : ℕ) → line < h.lines → (timer : Timer) (i : ℕ) → own_place h.terminals line timer (line_at line (after e m)) ≡ Some i → Own i line timer
@@ -121,13 +121,15 @@ module _ (m : Card) (e : Event) (reached : IsReached m) (here : e.line < m.confi
       let n = mapped (slot_at h.terminals line link.T203) (link_on service tei (line_at line (after e m))) i is in
       let p = mapped (number_at service) (place_in (line_at line (after e m)) tei) n.0 n.1.0 in
       subst (λ j. Own j line (T203 service tei)) (ap (slot_at h.terminals line link.T203) p.1.1 ∙ n.1.1) (of-link line within link.T203 service tei p.0 p.1.0)
-  own line within T201 i is = subst (λ n. Own n line T201) (same_Some (t201 line) i is) (of-t201 line within)
+  own line within T201 i is = subst (λ n. Own n line T201) (same_Some (line_slot false line) i is) (of-line line within false)
+  own line within T202 i is = subst (λ n. Own n line T202) (same_Some (line_slot true line) i is) (of-line line within true)
 
   -- a timer that is started has a place
   pub has-place : (line : ℕ) (timer : Timer) → IsPlaced (line_at line (after e m)) (Start timer) → own_place h.terminals line timer (line_at line (after e m)) ≡ None → ⊥
   has-place line (T200 service tei) placed is = unmapped-twice (slot_at h.terminals line link.T200) (number_at service) (place_in (line_at line (after e m)) tei) is placed
   has-place line (T203 service tei) placed is = unmapped-twice (slot_at h.terminals line link.T203) (number_at service) (place_in (line_at line (after e m)) tei) is placed
-  has-place line T201 placed is = none-some (t201 line) (sym is)
+  has-place line T201 placed is = none-some (line_slot false line) (sym is)
+  has-place line T202 placed is = none-some (line_slot true line) (sym is)
 
   -- it is started there
   pub carried-start : (line : ℕ) → line < h.lines → (timer : Timer) (i moment : ℕ) (es : List Expiry) → own_place h.terminals line timer (line_at line (after e m)) ≡ Some i
@@ -145,7 +147,7 @@ module _ (m : Card) (e : Event) (reached : IsReached m) (here : e.line < m.confi
             ap (λ n. with_expiry (record { moment = n; line = line; timer = timer }) (without line timer c.running)) moment_is
             ∙ ap (λ rs. with_expiry (record { moment = moment; line = line; timer = timer }) (without line timer rs)) amid.running
             ∙ started_in_place h.moments i line timer moment o.its soon ∙ ap timers_in (sym new);
-        places = subst (Holds h.lines (2 * h.terminals) slot t201 (IsOnAmid e m)) (sym new) (o.holds moment);
+        places = subst (Holds h.lines (2 * h.terminals) slot line_slot (IsOnAmid e m)) (sym new) (o.holds moment);
       }
 
   -- and one that is stopped is stopped where it runs
@@ -157,8 +159,8 @@ module _ (m : Card) (e : Event) (reached : IsReached m) (here : e.line < m.confi
     now = amid.now;
     lengths = amid.lengths;
     running = ap (without line timer) amid.running ∙ stopped_in_place h.moments i line timer its ∙ ap timers_in (sym new);
-    places = subst (Holds h.lines (2 * h.terminals) slot t201 (IsOnAmid e m)) (sym new)
-        (holds_stopped h.lines (2 * h.terminals) slot t201 (IsOnAmid e m) h.moments amid.places i its.within);
+    places = subst (Holds h.lines (2 * h.terminals) slot line_slot (IsOnAmid e m)) (sym new)
+        (holds_stopped h.lines (2 * h.terminals) slot line_slot (IsOnAmid e m) h.moments amid.places i its.within);
   }
 
   pub carried-stop : (line : ℕ) → line < h.lines → (timer : Timer) (i : ℕ) (es : List Expiry)
@@ -169,7 +171,7 @@ module _ (m : Card) (e : Event) (reached : IsReached m) (here : e.line < m.confi
       go : (o : Option ℕ) → own_place h.terminals line timer (line_at line (after e m)) ≡ o → IsOwnOrFound (Some i) o line timer h.moments
           → AreAt (IsOnAmid e m) (record h { moments = es }) m (obey line c (Stop timer))
       go (Some j) is same = stopped-at line timer i es (own line within timer i (is ∙ sym same)).its new
-      go None is at = stopped-at line timer i es (found_place h.lines (2 * h.terminals) slot t201 (IsOnAmid e m) h.moments amid.places lines-apart i line timer at) new
+      go None is at = stopped-at line timer i es (found_place h.lines (2 * h.terminals) slot line_slot (IsOnAmid e m) h.moments amid.places lines-apart i line timer at) new
 
   pub carried-nowhere : (line : ℕ) (timer : Timer) → IsOwnOrFound None (own_place h.terminals line timer (line_at line (after e m))) line timer h.moments
       → AreAt (IsOnAmid e m) h m (obey line c (Stop timer))

@@ -7,7 +7,7 @@ use Rattle.std.specs.Prelude.{IfSome}
 use Rattle.lapd_clock.specs.Timer.{Timer}
 use Rattle.lapd_clock.specs.Timers as clocks
 use Rattle.lapd_clock.specs.Timers.{Expiry, is_of}
-use Rattle.lapd_moments.specs.OfCard.{Holds, AreApart, slot_of, t201_of}
+use Rattle.lapd_moments.specs.OfCard.{Holds, AreApart, slot_of, line_slot_of}
 use Rattle.lapd_moments.specs.Places.{timers_in, at, IsTaken, IsItsPlace}
 use Rattle.lapd_moments.proofs.OfCard.{itself, found_place, holds_stopped}
 use Rattle.model_card.specs.Card.{Card}
@@ -36,7 +36,7 @@ module _ (card : Card) (h : HeldTimers) (c : Clock) (kept : AreKept as_they_are 
   running-is = kept.clock_is.running ∙ taken.first.leads ∙ ap (λ es. x ∷ timers_in es) (sym taken.is)
 
   its : IsItsPlace taken.place x.line x.timer h.moments
-  its = found_place h.lines (2 * h.terminals) (slot_of h.terminals) (t201_of h.terminals) (IsOn card) h.moments kept.clock_is.places (subst (λ n. AreApart n (IsOn card)) kept.clock_is.lines (apart-now card kept.reached)) taken.place x.line x.timer
+  its = found_place h.lines (2 * h.terminals) (slot_of h.terminals) (line_slot_of h.terminals) (IsOn card) h.moments kept.clock_is.places (subst (λ n. AreApart n (IsOn card)) kept.clock_is.lines (apart-now card kept.reached)) taken.place x.line x.timer
       (record { within = taken.first.within; runs = taken.first.runs; its = itself x x.line x.timer refl refl })
 
   -- it is the one that the clock says is due
@@ -55,8 +55,8 @@ module _ (card : Card) (h : HeldTimers) (c : Clock) (kept : AreKept as_they_are 
       now = kept.clock_is.now;
       lengths = kept.clock_is.lengths;
       running = ap (drop 1) running-is;
-      places = subst (Holds h.lines (2 * h.terminals) (slot_of h.terminals) (t201_of h.terminals) (IsOn card)) (sym taken.is)
-          (holds_stopped h.lines (2 * h.terminals) (slot_of h.terminals) (t201_of h.terminals) (IsOn card) h.moments kept.clock_is.places taken.place taken.first.within);
+      places = subst (Holds h.lines (2 * h.terminals) (slot_of h.terminals) (line_slot_of h.terminals) (IsOn card)) (sym taken.is)
+          (holds_stopped h.lines (2 * h.terminals) (slot_of h.terminals) (line_slot_of h.terminals) (IsOn card) h.moments kept.clock_is.places taken.place taken.first.within);
     };
     same = taken-left card c x (timers_in new) running-is
         (subst (λ es. AllByRecursion (λ e. is_of x.line x.timer e ≡ false) (timers_in es)) (sym taken.is) its.only) kept.same;

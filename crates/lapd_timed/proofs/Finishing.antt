@@ -7,7 +7,7 @@ use Rattle.lapd_clock.specs.Timer.{Timer}
 use Rattle.lapd_clock.specs.Timers.{Expiry, is_held, is_of}
 use Rattle.lapd_clock.proofs.Once.{All-from_in_order}
 use Rattle.lapd_frame.specs.declared.services.Service.{Service}
-use Rattle.lapd_moments.specs.OfCard.{slot_of, t201_of, timer_of}
+use Rattle.lapd_moments.specs.OfCard.{slot_of, line_slot_of, timer_of}
 use Rattle.lapd_moments.specs.Places.{is_running, timers_in, at, RunsAt}
 use Rattle.lapd_moments.proofs.InPlace.{none_held}
 use Rattle.lapd_moments.proofs.OfCard.{itself, holds_moved}
@@ -65,7 +65,7 @@ module _ (m : Card) (e : Event) (here : e.line < m.config.lines) (h : HeldTimers
     now = kept.clock_is.now;
     lengths = kept.clock_is.lengths;
     running = kept.clock_is.running;
-    places = holds_moved h.lines (2 * h.terminals) (slot_of h.terminals) (t201_of h.terminals) (IsOn m) h.moments kept.clock_is.places (IsOnAmid e m)
+    places = holds_moved h.lines (2 * h.terminals) (slot_of h.terminals) (line_slot_of h.terminals) (IsOn m) h.moments kept.clock_is.places (IsOnAmid e m)
         (λ line number tei k there within soon line_is timer_is on. inl on);
   }
 
@@ -97,7 +97,7 @@ module _ (m : Card) (e : Event) (here : e.line < m.config.lines) (h : HeldTimers
         now = amid.now;
         lengths = amid.lengths;
         running = amid.running;
-        places = holds_moved new.lines (2 * new.terminals) (slot_of new.terminals) (t201_of new.terminals) (IsOnAmid e m) new.moments amid.places (IsOn (after e m)) stays;
+        places = holds_moved new.lines (2 * new.terminals) (slot_of new.terminals) (line_slot_of new.terminals) (IsOnAmid e m) new.moments amid.places (IsOn (after e m)) stays;
       };
       same = run-then;
     }

@@ -1,9 +1,9 @@
 -- The places of a card's timers.
-use Rattle.std.specs.Prelude.{◌≡◌, ℕ, ◌<◌, List, All, Option, Some, None, option_map}
-use Rattle.lapd_clock.specs.Timer.{Timer, T200, T203, T201}
+use Rattle.std.specs.Prelude.{◌≡◌, ℕ, true, false, ◌<◌, List, All, Option, Some, None, option_map}
+use Rattle.lapd_clock.specs.Timer.{Timer, T200, T203, T201, T202}
 use Rattle.lapd_clock.specs.Timers.{Expiry}
 use Rattle.lapd_frame.specs.declared.services.Service.{Service}
-use Rattle.lapd_moments.specs.OfCard.{slot_of, t201_of}
+use Rattle.lapd_moments.specs.OfCard.{slot_of, line_slot_of}
 use Rattle.lapd_moments.specs.Places.{RunsAt, is_nowhere}
 use Rattle.model_line.specs.Line.{Line, link_number, place_in}
 use Rattle.model_link.specs.declared.timers.LinkTimer.{LinkTimer}
@@ -23,7 +23,8 @@ slot_at terminals line timer number = slot_of terminals line number timer
 abbrev pub own_place : ℕ → ℕ → Timer → Line → Option ℕ
 own_place terminals line (T200 service tei) l = option_map (slot_at terminals line link.T200) (link_on service tei l)
 own_place terminals line (T203 service tei) l = option_map (slot_at terminals line link.T203) (link_on service tei l)
-own_place terminals line T201 l = Some (t201_of terminals line)
+own_place terminals line T201 l = Some (line_slot_of terminals false line)
+own_place terminals line T202 l = Some (line_slot_of terminals true line)
 
 -- Which timer of which line it is.
 abbrev pub named_by : Expiry → ℕ × Timer

@@ -5,7 +5,7 @@ use Rattle.lapd_clock.specs.Timer.{Timer, Lengths}
 use Rattle.lapd_clock.specs.Timers.{Expiry}
 use Rattle.lapd_card.specs.FrameCard.{Held}
 use Rattle.lapd_card.specs.FrameStands.{FrameStands}
-use Rattle.lapd_moments.specs.OfCard.{Holds, slot_of, t201_of}
+use Rattle.lapd_moments.specs.OfCard.{Holds, slot_of, line_slot_of}
 use Rattle.lapd_moments.specs.Places.{timers_in}
 use Rattle.lapd_store.specs.Store.{Store}
 use Rattle.model_card.specs.Card.{Card, line_at}
@@ -40,7 +40,7 @@ pub record AreAt (IsAt : ℕ → ℕ → ℕ → Type 0) (h : HeldTimers) (card 
   pub now : clock.now ≡ h.now
   pub lengths : clock.lengths ≡ h.lengths
   pub running : clock.running ≡ timers_in h.moments
-  pub places : Holds h.lines (2 * h.terminals) (slot_of h.terminals) (t201_of h.terminals) IsAt h.moments
+  pub places : Holds h.lines (2 * h.terminals) (slot_of h.terminals) (line_slot_of h.terminals) IsAt h.moments
 
 -- And what runs is what the lines of the card run, which the caller has left so.
 pub record AreKept (left : ℕ → Timer → Bool → Bool) (h : HeldTimers) (card : Card) (clock : Clock) : Type 0 where

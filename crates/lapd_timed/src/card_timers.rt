@@ -44,7 +44,7 @@ pub struct CardTimers {
     ghost few_lines: { lines ≤ 64 },
     ghost few_terminals: { terminals ≤ 8 },
     ghost in_time: { moment < 2 ^ 63 },
-    ghost size: { length moments ≡ lines * (4 * terminals + 1) },
+    ghost size: { length moments ≡ lines * (4 * terminals + 2) },
     ghost of_lines: { AreOnLines lines moments },
 }
 
@@ -116,7 +116,7 @@ impl CardTimers {
     /// Its expiry is then to be handed to the card, and the orders of the answer to be carried out.
     ///
     /// The first is the one with the least moment. At one moment it is that of the lowest line, and there T200 goes before T203,
-    /// and T203 before T201; T200 and T203 go by TEI, and at one TEI that of the call link goes first (profile).
+    /// and T203 before T201 and T202; T200 and T203 go by TEI, and at one TEI that of the call link goes first (profile).
     #[inline(always)]
     pub fn due(&mut self) -> Option<(usize, Timer)>
         ensures due { (m : Card) (c : Clock) → TimersStand self.old m c → result ≡ option_map named_by (due c) }
@@ -232,6 +232,7 @@ impl CardTimers {
                 Some(slot(self.terminals, line, number, 1))
             }
             Timer::T201 => Some(slot(self.terminals, line, 2 * self.terminals, 0)),
+            Timer::T202 => Some(slot(self.terminals, line, 2 * self.terminals, 1)),
         }
     }
 
@@ -258,15 +259,15 @@ impl CardTimers {
     }
 }
 
-/// The place of a timer of a line, by the number of its link and of its kind; after those of all links is that of T201.
+/// The place of a timer of a line, by the number of its link and of its kind; after those of all links are those of T201 and T202.
 fn slot(terminals: usize, line: usize, number: usize, kind: usize) -> usize
     requires terminals { terminals ≤ 8 }
     requires line { line < 64 }
     requires number { number ≤ 16 }
     requires kind { kind ≤ 1 }
-    ensures { result ≡ line * (4 * terminals + 1) + (2 * number + kind) }
+    ensures { result ≡ line * (4 * terminals + 2) + (2 * number + kind) }
 {
-    line * (4 * terminals + 1) + (2 * number + kind)
+    line * (4 * terminals + 2) + (2 * number + kind)
 }
 
 /// The number of the link of a service at a place of a line.

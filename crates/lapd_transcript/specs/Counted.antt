@@ -5,7 +5,7 @@ use Rattle.model_bits.specs.declared.heard.Cause.TheVariants as cause
 use Rattle.lapd_frame.specs.declared.notes.ErrorCode.TheVariants as code
 use Rattle.lapd_frame.specs.Services.{letter_of}
 use Rattle.lapd_count.specs.declared.counter.Counter.{Counter}
-use Rattle.lapd_count.specs.declared.counter.Counter.TheVariants.{Frames, Octets, Polls, Overlong, Dropped, Errors, EstablishIndications, EstablishConfirms, ReleaseIndications, ReleaseConfirms, Data, Units, Xids, Assigned, Removed, Doubled, Lost, Messages}
+use Rattle.lapd_count.specs.declared.counter.Counter.TheVariants.{Frames, Octets, Polls, Overlong, Dropped, Errors, EstablishIndications, EstablishConfirms, ReleaseIndications, ReleaseConfirms, Data, Units, Xids, Assigned, Removed, Doubled, Denied, Unassigned, RemovedAll, Lost, Messages}
 use Rattle.lapd_count.specs.declared.counter.Way.{Way}
 use Rattle.lapd_count.specs.declared.counter.Way.TheVariants.{Heard, Begun}
 use Rattle.lapd_count.specs.declared.counters.Counters.{Counters}
@@ -35,7 +35,7 @@ line_counters =
     Errors code.H ∷ Errors code.I ∷ Errors code.J ∷ Errors code.K ∷ Errors code.L ∷ Errors code.N ∷ Errors code.O ∷
     EstablishIndications ∷ EstablishConfirms ∷ ReleaseIndications ∷ ReleaseConfirms ∷
     Data ∷ Units ∷ Xids ∷ Assigned ∷
-    Removed ∷ Doubled ∷ Lost ∷ []
+    Removed ∷ Doubled ∷ Denied ∷ Unassigned ∷ RemovedAll ∷ Lost ∷ []
 
 abbrev pub message_counters : List Counter
 message_counters =
@@ -95,6 +95,9 @@ group_name Xids = codes "told-"
 group_name Assigned = codes "told-"
 group_name Removed = codes "told-"
 group_name Doubled = codes "told-"
+group_name Denied = codes "told-"
+group_name Unassigned = codes "told-"
+group_name RemovedAll = codes "told-"
 group_name Lost = []
 group_name (Messages way m) = way_name way
 
@@ -115,6 +118,9 @@ own_name Xids = codes "xid"
 own_name Assigned = codes "assigned"
 own_name Removed = codes "removed"
 own_name Doubled = codes "doubled"
+own_name Denied = codes "denied"
+own_name Unassigned = codes "unassigned"
+own_name RemovedAll = codes "remove-all"
 own_name Lost = codes "lost"
 own_name (Messages way m) = message_name m
 

@@ -3,7 +3,7 @@ use Rattle.std.specs.Prelude.{ℕ, ◌==◌, if◌then◌else◌, List, [], ◌�
 use Rattle.model_bits.specs.declared.heard.Cause.{Cause}
 use Rattle.model_bits.specs.declared.heard.Cause.TheVariants.{Abort, Ragged, Short, Fcs, Extension, Sapi, Tei, Unserved}
 use Rattle.lapd_frame.specs.declared.notes.Note.{Note}
-use Rattle.lapd_frame.specs.declared.notes.Note.TheVariants.{EstablishIndication, EstablishConfirm, ReleaseIndication, ReleaseConfirm, Data, Unit, Error, Assigned, Removed, Doubled, Xid}
+use Rattle.lapd_frame.specs.declared.notes.Note.TheVariants.{EstablishIndication, EstablishConfirm, ReleaseIndication, ReleaseConfirm, Data, Unit, Error, Assigned, Removed, Doubled, Denied, Unassigned, RemoveAll, Xid}
 use Rattle.lapd_frame.specs.Services.{letter_of}
 use Rattle.lapd_frame.specs.declared.refusals.Refusal.{Refusal}
 use Rattle.lapd_frame.specs.declared.refusals.Refusal.TheVariants.{BadTei, NoLink, WrongState, TooLong, QueueFull, PoolFull, TeiTaken, TableFull, CheckRunning, ControlFull, WrongSide}
@@ -38,6 +38,9 @@ note_words contents (Error service tei code) = link_words (codes "error") servic
 note_words contents (Assigned tei) = tei_words (codes "assigned") tei
 note_words contents (Removed tei) = tei_words (codes "removed") tei
 note_words contents (Doubled tei) = tei_words (codes "doubled") tei
+note_words contents Denied = tei_words (codes "denied") 127
+note_words contents Unassigned = tei_words (codes "unassigned") 127
+note_words contents RemoveAll = tei_words (codes "remove-all") 127
 note_words contents (Xid service tei) = link_words (codes "xid") service tei
 
 abbrev pub note_text : ℕ → List ℕ → Note → List ℕ

@@ -12,7 +12,7 @@ use Rattle.lapd_count.specs.Counters.{place, none_counted, with_all}
 use Rattle.lapd_transcript.specs.declared.counters.CounterGroup.TheVariants as group
 use Rattle.lapd_transcript.specs.Counted.{line_counters, message_counters, group_name, own_name, counters_text}
 
-in_order : map place (line_counters ++ message_counters) ≡ range_with_len 0 76
+in_order : map place (line_counters ++ message_counters) ≡ range_with_len 0 79
 in_order = refl
 
 named : group_name (Frames Heard Sabme) ++ own_name (Frames Heard Sabme) ≡ codes "heard-sabme"

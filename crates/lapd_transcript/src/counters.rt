@@ -27,7 +27,7 @@ pub enum CounterGroup {
 }
 
 /// The counters of a line with their names, in the order of their places.
-static COUNTERS: [(Counter, &[u8]); 62] = [
+static COUNTERS: [(Counter, &[u8]); 65] = [
     (Counter::Frames(Heard, Kind::Information), b"heard-i"),
     (Counter::Frames(Heard, Kind::ReceiveReady), b"heard-rr"),
     (Counter::Frames(Heard, Kind::ReceiveNotReady), b"heard-rnr"),
@@ -89,6 +89,9 @@ static COUNTERS: [(Counter, &[u8]); 62] = [
     (Counter::Assigned, b"told-assigned"),
     (Counter::Removed, b"told-removed"),
     (Counter::Doubled, b"told-doubled"),
+    (Counter::Denied, b"told-denied"),
+    (Counter::Unassigned, b"told-unassigned"),
+    (Counter::RemovedAll, b"told-remove-all"),
     (Counter::Lost, b"lost"),
 ];
 

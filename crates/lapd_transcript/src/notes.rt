@@ -9,6 +9,9 @@ use lapd_frame::{ErrorCode, Note, Service};
 use lapd_text::decimal;
 use model_bits::Cause;
 
+/// What notes of no TEI, or of all, name: the TEI of the group.
+const NO_TEI: u8 = 127;
+
 impl<T: Target> Page<'_, T> {
     /// What an event on a line brought: its notes, then why it dropped a frame, then how many frames it lost. `contents`
     /// are those that were delivered, which a note of data tells.
@@ -78,6 +81,9 @@ impl<T: Target> Page<'_, T> {
             Note::Assigned(tei) => self.put_of_tei(line, b"assigned", tei),
             Note::Removed(tei) => self.put_of_tei(line, b"removed", tei),
             Note::Doubled(tei) => self.put_of_tei(line, b"doubled", tei),
+            Note::Denied => self.put_of_tei(line, b"denied", NO_TEI),
+            Note::Unassigned => self.put_of_tei(line, b"unassigned", NO_TEI),
+            Note::RemoveAll => self.put_of_tei(line, b"remove-all", NO_TEI),
             Note::Xid(service, tei) => self.put_of_link(line, b"xid", service, tei),
         }
     }

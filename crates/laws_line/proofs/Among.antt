@@ -2,18 +2,34 @@
 use Rattle.laws_line.proofs.Vocabulary.{◌≡◌, ℕ, ◌+◌, ◌-◌, ◌<◌, ◌≤◌, Bool, false, cond, List, [], ◌∷◌, ◌++◌, Option, Some, sym, ap, ◌∙◌, ◌⊎◌, inl, inr, arith, append_assoc, append-nil, length-append, eq-eqb, Service, Parts, ControlFrame, State, Terms, Link, event-follows, as_heard, is_overlong, waiting_left, Change, one_more_waits, Config, LineTold, Answer, Aim, of_change, of_aim, Line, link_count}
 use Rattle.laws_line.proofs.Vocabulary.{service_at, place_at, tei_at, terms, link_at, IsInRange, Event, after, answer, IsSound, deactivates, IsBy, frames_before, is_take, go_first, link_overlong, link_offer, link_received, link_frame, link_cleared, LinkEvent, link_after}
 use Rattle.laws_line.proofs.Happening.{Happens, event-happens}
-use Rattle.model_line.proofs.Downs.{by-down}
+use Rattle.laws_line.proofs.Vocabulary.{None, refl, true, at_management, at_terminal, at_no_link, at_a_terminal, of_management, of_network, of_terminal, of_terminal_if, told_of_management, told_of_terminal, is_terminal, terminal_in, with_terminal, without_units, TeiEvent, TerminalEvent, tei_told, tei_after, terminal_told, terminal_after, down as line_down}
 
--- What an event that is no call for the next frame leaves of whose turn it is, and what it brings.
-record Meanwhile (l l' : Line) : Type 0 where
-  turn : l'.turn ≡ l.turn
-  few : go_first l' ≤ go_first l + 1
+-- An event that is no call for the next frame leaves whose turn it is.
+abbrev Meanwhile : Line → Line → Type 0
+Meanwhile l l' = l'.turn ≡ l.turn
 
-by-change : (c : Config) (o : Option Change) (t : LineTold) (l : Line) → ((of_change c o t l).line.turn ≡ l.turn) × (go_first (of_change c o t l).line ≡ go_first l)
+by-change : (c : Config) (o : Option Change) (t : LineTold) (l : Line) → (of_change c o t l).line.turn ≡ l.turn
 by-change c o t l = grind arith
 
-by-aim : (c : Config) (l : Line) (aim : Aim) → Meanwhile l (of_aim c aim l).line
-by-aim c l aim = grind (arith, by-change, one_more_waits, length-append, by-down)
+there : (c : Config) (e : TerminalEvent) (l : Line) → Meanwhile l (of_terminal c e l).line
+there c e l = by-change c (terminal_told e (terminal_in l)).change (told_of_terminal (terminal_told e (terminal_in l))) (with_terminal (terminal_after e (terminal_in l)) l)
+
+there-if : (c : Config) (o : Option TerminalEvent) (l : Line) → Meanwhile l (of_terminal_if c o l).line
+there-if c None l = refl
+there-if c (Some e) l = there c e l
+
+managed : (c : Config) (e : TeiEvent) (l : Line) → Meanwhile l (of_management c e l).line
+managed c e l = go (is_terminal c)
+  where
+    go : (b : Bool) → Meanwhile l (cond b (of_terminal_if c (at_a_terminal e) l) (of_network c e l)).line
+    go true = there-if c (at_a_terminal e) l
+    go false = by-change c (tei_told e l.management).change (told_of_management (tei_told e l.management)) (record l { management = tei_after e l.management })
+
+pub by-aim : (c : Config) (l : Line) (aim : Aim) → Meanwhile l (of_aim c aim l).line
+by-aim c l (at_management e) = managed c e l
+by-aim c l (at_terminal e) = there c e l
+by-aim c l at_no_link = managed c line_down (without_units l)
+by-aim c l aim = grind arith
 
 meanwhile : (c : Config) (e : Event) (l : Line) → is_take e ≡ false → Meanwhile l (after c e l)
 unfolding after

@@ -1,9 +1,21 @@
 -- With calls for the next frame alone the frames to go become fewer, until nothing waits.
 use Rattle.laws_line.proofs.Vocabulary.{◌≡◌, ℕ, zero, suc, ◌+◌, ◌≤◌, ◌<◌, List, [], ◌∷◌, slice_get, Option, Some, None, is_some, refl, ap, ◌∙◌, ◌⊎◌, ⊎_elim, arith, IfSome, option_map_or, option_or, All-head, All-tail, nothing-to_send, Config, next, may_send, is_given, Line, link_count, Taken, link_taken, first_taken, taken, next_of, line_of, IsInRange, after_sound, next_falls, fresh_gives_nothing}
 use Rattle.laws_line.proofs.Vocabulary.{round_below, option_map, All, one, after, answer, IsSound, HasNothing, after_takes, frames_to_go, IsIdling}
+use Rattle.lapd_tei.specs.Events as teis
+use Rattle.lapd_tei.specs.Messages as messages
+use Rattle.lapd_terminal.specs.Events as terminals
+use Rattle.laws_line.proofs.Vocabulary.{Bool, true, false, cond, HasNoMessage, Message, OwnMessage, own_frame_of, message_taken, is_terminal, terminal_in, with_message, with_own_message}
 use Rattle.laws_line.proofs.Serving.{none-waits}
 use Rattle.laws_line.proofs.Silence.{sends-none}
 use Rattle.laws_line.proofs.Going.{TakesOne, taken-falls}
+
+-- where no message waits, none is taken
+pub no-message-taken : (c : Config) (l : Line) → HasNoMessage l → message_taken c l ≡ None
+no-message-taken c l none = go (is_terminal c)
+  where
+    go : (b : Bool) → cond b (option_map (with_own_message l) (terminals.offered (terminal_in l))) (option_map (with_message l) (teis.offered c.side l.management)) ≡ None
+    go true = ap (λ (ms : List OwnMessage). option_map (with_own_message l) (option_map own_frame_of (slice_get ms 0))) none.own
+    go false = ap (λ (ms : List Message). option_map (with_message l) (option_map (messages.frame_of c.side) (slice_get ms 0))) none.management
 
 -- where nothing waits, nothing is taken
 module _ (c : Config) (l : Line) (s : IsSound c l) (h : HasNothing c l) where
@@ -17,7 +29,7 @@ module _ (c : Config) (l : Line) (s : IsSound c l) (h : HasNothing c l) where
       ∙ none-first ns (All-tail (λ n. n < link_count c) n ns few)
 
   pub nothing-taken : taken c l ≡ None
-  nothing-taken = grind (arith, option_map, slice_get, none-first, round_below)
+  nothing-taken = grind (arith, option_map, slice_get, none-first, round_below, no-message-taken, h.messages)
 
 -- and so the line stays as it is
 pub same-after : (c : Config) (l : Line) → taken c l ≡ None → after c next l ≡ l

@@ -31,7 +31,7 @@ all-none f a (suc n) h = grind (arith, sum_by-cons, (all-none f (a + 1) n))
 module _ (c : Config) (l : Line) where
   nothing-left : IsSound c l → frames_to_go c l ≡ 0 → HasNothing c l
   nothing-left s e = record {
-    messages = empty l.management.waiting (omega (arith, e));
+    messages = record { management = empty l.management.waiting (omega (arith, e)); own = empty l.own.waiting (omega (arith, e)) };
     units = empty l.units (omega (arith, e));
     links = λ number few tei at.
         silent (terms c (service_at number) tei) (link_at number l) (subst (IsSoundAt c number (link_at number l)) at (s.links number few))

@@ -1,6 +1,6 @@
 -- A frame that is taken is no longer among those to go.
 use Rattle.laws_line.proofs.Vocabulary.{◌≡◌, ℕ, ◌+◌, ◌≤◌, ◌<◌, Bool, List, ◌∷◌, length, get_or, set, Some, IfSome, ap, ◌⊎◌, arith, ltb-true, and_parts, get_or-set_same, get_or-set_other, ControlFrame, Terms, Link, Given, HasNothingToSend, nothing-to_send, Message, Config, Line, UnitData, link_count, service_at, place_at, terms, link_at, Taken, with_unit, with_given_frame, taken, sum_of_links}
-use Rattle.laws_line.proofs.Vocabulary.{sum_changed, IsAt, taken_walk, fresh, begun as course_begun, frame_of, with_message, IsSound, link_to_go, frames_to_go, link_offer, link_given, link_after}
+use Rattle.laws_line.proofs.Vocabulary.{refl, Management, Own, GoesOut, without_message, to_go_at_link, sum_changed, IsAt, taken_walk, fresh, begun as course_begun, frame_of, with_message, IsSound, link_to_go, frames_to_go, link_offer, link_given, link_after}
 use Rattle.model_link.specs.Offers
 use Rattle.model_link.specs.Sound as link_sounds
 
@@ -37,8 +37,10 @@ abbrev pub TakesOne : Config → Line → Taken → Type 0
 TakesOne c l t = 1 + frames_to_go c t.line ≤ frames_to_go c l
 
 module _ (c : Config) (l : Line) (s : IsSound c l) where
-  by-message : (m : Message) (ms : List Message) → l.management.waiting ≡ m ∷ ms → TakesOne c l (with_message l (frame_of c.side m))
-  by-message m ms e = grind arith
+  by-message : (octets : List ℕ) (m : Management) (own : Own) → GoesOut c l octets m own → TakesOne c l (without_message l octets m own)
+  by-message octets m own out =
+      let links : sum_of_links c (to_go_at_link c (without_message l octets m own).line) ≡ sum_of_links c (to_go_at_link c l) = refl in
+      omega (arith, out.fewer, links)
 
   by-unit : (u : UnitData) (us : List UnitData) → l.units ≡ u ∷ us → TakesOne c l (with_unit c l u)
   by-unit u us e = grind arith

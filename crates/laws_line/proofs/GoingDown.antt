@@ -1,6 +1,6 @@
 -- A line that is taken down is down.
 use Rattle.laws_line.proofs.Vocabulary.{◌≡◌, ℕ, zero, suc, ◌<◌, true, false, List, [], ◌∷◌, get_or, set, Option, Some, None, refl, sym, ap, subst, ◌∙◌, ⊎_elim, arith, option_map_or, All-head, All-tail, Refusal, Service, Timer, LinkTimer, Terms, is_on-at, Config, request, gave, Line, link_number, link_count, service_at, place_at, tei_at, place_in, link_at, of_aim, Request, Deactivate, Down}
-use Rattle.laws_line.proofs.Vocabulary.{at_deactivated, IsInRange, IsSoundAt, after_sound, next, cases_lt, get_or_past, All, Contains, map, place_of, fresh, after, answer, unless_refused, refusal, IsSound, after_events, takes_down, TakeDown, IsDown, LinesGoDown, IsSilent, link_needs, is_needed}
+use Rattle.laws_line.proofs.Vocabulary.{at_deactivated, IsInRange, IsSoundAt, after_sound, next, cases_lt, get_or_past, All, Contains, map, place_of, fresh, after, answer, unless_refused, refusal, IsSound, after_events, takes_down, TakeDown, IsDown, LinesGoDown, HasNoMessage, IsSilent, link_needs, is_needed}
 use Rattle.laws_line.proofs.Draining.{nothing-taken}
 use Rattle.laws_line.proofs.GivingUp.{deactivations_give_up}
 use Rattle.laws_line.proofs.Parts.{gives-up}
@@ -9,9 +9,10 @@ use Rattle.model_line.proofs.TimersFollow.{number-is}
 
 -- What waits and is of no link, and the check.
 record IsQuiet (l : Line) : Type 0 where
-  messages : l.management.waiting ≡ []
+  messages : HasNoMessage l
   units : l.units ≡ []
   check : l.management.check ≡ None
+  procedure : l.own.procedure ≡ None
 
 -- What a request that takes a line down leaves as it is.
 record Keeps (l l' : Line) : Type 0 where
@@ -44,10 +45,10 @@ begins-there (y ∷ ys) (suc n) x = begins-there ys n x
 
 -- One of these requests.
 module _ (c : Config) (l : Line) where
-  down-keeps : Keeps l (after c (request Down) l)
-  down-keeps =
-      subst (Keeps l) (sym (gives-up c l).line)
-      (record { places = refl; quiet = λ q. record { messages = refl; units = refl; check = refl }; begun = λ number h. h })
+  down-keeps : IsSound c l → Keeps l (after c (request Down) l)
+  down-keeps s =
+      subst (Keeps l) (sym (gives-up c l s).line)
+      (record { places = refl; quiet = λ q. record { messages = record { management = refl; own = refl }; units = refl; check = refl; procedure = refl }; begun = λ number h. h })
 
   deactivated-keeps : (service : Service) (tei : ℕ) → Keeps l (after c (request (Deactivate service tei)) l)
   unfolding after
@@ -56,7 +57,7 @@ module _ (c : Config) (l : Line) where
       go : (o : Option Refusal) (p : Option ℕ) → Keeps l (of_aim c (unless_refused o (at_deactivated service tei p)) l).line
       go None (Some place) = record {
         places = refl;
-        quiet = λ q. record { messages = q.messages; units = q.units; check = q.check };
+        quiet = λ q. record { messages = record { management = q.messages.management; own = q.messages.own }; units = q.units; check = q.check; procedure = q.procedure };
         begun = λ number h. begins-still l.links (link_number place service) number fresh h;
       }
       go o p = grind (arith, same)
@@ -67,8 +68,8 @@ module _ (c : Config) (l : Line) where
       ap (link_at (link_number place service)) (deactivations_give_up c l service tei place s on).line
       ∙ begins-there l.links (link_number place service) fresh
 
-  each : (r : Request) → takes_down r ≡ true → Keeps l (after c (request r) l)
-  each r is = grind (arith, down-keeps, deactivated-keeps)
+  each : IsSound c l → (r : Request) → takes_down r ≡ true → Keeps l (after c (request r) l)
+  each s r is = grind (arith, down-keeps, deactivated-keeps)
 
 module _ (c : Config) (ranged : IsInRange c) where
   abbrev Only : List Request → Type 0
@@ -77,24 +78,30 @@ module _ (c : Config) (ranged : IsInRange c) where
   abbrev end : List Request → Line → Line
   end rs l = after_events c (map request rs) l
 
-  keeps : (rs : List Request) (l : Line) → Only rs → Keeps l (end rs l)
+  keeps : (rs : List Request) (l : Line) → IsSound c l → Only rs → Keeps l (end rs l)
   unfolding after_events
-  keeps [] l only = same l
-  keeps (r ∷ rs) l only =
-      after-both l (after c (request r) l) _ (each c l r (All-head (λ r. takes_down r ≡ true) r rs only))
-      (keeps rs (after c (request r) l) (All-tail (λ r. takes_down r ≡ true) r rs only))
+  keeps [] l s only = same l
+  keeps (r ∷ rs) l s only =
+      after-both l (after c (request r) l) _ (each c l s r (All-head (λ r. takes_down r ≡ true) r rs only))
+      (keeps rs (after c (request r) l) (after_sound c ranged (request r) l s) (All-tail (λ r. takes_down r ≡ true) r rs only))
 
   sound-still : (rs : List Request) (l : Line) → IsSound c l → IsSound c (end rs l)
   unfolding after_events
   sound-still [] l s = s
   sound-still (r ∷ rs) l s = sound-still rs (after c (request r) l) (after_sound c ranged (request r) l s)
 
-  quiet : (rs : List Request) (l : Line) → Only rs → Contains rs Down → IsQuiet (end rs l)
+  down-quiet : (l : Line) → IsSound c l → IsQuiet (after c (request Down) l)
+  down-quiet l s =
+      subst IsQuiet (sym (gives-up c l s).line) (record { messages = record { management = refl; own = refl }; units = refl; check = refl; procedure = refl })
+
+  quiet : (rs : List Request) (l : Line) → IsSound c l → Only rs → Contains rs Down → IsQuiet (end rs l)
   unfolding after_events
-  quiet [] l only has = grind arith
-  quiet (r ∷ rs) l only has =
+  quiet [] l s only has = grind arith
+  quiet (r ∷ rs) l s only has =
       let then = All-tail (λ r. takes_down r ≡ true) r rs only in
-      grind (arith, keeps, then, gives-up, (quiet rs))
+      let next = after c (request r) l in
+      let sound = after_sound c ranged (request r) l s in
+      ⊎_elim (λ here. (keeps rs next sound then).quiet (subst (λ r. IsQuiet (after c (request r) l)) (sym here) (down-quiet l s))) (λ behind. quiet rs next sound then behind) (grind arith)
 
   begins : (rs : List Request) (l : Line) → IsSound c l → Only rs → (service : Service) (tei place : ℕ) → place_in l tei ≡ Some place
       → Contains rs (Deactivate service tei) → link_at (link_number place service) (end rs l) ≡ fresh
@@ -105,10 +112,10 @@ module _ (c : Config) (ranged : IsInRange c) where
       let next = after c (request r) l in
       ⊎_elim
       (λ here.
-      (keeps rs next then).begun (link_number place service)
+      (keeps rs next (after_sound c ranged (request r) l s) then).begun (link_number place service)
       (subst (λ r. link_at (link_number place service) (after c (request r) l) ≡ fresh) (sym here) (deactivated-begins c l service tei place s on)))
       (λ behind.
-      begins rs next (after_sound c ranged (request r) l s) then service tei place (ap (place_of tei) (each c l r (All-head (λ r. takes_down r ≡ true) r rs only)).places ∙ on) behind)
+      begins rs next (after_sound c ranged (request r) l s) then service tei place (ap (place_of tei) (each c l s r (All-head (λ r. takes_down r ≡ true) r rs only)).places ∙ on) behind)
       (grind arith)
 
 -- So after all of them.
@@ -120,13 +127,13 @@ module _ (c : Config) (ranged : IsInRange c) (l : Line) (rs : List Request) (s :
   then = end c ranged rs l
 
   kept : Keeps l then
-  kept = keeps c ranged rs l h.only
+  kept = keeps c ranged rs l s h.only
 
   sound : IsSound c then
   sound = sound-still c ranged rs l s
 
   none-left : IsQuiet then
-  none-left = quiet c ranged rs l h.only h.line
+  none-left = quiet c ranged rs l s h.only h.line
 
   link-begins : (number : ℕ) → number < link_count c → link_at number then ≡ fresh
   link-begins number few = go (tei_at (place_at number) then) refl (sound.links number few)

@@ -3,10 +3,10 @@ use Rattle.laws_line.proofs.Vocabulary.{arith, ◌≡◌, ℕ, Bool, true, false
 use Rattle.laws_line.proofs.Vocabulary.{long_reading, service_of, reading-found, Terms, LinkTimer, IsOwn, Link, is_data, is_unit, notes-own, event-tells, contents_heard, unit_heard, delivered-was-heard, event-unit, within-is, place_of-is, Config, hears, request, next, nothing, Aim, at_none, at_link, at_management, of_aim, at_timer, aim_of_expiry, Line, place_in, link_in, terms}
 use Rattle.laws_line.proofs.Vocabulary.{unless_refused_told, drop_for, management_sapi, to_service, addressed, message_of, aim_of_reading, aim_of_long, heard_side, aim_of_heard, group_told, IsToGroup, side_aims, Request, Establish, at_requested, at_deactivated, aim_of_request, IsInRange, sound_in, All, T200, T203, Event, expiry, answer, unless_refused, group_tei, at_place, refusal, IsSound, IsTo}
 use Rattle.laws_line.proofs.Vocabulary.{contents_in, is_data_of, is_unit_of, IsHeard, link_undefined, link_overlong, LinkReceived, link_received, LinkEstablish, link_expired, link_frame, link_requested, LinkRequest, link_wrong_size, LinkEvent, link_told, stream_overlong, bits_dropped, stream_frame, StreamEvent, tei_expiry, TeiEvent}
+use Rattle.laws_line.proofs.Vocabulary.{Release, Data, Unit, SetBusy, ClearBusy, Deactivate, Assign, Remove, Check, Disown, AskTei, VerifyTei, Down, LinkRelease, LinkData, LinkSetBusy, LinkClearBusy, assigning, remove, check, disown, asking, verifying, message, at_units, Control, T202, LineTold, Change, TerminalEvent, terminal_told, terminal_after, terminal_expiry, terminal_in, with_terminal, without_units, is_terminal, at_a_terminal, at_no_link, at_terminal, of_change, of_management, of_network, of_terminal, of_terminal_if, told_of_management, told_of_terminal, tei_told, tei_after, down as line_down}
 use Rattle.model_link.specs.Sound as link_sound
 use Rattle.laws_line.proofs.Told.{its-own}
 use Rattle.laws_line.proofs.Hearing.{sapi-is}
-use Rattle.model_line.proofs.Downs.{by-down}
 
 -- Notes of data, and of unit data, are the link's own.
 own-data : (t : Terms) (n : Note) → IsOwn t n → (is_data_of t.service t.tei n ≡ is_data n) × (is_unit_of t.service t.tei n ≡ is_unit n)
@@ -73,8 +73,32 @@ module _ (c : Config) (ranged : IsInRange c) (l : Line) (s : IsSound c l) where
   drops : (why : Cause) → Silent (drop_for why)
   drops why = dropped (drop_for why) refl
 
+  -- TEI management hands on nothing
+  none-told : (o : Option Change) (t : LineTold) (m : Line) → t.contents ≡ None → (of_change c o t m).told.contents ≡ None
+  none-told o t m none = grind arith
+
+  none-there : (e : TerminalEvent) (m : Line) → (of_terminal c e m).told.contents ≡ None
+  none-there e m = none-told (terminal_told e (terminal_in m)).change (told_of_terminal (terminal_told e (terminal_in m))) (with_terminal (terminal_after e (terminal_in m)) m) refl
+
+  none-if : (o : Option TerminalEvent) (m : Line) → (of_terminal_if c o m).told.contents ≡ None
+  none-if None m = refl
+  none-if (Some e) m = none-there e m
+
+  none-managed : (e : TeiEvent) (m : Line) → (of_management c e m).told.contents ≡ None
+  none-managed e m = go (is_terminal c)
+    where
+      go : (b : Bool) → (cond b (of_terminal_if c (at_a_terminal e) m) (of_network c e m)).told.contents ≡ None
+      go true = none-if (at_a_terminal e) m
+      go false = none-told (tei_told e m.management).change (told_of_management (tei_told e m.management)) (record m { management = tei_after e m.management }) refl
+
   managed : (e : TeiEvent) → Silent (at_management e)
-  managed e = grind (arith, dropped)
+  managed e = dropped (at_management e) (none-managed e l)
+
+  owned : (e : TerminalEvent) → Silent (at_terminal e)
+  owned e = dropped (at_terminal e) (none-there e l)
+
+  ended : Silent at_no_link
+  ended = dropped at_no_link (none-managed line_down (without_units l))
 
   placed : (service : Service) (tei : ℕ) (what : LinkReceived) → contents_heard (link_received what) ≡ None → unit_heard (link_received what) ≡ None
       → (o : Option ℕ) → place_in l tei ≡ o → Silent (at_place service tei what o)
@@ -112,6 +136,7 @@ module _ (c : Config) (ranged : IsInRange c) (l : Line) (s : IsSound c l) where
   expiry-silent (T200 service tei) = timer-silent service tei LinkTimer.T200 (place_in l tei) refl
   expiry-silent (T203 service tei) = timer-silent service tei LinkTimer.T203 (place_in l tei) refl
   expiry-silent T201 = managed tei_expiry
+  expiry-silent T202 = owned terminal_expiry
 
   asked-silent : (service : Service) (tei : ℕ) (what : LinkRequest) (o : Option ℕ) → place_in l tei ≡ o → Silent (at_requested service tei what o)
   asked-silent service tei what None e = dropped (at_none nothing) refl
@@ -122,7 +147,23 @@ module _ (c : Config) (ranged : IsInRange c) (l : Line) (s : IsSound c l) where
 
   pub request-silent : (r : Request) → Silent (aim_of_request r l)
   request-silent (Establish service tei) = asked-silent service tei LinkEstablish (place_in l tei) refl
-  request-silent r = grind (arith, asked-silent, dropped, managed, deactivated-silent, by-down)
+  request-silent (Release service tei) = asked-silent service tei LinkRelease (place_in l tei) refl
+  request-silent (Data service tei contents) = asked-silent service tei (LinkData contents) (place_in l tei) refl
+  request-silent (SetBusy service tei) = asked-silent service tei LinkSetBusy (place_in l tei) refl
+  request-silent (ClearBusy service tei) = asked-silent service tei LinkClearBusy (place_in l tei) refl
+  request-silent (Deactivate service tei) = deactivated-silent service tei (place_in l tei) refl
+  request-silent (Unit service tei contents) = dropped (at_units (record { service = service; tei = tei; contents = contents })) refl
+  request-silent (Assign tei) = managed (assigning tei)
+  request-silent (Remove tei) = managed (remove tei)
+  request-silent (Check tei) = managed (check tei)
+  request-silent (Disown tei) = managed (disown tei)
+  request-silent AskTei = owned asking
+  request-silent (VerifyTei tei) = owned (verifying tei)
+  request-silent Down = ended
+
+  message-silent : (k : Control) (info : List ℕ) → Silent (message_of k info)
+  message-silent (Control.Ui p) info = managed (message info)
+  message-silent other info = drops Unserved
 
   -- contents by a frame that was heard
   pub record Heard (octets contents : List ℕ) (ns : List Note) : Type 0 where
@@ -179,7 +220,7 @@ module _ (c : Config) (ranged : IsInRange c) (l : Line) (s : IsSound c l) where
       of-service (Some service) e = at-its-place service e (place_in l parts.address.tei) refl
 
       go : (known group : Bool) → Hears octets (cond known (cond group (message_of parts.control parts.info) (drop_for Tei)) (to_service l parts.address.tei (link_frame parts) (service_of parts.address.sapi)))
-      go true true = silently octets (message_of parts.control parts.info) (grind (arith, managed, drops))
+      go true true = silently octets (message_of parts.control parts.info) (message-silent parts.control parts.info)
       go true false = silently octets (drop_for Tei) (drops Tei)
       go false group = of-service (service_of parts.address.sapi) refl
   by-reading octets (Err BadExtension) read = silently octets (drop_for Extension) (drops Extension)

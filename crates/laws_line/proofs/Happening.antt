@@ -3,7 +3,8 @@ use Rattle.laws_line.proofs.Vocabulary.{◌≡◌, ℕ, ◌<◌, Bool, false, �
 use Rattle.laws_line.proofs.Vocabulary.{link_number, service_at, place_at, tei_at, link_at, terms, link_count, unless_refused_told, aim_of_heard, Taken, taken, aim_of_request, IsProper, place_at-number, service_at-number, heard_proper, expiry_proper, request_proper, taken_walk, next_walk, at_no_link, eqb-true, option_map, fresh, Event, expiry, after, answer, unless_refused, refusal, IsSound}
 use Rattle.laws_line.proofs.Vocabulary.{IsMoved, IsBy, IsDeactivated, IsOf, link_cleared, link_offer, LinkEvent, link_after, tei_after, tei_told, TeiEvent, begin_here, begin_away}
 use Rattle.lapd_tei.specs.Laws as tei_laws
-use Rattle.lapd_tei.proofs.LawLemmas as tei_lemmas
+use Rattle.laws_line.proofs.Vocabulary.{LineTold, Management, Own, TerminalEvent, IsOwnEvent, at_terminal}
+use Rattle.laws_line.proofs.Changes.{Turn, turned, turned-there}
 use Rattle.laws_line.proofs.Tied.{Ties, heard-ties, expiry-ties, request-ties}
 use Rattle.laws_line.proofs.Told.{moved}
 use Rattle.model_line.proofs.Downs.{by-down}
@@ -44,26 +45,29 @@ module _ (c : Config) (l : Line) (s : IsSound c l) (number : ℕ) (few : number 
       grind (arith, place_at-number, get_or-set_same, eqb-true, service_at-number, by-or-down, eq-eqb, get_or-set_other)
 
   -- a TEI comes to a place, or leaves it
-  at-its-place : (me : TeiEvent) (o : Option Change) (place : ℕ)
+  at-its-place : (m : Management) (o : Option Change) (place : ℕ)
       → is_change_at (place_at number) o ≡ (place == place_at number) → place < length l.management.places
-      → tei_laws.Moves l.management.places o (tei_after me l.management).places → (l' : Line)
+      → tei_laws.Moves l.management.places o m.places → (l' : Line)
       → l'.links ≡ set (set l.links (link_number place Call) fresh) (link_number place Packet) fresh
-      → l'.management.places ≡ (tei_after me l.management).places → (b : Bool) → (place == place_at number) ≡ b → Goes l'
-  at-its-place me o place at within moves l' ls ps b same = grind (arith, moved, begin_here, eqb-true, begin_away, eq-eqb)
+      → l'.management.places ≡ m.places → (b : Bool) → (place == place_at number) ≡ b → Goes l'
+  at-its-place m o place at within moves l' ls ps b same = grind (arith, moved, begin_here, eqb-true, begin_away, eq-eqb)
+
+  changed : (o : Option Change) (t : LineTold) (m : Management) (own : Own) → Turn l o t m → Goes (of_change c o t (record l { management = m; own = own })).line
+  changed None t m own turn = inl refl
+  changed (Some (Gained tei place)) t m own turn = at-its-place m (Some (Gained tei place)) place refl turn.moves.within turn.moves _ refl refl (place == place_at number) refl
+  changed (Some (Left tei place)) t m own turn = at-its-place m (Some (Left tei place)) place refl turn.moves.within turn.moves _ refl refl (place == place_at number) refl
 
   managed : (me : TeiEvent) → tei_laws.IsInRange me → Goes (of_aim c (at_management me) l).line
-  managed me fits = go (tei_told me l.management).change (tei_lemmas.changes_are_told me l.management fits s.management)
-    where
-      go : (o : Option Change) → tei_laws.Moves l.management.places o (tei_after me l.management).places
-          → Goes (of_change c o (told_of_management (tei_told me l.management)) (record l { management = tei_after me l.management })).line
-      go None m = inl refl
-      go (Some (Gained tei place)) m = at-its-place me (Some (Gained tei place)) place refl m.within m _ refl refl (place == place_at number) refl
-      go (Some (Left tei place)) m = at-its-place me (Some (Left tei place)) place refl m.within m _ refl refl (place == place_at number) refl
+  managed me fits = turned c l s (λ f. Goes f.line) changed me fits
+
+  managed-there : (te : TerminalEvent) → IsOwnEvent c te → Goes (of_aim c (at_terminal te) l).line
+  managed-there te proper = turned-there c l s (λ f. Goes f.line) changed te proper
 
   pub aim-happens : (aim : Aim) → IsProper c l aim → Ties c e a aim → Goes (of_aim c aim l).line
   aim-happens (at_link service tei place le) proper ties = at-its-link service tei place le proper ties
   aim-happens (at_management me) proper ties = managed me proper
-  aim-happens at_no_link proper ties = inl (by-down c l (λ f. link_at number f.line ≡ link_at number l) refl)
+  aim-happens (at_terminal te) proper ties = managed-there te proper
+  aim-happens at_no_link proper ties = inl (by-down c l s (λ f. link_at number f.line ≡ link_at number l) refl)
   aim-happens other proper ties = inl refl
 
 -- A call for the next frame takes what one link gives, and leaves the others.
@@ -77,7 +81,7 @@ module _ (c : Config) (l : Line) (s : IsSound c l) (number : ℕ) where
   Fate t = Offered (link_at number t.line)
 
   taken-fate : IfSome (taken c l) Fate
-  taken-fate = taken_walk c l s Fate (λ m ms e. inl refl) (λ u us e. inl refl) (λ n tei few at sound g e. grind (arith, eqb-true, get_or-set_same, get_or-set_other, eq-eqb))
+  taken-fate = taken_walk c l s Fate (λ octets m own out. inl refl) (λ u us e. inl refl) (λ n tei few at sound g e. grind (arith, eqb-true, get_or-set_same, get_or-set_other, eq-eqb))
 
   pub next-happens : Happens c number next l (after c next l) (answer c next l)
   unfolding after answer

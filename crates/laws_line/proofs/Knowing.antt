@@ -4,14 +4,14 @@ use Rattle.laws_line.proofs.Vocabulary.{Moves, Management, IsAt, IsSoundTable, i
 use Rattle.laws_line.proofs.Vocabulary.{Request, Establish, Release, Assign, Remove, SetBusy, ClearBusy, Deactivate, at_requested, at_deactivated, aim_of_request, IsProper, heard_aims, request_proper, Down, eqb-true, T200, T203, fresh, LinkCourse as Course, begun, Event, expiry, after, answer, with_message, Data, Unit, Check, IsSound, up_by_note, taken_for_up, is_up_of, link_offer, link_received}
 use Rattle.laws_line.proofs.Vocabulary.{LinkEstablish, LinkRelease, link_expired, LinkClearBusy, link_requested, LinkRequest, LinkData, link_cleared, LinkSetBusy, LinkEvent, link_told, link_after, StreamEvent, message, tei_told, check, disown, tei_after, remove, assigning, tei_expiry, TeiEvent, Disown}
 use Rattle.lapd_tei.specs.Laws as tei_laws
-use Rattle.lapd_tei.proofs.LawLemmas as tei_lemmas
 use Rattle.model_line.proofs.Following.{some-same, and-false}
 use Rattle.model_line.proofs.LinkMoves.{IsOne, taken-one}
 use Rattle.laws_line.proofs.Noting.{own-notes, other-notes}
 use Rattle.model_line.proofs.Obeyed.{services-equal, both-true}
 use Rattle.model_line.proofs.Places.{has-place}
 use Rattle.laws_line.proofs.Readings as read
-use Rattle.laws_line.proofs.TeiNotes.{ByChange, noted}
+use Rattle.laws_line.proofs.Vocabulary.{◌∷◌, T202, LineTold, Own, AskTei, VerifyTei, TerminalEvent, IsOwnEvent, asking, verifying, terminal_expiry, at_terminal, without_message}
+use Rattle.laws_line.proofs.Changes.{AreOfTeis, IsOfTeis, Turn, turned, turned-there}
 use Rattle.model_line.proofs.TimersFollow.{number-is}
 use Rattle.model_line.proofs.Downs.{given_up, by-down}
 
@@ -51,22 +51,20 @@ module _ (c : Config) (l : Line) (s : IsSound c l) (service : Service) (tei plac
   link-up s' n' = by-link s' n' (same_service service s' && (tei == n')) refl
 
 -- Notes of TEIs say nothing of links.
-tei-note : (service : Service) (tei : ℕ) (up : Bool) (e : TeiEvent) (o : Option Change) (ns : List Note) → ByChange e o ns → fold (up_by_note service tei) up ns ≡ up
-tei-note service tei up e o ns is = grind arith
+one-note : (service : Service) (tei : ℕ) (up : Bool) (n : Note) → IsOfTeis n → up_by_note service tei up n ≡ up
+one-note service tei up n is = grind arith
 
--- An event of TEI management.
-module _ (c : Config) (l : Line) (s : IsSound c l) (e : TeiEvent) (fits : tei_laws.IsInRange e) where
-  abbrev m : Management
-  m = tei_after e l.management
+tei-note : (service : Service) (tei : ℕ) (up : Bool) (ns : List Note) → AreOfTeis ns → fold (up_by_note service tei) up ns ≡ up
+tei-note service tei up [] are = refl
+tei-note service tei up (n ∷ ns) are = ap (λ b. fold (up_by_note service tei) b ns) (one-note service tei up n are.0) ∙ tei-note service tei up ns are.1
 
-  sound : IsSoundTable m.places
-  sound = (tei_lemmas.sound-after e l.management fits s.management).table
-
+-- A step of TEI management, of whatever side.
+module _ (c : Config) (l : Line) (s : IsSound c l) (t : LineTold) (m : Management) (own : Own) (sound : IsSoundTable m.places) (quiet : AreOfTeis t.notes) where
   abbrev ns : List Note
-  ns = (tei_told e l.management).notes
+  ns = t.notes
 
   abbrev changed : Option Change → Line
-  changed o = (of_change c o (told_of_management (tei_told e l.management)) (record l { management = m })).line
+  changed o = (of_change c o t (record l { management = m; own = own })).line
 
   comes-up : (tei place : ℕ) → tei_laws.HasJoined l.management.places m.places tei place → (s' : Service) (n' : ℕ) (b : Bool) → (tei == n') ≡ b
       → is_up_of s' n' l ≡ is_up_of s' n' (changed (Some (Gained tei place)))
@@ -112,14 +110,21 @@ module _ (c : Config) (l : Line) (s : IsSound c l) (e : TeiEvent) (fits : tei_la
         ∙ sym (read.elsewhere false is_up refl c l s m sound place None gone.is_free gone.within z n' (λ same. none-some n' same)
         (λ at. true≢false (sym (eq-eqb tei n' (some-same tei n' (sym gone.was_there ∙ at))) ∙ other)))
 
-  by-change : (o : Option Change) → Moves l.management.places o m.places → ByChange e o ns
-      → Up l (of_change c o (told_of_management (tei_told e l.management)) (record l { management = m })).told.notes (changed o)
-  by-change (Some (Gained tei place)) joined is = λ s' n'.
-      tei-note s' n' (is_up_of s' n' l) e (Some (Gained tei place)) ns is ∙ comes-up tei place joined s' n' (tei == n') refl
-  by-change o moves is = grind (arith, tei-note, read.same-read, fold-append, leaves-up)
+  by-change : (o : Option Change) → Moves l.management.places o m.places → Up l (of_change c o t (record l { management = m; own = own })).told.notes (changed o)
+  by-change (Some (Gained tei place)) joined = λ s' n'.
+      tei-note s' n' (is_up_of s' n' l) ns quiet ∙ comes-up tei place joined s' n' (tei == n') refl
+  by-change o moves = grind (arith, tei-note, read.same-read, fold-append, leaves-up)
 
-  pub management-up : Up l (of_aim c (at_management e) l).told.notes (of_aim c (at_management e) l).line
-  management-up = by-change (tei_told e l.management).change (tei_lemmas.changes_are_told e l.management fits s.management) (noted e l.management s.management)
+module _ (c : Config) (l : Line) (s : IsSound c l) where
+  each-step : (o : Option Change) (t : LineTold) (m : Management) (own : Own) → Turn l o t m
+      → let f = of_change c o t (record l { management = m; own = own }) in Up l f.told.notes f.line
+  each-step o t m own turn = by-change c l s t m own turn.table turn.quiet o turn.moves
+
+  management-up : (e : TeiEvent) → tei_laws.IsInRange e → Up l (of_aim c (at_management e) l).told.notes (of_aim c (at_management e) l).line
+  management-up e fits = turned c l s (λ f. Up l f.told.notes f.line) each-step e fits
+
+  own-up-there : (e : TerminalEvent) → IsOwnEvent c e → Up l (of_aim c (at_terminal e) l).told.notes (of_aim c (at_terminal e) l).line
+  own-up-there e proper = turned-there c l s (λ f. Up l f.told.notes f.line) each-step e proper
 
 -- An offer notes nothing.
 either : (b : Bool) (u v : Course) → u.notes ≡ [] → v.notes ≡ [] → (cond b u v).notes ≡ []
@@ -162,10 +167,12 @@ module _ (c : Config) (l : Line) (s : IsSound c l) where
   request-up (Remove tei) proper = management-up c l s (remove tei) proper
   request-up (Check tei) proper = management-up c l s (check tei) proper
   request-up (Disown tei) proper = management-up c l s (disown tei) proper
+  request-up AskTei proper = own-up-there c l s asking proper
+  request-up (VerifyTei tei) proper = own-up-there c l s (verifying tei) proper
   request-up (SetBusy service tei) proper = asked-up service tei LinkSetBusy (place_in l tei) refl
   request-up (ClearBusy service tei) proper = asked-up service tei LinkClearBusy (place_in l tei) refl
   request-up (Deactivate service tei) proper = deactivated-up service tei (place_in l tei) refl
-  request-up Down proper = by-down c l (λ f. Up l f.told.notes f.line) (λ s' n'. sym (read.same-read false is_up s' n' l (given_up l).line refl refl))
+  request-up Down proper = by-down c l s (λ f. Up l f.told.notes f.line) (λ s' n'. sym (read.same-read false is_up s' n' l (given_up l).line refl refl))
 
   offered-up : (service : Service) (tei place : ℕ) → IsAt l.management.places place tei → (s' : Service) (n' : ℕ)
       → is_up_of s' n' l ≡ is_up_of s' n' (with_link (link_number place service) (link_after (terms c service tei) link_offer (link_in l service place)) l)
@@ -174,7 +181,7 @@ module _ (c : Config) (l : Line) (s : IsSound c l) where
       ∙ link-up c l s service tei place link_offer at s' n'
 
   took : (t : Taken) → IsOne c l t → Up l [] t.line
-  took t (inl x) = subst (λ (u : Taken). Up l [] u.line) (sym x.1) (λ s' n'. sym (read.same-read false is_up s' n' l (with_message l x.0).line refl refl))
+  took t (inl x) = subst (λ (u : Taken). Up l [] u.line) (sym x.is) (λ s' n'. sym (read.same-read false is_up s' n' l (without_message l x.octets x.m x.own).line x.out.places refl))
   took t (inr (inl x)) = subst (λ (u : Taken). Up l [] u.line) (sym x.1) (λ s' n'. sym (read.same-read false is_up s' n' l (with_unit c l x.0).line refl refl))
   took t (inr (inr x)) =
       subst (λ (u : Taken). Up l [] u.line) (sym x.is)
@@ -194,5 +201,6 @@ known-up c (hears e) l service tei s = heard-up c l s e service tei
 known-up c (expiry (T200 by n)) l service tei s = timer-up c l s by n LinkTimer.T200 (place_in l n) refl service tei
 known-up c (expiry (T203 by n)) l service tei s = timer-up c l s by n LinkTimer.T203 (place_in l n) refl service tei
 known-up c (expiry T201) l service tei s = management-up c l s tei_expiry tt service tei
+known-up c (expiry T202) l service tei s = own-up-there c l s terminal_expiry tt service tei
 known-up c (request r) l service tei s = grind (arith, request_proper, request-up)
 known-up c next l service tei s = next-up c l s service tei

@@ -21,6 +21,7 @@ pub mod Noting
 pub mod Knowing
 pub mod GroupAims
 pub mod Causing
+pub mod Changes
 pub mod Grouping
 pub mod Parts
 pub mod Noted

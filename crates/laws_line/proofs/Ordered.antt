@@ -2,7 +2,8 @@
 -- link for each of its own that goes before it.
 use Rattle.laws_line.proofs.Vocabulary.{◌≡◌, ◌≢◌, ℕ, ◌+◌, ◌<◌, ◌≤◌, List, [], ◌∷◌, ◌++◌, length, drop, slice_get, Option, Some, None, refl, sym, ap, subst, ◌∙◌, ◌⊎◌, inl, inr, ⊎_elim, arith, option_map_or, option_or, cases_eq, get_or-set_same, get_or-set_other, ControlFrame, Given, GoesWhole, Message, Config, next, Line, UnitData, link_count, place_at, tei_at, terms_at, link_at, Taken, with_unit}
 use Rattle.laws_line.proofs.Vocabulary.{with_given_frame, link_taken, first_taken, round, taken, line_of, IsInRange, option_map, after, with_message, IsSound, IsInTurn, way_round, frames_before, control_text, link_given, nat_le, leb-true}
-use Rattle.lapd_tei.specs.Messages as messages
+use Rattle.std.proofs.lemmas.Option.{same_Some}
+use Rattle.laws_line.proofs.Vocabulary.{IfSome, Management, Own, GoesOut, HasNothing, message_taken, message_walk, without_message}
 use Rattle.laws_line.proofs.InTurn.{links_take_turns}
 use Rattle.laws_line.proofs.Serving.{none-waits}
 use Rattle.laws_line.proofs.InRounds.{comes-first}
@@ -58,14 +59,18 @@ module _ (c : Config) (ranged : IsInRange c) (number tei : ℕ) (few : number < 
       (link_given (terms_at c other l) (link_at other l)) refl x.given
 
   by-all : (before : List ControlFrame) → (link_at number l).waiting ≡ before ++ f ∷ behind → (t : Taken) → taken c l ≡ Some t
-      → (ms : List Message) → l.management.waiting ≡ ms → (us : List UnitData) → l.units ≡ us
-      → option_or (option_map (with_message l) (option_map (messages.frame_of c.side) (slice_get ms 0))) (option_or (option_map (with_unit c l) (slice_get us 0)) (first_taken c l (round c l))) ≡ Some t
+      → (m : Option Taken) → message_taken c l ≡ m → IfSome m (Step before) → (us : List UnitData) → l.units ≡ us
+      → option_or m (option_or (option_map (with_unit c l) (slice_get us 0)) (first_taken c l (round c l))) ≡ Some t
       → Step before t
-  by-all before e t some [] em [] eu is =
+  by-all before e t some (Some u) em own us eu is = subst (Step before) (same_Some u t is) own
+  by-all before e t some None em own [] eu is =
       let turn =
-      links_take_turns c l t (ap (λ ms. option_map (with_message l) (option_map (messages.frame_of c.side) (slice_get ms 0))) em) (ap (λ us. option_map (with_unit c l) (slice_get us 0)) eu) some in
+      links_take_turns c l t em (ap (λ us. option_map (with_unit c l) (slice_get us 0)) eu) some in
       by-turn before e t turn.0 turn.1
-  by-all before e t some ms em us eu is = grind (arith, one-less, by-unit)
+  by-all before e t some None em own (u ∷ us) eu is = subst (Step before) (same_Some (with_unit c l u) t is) (by-unit before e u us eu)
+
+  by-message : (before : List ControlFrame) → (link_at number l).waiting ≡ before ++ f ∷ behind → (octets : List ℕ) (m : Management) (own : Own) → GoesOut c l octets m own → Step before (without_message l octets m own)
+  by-message before e octets m own out = inr (before, e, omega (arith, out.fewer))
 
   -- so a call takes it, or it comes nearer
   abbrev Goes : List ControlFrame → Line → Type 0
@@ -73,7 +78,12 @@ module _ (c : Config) (ranged : IsInRange c) (number tei : ℕ) (few : number < 
       ((t : Taken) × (taken c l ≡ Some t) × (t.frame ≡ control_text c number tei f) × (before ≡ [])) ⊎ Nearer c number l before f behind (frames_before c l number (length before)) l'
 
   by-taken : (before : List ControlFrame) → (link_at number l).waiting ≡ before ++ f ∷ behind → (o : Option Taken) → taken c l ≡ o → Goes before (option_map_or line_of o l)
-  by-taken before e o some = grind (arith, by-all, not-empty, none-waits)
+  by-taken before e None some = absurd (not-empty before f behind (sym e ∙ no-frames (none-waits c l s some)))
+    where
+      no-frames : HasNothing c l → (link_at number l).waiting ≡ []
+      no-frames nothing = (nothing.links number few tei at).waiting
+  by-taken before e (Some t) some = ⊎_elim (λ x. inl (t, some, x.0, x.1)) (λ x. inr x)
+      (by-all before e t some (message_taken c l) refl (message_walk c l s (Step before) (by-message before e)) l.units refl some)
 
   pub next-goes : (before : List ControlFrame) → (link_at number l).waiting ≡ before ++ f ∷ behind → Goes before (after c next l)
   unfolding after

@@ -4,7 +4,11 @@ use Rattle.laws_line.proofs.Vocabulary.{none-some, Service, Timer, LinkTimer, Li
 use Rattle.laws_line.proofs.Vocabulary.{with_link, Taken, with_given_frame, link_taken, first_taken, round, taken, IsSoundAt, round_below, at_no_link, option_map, All, fresh, Event, after, answer, IsSound, IsSilentAt, IsItsTurn, IsOfLink, IsOwed, HasNothing, contents_of_link, IsServed, unit_asked, units_behind, UnitsWait, TurnStays, LinkRequest, link_offer, link_given, link_after, StreamEvent}
 use Rattle.model_link.specs.Sound as link_sound
 use Rattle.laws_line.proofs.Silence.{silent}
-use Rattle.model_line.proofs.Downs.{by-down}
+use Rattle.lapd_tei.specs.Events as teis
+use Rattle.lapd_tei.specs.Messages as messages
+use Rattle.lapd_terminal.specs.Events as terminals
+use Rattle.laws_line.proofs.Vocabulary.{inl, inr, expiry, Bool, true, HasNoMessage, IsOfSide, IsUnused, Message, OwnMessage, own_frame_of, is_terminal, terminal_in, unit_taken, with_message, with_own_message, at_management, at_terminal, TeiEvent, TerminalEvent, Change, LineTold, of_aim, of_change, of_management, of_network, of_terminal, of_terminal_if, at_a_terminal, told_of_management, told_of_terminal, tei_told, tei_after, terminal_told, terminal_after, with_terminal, without_units, down, AskTei, VerifyTei}
+use Rattle.laws_line.proofs.Among.{by-aim}
 
 -- the first of a list is not there
 no-first : {X : Type 0} (xs : List X) → slice_get xs 0 ≡ None → xs ≡ []
@@ -106,8 +110,28 @@ module _ (c : Config) (l : Line) (s : IsSound c l) where
       subst Idle (get_or-range_with_len 0 (link_count c) number 0 few ∙ zero-add number)
       (All-get_or Idle numbers number 0 (omega (arith, length-range_with_len 0 (link_count c), few)) all)
 
+  -- what follows a message, where none waits
+  behind : HasNoMessage l → Fate (option_or (unit_taken c l) (first_taken c l (round c l)))
+  behind none = grind (arith, no-first, by-round, round_below, whole-round)
+
+  by-own : is_terminal c ≡ true → IsUnused l.management → (o : Option OwnMessage) → slice_get l.own.waiting 0 ≡ o
+      → Fate (option_or (option_map (with_own_message l) (option_map own_frame_of o)) (option_or (unit_taken c l) (first_taken c l (round c l))))
+  by-own is unused None e = behind (record { management = unused.waiting; own = no-first l.own.waiting e })
+  by-own is unused (Some m) e = inr (inl (record { terminal = is; message = m; oldest = e; spelled = refl; line = refl }))
+
+  by-message : is_terminal c ≡ false → l.own.waiting ≡ [] → (o : Option Message) → slice_get l.management.waiting 0 ≡ o
+      → Fate (option_or (option_map (with_message l) (option_map (messages.frame_of c.side) o)) (option_or (unit_taken c l) (first_taken c l (round c l))))
+  by-message net unused None e = behind (record { management = no-first l.management.waiting e; own = unused })
+  by-message net unused (Some m) e = inl (record { message = m; oldest = e; spelled = refl; line = refl })
+
   taken-is : Fate (taken c l)
-  taken-is = grind (arith, no-first, by-round, round_below, whole-round)
+  taken-is = go (is_terminal c) refl
+    where
+      go : (b : Bool) → is_terminal c ≡ b → Fate (option_or
+          (cond b (option_map (with_own_message l) (terminals.offered (terminal_in l))) (option_map (with_message l) (teis.offered c.side l.management)))
+          (option_or (unit_taken c l) (first_taken c l (round c l))))
+      go true is = by-own is (subst (λ b. IsOfSide b l.management l.own) is s.own).1 (slice_get l.own.waiting 0) refl
+      go false net = by-message net (subst (λ b. IsOfSide b l.management l.own) net s.own).1 (slice_get l.management.waiting 0) refl
 
   pub none-waits : taken c l ≡ None → HasNothing c l
   none-waits e = subst Fate e taken-is
@@ -146,12 +170,37 @@ module _ (c : Config) where
   by-request : (l : Line) (r : Request) → units_by (aim_of_request r l) l.units ≡ units_behind r l.units ++ unit_asked r
   by-request l r = grind (arith, by-asked)
 
+  -- what TEI management has changes no unit data
+  changed : (o : Option Change) (t : LineTold) (l : Line) → (of_change c o t l).line.units ≡ l.units
+  changed o t l = grind arith
+
+  there : (e : TerminalEvent) (l : Line) → (of_terminal c e l).line.units ≡ l.units
+  there e l = changed (terminal_told e (terminal_in l)).change (told_of_terminal (terminal_told e (terminal_in l))) (with_terminal (terminal_after e (terminal_in l)) l)
+
+  there-if : (o : Option TerminalEvent) (l : Line) → (of_terminal_if c o l).line.units ≡ l.units
+  there-if None l = refl
+  there-if (Some e) l = there e l
+
+  managed : (e : TeiEvent) (l : Line) → (of_management c e l).line.units ≡ l.units
+  managed e l = go (is_terminal c)
+    where
+      go : (b : Bool) → (cond b (of_terminal_if c (at_a_terminal e) l) (of_network c e l)).line.units ≡ l.units
+      go true = there-if (at_a_terminal e) l
+      go false = changed (tei_told e l.management).change (told_of_management (tei_told e l.management)) (record l { management = tei_after e l.management })
+
+  pub aimed-units : (aim : Aim) (l : Line) → (of_aim c aim l).line.units ≡ units_by aim l.units
+  aimed-units (at_management e) l = managed e l ∙ sym (append-nil l.units)
+  aimed-units (at_terminal e) l = there e l ∙ sym (append-nil l.units)
+  aimed-units at_no_link l = managed down (without_units l)
+  aimed-units aim l = grind (arith, append-nil)
+
 pub units-wait : (c : Config) (e : Event) (l : Line) → UnitsWait e l (after c e l) (answer c e l)
 unfolding after answer
-units-wait c (hears e) l = (grind (arith, append-nil, by-down)) ∙ none-heard c l e
-units-wait c e l = grind (arith, append-nil, by-down, by-expiry, by-request)
+units-wait c (hears e) l = aimed-units c (aim_of_heard c l e) l ∙ none-heard c l e
+units-wait c (expiry timer) l = aimed-units c (aim_of_expiry timer l) l ∙ by-expiry c l timer
+units-wait c e l = grind (arith, append-nil, aimed-units, by-request)
 
 -- Whose turn it is stays.
 pub turn-stays : (c : Config) (e : Event) (l : Line) → TurnStays e l (after c e l)
 unfolding after
-turn-stays c e l = grind (arith, by-down)
+turn-stays c e l = grind (arith, by-aim)

@@ -2,7 +2,8 @@
 use Rattle.laws_line.proofs.Vocabulary.{ℕ, ◌≤◌, false, List, [], ◌∷◌, ◌++◌, length, Option, Some, None, IfSome, arith, length-append, Refusal, Service, Timer, T201, event-tells, cleared-tells, two-orders, cleared-orders, Change, Config, hears, request, next, LineTold, gave, aim_of_expiry, notes_in, orders_in, Line, terms_at, unless_refused_told, aim_of_heard, told_of_management, of_link}
 use Rattle.laws_line.proofs.Vocabulary.{of_change, of_management, of_aim, Taken, first_taken, taken, next_of, Request, Establish, Release, Assign, Remove, SetBusy, ClearBusy, Deactivate, aim_of_request, IsBrief, told_brief, heard_aims, expiry_starts, Down, without_units, option_map, T200, T203, Event, expiry, AnswersAreShort, answer, unless_refused, refusal, Data, Unit, Check, link_received}
 use Rattle.laws_line.proofs.Vocabulary.{LinkEvent, StreamEvent, down, message, tei_told, check, disown, tei_after, remove, assigning, tei_expiry, TeiEvent, Disown}
-use Rattle.lapd_tei.specs.Machine as tei
+use Rattle.laws_line.proofs.Vocabulary.{Bool, true, cond, T202, AskTei, VerifyTei, TerminalEvent, asking, verifying, terminal_expiry, terminal_told, terminal_after, terminal_in, with_terminal, is_terminal, at_a_terminal, of_network, of_terminal, of_terminal_if, told_of_terminal, note_of, order_of}
+use Rattle.model_line.proofs.Managed.{one_at_most}
 
 record IsShort (t : LineTold) : Type 0 where
   notes : length t.notes ≤ 4
@@ -16,13 +17,33 @@ module _ (c : Config) where
   three : {X : Type 0} (xs ys zs : List X) → length xs ≤ 1 → length ys ≤ 1 → length zs ≤ 1 → length (xs ++ ys ++ zs) ≤ 4
   three xs ys zs x y z = grind (arith, length-append)
 
-  change_short : (o : Option Change) (t : tei.TeiTold) (l : Line) → IsBrief t → IsShort (of_change c o (told_of_management t) l).told
+  record OneAtMost (t : LineTold) : Type 0 where
+    notes : length t.notes ≤ 1
+    orders : length t.orders ≤ 1
+
+  change_short : (o : Option Change) (t : LineTold) (l : Line) → OneAtMost t → IsShort (of_change c o t l).told
   change_short o t l h = grind (arith, three, cleared-tells, cleared-orders)
 
+  network_short : (e : TeiEvent) (l : Line) → IsShort (of_network c e l).told
+  network_short e l =
+      let t = told_brief e l.management in
+      change_short (tei_told e l.management).change (told_of_management (tei_told e l.management)) (record l { management = tei_after e l.management }) (record { notes = t.notes; orders = t.orders })
+
+  terminal_short : (e : TerminalEvent) (l : Line) → IsShort (of_terminal c e l).told
+  terminal_short e l =
+      let t = terminal_told e (terminal_in l) in
+      change_short t.change (told_of_terminal t) (with_terminal (terminal_after e (terminal_in l)) l) (record { notes = one_at_most note_of t.news; orders = one_at_most order_of t.order })
+
+  if_short : (o : Option TerminalEvent) (l : Line) → IsShort (of_terminal_if c o l).told
+  if_short None l = record { notes = omega arith; orders = omega arith }
+  if_short (Some e) l = terminal_short e l
+
   management_short : (e : TeiEvent) (l : Line) → IsShort (of_management c e l).told
-  management_short e l =
-      change_short (tei_told e l.management).change (tei_told e l.management) (record l { management = tei_after e l.management })
-      (told_brief e l.management)
+  management_short e l = go (is_terminal c)
+    where
+      go : (b : Bool) → IsShort (cond b (of_terminal_if c (at_a_terminal e) l) (of_network c e l)).told
+      go true = if_short (at_a_terminal e) l
+      go false = network_short e l
 
   heard_short : (l : Line) (e : StreamEvent) → IsShort (of_aim c (aim_of_heard c l e) l).told
   heard_short l =
@@ -34,6 +55,7 @@ module _ (c : Config) where
   expiry_short l (T200 service n) = grind (arith, link_short)
   expiry_short l (T203 service n) = grind (arith, link_short)
   expiry_short l T201 = management_short tei_expiry l
+  expiry_short l T202 = terminal_short terminal_expiry l
 
   request_short : (l : Line) (r : Request) → IsShort (of_aim c (aim_of_request r l) l).told
   request_short l (Establish service n) = grind (arith, link_short)
@@ -44,6 +66,8 @@ module _ (c : Config) where
   request_short l (Remove n) = management_short (remove n) l
   request_short l (Check n) = management_short (check n) l
   request_short l (Disown n) = management_short (disown n) l
+  request_short l AskTei = terminal_short asking l
+  request_short l (VerifyTei n) = terminal_short (verifying n) l
   request_short l (SetBusy service n) = grind (arith, link_short)
   request_short l (ClearBusy service n) = grind (arith, link_short)
   request_short l (Deactivate service n) = grind (arith, link_short)

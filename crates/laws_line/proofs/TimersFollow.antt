@@ -1,5 +1,5 @@
 -- A caller that obeys the orders runs the timers that are needed: each event of a line.
-use Rattle.laws_line.proofs.Vocabulary.{◌≡◌, false, arith, refl, ap, sym, subst, option_map_or, Timer, T201, LinkTimer, HasItsTimer, is-timed, timely-after, timely-fresh, sound-after, Config, is_running, Line, fresh_line, link_count, IsInRange, T200, T203, fresh, Event, after, answer, IsSound, link_needs, is_needed, runs_then, HaveTheirTimers}
+use Rattle.laws_line.proofs.Vocabulary.{◌≡◌, false, arith, refl, ap, sym, subst, option_map_or, Timer, T201, T202, LinkTimer, HasItsTimer, is-timed, timely-after, timely-fresh, sound-after, Config, is_running, Line, fresh_line, link_count, IsInRange, T200, T203, fresh, Event, after, answer, IsSound, link_needs, is_needed, runs_then, HaveTheirTimers}
 use Rattle.model_line.proofs.LinkMoves.{all-after}
 use Rattle.model_line.proofs.TimersFollow.{runs-follow, all-same, nowhere}
 
@@ -22,5 +22,6 @@ begins-timely c = record { links = λ number. subst HasItsTimer (sym (all-same f
 
 pub begins-with-none : (c : Config) (timer : Timer) → is_needed timer (fresh_line c) ≡ false
 begins-with-none c T201 = refl
+begins-with-none c T202 = refl
 begins-with-none c (T200 service tei) = ap (λ o. option_map_or (link_needs LinkTimer.T200 service (fresh_line c)) o false) (nowhere c tei)
 begins-with-none c (T203 service tei) = ap (λ o. option_map_or (link_needs LinkTimer.T203 service (fresh_line c)) o false) (nowhere c tei)

@@ -25,12 +25,12 @@ unfoldable pub use Rattle.lapd_frame.specs.Senders.{exchanged}
 pub use Rattle.lapd_frame.specs.Services.{same_service, sapi_of, service_of}
 pub use Rattle.lapd_frame.specs.declared.addresses.Address.{Address}
 pub use Rattle.lapd_frame.specs.declared.addresses.Side.{Side}
-pub use Rattle.lapd_frame.specs.declared.addresses.Side.TheVariants.{Network}
+pub use Rattle.lapd_frame.specs.declared.addresses.Side.TheVariants.{Network, User}
 pub use Rattle.lapd_frame.specs.declared.controls.Control.{Control}
 pub use Rattle.lapd_frame.specs.declared.faults.ReadFault.{ReadFault}
 pub use Rattle.lapd_frame.specs.declared.faults.ReadFault.TheVariants.{BadExtension, Short, Undefined, WrongSize}
 pub use Rattle.lapd_frame.specs.declared.notes.Note.{Note}
-pub use Rattle.lapd_frame.specs.declared.notes.Note.TheVariants.{Assigned, Doubled, Removed}
+pub use Rattle.lapd_frame.specs.declared.notes.Note.TheVariants.{Assigned, Denied, Doubled, RemoveAll, Removed, Unassigned}
 pub use Rattle.lapd_frame.specs.declared.overlong.Long.{Long}
 pub use Rattle.lapd_frame.specs.declared.refusals.Refusal.{Refusal}
 pub use Rattle.lapd_frame.specs.declared.refusals.Refusal.TheVariants.{PoolFull}
@@ -38,7 +38,7 @@ pub use Rattle.lapd_frame.specs.declared.services.Service.{Service}
 pub use Rattle.lapd_frame.specs.declared.services.Service.TheVariants.{Call, Packet}
 pub use Rattle.lapd_frame.specs.declared.timers.Order.{Order}
 pub use Rattle.lapd_frame.specs.declared.timers.Timer.{Timer}
-pub use Rattle.lapd_frame.specs.declared.timers.Timer.TheVariants.{T200, T201, T203}
+pub use Rattle.lapd_frame.specs.declared.timers.Timer.TheVariants.{T200, T201, T202, T203}
 unfoldable pub use Rattle.lapd_seq.specs.Circle.{distance_of, named}
 unfoldable pub use Rattle.lapd_seq.specs.Numbers.{seq}
 pub use Rattle.lapd_seq.specs.declared.numbers.Seq.{Seq}
@@ -79,7 +79,15 @@ pub use Rattle.lapd_tei.specs.declared.outcome.Change.{Change}
 pub use Rattle.lapd_tei.specs.declared.outcome.Change.TheVariants.{Gained, Left}
 pub use Rattle.lapd_tei.proofs.GivenUp.{down_gives_up}
 pub use Rattle.lapd_tei.specs.declared.check.Check.{Check as TeiCheck}
+pub use Rattle.lapd_terminal.specs.Events.{Event as TerminalEvent, after as terminal_after, ask as asking, assign as terminal_assign, down as terminal_down, expiry as terminal_expiry, message as terminal_message, remove as terminal_remove, told as terminal_told, verify as verifying}
+unfoldable pub use Rattle.lapd_terminal.specs.Events.{course as terminal_course}
+pub use Rattle.lapd_terminal.specs.Machine.{Terminal, TerminalTold}
+pub use Rattle.lapd_terminal.specs.declared.messages.Message.{Message as OwnMessage}
+pub use Rattle.lapd_terminal.specs.declared.outcome.News.{News as TerminalNews}
+pub use Rattle.lapd_terminal.specs.Messages.{frame_of as own_frame_of}
 pub use Rattle.model_line.proofs.AimsSound.{IsProper}
+pub use Rattle.model_line.proofs.Managed.{IsAsked, IsOwnEvent, by-managed, by-own-event}
+pub use Rattle.model_line.proofs.Outgoing.{GoesOut, message_walk, without_message}
 pub use Rattle.model_line.proofs.EventsReject.{event_rejects}
 pub use Rattle.model_line.proofs.EventsRise.{event_rises}
 pub use Rattle.model_line.proofs.LineSound.{after_sound, fresh_sound}
@@ -95,21 +103,21 @@ pub use Rattle.model_line.proofs.TakenSound.{round_below}
 pub use Rattle.model_line.proofs.TakenWalk.{next_walk, taken_walk}
 pub use Rattle.model_line.specs.Counts.{is_given, may_send, one}
 pub use Rattle.model_line.specs.Deliveries.{is_change_at}
-pub use Rattle.model_line.specs.Effect.{Aim, Effect, at_link, at_management, at_no_link, at_none, at_units, of_aim, of_change, of_link, of_management, told_of_link, told_of_management, without_units}
+pub use Rattle.model_line.specs.Effect.{Aim, Effect, at_a_terminal, at_link, at_management, at_no_link, at_none, at_terminal, at_units, note_of, of_aim, of_change, of_link, of_management, of_network, of_terminal, of_terminal_if, order_of, told_of_link, told_of_management, told_of_terminal, without_units}
 pub use Rattle.model_line.specs.Event.{Answer, Event, LineTold, dropped, expiry, gave, hears, next, nothing, refused, request, told}
 pub use Rattle.model_line.specs.Expiry.{aim_of_expiry, at_timer, is_running, runs_at}
 pub use Rattle.model_line.specs.Heard.{addressed, aim_of_heard, aim_of_long, aim_of_reading, at_place, drop_for, group_tei, heard_side, management_sapi, message_of, to_service, unless_at_link}
 pub use Rattle.model_line.specs.Laws.{notes_in, orders_in}
-pub use Rattle.model_line.specs.Line.{Line, UnitData, fresh_line, link_at, link_count, link_in, link_number, place_at, place_in, service_at, tei_at, terms, terms_at, with_link}
+pub use Rattle.model_line.specs.Line.{Line, Own, UnitData, is_terminal, terminal_in, terminal_with, with_terminal, fresh_line, link_at, link_count, link_in, link_number, place_at, place_in, service_at, tei_at, terms, terms_at, with_link}
 pub use Rattle.model_line.specs.Machine.{unless_refused, unless_refused_told}
 unfoldable pub use Rattle.model_line.specs.Machine.{after, answer, takes_slot as line_takes_slot}
 pub use Rattle.model_line.specs.Refusal.{refusal}
-pub use Rattle.model_line.specs.Request.{Assign, Check, ClearBusy, Data, Deactivate, Disown, Down, Establish, Release, Remove, Request, SetBusy, Unit}
+pub use Rattle.model_line.specs.Request.{AskTei, Assign, Check, ClearBusy, Data, Deactivate, Disown, Down, Establish, Release, Remove, Request, SetBusy, Unit, VerifyTei}
 pub use Rattle.model_line.specs.Requested.{aim_of_request, at_deactivated, at_requested}
-pub use Rattle.model_line.specs.Sides.{IsToGroup, at_side, group_tei as line_group_tei, group_told, told_at}
-pub use Rattle.model_line.specs.Sound.{IsInRange, IsSound, IsSoundAt, IsUnitData}
+pub use Rattle.model_line.specs.Sides.{IsToGroup, at_side, has_management, is_network, group_tei as line_group_tei, group_told, told_at}
+pub use Rattle.model_line.specs.Sound.{IsInRange, IsOfSide, IsSound, IsSoundAt, IsUnitData, IsUnused}
 pub use Rattle.model_line.specs.Stored.{sum_of_links}
-pub use Rattle.model_line.specs.Taken.{Taken, first_taken, line_of, link_taken, message_taken, next_of, own_side, round, round_from, taken, unit_taken, with_given_frame, with_message, with_unit}
+pub use Rattle.model_line.specs.Taken.{Taken, first_taken, line_of, link_taken, message_taken, next_of, own_side, round, round_from, taken, unit_taken, with_given_frame, with_message, with_own_message, with_unit}
 pub use Rattle.model_line.specs.declared.config.Config.{Config}
 pub use Rattle.model_line.proofs.SoundParts.{with_units}
 pub use Rattle.model_card.proofs.CardSound.{after_is_sound, always_sound}
@@ -148,7 +156,7 @@ unfoldable pub use Rattle.laws_link.specs.two.Waits.{after_offers}
 pub use Rattle.laws_line.specs.Among.{go_first}
 unfoldable pub use Rattle.laws_line.specs.Among.{after_events}
 pub use Rattle.laws_line.specs.Deactivated.{DeactivationsGiveUp, stopped}
-pub use Rattle.laws_line.specs.Drains.{IsIdling, control_text, frames_before, frames_to_go, link_to_go, most_frames, most_frames_before, to_go_at_link, way_round}
+pub use Rattle.laws_line.specs.Drains.{IsIdling, control_text, frames_before, frames_to_go, link_to_go, most_frames, most_frames_before, most_messages, to_go_at_link, way_round}
 unfoldable pub use Rattle.laws_line.specs.Drains.{after_takes}
 pub use Rattle.laws_line.specs.GoesDown.{GivesUp, IsDown, LinesGoDown, TakeDown, takes_down}
 pub use Rattle.laws_line.specs.Heard.{IsHeard, IsMalformed, IsNotedOnce, IsOneEvent as IsOneHeard, IsTo, IsToManagement, IsTooLong, OnlyTells, contents_in, is_data_of, is_unit_of, notes_of, tells_contents}
@@ -156,12 +164,12 @@ pub use Rattle.laws_line.specs.Knowledge.{is_up_of, taken_for_up, up_by_note}
 pub use Rattle.laws_line.specs.Loss.{IsMoved}
 pub use Rattle.laws_line.specs.Machine.{LinesRise, LinesStaySound}
 pub use Rattle.laws_line.specs.Noted.{NotesItsOwn, noted_coming, noted_leaving}
-pub use Rattle.laws_line.specs.OneEvent.{IsAlone, IsGranted, IsManaged, IsOfPart, IsOneEvent, SaysNothing, noted_behind, of_down, of_group, of_link as line_of_link, of_management as line_of_management, of_next, of_units}
+pub use Rattle.laws_line.specs.OneEvent.{IsAlone, IsGranted, IsManaged, IsManagedThere, IsOfPart, IsOneEvent, SaysNothing, noted_behind, of_down, of_group, of_link as line_of_link, of_management as line_of_management, of_next, of_terminal as line_of_terminal, of_units}
 pub use Rattle.laws_line.specs.Requests.{deactivates, of_link as requests_of_link}
-pub use Rattle.laws_line.specs.Served.{HasNothing, IsIdle, IsItsTurn, IsOfLink, IsOwed, IsServed, IsSilent, IsSilentAt, TurnStays, UnitsWait, contents_of_link, unit_asked, units_behind}
+pub use Rattle.laws_line.specs.Served.{HasNoMessage, HasNothing, IsIdle, IsItsTurn, IsOfLink, IsOwed, IsServed, IsSilent, IsSilentAt, TurnStays, UnitsWait, contents_of_link, unit_asked, units_behind}
 pub use Rattle.laws_line.specs.Share.{is_granted}
 pub use Rattle.laws_line.specs.Short.{AnswersAreShort}
-pub use Rattle.laws_line.specs.Steady.{Brings, BringsMalformed, BringsMessage, HearsFrame, IsBy, IsDeactivated, IsOf, IsOfManagement, timer_of}
+pub use Rattle.laws_line.specs.Steady.{Brings, BringsMalformed, BringsMessage, HearsFrame, IsBy, IsDeactivated, IsOf, IsOfManagement, IsOfTerminal, ServesMessages, timer_of}
 pub use Rattle.laws_line.specs.Timers.{HaveTheirTimers, is_needed, link_needs}
 pub use Rattle.model_line.specs.Runs.{left_by, runs_then}
 pub use Rattle.laws_line.specs.Turns.{IsInTurn, LinksTakeTurns}

@@ -1,10 +1,12 @@
 -- A line goes down (Q.921 annex B, persistent deactivation): what waits on it and is of no link is given up, and so is each link.
-use Rattle.std.specs.Prelude.{◌≡◌, ℕ, ◌<◌, Bool, true, false, List, [], None, All, Contains, map}
+use Rattle.std.specs.Prelude.{◌≡◌, ◌++◌, option_map, option_to_list, ℕ, ◌<◌, Bool, true, false, List, [], None, All, Contains, map}
 use Rattle.lapd_frame.specs.declared.services.Service.{Service}
 use Rattle.lapd_frame.specs.declared.timers.Timer.{Timer}
 use Rattle.lapd_tei.specs.Laws.{stop_of}
+use Rattle.lapd_terminal.specs.Words as terminals
 use Rattle.model_link.specs.Link.{fresh}
 use Rattle.model_line.specs.declared.config.Config.{Config}
+use Rattle.model_line.specs.Effect.{order_of}
 use Rattle.model_line.specs.Event.{request, next, Answer, told, gave, nothing}
 use Rattle.model_line.specs.Line.{Line, link_count, link_at, has_tei}
 use Rattle.model_line.specs.Machine.{after, answer}
@@ -14,11 +16,15 @@ use Rattle.laws_line.specs.Among.{after_events}
 use Rattle.laws_line.specs.Served.{HasNothing}
 use Rattle.laws_line.specs.Timers.{is_needed}
 
--- No unit data waits any more, no message of TEI management, and no check runs. All else of the line stays, its TEIs and its
--- links, too; and all that is told is that T201 stops, if it ran.
+-- No unit data waits any more, no message of TEI management, and no check runs, and of a terminal no procedure. All else of the
+-- line stays, its TEIs and its links, too; and all that is told is that T201 stops, or T202, if it ran.
 pub record GivesUp (before after : Line) (answer : Answer) : Type 0 where
-  pub line : after ≡ record before { management = record before.management { check = None; waiting = [] }; units = [] }
-  pub answer_is : answer ≡ told (record nothing { orders = stop_of before.management.check })
+  pub line : after ≡ record before {
+    management = record before.management { check = None; waiting = [] };
+    own = record before.own { procedure = None; waiting = [] };
+    units = [];
+  }
+  pub answer_is : answer ≡ told (record nothing { orders = stop_of before.management.check ++ option_to_list (option_map order_of (terminals.stop_of before.own.procedure)) })
 
 -- What takes a line down: that it is down, and the deactivation of each link of a TEI on it. It is asked for in any order, also
 -- more than once, and nothing else is meanwhile.
@@ -43,6 +49,6 @@ pub record IsDown (c : Config) (before after : Line) : Type 0 where
 
 -- Each by itself, and all of them.
 pub record LinesGoDown : Type 0 where
-  pub gives_up : (c : Config) (l : Line) → GivesUp l (after c (request Down) l) (answer c (request Down) l)
+  pub gives_up : (c : Config) (l : Line) → IsSound c l → GivesUp l (after c (request Down) l) (answer c (request Down) l)
   pub goes_down : (c : Config) (l : Line) (rs : List Request) → IsInRange c → IsSound c l → TakeDown l rs
       → IsDown c l (after_events c (map request rs) l)

@@ -21,7 +21,7 @@ use Rattle.model_link.specs.Told as link_told
 use Rattle.laws_link.specs.Heard.{in_i_frame, in_ui_frame}
 use Rattle.model_line.specs.declared.config.Config.{Config}
 use Rattle.model_line.specs.Event.{Event, hears, LineTold, Answer, told}
-use Rattle.model_line.specs.Line.{Line, link_number, place_in, link_in, with_link, terms}
+use Rattle.model_line.specs.Line.{Line, is_terminal, link_number, place_in, link_in, with_link, terms}
 use Rattle.model_line.specs.Heard.{heard_side}
 use Rattle.model_line.specs.Sides.{group_tei, IsToGroup}
 
@@ -129,8 +129,10 @@ pub record IsHeardByGroup (c : Config) (event : Event) (answer : Answer) (conten
 abbrev pub IsHeard : Config → Line → Event → Answer → List ℕ → Type 0
 IsHeard c l event answer contents = IsHeardAtLink c l event answer contents ⊎ IsHeardByGroup c event answer contents
 
--- A frame of layer 2 management is for the user's side. TEI management is the network's (clause 5.3), so it is not served.
+-- A frame of layer 2 management is for the user's side. TEI management is the network's and a terminal's (clause 5.3), so it is
+-- not served at a trunk's end; and a terminal serves commands alone.
 pub record IsToManagement (c : Config) (parts : Parts) : Type 0 where
   pub side : c.side ≡ User
+  pub unserved : (is_terminal c && parts.address.command) ≡ false
   pub sapi : parts.address.sapi ≡ 63
   pub group : parts.address.tei ≡ group_tei

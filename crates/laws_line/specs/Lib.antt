@@ -26,6 +26,7 @@ pub mod WorkedOneEvent
 pub mod WorkedLinks
 pub mod WorkedDown
 pub mod WorkedMessages
+pub mod WorkedTerminal
 pub mod WorkedNoted
 pub mod Drains
 pub mod Among

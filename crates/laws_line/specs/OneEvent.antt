@@ -1,18 +1,20 @@
 -- One part of a line has an event, and all else of the line is as it was.
-use Rattle.std.specs.Prelude.{◌≡◌, ◌≢◌, ◌⊎◌, ℕ, ◌<◌, true, List, [], ◌∷◌, ◌++◌, Option, Some}
+use Rattle.std.specs.Prelude.{◌≡◌, ◌≢◌, ◌⊎◌, ℕ, ◌<◌, true, false, List, [], ◌∷◌, ◌++◌, Option, Some, option_map, option_to_list}
 use Rattle.lapd_frame.specs.declared.notes.Note.{Note}
 use Rattle.lapd_frame.specs.declared.services.Service.{Service}
 use Rattle.lapd_frame.specs.declared.services.Service.TheVariants.{Call, Packet}
 use Rattle.lapd_frame.specs.Grammar.{Parts}
 use Rattle.lapd_tei.specs.Events as teis
+use Rattle.lapd_terminal.specs.Events as terminals
 use Rattle.lapd_tei.specs.declared.outcome.Change.{Change}
 use Rattle.lapd_tei.specs.declared.outcome.Change.TheVariants.{Left}
 use Rattle.model_link.specs.Events as link
 use Rattle.model_link.specs.Link.{fresh}
 use Rattle.model_link.specs.Machine as links
 use Rattle.model_line.specs.declared.config.Config.{Config}
+use Rattle.model_line.specs.Effect.{note_of}
 use Rattle.model_line.specs.Event.{Event, request, next, Answer, told, refused, gave, nothing}
-use Rattle.model_line.specs.Line.{Line, UnitData, link_number, link_count, place_at, tei_at, place_in, link_in, link_at, with_link, terms}
+use Rattle.model_line.specs.Line.{Line, is_terminal, terminal_in, with_terminal, UnitData, link_number, link_count, place_at, tei_at, place_in, link_in, link_at, with_link, terms}
 use Rattle.model_line.specs.Machine as lines
 use Rattle.model_line.specs.Request.{Request, Down}
 use Rattle.model_line.specs.Sides.{IsToGroup}
@@ -21,7 +23,7 @@ use Rattle.laws_line.specs.GoesDown.{GivesUp}
 use Rattle.laws_line.specs.Heard.{AnswerTells, notes_of}
 use Rattle.laws_line.specs.Loss.{IsMoved}
 use Rattle.laws_line.specs.Share.{is_granted}
-use Rattle.laws_line.specs.Steady.{HearsFrame, IsOf, IsOfManagement}
+use Rattle.laws_line.specs.Steady.{HearsFrame, IsOf, IsOfManagement, IsOfTerminal}
 
 -- One link has this event, and nothing else changes; the line answers what the link tells.
 pub record IsAlone (c : Config) (before after : Line) (answer : Answer) (service : Service) (tei place : ℕ) (event : link.Event) : Type 0 where
@@ -45,6 +47,15 @@ pub record IsManaged (c : Config) (before after : Line) (answer : Answer) (event
       ≡ (teis.told event before.management).notes ++ noted_behind c before (teis.told event before.management).change
   pub lost : lost_in answer ≡ (teis.told event before.management).lost
 
+-- The same of TEI management of a terminal, which loses no message.
+pub record IsManagedThere (c : Config) (before after : Line) (answer : Answer) (event : terminals.Event) : Type 0 where
+  pub line : after ≡ record (with_terminal (terminals.after event (terminal_in before)) before) { links = after.links }
+  pub stay : (number : ℕ) → number < link_count c → tei_at (place_at number) after ≡ tei_at (place_at number) before → link_at number after ≡ link_at number before
+  pub begin : (number : ℕ) → number < link_count c → IsMoved number before after → link_at number after ≡ fresh
+  pub notes : notes_of answer
+      ≡ option_to_list (option_map note_of (terminals.told event (terminal_in before)).news) ++ noted_behind c before (terminals.told event (terminal_in before)).change
+  pub lost : lost_in answer ≡ 0
+
 -- Unit data is granted.
 pub record IsGranted (e : Event) (answer : Answer) (unit : UnitData) : Type 0 where
   pub by : e ≡ request (Request.Unit unit.service unit.tei unit.contents)
@@ -55,7 +66,8 @@ pub record IsGranted (e : Event) (answer : Answer) (unit : UnitData) : Type 0 wh
 -- next frame;
 pub data IsOfPart (c : Config) (l : Line) (e : Event) (answer : Answer) : Type 0 where
   of_link : (service : Service) (tei place : ℕ) (event : link.Event) → place_in l tei ≡ Some place → IsOf c e answer service tei event → IsOfPart c l e answer
-  of_management : (event : teis.Event) → IsOfManagement c e answer event → IsOfPart c l e answer
+  of_management : (event : teis.Event) → is_terminal c ≡ false → IsOfManagement c e answer event → IsOfPart c l e answer
+  of_terminal : (event : terminals.Event) → is_terminal c ≡ true → IsOfTerminal c e answer event → IsOfPart c l e answer
   of_units : (unit : UnitData) → IsGranted e answer unit → IsOfPart c l e answer
   of_group : (parts : Parts) (service : Service) → HearsFrame c e parts → IsToGroup c parts service → IsOfPart c l e answer
   of_down : e ≡ request Down → IsOfPart c l e answer
@@ -73,7 +85,8 @@ SaysNothing (gave frame) = ⊥
 pub record IsOneEvent (c : Config) (e : Event) (before after : Line) (answer : Answer) : Type 0 where
   pub link : (service : Service) (tei place : ℕ) (event : link.Event) → e ≢ next → place_in before tei ≡ Some place → IsOf c e answer service tei event
       → IsAlone c before after answer service tei place event
-  pub management : (event : teis.Event) → IsOfManagement c e answer event → IsManaged c before after answer event
+  pub management : (event : teis.Event) → is_terminal c ≡ false → IsOfManagement c e answer event → IsManaged c before after answer event
+  pub terminal : (event : terminals.Event) → is_terminal c ≡ true → IsOfTerminal c e answer event → IsManagedThere c before after answer event
   pub units : (unit : UnitData) → IsGranted e answer unit → (after ≡ record before { units = before.units ++ unit ∷ [] }) × (answer ≡ told nothing)
   pub down : e ≡ request Down → GivesUp before after answer
   pub takes : e ≡ next → (after ≡ lines.after c next before) × (answer ≡ lines.answer c next before)

@@ -13,8 +13,10 @@ use Rattle.laws_link.specs.InOrder.{IsInOrder}
 use Rattle.laws_link.specs.Sending.{MayGo}
 use Rattle.lapd_tei.specs.declared.messages.Message.{Message}
 use Rattle.lapd_tei.specs.Messages.{frame_of}
+use Rattle.lapd_terminal.specs.declared.messages.Message as own
+use Rattle.lapd_terminal.specs.Messages as own_messages
 use Rattle.model_line.specs.declared.config.Config.{Config}
-use Rattle.model_line.specs.Line.{Line, UnitData, link_count, service_at, place_at, tei_at, terms, link_at, with_link}
+use Rattle.model_line.specs.Line.{Line, is_terminal, UnitData, link_count, service_at, place_at, tei_at, terms, link_at, with_link}
 use Rattle.model_line.specs.Machine.{after}
 use Rattle.model_line.specs.Event.{Event, hears, expiry, request, next, Answer}
 use Rattle.model_line.specs.Request.{Request, Down}
@@ -28,10 +30,23 @@ pub record IsMessage (c : Config) (before after : Line) (frame : List ℕ) : Typ
   pub spelled : frame ≡ frame_of c.side message
   pub line : after ≡ record before { management = record before.management { waiting = drop 1 before.management.waiting } }
 
+-- or of TEI management of a terminal (of which the line has one or the other);
+pub record IsOwnMessage (c : Config) (before after : Line) (frame : List ℕ) : Type 0 where
+  pub terminal : is_terminal c ≡ true
+  pub message : own.Message
+  pub oldest : slice_get before.own.waiting 0 ≡ Some message
+  pub spelled : frame ≡ own_messages.frame_of message
+  pub line : after ≡ record before { own = record before.own { waiting = drop 1 before.own.waiting } }
+
+-- No message waits,
+pub record HasNoMessage (l : Line) : Type 0 where
+  pub management : l.management.waiting ≡ []
+  pub own : l.own.waiting ≡ []
+
 -- or, where no message waits, the unit data that has waited longest, whole, with its service and its TEI, in a UI command
 -- with P=0, which waits no more (Q.921 clauses 3.6.5 and 5.2.2);
 pub record IsUnit (c : Config) (before after : Line) (frame : List ℕ) : Type 0 where
-  pub no_message : before.management.waiting ≡ []
+  pub no_message : HasNoMessage before
   pub unit : UnitData
   pub oldest : slice_get before.units 0 ≡ Some unit
   pub spelled : frame ≡ spelling (own_side c) (record {
@@ -58,7 +73,7 @@ IsSilentAt c l number =
     (tei : ℕ) → tei_at (place_at number) l ≡ Some tei → IsSilent (terms c (service_at number) tei) (link_at number l)
 
 pub record IsItsTurn (c : Config) (l : Line) (number : ℕ) : Type 0 where
-  pub no_message : l.management.waiting ≡ []
+  pub no_message : HasNoMessage l
   pub no_unit : l.units ≡ []
   pub passed : List ℕ
   pub behind : List ℕ
@@ -88,11 +103,11 @@ pub record IsOfLink (c : Config) (contents : ℕ → List (List ℕ)) (before af
   pub line : after ≡ record (with_link number (link_at number after) before) { turn = number + 1 }
 
 abbrev pub IsOwed : Config → (ℕ → List (List ℕ)) → Line → Line → List ℕ → Type 0
-IsOwed c contents before after frame = IsMessage c before after frame ⊎ IsUnit c before after frame ⊎ IsOfLink c contents before after frame
+IsOwed c contents before after frame = IsMessage c before after frame ⊎ IsOwnMessage c before after frame ⊎ IsUnit c before after frame ⊎ IsOfLink c contents before after frame
 
 -- No message waits, no unit data, and no link has anything to send.
 pub record HasNothing (c : Config) (l : Line) : Type 0 where
-  pub messages : l.management.waiting ≡ []
+  pub messages : HasNoMessage l
   pub units : l.units ≡ []
   pub links : (number : ℕ) → number < link_count c → IsSilentAt c l number
 

@@ -14,10 +14,12 @@ use Rattle.model_link.specs.declared.timers.LinkTimer.{LinkTimer}
 use Rattle.model_link.specs.declared.timers.LinkTimer.TheVariants.{T200, T203}
 use Rattle.model_link.specs.Events as link
 use Rattle.lapd_tei.specs.Events as teis
+use Rattle.lapd_terminal.specs.Events as terminals
 use Rattle.model_line.specs.declared.config.Config.{Config}
 use Rattle.model_line.specs.Event.{Event, hears, expiry, request, next, Answer}
 use Rattle.model_line.specs.Heard.{heard_side}
-use Rattle.model_line.specs.Request.{Assign, Remove, Check, Disown, Deactivate}
+use Rattle.model_line.specs.Line.{is_terminal}
+use Rattle.model_line.specs.Request.{Assign, Remove, Check, Disown, AskTei, VerifyTei, Deactivate}
 use Rattle.laws_line.specs.Heard.{IsMalformed, IsTooLong}
 use Rattle.laws_line.specs.Requests.{of_link}
 use Rattle.laws_line.specs.Share.{is_granted}
@@ -67,11 +69,14 @@ abbrev pub IsOf : Config → Event → Answer → Service → ℕ → link.Event
 IsOf c e answer service tei link.cleared = IsDeactivated e answer service tei
 IsOf c e answer service tei other = IsBy c e answer service tei other
 
--- On the network's side a UI to the group with SAPI 63 is heard, with this information (Q.921 clauses 3.3.3, 3.3.4 and
--- 5.3.1).
+-- The network's side serves messages of TEI management; a terminal does, where they are commands.
+abbrev pub ServesMessages : Config → Parts → Type 0
+ServesMessages c parts = (c.side ≡ Network) ⊎ ((is_terminal c ≡ true) × (parts.address.command ≡ true))
+
+-- There a UI to the group with SAPI 63 is heard, with this information (Q.921 clauses 3.3.3, 3.3.4 and 5.3.1).
 pub record BringsMessage (c : Config) (e : Event) (info : List ℕ) : Type 0 where
-  pub network : c.side ≡ Network
   pub parts : Parts
+  pub serves : ServesMessages c parts
   pub heard : HearsFrame c e parts
   pub sapi : parts.address.sapi ≡ 63
   pub group : parts.address.tei ≡ 127
@@ -79,7 +84,7 @@ pub record BringsMessage (c : Config) (e : Event) (info : List ℕ) : Type 0 whe
   pub control : parts.control ≡ Ui poll
   pub info_is : parts.info ≡ info
 
--- The event of the line is this event of TEI management: a message is brought; T201 expires; or a request of management is
+-- The event of the line is this event of TEI management, of the network's side or of a trunk's end: a message is brought; T201 expires; or a request of management is
 -- granted. That the line is down is an event of more than TEI management.
 abbrev pub IsOfManagement : Config → Event → Answer → teis.Event → Type 0
 IsOfManagement c e answer (teis.message info) = BringsMessage c e info
@@ -89,3 +94,13 @@ IsOfManagement c e answer (teis.remove tei) = (e ≡ request (Remove tei)) × (i
 IsOfManagement c e answer (teis.check tei) = (e ≡ request (Check tei)) × (is_granted answer ≡ true)
 IsOfManagement c e answer (teis.disown tei) = (e ≡ request (Disown tei)) × (is_granted answer ≡ true)
 IsOfManagement c e answer teis.down = ⊥
+
+-- The same at a terminal: a message is brought; T202 expires; or a request of management is granted.
+abbrev pub IsOfTerminal : Config → Event → Answer → terminals.Event → Type 0
+IsOfTerminal c e answer (terminals.message info) = BringsMessage c e info
+IsOfTerminal c e answer terminals.expiry = e ≡ expiry timers.T202
+IsOfTerminal c e answer terminals.ask = (e ≡ request AskTei) × (is_granted answer ≡ true)
+IsOfTerminal c e answer (terminals.verify tei) = (e ≡ request (VerifyTei tei)) × (is_granted answer ≡ true)
+IsOfTerminal c e answer (terminals.assign tei) = (e ≡ request (Assign tei)) × (is_granted answer ≡ true)
+IsOfTerminal c e answer (terminals.remove tei) = (e ≡ request (Remove tei)) × (is_granted answer ≡ true)
+IsOfTerminal c e answer terminals.down = ⊥

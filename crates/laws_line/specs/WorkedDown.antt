@@ -30,7 +30,7 @@ all_given_up = refl
 -- Where the message waits still, the line is not down.
 waits_still : HasNothing usual busy → ⊥
 unfolding exchanged read_by reading header_of control_of unnumbered_of teis.course teis.refusal
-waits_still h = cc h.messages
+waits_still h = cc h.messages.management
 
 kept_for_later : GivesUp busy busy (told nothing) → ⊥
 unfolding exchanged read_by reading header_of control_of unnumbered_of teis.course teis.refusal

@@ -26,7 +26,7 @@ left : notes_of (answer usual (expiry T201) unanswered) ≡ Removed 64 ∷ Relea
 unfolding after answer seq exchanged read_by reading header_of control_of unnumbered_of teis.course teis.refusal
 left = refl
 
-left_by_table : noted_leaving (expiry T201) 64 ++ noted_ending usual unanswered Call 64 0 ++ noted_ending usual unanswered Packet 64 0
+left_by_table : noted_leaving usual (expiry T201) 64 ++ noted_ending usual unanswered Call 64 0 ++ noted_ending usual unanswered Packet 64 0
     ≡ Removed 64 ∷ ReleaseIndication Call 64 ∷ ReleaseIndication Packet 64 ∷ []
 unfolding after seq exchanged read_by reading header_of control_of unnumbered_of teis.course teis.refusal
 left_by_table = refl

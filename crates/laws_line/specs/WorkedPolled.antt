@@ -7,7 +7,7 @@ use Rattle.lapd_tei.specs.Events as teis
 
 -- One terminal, and room for two control frames.
 abbrev pub small : Config
-small = record { lines = 2; terminals = 1; k = 1; k16 = 1; queue = 1; unit_queue = 1; control = 2; slots = 2; n201 = 8; n200 = 1; side = Network; sapi = 16 }
+small = record { lines = 2; terminals = 1; k = 1; k16 = 1; queue = 1; unit_queue = 1; control = 2; slots = 2; n201 = 8; n200 = 1; side = Network; sapi = 16; seed = None }
 
 in_range : first_fault small ≡ None
 unfolding sapi_fault

@@ -12,7 +12,8 @@ pub fn lines_stay_sound()
 {}
 
 /// What a line has sent, and may still send without anything else happening, rises by no more than an event's price.
-/// The price is two for a frame that is heard; one for an accepted request; k + 1 for the expiry of a running timer; k
+/// The price is two for a frame that is heard, and at a terminal as many as it may have TEIs, if these are more; one for
+/// an accepted request; k + 1 for the expiry of a running timer; k
 /// more for an REJ with a valid N(R), which is a frame of four octets or more; otherwise 0. A call for the next frame
 /// that takes one lowers what may be sent by one or two, and any other leaves it as it is.
 #[tactic(auto, using(crate::proofs::MachineLaws::lines_rise))]
@@ -28,7 +29,8 @@ pub fn deactivations_give_up()
 {}
 
 /// If a line is down, its unit data that waits is given up, and of TEI management the messages that wait and the check
-/// that runs. All else of the line stays, its links, too. That T201 stops, if it ran, is all that is told. Let each
+/// that runs, or a terminal's procedure. All else of the line stays, its links, too. That T201 or T202 stops, if it ran,
+/// is all that is told. Let each
 /// link of a TEI on it be deactivated besides, before or after that, in any order, and nothing else happen at the line.
 /// Then nothing waits on it, and the next call for a frame gives none. Each link is in state 4, as one that begins; no
 /// timer is needed; and the TEIs stay (Q.921 annex B, persistent deactivation).

@@ -1,6 +1,6 @@
 -- Worked values: two cards whose links of both services are established; each sends, a frame is damaged on its way, own busy begins and
 -- ends, a timer expires, something happens at another line, and other terminals of the line are heard. Each computes.
-use Rattle.std.specs.Prelude.{◌≡◌, List, [], ◌∷◌, ◌++◌, refl}
+use Rattle.std.specs.Prelude.{◌≡◌, List, [], ◌∷◌, ◌++◌, refl, None}
 use Rattle.model_bits.specs.Stream.{frame, dropped}
 use Rattle.model_bits.specs.declared.heard.Cause.TheVariants.{Fcs}
 use Rattle.lapd_frame.specs.declared.addresses.Side.TheVariants.{User, Network}
@@ -25,7 +25,7 @@ use Rattle.laws_order.specs.Happenings.{step, disturbed, elsewhere, AnyStepAt, b
 use Rattle.laws_order.specs.Order.{data_noted, StaysEstablished, Known, known_by, kept_by}
 
 abbrev pub network : Config
-network = record { lines = 2; terminals = 1; k = 7; k16 = 3; queue = 8; unit_queue = 4; control = 4; slots = 16; n201 = 260; n200 = 3; side = Network; sapi = 16 }
+network = record { lines = 2; terminals = 1; k = 7; k16 = 3; queue = 8; unit_queue = 4; control = 4; slots = 16; n201 = 260; n200 = 3; side = Network; sapi = 16; seed = None }
 
 abbrev pub user : Config
 user = record network { side = User }

@@ -2,6 +2,11 @@
 use Rattle.laws_promises.proofs.Vocabulary.{◌≡◌, ℕ, ◌+◌, ◌*◌, ◌≤◌, Bool, false, List, [], ◌∷◌, length, map, take, sym, subst, cond, arith, count_by, All, ltb-false, leb-true, All-nil, All-cons, All-head, All-tail, All-weaker, sum_by-cons, mul-le-mul_left, Short, came, hears_frame, hears_long_frame, is_frame, is_long_frame, Card, may_send, window, sent, heard, long_heard, accepted, expired}
 use Rattle.laws_promises.proofs.Vocabulary.{rejected, after, answer, Moment, after_all, IsSound, frames_amortised, rejects_are_long}
 use Rattle.lapd_frame.specs.Faults.{is_short}
+use Rattle.std.specs.Prelude.{true, max}
+use Rattle.model_line.specs.Counts.{brought}
+use Rattle.model_line.specs.Line.{is_terminal}
+use Rattle.model_line.specs.declared.config.Config.{Config}
+use Rattle.model_card.specs.ports.Promises.{worth}
 use Rattle.model_bits.specs.Stream as stream
 use Rattle.model_line.specs.Event as line
 use Rattle.model_card.specs.Event.{Event}
@@ -55,11 +60,19 @@ counted n n201 p m (e ∷ events) all =
         → n * first ≤ octets_of n201 e → n * rest ≤ octets_heard n201 events → n * total ≤ octets_heard n201 (e ∷ events)
     by_sum first rest total is sum one more = subst (λ k. n * k ≤ octets_heard n201 (e ∷ events)) (sym is) (omega (arith, sum, one, more))
 
-by_numbers : (s w f a x j k o before : ℕ) → s + w ≤ before + 2 * f + a + (k + 1) * x + k * j → 6 * f ≤ o → 7 * j ≤ o
-    → 21 * (s + w) ≤ 21 * before + (7 + 3 * k) * o + 21 * a + 21 * (k + 1) * x
-by_numbers s w f a x j k o before bound six seven =
+-- what frames bring is worth their octets
+is_worth : (c : Config) (f o : ℕ) → 6 * f ≤ o → 21 * (brought c * f) ≤ worth c * o
+is_worth c f o frames =
+    elim (is_terminal c) as (λ b. 21 * (cond b (max 2 c.terminals) 2 * f) ≤ cond b (4 * cond b (max 2 c.terminals) 2) 7 * o) [
+      | true ↦ omega (arith, mul-le-mul_left (4 * max 2 c.terminals) frames)
+      | false ↦ omega (arith, frames)
+    ]
+
+by_numbers : (b v s w f a x j k o before : ℕ) → s + w ≤ before + b * f + a + (k + 1) * x + k * j → 21 * (b * f) ≤ v * o → 7 * j ≤ o
+    → 21 * (s + w) ≤ 21 * before + (v + 3 * k) * o + 21 * a + 21 * (k + 1) * x
+by_numbers b v s w f a x j k o before bound frames seven =
     let scaled = mul-le-mul_left (3 * k) seven in
-    omega (arith, bound, six, scaled)
+    omega (arith, bound, frames, scaled)
 
 pub is_linear : (m : Card) (events : List Event) → IsSound m → AreAtLines m events → All (TakesItsOctets m.config.n201) events → IsLinear m events
 is_linear m events s within all =
@@ -68,5 +81,5 @@ is_linear m events s within all =
     let six = counted 6 n201 hears_frame m events (All-weaker (TakesItsOctets n201) (λ e. 6 * cond (hears_frame e.what) 1 0 ≤ octets_of n201 e) (λ e h. h.six) events all) in
     let seven = counted 7 n201 hears_long_frame m events (All-weaker (TakesItsOctets n201) (λ e. 7 * cond (hears_long_frame e.what) 1 0 ≤ octets_of n201 e) (λ e h. h.seven) events all) in
     let long : rejected ms ≤ long_heard ms = rejects_are_long m events in
-    by_numbers (sent ms) (may_send (after_all m events)) (heard ms) (accepted ms) (expired ms) (rejected ms) (window m.config)
-    (octets_heard n201 events) (may_send m) (frames_amortised m events s within) six (omega (arith, seven, long))
+    by_numbers (brought m.config) (worth m.config) (sent ms) (may_send (after_all m events)) (heard ms) (accepted ms) (expired ms) (rejected ms) (window m.config)
+    (octets_heard n201 events) (may_send m) (frames_amortised m events s within) (is_worth m.config (heard ms) (octets_heard n201 events) six) (omega (arith, seven, long))

@@ -6,6 +6,7 @@ use Rattle.model_card.specs.Card.{Card}
 use Rattle.model_card.specs.Counts.{may_send, window, sent, accepted, expired}
 use Rattle.model_card.specs.Event.{Event}
 use Rattle.model_card.specs.Run.{moments, after_all}
+use Rattle.model_card.specs.ports.Promises.{worth}
 
 -- What a frame takes of a line at least: its octets, its check and one flag (Q.921 clauses 2.2 and 2.7). One that is overlong has
 -- more than N201 and four octets of its own.
@@ -25,11 +26,12 @@ abbrev pub octets_heard : ℕ → List Event → ℕ
 octets_heard n201 events = sum_by (octets_of n201) events
 
 -- The frames sent, with those that may still be sent, are linear in these octets, in accepted requests and in expiries: in
--- twenty-firsts of a frame, as two are worth six octets, and k more seven.
+-- twenty-firsts of a frame, as two are worth six octets, and k more seven. (At a terminal an octet is worth more, as in the
+-- law of octets.)
 abbrev pub IsLinear : Card → List Event → Type 0
 IsLinear m events =
     let ms = moments m events in
     let end = after_all m events in
     let k = window m.config in
     21 * (sent ms + may_send end)
-    ≤ 21 * may_send m + (7 + 3 * k) * octets_heard m.config.n201 events + 21 * accepted ms + 21 * (k + 1) * expired ms
+    ≤ 21 * may_send m + (worth m.config + 3 * k) * octets_heard m.config.n201 events + 21 * accepted ms + 21 * (k + 1) * expired ms

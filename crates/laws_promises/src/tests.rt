@@ -22,6 +22,7 @@ pub(crate) const USUAL: Config = Config {
     n200: 3,
     side: Side::Network,
     sapi: 16,
+    seed: None,
 };
 
 fn usual_card(alloc: Global) -> Result<Card<SlabShelf>, Fail>

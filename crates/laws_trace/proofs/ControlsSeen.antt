@@ -33,9 +33,9 @@ module _ (c : Config) (service : Service) (tei : ℕ) where
   -- Frames of others are no control frames of this link.
   foreign : (frame : List ℕ) → IsForeign c service tei frame → begun_of frame ≡ []
   foreign frame (inl x) =
-      ap begun_of (x.1 ∙ message-text c x.0)
+      ap begun_of x.1
       ∙ read-again (own_side c) (λ r. of_link service tei control_in r ≡ []) (record { sapi = 63; command = true; tei = 127 }) (Ui false)
-      (λ info. either-none (63 == sapi_of service && 127 == tei)) (λ fault. refl) (information_of x.0)
+      (λ info. either-none (63 == sapi_of service && 127 == tei)) (λ fault. refl) x.0
   foreign frame (inr (inl x)) =
       ap begun_of x.1
       ∙ read-again (own_side c) (λ r. of_link service tei control_in r ≡ []) (record { sapi = sapi_of x.0.service; command = true; tei = x.0.tei }) (Ui false)

@@ -15,8 +15,8 @@ module _ (c : Config) (service : Service) (tei : ℕ) where
 
   pub foreign : (frame : List ℕ) → IsForeign c service tei frame → sent_of frame ≡ None
   foreign frame (inl x) =
-      ap sent_of (x.1 ∙ message-text c x.0) ∙ read-again (own_side c) (λ r. sent_in service tei r ≡ None) (record { sapi = 63; command = true; tei = 127 }) (Ui false)
-      (λ info. grind arith) (λ fault. refl) (information_of x.0)
+      ap sent_of x.1 ∙ read-again (own_side c) (λ r. sent_in service tei r ≡ None) (record { sapi = 63; command = true; tei = 127 }) (Ui false)
+      (λ info. grind arith) (λ fault. refl) x.0
   foreign frame (inr (inl x)) =
       ap sent_of x.1
       ∙ read-again (own_side c) (λ r. sent_in service tei r ≡ None) (record { sapi = sapi_of x.0.service; command = true; tei = x.0.tei }) (Ui false)

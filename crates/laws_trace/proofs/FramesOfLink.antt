@@ -12,9 +12,9 @@ module _ (c : Config) (service : Service) (tei : ℕ) where
   -- no UI, and none of another link
   pub foreign : (frame : List ℕ) → IsForeign c service tei frame → is_frame_of c service tei frame ≡ false
   foreign frame (inl x) =
-      ap (is_frame_of c service tei) (x.1 ∙ message-text c x.0)
+      ap (is_frame_of c service tei) x.1
       ∙ read-again (own_side c) (λ r. option_map_or plain (its_frame service tei (result_ok r)) false ≡ false) (record { sapi = 63; command = true; tei = 127 }) (Ui false)
-      (λ info. grind arith) (λ fault. refl) (information_of x.0)
+      (λ info. grind arith) (λ fault. refl) x.0
   foreign frame (inr (inl x)) =
       ap (is_frame_of c service tei) x.1
       ∙ read-again (own_side c) (λ r. option_map_or plain (its_frame service tei (result_ok r)) false ≡ false) (record { sapi = sapi_of x.0.service; command = true; tei = x.0.tei }) (Ui false)

@@ -1,4 +1,5 @@
 -- Which state a link moves to: one event of a line, by what is seen of it.
+use Rattle.lapd_frame.specs.declared.timers.Timer.TheVariants.{T202}
 use Rattle.laws_trace.proofs.Vocabulary.{arith, ◌≡◌, ℕ, ◌==◌, ◌&&◌, Bool, true, false, cond, List, [], ◌∷◌, length, map, Option, Some, None, Result, Ok, refl, sym, ap, ◌∙◌, eq-eqb, true≢false, fold, is_some, nat_lt, option_map_or, Address, ReadFault, ErrorCode, L, Service, Timer, Parts, sapi_of, service_of, same_service, place_of-is, is_on-at, Config, Aim, at_link, expiry, Answer, aim_of_expiry}
 use Rattle.laws_trace.proofs.Vocabulary.{at_timer, Line, has_tei, place_in, terms, aim_of, addressed, aim_of_heard, aim_of_reading, message_of, Deactivate, aim_of_request, at_requested, at_deactivated, at_side, IsBy, IsDeactivated, addressed-is, sapi-is, service-same, both-true, eqb-true, T200, T203, Event, answer, Request, Establish, Release, option_and_then, result_ok, result_err, is_for}
 use Rattle.laws_trace.proofs.Vocabulary.{fault_of, is_own, seen, is_up, and-false, and-true, Seen, trace_begun as begun, heard, not-refused, StreamEvent, T201, TimerT203, TimerT200}
@@ -94,6 +95,7 @@ module _ (c : Config) (service : Service) (tei : ℕ) (k : Known) where
     none-expired (TimerT203 its by) aims =
         ap (λ b. cond b (Some T203) None) (elsewhere its by (link.expired T203) (at_timer its by T203) (λ p. refl) aims)
     none-expired T201 aims = refl
+    none-expired T202 aims = refl
 
     none-asked : (x : ℕ) (r : Request) → is_at_link service tei (aim_of_request r l) ≡ false → by_request service tei x r ≡ x
     none-asked x (Establish its by) aims =

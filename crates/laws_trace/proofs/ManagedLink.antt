@@ -5,6 +5,12 @@ use Rattle.laws_trace.proofs.Vocabulary.{append-nil, arith, get_or, set, get_or-
 use Rattle.laws_trace.proofs.Vocabulary.{and-false, tei_after, tei_told, TeiEvent, none-ordered}
 use Rattle.laws_trace.proofs.OrdersOfLink.{its_orders, of-event, management-orders-none}
 use Rattle.laws_trace.proofs.Facts.{its-own}
+use Rattle.laws_line.proofs.Changes.{AreOfLine, Turn, turned, turned-there}
+use Rattle.laws_trace.proofs.Vocabulary.{LineTold, at_management, of_aim}
+use Rattle.lapd_terminal.specs.Events.{Event as TerminalEvent}
+use Rattle.model_line.proofs.Managed.{IsOwnEvent}
+use Rattle.model_line.specs.Effect.{Effect, at_terminal}
+use Rattle.model_line.specs.Line.{Own}
 
 module _ (c : Config) (l : Line) (s : IsSound c l) (service : Service) (tei : ℕ) where
   abbrev itself : Link → Link
@@ -20,16 +26,10 @@ module _ (c : Config) (l : Line) (s : IsSound c l) (service : Service) (tei : �
       (link_of service tei next ≡ link_of service tei l)
       ⊎ ((link_of service tei next ≡ fresh) × (has_tei tei l ≡ true → has_tei tei next ≡ true → ⊥))
 
-  -- An event of TEI management: a TEI comes, or leaves, or none does.
-  module _ (me : TeiEvent) (fits : IsInRange me) where
-    abbrev m : Management
-    m = tei_after me l.management
-
-    table : IsSoundTable m.places
-    table = (sound-after me l.management fits s.management).table
-
+  -- A step of TEI management: a TEI comes, or leaves, or none does.
+  module _ (told : LineTold) (m : Management) (own_part : Own) (table : IsSoundTable m.places) (ordered : AreOfLine told.orders) where
     abbrev next : Option Change → Line
-    next o = (of_change c o (told_of_management (tei_told me l.management)) (record l { management = m })).line
+    next o = (of_change c o told (record l { management = m; own = own_part })).line
 
     abbrev Stays : Option Change → Type 0
     Stays o = Remains (next o)
@@ -72,17 +72,17 @@ module _ (c : Config) (l : Line) (s : IsSound c l) (service : Service) (tei : �
     by-change (Some (Left by place)) gone = leaves by place gone (by == tei) refl
 
     abbrev own_orders : List Order
-    own_orders = (tei_told me l.management).orders
+    own_orders = told.orders
 
     own-orders-none : its_orders service tei own_orders ≡ []
-    own-orders-none = management-orders-none service tei (is_some l.management.check) own_orders (is_some m.check) (t201_follows me l.management)
+    own-orders-none = management-orders-none service tei own_orders ordered
 
     abbrev its : Terms
     its = terms c service tei
 
     abbrev Ordered : Option Change → Type 0
     Ordered o =
-        its_orders service tei (of_change c o (told_of_management (tei_told me l.management)) (record l { management = m })).told.orders
+        its_orders service tei (of_change c o told (record l { management = m; own = own_part })).told.orders
         ≡ orders_for its (link_of service tei l).running None (link_of service tei (next o)).running
 
     -- of a link that stays as it is none,
@@ -118,11 +118,27 @@ module _ (c : Config) (l : Line) (s : IsSound c l) (service : Service) (tei : �
     leaves-ordered by place gone false other = (grind (arith, split, its_orders, of-event, and-false)) ∙ as-before (Some (Left by place)) (left-elsewhere by place gone other)
     leaves-ordered by place gone true same = grind (arith, its_orders, eqb-true, its-left, left-fresh, has-place)
 
-    pub management-ordered : Ordered (tei_told me l.management).change
-    management-ordered = go (tei_told me l.management).change (changes_are_told me l.management fits s.management)
-      where
-        go : (o : Option Change) → Moves l.management.places o m.places → Ordered o
-        go o moves = grind (arith, own-orders-none, as-before, alike, gained-elsewhere, comes, eqb-true, fresh-off, leaves-ordered)
+    step-ordered : (o : Option Change) → Moves l.management.places o m.places → Ordered o
+    step-ordered o moves = grind (arith, own-orders-none, as-before, alike, gained-elsewhere, comes, eqb-true, fresh-off, leaves-ordered)
 
-    pub managed : Stays (tei_told me l.management).change
-    managed = by-change (tei_told me l.management).change (changes_are_told me l.management fits s.management)
+  -- So of each event of it, of whatever side.
+  abbrev OrdersIts : Effect → Type 0
+  OrdersIts f = its_orders service tei f.told.orders ≡ orders_for (terms c service tei) (link_of service tei l).running None (link_of service tei f.line).running
+
+  each-ordered : (o : Option Change) (t : LineTold) (m : Management) (own_part : Own) → Turn l o t m → OrdersIts (of_change c o t (record l { management = m; own = own_part }))
+  each-ordered o t m own_part turn = step-ordered t m own_part turn.table turn.ordered o turn.moves
+
+  each-remains : (o : Option Change) (t : LineTold) (m : Management) (own_part : Own) → Turn l o t m → Remains (of_change c o t (record l { management = m; own = own_part })).line
+  each-remains o t m own_part turn = by-change t m own_part turn.table turn.ordered o turn.moves
+
+  pub management-ordered : (me : TeiEvent) → IsInRange me → OrdersIts (of_aim c (at_management me) l)
+  management-ordered me fits = turned c l s OrdersIts each-ordered me fits
+
+  pub managed : (me : TeiEvent) → IsInRange me → Remains (of_aim c (at_management me) l).line
+  managed me fits = turned c l s (λ f. Remains f.line) each-remains me fits
+
+  pub own-ordered : (te : TerminalEvent) → IsOwnEvent c te → OrdersIts (of_aim c (at_terminal te) l)
+  own-ordered te proper = turned-there c l s OrdersIts each-ordered te proper
+
+  pub own-managed : (te : TerminalEvent) → IsOwnEvent c te → Remains (of_aim c (at_terminal te) l).line
+  own-managed te proper = turned-there c l s (λ f. Remains f.line) each-remains te proper

@@ -84,7 +84,7 @@ module _ (service : Service) (tei number : ℕ) where
         go : (b : Bool) → (e.line == number) ≡ b
             → IsAskedOf service tei (cond (b && is_state 5 (state_of service tei later) && differ (state_of service tei (line_at number card)) (state_of service tei later)) (establishes service tei e.what (answer e card)) was) later
         go true is = grind (arith, eqb-true, IsAskedOf, is_state, differ, establishes, own-asked, IsOwed)
-        go false other = grind (arith, apart, eq-eqb)
+        go false other = subst (IsAskedOf service tei was) (sym (apart card e number (λ same. true≢false (sym (eq-eqb e.line number (sym same)) ∙ other)))) asks
 
     -- in state 5 what is outstanding stays
     own-owes : (k : Known) → IsTrueOf service tei k (line_at e.line card) → (outstanding : Bool) → IsOwed service tei outstanding (line_at e.line card)

@@ -3,6 +3,15 @@ use Rattle.laws_trace.proofs.Vocabulary.{◌≡◌, ℕ, ◌==◌, ◌&&◌, ◌
 use Rattle.laws_trace.proofs.Vocabulary.{event-follows, Link, state_number, Config, Aim, at_none, at_link, at_management, of_aim, of_change, told_of_management, Answer, hears, expiry, request, next, dropped, aim_of_expiry, Line, has_tei, link_in, link_of, link_number, place_in, terms, aim_of, unless_refused, unless_refused_told, aim_of_heard, aim_of_request, group_told, IsProper, heard_aims}
 use Rattle.laws_trace.proofs.Vocabulary.{request_proper, notes_of, has-place, ByChange, noted, Down, at_no_link, IfSome, line_of, Taken, taken, IsOne, taken-one, eqb-true, fresh_link as fresh, line_of_link as of_link, Event, line_after as after, answer, refusal, Request, Checking as Check, Disown, tei_disown, IsSound, is_news, releases, by-down, or-true, HasLeft, TeiIsInRange as IsInRange, Moves}
 use Rattle.laws_trace.proofs.Vocabulary.{changes_are_told, link_told as told, false_from_ne_true, received, LinkEvent, cleared, StreamEvent, tei_check, tei_told, TeiEvent, tei_message, tei_after}
+use Rattle.lapd_frame.specs.declared.timers.Timer.TheVariants.{T202}
+use Rattle.laws_line.proofs.Changes.{AreOfTeis, Turn, turned, turned-there}
+use Rattle.laws_trace.proofs.Vocabulary.{T201, LineTold, Assign, Remove, tei_assign, tei_remove}
+use Rattle.lapd_terminal.specs.Events.{Event as TerminalEvent, ask as terminal_ask, expiry as terminal_expiry, verify as terminal_verify}
+use Rattle.lapd_tei.specs.Events.{expiry as tei_expiry}
+use Rattle.model_line.proofs.Managed.{IsOwnEvent}
+use Rattle.model_line.specs.Effect.{Effect, at_terminal}
+use Rattle.model_line.specs.Line.{Own}
+use Rattle.model_line.specs.Request.{AskTei, VerifyTei}
 use Rattle.laws_trace.proofs.NewsWatched.{due}
 use Rattle.laws_trace.proofs.LinkLed.{own-is}
 use Rattle.laws_trace.proofs.ManagingTables.{on-coming, on-leaving}
@@ -36,27 +45,23 @@ module _ (service : Service) (tei : ℕ) (c : Config) (l : Line) (s : IsSound c 
   stays : (aim : Aim) → has_tei tei (of_aim c aim l).line ≡ has_tei tei l → Gone aim
   stays aim same = λ off. absurd (true≢false (sym (same ∙ there) ∙ off))
 
-  -- An event of TEI management.
-  module _ (me : TeiEvent) (fits : IsInRange me) where
-    abbrev m : Management
-    m = tei_after me l.management
-
+  -- A step of TEI management.
+  module _ (t : LineTold) (m : Management) (own_part : Own) (quiet : AreOfTeis t.notes) where
     abbrev at : Line
-    at = record l { management = m }
+    at = record l { management = m; own = own_part }
 
     abbrev ns : List Note
-    ns = (tei_told me l.management).notes
+    ns = t.notes
 
     three : (xs ys zs : List Note) → news ((xs ++ ys) ++ zs) ≡ (news xs ++ news ys) ++ news zs
     three xs ys zs = filter-append (is_news service tei) (xs ++ ys) zs ∙ ap (λ us. us ++ news zs) (filter-append (is_news service tei) xs ys)
 
-    none-news : (o : Option Change) → ByChange me o ns → news ns ≡ []
-    none-news o is = none-filtered service tei ns (tei-note service tei me o ns is)
+    none-news : news ns ≡ []
+    none-news = none-filtered service tei ns (tei-note service tei ns quiet)
 
     -- its own TEI leaves
-    its-own : (place' : ℕ) → HasLeft l.management.places m.places tei place' → ByChange me (Some (Left tei place')) ns
-        → Leaves (of_change c (Some (Left tei place')) (told_of_management (tei_told me l.management)) at).told.notes
-    its-own place' gone is = by-service service refl
+    its-own : (place' : ℕ) → HasLeft l.management.places m.places tei place' → Leaves (of_change c (Some (Left tei place')) t at).told.notes
+    its-own place' gone = by-service service refl
       where
         placed : place_in l tei ≡ Some place'
         placed = has-place l.management.places tei place' s.management.table gone.was_there
@@ -78,33 +83,42 @@ module _ (service : Service) (tei : ℕ) (c : Config) (l : Line) (s : IsSound c 
 
         by-service : (z : Service) → service ≡ z → Leaves ((ns ++ call) ++ packet)
         by-service Call same =
-            three ns call packet ∙ first-only (news ns) (news call) (news packet) (none-news (Some (Left tei place')) is)
+            three ns call packet ∙ first-only (news ns) (news call) (news packet) none-news
             (none-filtered service tei packet (other-link service tei (terms c Packet tei) (ap (λ z. same_service Packet z && tei == tei) same) cleared (link_in (of_link c Call tei place' cleared at).line Packet place')))
             ∙ ap (λ z. news (told (terms c z tei) cleared (link_in l z place')).notes) (sym same)
             ∙ ap (λ o. news (told (terms c service tei) cleared (option_map_or (link_in l service) o fresh)).notes) (sym placed)
         by-service Packet same =
-            three ns call packet ∙ last-only (news ns) (news call) (news packet) (none-news (Some (Left tei place')) is)
+            three ns call packet ∙ last-only (news ns) (news call) (news packet) none-news
             (none-filtered service tei call (other-link service tei (terms c Call tei) (ap (λ z. same_service Call z && tei == tei) same) cleared (link_in at Call place')))
             ∙ ap (λ x. news (told (terms c Packet tei) cleared x).notes) second
             ∙ ap (λ z. news (told (terms c z tei) cleared (link_in l z place')).notes) (sym same)
             ∙ ap (λ o. news (told (terms c service tei) cleared (option_map_or (link_in l service) o fresh)).notes) (sym placed)
 
-    changed : (o : Option Change) → Moves l.management.places o m.places → ByChange me o ns → has_tei tei (of_change c o (told_of_management (tei_told me l.management)) at).line ≡ false
-        → Leaves (of_change c o (told_of_management (tei_told me l.management)) at).told.notes
-    changed None same is off = absurd (true≢false (sym (ap (is_on tei) same ∙ there) ∙ off))
-    changed (Some (Gained by place')) joined is off =
+    changed : (o : Option Change) → Moves l.management.places o m.places → has_tei tei (of_change c o t at).line ≡ false
+        → Leaves (of_change c o t at).told.notes
+    changed None same off = absurd (true≢false (sym (ap (is_on tei) same ∙ there) ∙ off))
+    changed (Some (Gained by place')) joined off =
         absurd (true≢false (sym (ap (is_on tei) joined.is_there ∙ on-coming l.management.places place' by tei joined.lowest ∙ ap (λ b. (by == tei) || b) there ∙ or-true (by == tei)) ∙ off))
-    changed (Some (Left by place')) gone is off = go (by == tei) refl
+    changed (Some (Left by place')) gone off = go (by == tei) refl
       where
-        go : (b : Bool) → (by == tei) ≡ b → Leaves (of_change c (Some (Left by place')) (told_of_management (tei_told me l.management)) at).told.notes
+        go : (b : Bool) → (by == tei) ≡ b → Leaves (of_change c (Some (Left by place')) t at).told.notes
         go true same = grind (arith, eqb-true, its-own)
         go false other =
             let apart = false_from_ne_true (tei == by) (λ is. true≢false (sym (eq-eqb by tei (sym (eqb-true tei by is))) ∙ other)) in
             absurd (true≢false (sym (ap (is_on tei) gone.is_free ∙ ap (λ o. is_on tei (Rattle.lapd_tei.specs.Words.freed l.management.places o)) (sym (has-place l.management.places by place' s.management.table gone.was_there))
             ∙ on-leaving l.management.places by tei s.management.table ∙ ap (λ b. not b && is_on tei l.management.places) apart ∙ there) ∙ off))
 
-    managed : Gone (at_management me)
-    managed off = changed (tei_told me l.management).change (changes_are_told me l.management fits s.management) (noted me l.management s.management) off
+  abbrev GoneBy : Effect → Type 0
+  GoneBy f = has_tei tei f.line ≡ false → Leaves f.told.notes
+
+  each-step : (o : Option Change) (t : LineTold) (m : Management) (own_part : Own) → Turn l o t m → GoneBy (of_change c o t (record l { management = m; own = own_part }))
+  each-step o t m own_part turn = changed t m own_part turn.quiet o turn.moves
+
+  managed : (me : TeiEvent) → IsInRange me → Gone (at_management me)
+  managed me fits = turned c l s GoneBy each-step me fits
+
+  owned : (te : TerminalEvent) → IsOwnEvent c te → Gone (at_terminal te)
+  owned te proper = turned-there c l s GoneBy each-step te proper
 
   pub heard-gone : (e : StreamEvent) → Gone (aim_of_heard c l e)
   heard-gone e =
@@ -112,14 +126,20 @@ module _ (service : Service) (tei : ℕ) (c : Config) (l : Line) (s : IsSound c 
       (λ parts its to. stays (at_none (group_told its parts.info)) refl) e
 
   pub expiry-gone : (timer : Timer) → Gone (aim_of_expiry timer l)
-  expiry-gone timer = grind (arith, stays, managed)
+  expiry-gone T201 = managed tei_expiry tt
+  expiry-gone T202 = owned terminal_expiry tt
+  expiry-gone timer = grind (arith, stays)
 
   pub request-gone : (r : Request) → IsProper c l (aim_of_request r l) → Gone (aim_of_request r l)
   request-gone (Request.Unit its by contents) proper = stays (aim_of_request (Request.Unit its by contents) l) refl
   request-gone (Check by) proper = managed (tei_check by) proper
+  request-gone (Assign by) proper = managed (tei_assign by) proper
+  request-gone (Remove by) proper = managed (tei_remove by) proper
+  request-gone AskTei proper = owned terminal_ask proper
+  request-gone (VerifyTei by) proper = owned (terminal_verify by) proper
   request-gone (Disown by) proper = managed (tei_disown by) proper
-  request-gone Down proper = stays at_no_link (by-down c l (λ f. has_tei tei f.line ≡ has_tei tei l) refl)
-  request-gone other proper = grind (arith, stays, managed)
+  request-gone Down proper = stays at_no_link (by-down c l s (λ f. has_tei tei f.line ≡ has_tei tei l) refl)
+  request-gone other proper = grind (arith, stays)
 
 -- Any event of a line.
 leaves : (service : Service) (tei : ℕ) (c : Config) (e : Event) (l : Line) → IsSound c l → (place : ℕ) → place_in l tei ≡ Some place → has_tei tei (after c e l) ≡ false

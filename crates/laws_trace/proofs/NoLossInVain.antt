@@ -83,7 +83,7 @@ module _ (c : Config) (ranged : IsInRange c) (l : Line) (s : IsSound c l) (timed
 
   by-aim : (aim : Aim) → aim_of c e l ≡ aim → is_management aim ≡ false → NoLoss aim → lost_in a ≡ (of_aim c aim l).told.lost → 0 < lost_in a → LosesSome c l e a then
   by-aim at_no_link is unmanaged none lost_is some =
-      let zero : lost_in a ≡ 0 = lost_is ∙ by-down c l (λ f. f.told.lost ≡ 0) refl in absurd (omega (arith, some, zero))
+      let zero : lost_in a ≡ 0 = lost_is ∙ by-down c l s (λ f. f.told.lost ≡ 0) refl in absurd (omega (arith, some, zero))
   by-aim (at_link service tei place event) is unmanaged none lost_is some =
       by-link service tei (ap (is_at_link service tei) is ∙ ap (λ b. b && tei == tei) (service-same service) ∙ eq-eqb tei tei refl) some
   by-aim aim is unmanaged none lost_is some = grind arith

@@ -1,4 +1,5 @@
 -- What an observer knows of a link after a list of events.
+use Rattle.laws_trace.proofs.Vocabulary.{true≢false}
 use Rattle.laws_trace.proofs.Vocabulary.{arith, ◌≡◌, ℕ, ◌+◌, ◌<◌, ◌==◌, ◌&&◌, ◌⊎◌, not, Bool, true, false, cond, List, [], ◌∷◌, Option, Some, None, is_some, refl, sym, ap, ◌∙◌, subst, eq-eqb, fold, IfSome, option_map_or, get_or-replicate, All-head, All-tail, Service, State, Link, state_number, Config, Line, fresh_line, link_of, place_in, state_of, has_tei, IsInRange, is-off, nowhere, Card}
 use Rattle.laws_trace.proofs.Vocabulary.{line_at, at, moments, fresh_is_sound, after_is_sound, AllHaveTheirTimers, timely-after, begins-timely-card, eqb-true, fresh_link, fresh, CardEvent as Event, after, card_answer as answer, Moment, after_all, IsAtLine, AreAtLines, managing_is_on as is_on, led, Observed, View, at_first, in_state, by_event, views, view_of, moment_of, view_behind, seen}
 use Rattle.laws_trace.proofs.Vocabulary.{CardIsSound as IsSound}
@@ -100,6 +101,11 @@ module _ (service : Service) (tei number : ℕ) where
     abbrev its-to : ℕ → Option ℕ
     its-to number = state_of service tei (line_at number (after e card))
 
+    at-rest : (x : Option ℕ) → IsSeen x k asked (cond (is_state 5 x) w.outstanding (not (k.next == k.acknowledged))) n v.link
+        → IsSeen x k asked (cond (is_state 5 x) w.outstanding (not (k.next == k.acknowledged))) n (cond (not (is_some x)) (in_state 1) (cond (is_some x) v.link (in_state 4)))
+    at-rest None h = refl
+    at-rest (Some state) h = h
+
     by-line : (b : Bool) → (e.line == number) ≡ b → Next b (is_some to) (is_some from)
     by-line true is =
         let same : number ≡ e.line = sym (eqb-true e.line number is) in
@@ -107,7 +113,13 @@ module _ (service : Service) (tei number : ℕ) where
         (subst (λ number. Led service tei c k asked w.outstanding n v.link (its-from number) (its-to number) e card) (sym same)
         (own-led service tei number card s timely e here k n (subst (λ number. IsTrueOf service tei k (line_at number card)) same h.true_of)
         (subst (λ number. IsCountOf service tei n (line_at number card)) same h.counts_of)))
-    by-line false other = grind (arith, apart, eq-eqb, none-learned, learned, is_state, is_some, renewed)
+    by-line false other =
+        let same : to ≡ from = ap (state_of service tei) (apart card e number (λ same. true≢false (sym (eq-eqb e.line number (sym same)) ∙ other))) in
+        subst (λ (x : Option ℕ). let l = learned c service tei from x k [] in
+        IsSeen x l asked (cond (is_state 5 x) w.outstanding (not (l.next == l.acknowledged))) n (cond (not (is_some x)) (in_state 1) (cond (is_some from) v.link (in_state 4))))
+        (sym same)
+        (subst (λ l. IsSeen from l asked (cond (is_state 5 from) w.outstanding (not (l.next == l.acknowledged))) n (cond (not (is_some from)) (in_state 1) (cond (is_some from) v.link (in_state 4))))
+        (sym (none-learned service tei number c (line_at number card) k h.true_of)) (at-rest from (renewed service tei c k asked w.outstanding n v.link from h.link_is)))
 
     pub holds-then : Holds service tei (watch c service tei number k m) (news.asked service tei number asked m) (owing c service tei number w m).outstanding (repeated service tei number n m) later
         (views c service tei number v m)

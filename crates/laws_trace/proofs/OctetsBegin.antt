@@ -132,7 +132,7 @@ next-units : (c : Config) (l : Line) → IsSound c l → All IsUnit l.units → 
 next-units c l s h = go (taken c l) (taken-one c l s)
   where
     took : (t : Taken) → IsOne c l t → All IsUnit t.line.units
-    took t (inl x) = subst (λ (u : Taken). All IsUnit u.line.units) (sym x.1) h
+    took t (inl x) = subst (λ (u : Taken). All IsUnit u.line.units) (sym x.is) h
     took t (inr (inl x)) = subst (λ (u : Taken). All IsUnit u.line.units) (sym x.1) (All-drop IsUnit 1 l.units h)
     took t (inr (inr x)) = subst (λ (u : Taken). All IsUnit u.line.units) (sym x.is) h
 

@@ -1,5 +1,15 @@
 -- What an event of a line is to the link of a service with a TEI, at whatever place the TEI is: one event of this link,
 -- its deactivation, or none.
+use Rattle.laws_trace.proofs.Vocabulary.{first_taken, round}
+use Rattle.laws_trace.proofs.Vocabulary.{spelling, cond, with_unit, with_message, taken, information_of, Ui, own_side}
+use Rattle.lapd_tei.specs.Events as teis
+use Rattle.lapd_terminal.specs.Events as terminals
+use Rattle.lapd_terminal.specs.declared.messages.Message.{Message as OwnMessage}
+use Rattle.lapd_terminal.specs.Messages.{frame_of as own_frame_of, information_of as own_information_of}
+use Rattle.model_line.specs.Line.{is_terminal, terminal_in}
+use Rattle.model_line.specs.Taken.{message_taken, unit_taken, with_own_message}
+use Rattle.laws_trace.proofs.ReadAgain.{message-text, own-text}
+use Rattle.model_line.specs.Effect.{at_terminal}
 use Rattle.laws_trace.proofs.Vocabulary.{arith, ◌≡◌, ℕ, ◌==◌, ◌&&◌, Bool, true, false, List, [], ◌∷◌, map, slice_get, Option, Some, None, IfSome, option_map, refl, sym, ap, ◌∙◌, subst, ◌⊎◌, inl, inr, All, option_to_list, option_or, option_map_or, All-nil, All-cons, none-some, Refusal, Service, Order, same_service, IsAt, Message, Terms, Link, Given, Config, hears, expiry, request, next, Answer}
 use Rattle.laws_trace.proofs.Vocabulary.{gave, Aim, at_none, at_link, at_management, at_units, of_aim, aim_of_expiry, orders_in, Line, UnitData, link_number, service_at, place_at, place_in, has_tei, link_at, link_in, link_of, terms, with_link, aim_of, unless_refused, unless_refused_told, aim_of_heard, Taken, unit_frame, with_given_frame, next_of, line_of, aim_of_request, IsProper, heard_proper}
 use Rattle.laws_trace.proofs.Vocabulary.{expiry_proper, request_proper, round_below, lost_in, notes_of, contents_in, IsBy, IsDeactivated, IsOf, by-or-down, OfLink, of-links, services-equal, both-true, has-place, Ties, heard-ties, expiry-ties, request-ties, number-is, at_no_link, orders_for, eqb-true, message_frame, fresh_link as fresh, Event, told, line_after as after, answer}
@@ -7,9 +17,9 @@ use Rattle.laws_trace.proofs.Vocabulary.{line_frame_of as frame_of, refusal, IsS
 use Rattle.model_link.specs.Events as link
 use Rattle.laws_line.proofs.Readings as read
 use Rattle.laws_trace.proofs.ClearedTells.{none-delivered, none-lost}
-use Rattle.laws_trace.proofs.ManagedLink.{alike, Remains, managed, management-ordered}
+use Rattle.laws_trace.proofs.ManagedLink.{alike, Remains, managed, management-ordered, own-managed, own-ordered}
 use Rattle.laws_trace.proofs.OfferTells.{offer-tells_nothing}
-use Rattle.laws_trace.proofs.OrdersOfLink.{its_orders, stop-orders-none, other-ordered}
+use Rattle.laws_trace.proofs.OrdersOfLink.{its_orders, down-orders-none, other-ordered}
 use Rattle.model_line.proofs.Downs.{given_up}
 
 -- Which events of a line give a frame: of a link, only an offer.
@@ -55,9 +65,13 @@ pub record HasOne (c : Config) (service : Service) (tei : ℕ) (e : Event) (befo
   pub begins : frame_in a ≡ frames_given c (terms c service tei) event (link_of service tei before)
 
 -- A frame of TEI management, unit data, or a frame of another link.
+-- The text of a message of TEI management, of whatever side.
+abbrev pub message_text : Config → List ℕ → List ℕ
+message_text c info = spelling (own_side c) (record { address = record { sapi = 63; command = true; tei = 127 }; control = Ui false; info = info })
+
 abbrev pub IsForeign : Config → Service → ℕ → List ℕ → Type 0
 IsForeign c service tei frame =
-    ((message : Message) × (frame ≡ message_frame c.side message)) ⊎ ((unit : UnitData) × (frame ≡ unit_frame c unit))
+    ((info : List ℕ) × (frame ≡ message_text c info)) ⊎ ((unit : UnitData) × (frame ≡ unit_frame c unit))
     ⊎ ((t : Terms) × (g : Given) × (frame ≡ frame_of c t g) × ((same_service t.service service && t.tei == tei) ≡ false))
 
 -- No event of the link: it stays as it is, or its TEI comes or leaves, and it is as one that begins; and its timer is stopped
@@ -179,11 +193,14 @@ module _ (c : Config) (l : Line) (s : IsSound c l) (service : Service) (tei : �
     aim-goes (at_units unit) is proper ties tells silent =
         kept e a none_begins (at_units unit) is refl tells refl (to-be (at_units unit)) (alike c l s service tei l (to-be (at_units unit)) refl refl)
     aim-goes at_no_link is proper ties tells silent =
-        kept e a none_begins at_no_link is refl tells (by-down c l (λ f. its_orders service tei f.told.orders ≡ []) (stop-orders-none service tei l.management.check)) (to-be at_no_link)
-        (by-down c l (λ f. link_of service tei f.line ≡ link_of service tei l) (alike c l s service tei l (given_up l).line refl refl))
+        kept e a none_begins at_no_link is refl tells (by-down c l s (λ f. its_orders service tei f.told.orders ≡ []) (down-orders-none service tei l.management.check l.own.procedure)) (to-be at_no_link)
+        (by-down c l s (λ f. link_of service tei f.line ≡ link_of service tei l) (alike c l s service tei l (given_up l).line refl refl))
     aim-goes (at_management me) is proper ties tells silent =
         stays e a none_begins (at_management me) is refl (to-be (at_management me)) (ap (its_orders service tei) tells.3 ∙ management-ordered c l s service tei me proper)
         (managed c l s service tei me proper)
+    aim-goes (at_terminal te) is proper ties tells silent =
+        stays e a none_begins (at_terminal te) is refl (to-be (at_terminal te)) (ap (its_orders service tei) tells.3 ∙ own-ordered c l s service tei te proper)
+        (own-managed c l s service tei te proper)
     aim-goes (at_link its by place event) is proper ties tells silent = grind (arith, at-one)
 
   -- What a call takes: a frame of this link, or of another part.
@@ -245,6 +262,35 @@ module _ (c : Config) (l : Line) (s : IsSound c l) (service : Service) (tei : �
   took-first : (o : Option Taken) → IfSome o (OfLink c l) → IfSome o Took
   took-first o x = grind (arith, took-one)
 
+  -- a message, and unit data
+  other-part : (t : Taken) → t.line.management.places ≡ l.management.places → t.line.links ≡ l.links → t.orders ≡ [] → IsForeign c service tei t.frame → Took t
+  other-part t places links none foreign = inl (alike c l s service tei l t.line places links, foreign, ap (its_orders service tei) none)
+
+  took-message : (b : Bool) → is_terminal c ≡ b → IfSome (cond b (option_map (with_own_message l) (terminals.offered (terminal_in l))) (option_map (with_message l) (teis.offered c.side l.management))) Took
+  took-message true is = go (slice_get l.own.waiting 0)
+    where
+      go : (o : Option OwnMessage) → IfSome (option_map (with_own_message l) (option_map own_frame_of o)) Took
+      go None = tt
+      go (Some m) = other-part (with_own_message l (own_frame_of m)) refl refl refl (inl (own_information_of m, own-text c m is))
+  took-message false net = go (slice_get l.management.waiting 0)
+    where
+      go : (o : Option Message) → IfSome (option_map (with_message l) (option_map (message_frame c.side) o)) Took
+      go None = tt
+      go (Some m) = other-part (with_message l (message_frame c.side m)) refl refl refl (inl (information_of m, message-text c m))
+
+  took-unit : (us : List UnitData) → IfSome (option_map (with_unit c l) (slice_get us 0)) Took
+  took-unit [] = tt
+  took-unit (u ∷ us) = other-part (with_unit c l u) refl refl refl (inr (inl (u, refl)))
+
+  either : (m rest : Option Taken) → IfSome m Took → IfSome rest Took → IfSome (option_or m rest) Took
+  either None rest x y = y
+  either (Some t) rest x y = x
+
+  took-any : IfSome (taken c l) Took
+  took-any =
+      either (message_taken c l) (option_or (unit_taken c l) (first_taken c l (round c l))) (took-message (is_terminal c) refl)
+      (either (unit_taken c l) (first_taken c l (round c l)) (took-unit l.units) (took-first (first_taken c l (round c l)) (of-links c l s (round c l) (round_below c l))))
+
   -- A call for the next frame.
   abbrev Gave : Line → List (List ℕ) → List Order → Type 0
   Gave new frames orders =
@@ -257,7 +303,7 @@ module _ (c : Config) (l : Line) (s : IsSound c l) (service : Service) (tei : �
 
   next-goes : Goes c service tei next l (after c next l) (answer c next l)
   unfolding after answer
-  next-goes = grind (arith, gave-it, took-first, of-links, round_below, slice_get, option_map, stays, quiet, offer-tells_nothing)
+  next-goes = grind (arith, gave-it, took-any, stays, quiet, offer-tells_nothing)
 
 pub event-goes : (c : Config) (e : Event) (l : Line) (service : Service) (tei : ℕ) → IsSound c l → Goes c service tei e l (after c e l) (answer c e l)
 unfolding after answer

@@ -1,4 +1,8 @@
 -- The orders of a link, among those of an answer.
+use Rattle.laws_trace.proofs.Vocabulary.{ap, ◌∙◌, ◌++◌}
+use Rattle.lapd_terminal.specs.declared.procedure.Procedure.{Procedure}
+use Rattle.laws_line.proofs.Changes.{AreOfLine, IsOfLine}
+use Rattle.model_line.proofs.Downs.{stop_202}
 use Rattle.laws_trace.proofs.Vocabulary.{arith, ◌≡◌, ℕ, ◌==◌, ◌&&◌, Bool, true, false, cond, not, List, [], ◌∷◌, Option, refl, filter, filter-append, Service, Order, Start, Stop, Timer, same_service, Follows, Terms, LinkTimer, Link, obeyed, runs, timer_at, orders_for, timer_of, obeyed-append, stop_of, Check, obey, is_order_of, LinkEvent as Event, course, link_told as told, cond_both}
 use Rattle.laws_trace.proofs.Facts.{its-own}
 
@@ -22,8 +26,17 @@ pub stop-orders-none : (service : Service) (tei : ℕ) (o : Option Check) → it
 stop-orders-none service tei o = grind arith
 
 -- nor by TEI management.
-pub management-orders-none : (service : Service) (tei : ℕ) (before : Bool) (orders : List Order) (after : Bool) → Follows before orders after → its_orders service tei orders ≡ []
-management-orders-none service tei before orders after h = grind arith
+one-order-none : (service : Service) (tei : ℕ) (o : Order) → IsOfLine o → is_order_of service tei o ≡ false
+one-order-none service tei o h = grind arith
+
+pub management-orders-none : (service : Service) (tei : ℕ) (orders : List Order) → AreOfLine orders → its_orders service tei orders ≡ []
+management-orders-none service tei [] h = refl
+management-orders-none service tei (o ∷ orders) h =
+    ap (λ b. cond b (o ∷ its_orders service tei orders) (its_orders service tei orders)) (one-order-none service tei o h.0) ∙ management-orders-none service tei orders h.1
+
+-- nor where the line goes down.
+pub down-orders-none : (service : Service) (tei : ℕ) (o : Option Check) (p : Option Procedure) → its_orders service tei (stop_of o ++ stop_202 p) ≡ []
+down-orders-none service tei o p = grind arith
 
 -- A caller's timer of the link obeys these alone.
 pub obeys-its : (service : Service) (tei : ℕ) (timer : LinkTimer) (running : Bool) (orders : List Order)

@@ -1,4 +1,5 @@
 -- What holds of every event of a line, and of what it shows, holds of the trace of a run.
+use Rattle.laws_trace.proofs.Vocabulary.{false, true≢false, ◌∙◌}
 use Rattle.laws_trace.proofs.Vocabulary.{◌≡◌, ◌≢◌, ℕ, ◌==◌, Bool, true, cond, List, [], ◌∷◌, ◌++◌, get_or, refl, sym, subst, arith, eq-eqb, and_parts, get_or-set_same, get_or-set_other, All-head, All-tail, PoolFull, Config, refused, Line, fresh_line, Card, line_at, is_full, moments, after_is_sound, has_lines, by_room, line_sound, eqb-true, CardEvent as Event, after, card_answer as answer}
 use Rattle.laws_trace.proofs.Vocabulary.{after_all, IsAtLine, AreAtLines, CardIsSound as IsSound, Seen, seen, trace}
 use Rattle.model_line.specs.Event as line_event
@@ -41,7 +42,12 @@ module _ (Stands : Config → Line → Type 0) (Shows : Config → Line → List
   moment : (card : Card) (e : Event) (number : ℕ) → IsSound card → IsAtLine card e → Stands card.config (line_at number card)
       → (b : Bool) → (e.line == number) ≡ b
       → Both card.config (line_at number card) (cond b (seen e.what (answer e card)) []) (line_at number (after e card))
-  moment card e number s here stands b is = grind (arith, eqb-true, own-line, eq-eqb, apart)
+  moment card e number s here stands true is =
+      subst (λ n. Both card.config (line_at n card) (seen e.what (answer e card)) (line_at n (after e card))) (eqb-true e.line number is)
+      (own-line card e s here (subst (λ n. Stands card.config (line_at n card)) (sym (eqb-true e.line number is)) stands))
+  moment card e number s here stands false other =
+      subst (λ (x : Line). Both card.config (line_at number card) [] x) (sym (apart card e number (λ same. true≢false (sym (eq-eqb e.line number (sym same)) ∙ other))))
+      (rests card.config (line_at number card), stands)
 
   pub run-shows : (card : Card) (events : List Event) (number : ℕ) → IsSound card → AreAtLines card events → Stands card.config (line_at number card)
       → Both card.config (line_at number card) (trace number (moments card events)) (line_at number (after_all card events))

@@ -7,13 +7,25 @@ use Rattle.model_card.specs.Sound as card_sound
 use Rattle.laws_trace.proofs.Runs.{run-shows}
 use Rattle.laws_trace.proofs.Units.{given-frames, none-told, none-requested}
 use Rattle.laws_trace.proofs.OfOctets.Seen.{begun_given}
-use Rattle.laws_trace.proofs.ReadAgain.{message-text}
+use Rattle.laws_trace.proofs.ReadAgain.{message-text, own-text}
+use Rattle.std.specs.Prelude.{Bool, cond}
+use Rattle.lapd_tei.specs.Events as teis
+use Rattle.lapd_terminal.specs.Events as terminals
+use Rattle.lapd_terminal.specs.declared.messages.Message.{Message as OwnMessage}
+use Rattle.lapd_terminal.specs.Messages.{frame_of as own_frame_of, information_of as own_information_of}
+use Rattle.model_line.specs.Line.{is_terminal, terminal_in}
+use Rattle.model_line.specs.Taken.{message_taken, unit_taken, with_own_message}
 
 -- messages of TEI management, and unit data
 message-spelled : (c : Config) (m : Message) → IsSpelled c (message_frame c.side m)
 message-spelled c m =
     let parts : Parts = record { address = record { sapi = 63; command = true; tei = 127 }; control = Ui false; info = information_of m } in
     (parts, record { is_frame = record { sapi = omega arith; tei = omega arith; kind = refl; size = refl }; octets_are = message-text c m }, refl)
+
+own-spelled : (c : Config) (m : OwnMessage) → is_terminal c ≡ true → IsSpelled c (own_frame_of m)
+own-spelled c m is =
+    let parts : Parts = record { address = record { sapi = 63; command = true; tei = 127 }; control = Ui false; info = own_information_of m } in
+    (parts, record { is_frame = record { sapi = omega arith; tei = omega arith; kind = refl; size = refl }; octets_are = own-text c m is }, refl)
 
 unit-spelled : (c : Config) (u : UnitData) → u.tei ≤ 127 → IsSpelled c (unit_frame c u)
 unit-spelled c u small =
@@ -44,13 +56,30 @@ module _ (c : Config) (ranged : IsInRange c) (l : Line) (s : IsSound c l) where
   first-spelled : (o : Option Taken) → IfSome o (OfLink c l) → IfSome o Spelled
   first-spelled o x = grind (arith, link-spelled)
 
-  any-spelled : (m : Option Message) (us : List UnitData) → All (IsUnitData c) us
-      → IfSome (option_or (option_map (with_message l) (option_map (message_frame c.side) m)) (option_or (option_map (with_unit c l) (slice_get us 0)) (first_taken c l (round c l)))) Spelled
-  any-spelled None (u ∷ us) h = unit-spelled c u (All-head (IsUnitData c) u us h).tei
-  any-spelled m us h = grind (arith, message-spelled, first-spelled, of-links, round_below)
+  either : (m rest : Option Taken) → IfSome m Spelled → IfSome rest Spelled → IfSome (option_or m rest) Spelled
+  either None rest x y = y
+  either (Some t) rest x y = x
+
+  of-unit : (us : List UnitData) → All (IsUnitData c) us → IfSome (option_map (with_unit c l) (slice_get us 0)) Spelled
+  of-unit [] h = tt
+  of-unit (u ∷ us) h = unit-spelled c u (All-head (IsUnitData c) u us h).tei
+
+  of-message : (b : Bool) → is_terminal c ≡ b → IfSome (cond b (option_map (with_own_message l) (terminals.offered (terminal_in l))) (option_map (with_message l) (teis.offered c.side l.management))) Spelled
+  of-message true is = go (slice_get l.own.waiting 0)
+    where
+      go : (o : Option OwnMessage) → IfSome (option_map (with_own_message l) (option_map own_frame_of o)) Spelled
+      go None = tt
+      go (Some m) = own-spelled c m is
+  of-message false net = go (slice_get l.management.waiting 0)
+    where
+      go : (o : Option Message) → IfSome (option_map (with_message l) (option_map (message_frame c.side) o)) Spelled
+      go None = tt
+      go (Some m) = message-spelled c m
 
   taken-spelled : IfSome (taken c l) Spelled
-  taken-spelled = any-spelled (slice_get l.management.waiting 0) l.units s.units
+  taken-spelled =
+      either (message_taken c l) (option_or (unit_taken c l) (first_taken c l (round c l))) (of-message (is_terminal c) refl)
+      (either (unit_taken c l) (first_taken c l (round c l)) (of-unit l.units s.units) (first-spelled (first_taken c l (round c l)) (of-links c l s (round c l) (round_below c l))))
 
 -- Of what begins in a trace.
 abbrev AreSpelled : Config → Line → List Seen → Line → Type 0

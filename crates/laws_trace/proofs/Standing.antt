@@ -130,7 +130,12 @@ module _ (service : Service) (tei : ℕ) where
           ap (λ b. cond b false (asked_busy e a busy)) (by-frame (frame_by c e) refl up).0 ∙ asked-elsewhere c l on.0 on.1 e busy x.aims
 
       rejected-stays : is_multiple_frame own.state ≡ true → now.rejected ≡ rejected
-      rejected-stays up = grind (arith, by-frame, frame_by, brings_information, untold)
+      rejected-stays up =
+          let first = by-frame (frame_by c e) refl up in
+          let told = untold (list_any (is_data_of service tei) (notes_of a)) refl in
+          let begins-none = first.0 in
+          let brings-none-of-it = first.1 in
+          grind (arith, told, begins-none, brings-none-of-it)
 
     -- So of every event.
     pub event-stands : StandsNow (link_of service tei (after c e l)) × (list_any (is_data_of service tei) (notes_of a) ≡ true → asked_busy e a busy ≡ false)

@@ -1,4 +1,5 @@
 -- When the timers of links run, and when they are started: the law.
+use Rattle.laws_trace.proofs.Vocabulary.{true≢false}
 use Rattle.laws_trace.proofs.Vocabulary.{◌≡◌, ℕ, ◌+◌, ◌==◌, ◌&&◌, ◌||◌, ◌<◌, ◌≤◌, not, Bool, true, false, cond, List, [], ◌∷◌, ◌++◌, get_or, set, Option, Some, None, refl, sym, ap, ◌∙◌, subst, arith, eq-eqb, fold, option_map_or, and_parts, get_or-set_same, get_or-replicate, All-nil, All-cons, All-head, All-tail, Service, HasItsTimer, needed_in, State, LinkTimer, Link, obeyed, runs, Config}
 use Rattle.laws_trace.proofs.Vocabulary.{orders_in, Line, fresh_line, link_of, link_in, link_number, place_in, state_of, terms, IsInRange, sound_in, terms_in_range, place_of-is, Card, line_at, is_full, at, moments, fresh_is_sound, after_is_sound, has_lines, by_room, line_sound, runs_at_callers, AllHaveTheirTimers, needed-run, needs-none, timely-all, timely-after, begins-timely-card, timer_of}
 use Rattle.laws_trace.proofs.Vocabulary.{is_needed, left_by, HaveTheirTimers, nowhere, Timer, eqb-true, T200, T203, fresh_link, fresh, CardEvent as Event, after, card_answer as answer, Moment, after_all, IsAtLine, AreAtLines, CardIsSound as IsSound, seen, Always, or_comm, TimerT203, TimerT200}
@@ -55,7 +56,10 @@ module _ (service : Service) (tei number : ℕ) where
             subst (λ n. IsTrueOf service tei (learned card.config service tei (state_of service tei (line_at n card)) (state_of service tei (line_at n (after e card))) k
             (seen e.what (answer e card))) (line_at n (after e card))) (eqb-true e.line number is)
             (own-known k (subst (λ n. IsTrueOf service tei k (line_at n card)) (sym (eqb-true e.line number is)) h))
-        go false other = grind (arith, apart, eq-eqb, learned, none-learned)
+        go false other =
+            subst (λ (x : Line). IsTrueOf service tei (learned card.config service tei (state_of service tei (line_at number card)) (state_of service tei x) k []) x)
+            (sym (apart card e number (λ same. true≢false (sym (eq-eqb e.line number (sym same)) ∙ other))))
+            (subst (λ k. IsTrueOf service tei k (line_at number card)) (sym (none-learned card.config (line_at number card) k h)) h)
 
     -- what is ordered of the timers of the link
     idle : (needs : Bool) (its : Timer) → order_by false needs needs its ≡ []

@@ -1,4 +1,5 @@
 -- What is known of a link stays true: each event of a line.
+use Rattle.laws_trace.proofs.Vocabulary.{true≢false, true, false}
 use Rattle.laws_trace.proofs.Vocabulary.{arith, ◌≡◌, ℕ, ◌&&◌, ◌||◌, Bool, cond, [], map, Option, Some, None, option_map, refl, sym, ap, ◌∙◌, subst, ◌⊎◌, inl, inr, All, option_to_list, option_map_or, All-head, Service, Parts, place_of-is, HasItsTimer, State, Terms, LinkTimer, Link, Given, runs, Config, next, Answer, NextFrame, gave, Line, link_in, link_of, link_number, place_in, state_of, state_in}
 use Rattle.laws_trace.proofs.Vocabulary.{terms, taken, next_of, IsInRange, terms_in_range, IsBy, timer_of, is_needed, left_by, HaveTheirTimers, T200, T203, fresh_link as fresh, Event, line_after as after, answer, line_frame_of as frame_of, IsSound, is_for, trace_frame_in as frame_in, seen, none-some, link_after, given, course}
 use Rattle.model_link.specs.Events as link
@@ -84,10 +85,15 @@ module _ (c : Config) (ranged : IsInRange c) (l : Line) (s : IsSound c l) (timed
   -- What is heard or begins is none of the link's.
   module _ (x : HasNone c service tei e l (after c e l) a) where
     pub no-control : (place : ℕ) → place_in l tei ≡ Some place → control_in service tei (frame_by c e) ≡ None
-    no-control place on = grind (arith, by-whom)
+    no-control place on = go (frame_by c e) refl
       where
         by-whom : (f : Parts) → frame_by c e ≡ Some f → (b : Bool) → is_for service tei f.address ≡ b → cond b (Some f.control) None ≡ None
-        by-whom f is b for = grind (arith, event-aims)
+        by-whom f is false for = refl
+        by-whom f is true for = absurd (true≢false (sym (event-aims c l service tei place on e f is for) ∙ x.aims))
+
+        go : (o : Option Parts) → frame_by c e ≡ o → control_in service tei o ≡ None
+        go None is = refl
+        go (Some f) is = by-whom f is (is_for service tei f.address) refl
 
     none-goes : (e : Event) → All (IsForeign c service tei) (frame_in (answer c e l)) → sent_at c service tei k e l ≡ None
     unfolding answer

@@ -1,4 +1,5 @@
 -- How the turn goes round the links of a line while whatever happens there: one keeps its place, and another has something to send.
+use Rattle.lapd_terminal.specs.Messages.{information_of as own_information_of}
 use Rattle.laws_trace.proofs.Vocabulary.{◌≡◌, ◌≢◌, ℕ, ◌+◌, ◌<◌, ◌≤◌, ◌==◌, ◌⊎◌, ⊎_elim, Bool, true, false, cond, List, [], ◌∷◌, ◌++◌, get_or, map, Option, Some, None, option_map, refl, sym, ap, ◌∙◌, subst, inl, inr, arith, eq-eqb, true≢false, All, filter, and_parts, flat_map-append, get_or-set_same, map-append, filter-append, Address, sapi_of, Config, request, next, Answer, gave, Line, fresh_line}
 use Rattle.laws_trace.proofs.Vocabulary.{link_count, service_at, place_at, tei_at, Taken, taken, next_of, way_round, in_turn, IsSilentAt, IsOfLink, IsOwed, IsIdle, contents_of_link, comes-first, served, turn-stays, Card, line_at, is_full, by_room, eqb-true, unwrap_or, information_of, CardEvent as Event, after, card_answer as answer, IsAtLine, CardIsSound as IsSound, trace_frame_in as frame_in}
 use Rattle.laws_trace.proofs.Vocabulary.{Seen, seen, frames_begun, IsAmong, sapi-small, own_side}
@@ -11,7 +12,7 @@ use Rattle.laws_trace.proofs.Units.{NoneWaits, plain-order, first-of, none-told,
 use Rattle.laws_trace.proofs.LinkNames.{LinkName, named_in, is_of_a_link, links_begun, named as name_of, same-number}
 use Rattle.laws_trace.proofs.NamedFrames.{names}
 use Rattle.model_line.proofs.Following.{some-same}
-use Rattle.laws_trace.proofs.ReadAgain.{message-text}
+use Rattle.laws_trace.proofs.ReadAgain.{message-text, own-text}
 
 -- A link that would begin a frame has something to send.
 pub record Speaks (c : Config) (l : Line) (number tei : ℕ) : Type 0 where
@@ -120,10 +121,13 @@ module _ (c : Config) (one tei other its : ℕ) where
         let a : Address = record { sapi = 63; command = true; tei = 127 } in
         no-name t.frame names (ap (is_of_a_link (own_side c)) (x.spelled ∙ message-text c x.message) ∙ ui-frame (own_side c) a (information_of x.message) (omega arith) (omega arith) refl) (still l new names (ap (λ (l : Line). l.turn) x.line) walk)
     by-next (Some t) (inr (inl x)) names walk =
+        let a : Address = record { sapi = 63; command = true; tei = 127 } in
+        no-name t.frame names (ap (is_of_a_link (own_side c)) (x.spelled ∙ own-text c x.message x.terminal) ∙ ui-frame (own_side c) a (own_information_of x.message) (omega arith) (omega arith) refl) (still l new names (ap (λ (l : Line). l.turn) x.line) walk)
+    by-next (Some t) (inr (inr (inl x))) names walk =
         let a : Address = record { sapi = sapi_of x.unit.service; command = true; tei = x.unit.tei } in
         let small = first-of c l.units x.unit x.oldest h.sound.units in
         no-name t.frame names (ap (is_of_a_link (own_side c)) x.spelled ∙ ui-frame (own_side c) a x.unit.contents (sapi-small x.unit.service) (omega (arith, small)) refl) (still l new names (ap (λ (l : Line). l.turn) x.line) walk)
-    by-next (Some t) (inr (inr x)) names walk = of-link t.frame x names walk
+    by-next (Some t) (inr (inr (inr x))) names walk = of-link t.frame x names walk
 
     none-begins : (e : line_event.Event) (a : Answer) (names : List LinkName) → frames_begun (seen e a) ≡ [] → (lines.after c e l).turn ≡ l.turn
         → Walk (lines.after c e l) names → Walk l (links_begun c (seen e a) ++ names)
@@ -162,6 +166,10 @@ module _ (number one tei other its : ℕ) where
   pub moment-walk : (card : Card) (e : Event) → IsSound card → IsAtLine card e → Meets card.config one tei other its (line_at number card) → NoneWaits card.config (line_at number card)
       → (b : Bool) → (e.line == number) ≡ b → (names : List LinkName) → WalkOf card (line_at number (after e card)) names
       → WalkOf card (line_at number card) (links_begun card.config (cond b (seen e.what (answer e card)) []) ++ names)
-  moment-walk card e s here h plain true same names walk = grind (arith, eqb-true, links_begun, own-walk, NoneWaits)
+  moment-walk card e s here h plain true same names walk =
+      let is = eqb-true e.line number same in
+      subst (λ n. WalkOf card (line_at n card) (links_begun card.config (seen e.what (answer e card)) ++ names)) is
+      (own-walk card e s here (subst (λ n. Meets card.config one tei other its (line_at n card)) (sym is) h) (subst (λ n. NoneWaits card.config (line_at n card)) (sym is) plain) names
+      (subst (λ n. WalkOf card (line_at n (after e card)) names) (sym is) walk))
   moment-walk card e s here h plain false away names walk =
       subst (λ (x : Line). WalkOf card x names) (apart card e number (λ same. true≢false (sym (eq-eqb e.line number (sym same)) ∙ away))) walk

@@ -1,11 +1,12 @@
 -- Unit data goes out in the order in which it was granted, over runs.
+use Rattle.lapd_terminal.specs.Messages.{information_of as own_information_of}
 use Rattle.laws_trace.proofs.Vocabulary.{arith, ◌≡◌, ℕ, ◌<◌, ◌≤◌, ◌==◌, ◌&&◌, Bool, true, false, cond, List, [], ◌∷◌, ◌++◌, drop, map, slice_get, Option, Some, None, option_map, refl, sym, ap, ◌∙◌, subst, inl, inr, append-nil, All, not, filter, get_or-replicate, map-append, All-nil, All-head, Ui, sapi_of, IsInOrder, Link, ControlFrame, Config, hears, expiry, request, next, NextFrame, Answer, gave}
 use Rattle.laws_trace.proofs.Vocabulary.{Line, UnitData, link_count, link_at, service_at, terms, fresh_line, management_sapi, Taken, taken, unit_frame, next_of, IsInRange, IsUnitData, IsOfLink, IsOwed, IsIdle, contents_of_link, units_asked, event-follows, event-happens, served, units-wait, fold, information_of, fresh_link as fresh, Event, line_after as after, answer, Request, IsSound}
 use Rattle.laws_trace.proofs.Vocabulary.{trace_frame_in as frame_in, Seen, seen_told, seen_granted, seen, frames_begun, IsFront, units_left, is_ui, is_down, is_unit, waits, trace_begun as begun, granted, fold-append, trace, seen_in, Moment, own_side}
 use Rattle.laws_trace.proofs.NoUi.{IsPlain, all-left}
 use Rattle.laws_trace.proofs.Reading.{other-frame, unit-is}
 use Rattle.laws_trace.specs.Units as units
-use Rattle.laws_trace.proofs.ReadAgain.{message-text}
+use Rattle.laws_trace.proofs.ReadAgain.{message-text, own-text}
 
 -- No UI waits on any link of a line.
 abbrev pub NoneWaits : Config → Line → Type 0
@@ -113,11 +114,15 @@ next-passes c l new s h (Some t) (inl x) =
     (ap (is_unit (own_side c)) (x.spelled ∙ message-text c x.message) ∙ other-frame (own_side c) (record { sapi = 63; command = true; tei = 127 }) (Ui false) refl (information_of x.message))
     (ap (λ (l : Line). map (unit_frame c) l.units) x.line)
 next-passes c l new s h (Some t) (inr (inl x)) =
+    begins c (frames c l) (frames c new) t.frame false
+    (ap (is_unit (own_side c)) (x.spelled ∙ own-text c x.message x.terminal) ∙ other-frame (own_side c) (record { sapi = 63; command = true; tei = 127 }) (Ui false) refl (own_information_of x.message))
+    (ap (λ (l : Line). map (unit_frame c) l.units) x.line)
+next-passes c l new s h (Some t) (inr (inr (inl x))) =
     begins c (frames c l) (frames c new) t.frame true
     (ap (is_unit (own_side c)) x.spelled ∙ unit-is c x.unit (first-of c l.units x.unit x.oldest s.units))
     (sym (ap (λ (l : Line). t.frame ∷ map (unit_frame c) l.units) x.line ∙ ap (λ f. f ∷ map (unit_frame c) (drop 1 l.units)) x.spelled
     ∙ first-goes c l.units x.unit x.oldest))
-next-passes c l new s h (Some t) (inr (inr x)) =
+next-passes c l new s h (Some t) (inr (inr (inr x))) =
     begins c (frames c l) (frames c new) t.frame false (of-link c l new t.frame h x) (ap (λ (l : Line). map (unit_frame c) l.units) x.line)
 
 pub next-passes-on : (c : Config) (l : Line) → IsSound c l → NoneWaits c l → Passes c l (seen next (answer c next l)) (after c next l)

@@ -1,4 +1,5 @@
 -- Unit data goes out: the laws.
+use Rattle.lapd_terminal.specs.Messages.{information_of as own_information_of}
 use Rattle.laws_trace.proofs.Vocabulary.{◌≡◌, ℕ, ◌<◌, ◌≤◌, List, [], ◌++◌, map, sym, ap, ◌∙◌, subst, get_or-replicate, Config, Line, fresh_line, unit_frame, most_frames, line_at, fresh_is_sound, AreTakesAt, takes_at, refl, arith, true, false, ◌||◌, Option, Some, None, option_map, list_any, inl, inr, sapi_of, next, next_of, gave, Taken, taken, IsIdle, IsOwed, contents_of_link, served, at}
 use Rattle.laws_trace.proofs.Vocabulary.{config-stays, Bool, filter, Parts, fresh, CardEvent as Event, after_all, AreAtLines, trace_frame_in as frame_in, trace_of, IsFront, Always, reads, is_ui, is_unit, units_of, UnitsGoOut, AllUnitsGoOut, information_of, IsInRange, IsSound, card_answer as answer, sapi-small, moments, own_side}
 use Rattle.laws_trace.proofs.Runs.{run-shows}
@@ -8,7 +9,7 @@ use Rattle.laws_trace.proofs.LinkNames.{is_of_a_link}
 use Rattle.model_line.specs.Machine as lines
 use Rattle.laws_trace.proofs.Drained.{drained}
 use Rattle.laws_trace.proofs.Units.{NoneWaits, first-of, fresh-none, Goes, Passes, rests, joins, steps, next-passes-on, left-is-waiting, same-units, begun-first}
-use Rattle.laws_trace.proofs.ReadAgain.{message-text}
+use Rattle.laws_trace.proofs.ReadAgain.{message-text, own-text}
 
 -- What waits at the end.
 abbrev pub left-waiting : Config → List Event → ℕ → List (List ℕ)
@@ -32,11 +33,14 @@ units-gone c l s = go (taken c l) (served c l s)
         ui t.frame
         (ap (is_of_a_link (own_side c)) (x.spelled ∙ message-text c x.message) ∙ ui-frame (own_side c) (record { sapi = 63; command = true; tei = 127 }) (information_of x.message) (omega arith) (omega arith) refl) none
     go (Some t) (inr (inl x)) none =
+        ui t.frame
+        (ap (is_of_a_link (own_side c)) (x.spelled ∙ own-text c x.message x.terminal) ∙ ui-frame (own_side c) (record { sapi = 63; command = true; tei = 127 }) (own_information_of x.message) (omega arith) (omega arith) refl) none
+    go (Some t) (inr (inr (inl x))) none =
         let small = first-of c l.units x.unit x.oldest s.units in
         ui t.frame
         (ap (is_of_a_link (own_side c)) x.spelled
         ∙ ui-frame (own_side c) (record { sapi = sapi_of x.unit.service; command = true; tei = x.unit.tei }) x.unit.contents (sapi-small x.unit.service) (omega (arith, small)) refl) none
-    go (Some t) (inr (inr x)) none = x.its_turn.no_unit
+    go (Some t) (inr (inr (inr x))) none = x.its_turn.no_unit
 
 module _ (c : Config) (events : List Event) (number : ℕ) (ranged : IsInRange c) (all : AreAtLines (fresh c) events) (within : number < c.lines) where
   start : line_at number (fresh c) ≡ fresh_line c

@@ -1,4 +1,5 @@
 -- Where all frames that are left at a station are those of one link, nothing else waits there.
+use Rattle.laws_line.specs.Served.{HasNoMessage}
 use Rattle.laws_wire.proofs.Vocabulary.{◌≡◌, ◌≢◌, ℕ, zero, suc, ◌+◌, ◌<◌, ◌≤◌, [], length, Some, None, ap, arith, ⊎_elim, cases_eq, option_map_or, place_of-is, Service, fresh, given, none-waits, number_within, service_at-number, next, gave, Line, link_number, link_count, link_at, link_in, place_in, terms_at, nothing-to_send, Endpoint, answered, own_link, sum_by-cons, to_go_at_link}
 use Rattle.std.specs.List.{range_with_len, sum_by}
 use Rattle.laws_line.proofs.Exact.{exactly-none, to-nothing, empty}
@@ -61,8 +62,11 @@ module _ (service : Service) (tei place : ℕ) (s : Endpoint) (sound : IsSound s
     pub no-way : s.way ≡ []
     no-way = empty s.way (omega (arith, alone, own-part, own-to-go))
 
-    pub no-messages : l.management.waiting ≡ []
-    no-messages = empty l.management.waiting (omega (arith, alone, own-part, own-to-go))
+    pub no-messages : HasNoMessage l
+    no-messages = record {
+      management = empty l.management.waiting (omega (arith, alone, own-part, own-to-go));
+      own = empty l.own.waiting (omega (arith, alone, own-part, own-to-go));
+    }
 
     pub no-units : l.units ≡ []
     no-units = empty l.units (omega (arith, alone, own-part, own-to-go))

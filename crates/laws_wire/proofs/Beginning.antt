@@ -2,7 +2,15 @@
 use Rattle.laws_wire.proofs.Vocabulary.{◌≡◌, ℕ, zero, suc, ◌<◌, ◌≤◌, true, false, not, List, [], ◌∷◌, length, get_or, set, replicate, Some, None, is_some, refl, sym, ap, subst, ◌∙◌, append-nil, arith, nat_lt, option_map_or, le-ltb, lt-ltb, get_or-set_same, length-replicate, All-nil, TeiTaken, TableFull, Service, Call, Packet, empty, Places, is_on, free_place, join_at, put_on, join, is_on-at}
 use Rattle.laws_wire.proofs.Vocabulary.{place_of-is, table-put, table-empty, Link, fresh, LinkEndpoint, with_link, Config, Effect, of_change, told_of_management, request, Line, fresh_line, link_number, terms, terms_at, link_at, link_of, link_in, link_count, has_tei, Assign, fresh_gives_nothing, ranges_of, Card, line_at, wants_room, after_is_sound, fresh_is_sound, by-two, has-place, Event, nothing}
 use Rattle.laws_wire.proofs.Vocabulary.{told, Establish, Endpoint, answered, happens, told_by, endpoint, assigned, requested, LinkEstablish, line_answer, line_takes_slot, line_after, tei_unless_refused, tei_assign, tei_refusal, tei_course, given}
+use Rattle.std.specs.Prelude.{Bool, cond}
 use Rattle.lapd_tei.specs.Words.{Course, begun as tei_begun}
+use Rattle.lapd_terminal.specs.Events as terminals
+unfoldable use Rattle.lapd_terminal.specs.Events.{course as terminal_course}
+use Rattle.lapd_terminal.specs.Rows as terminal_rows
+use Rattle.lapd_terminal.specs.Words as terminal_words
+use Rattle.model_line.specs.Effect.{at_a_terminal, at_management, of_aim, of_network, of_terminal, of_terminal_if, told_of_terminal}
+use Rattle.model_line.specs.Line.{is_terminal, terminal_in, with_terminal}
+use Rattle.model_line.specs.Machine.{unless_refused, unless_refused_told}
 use Rattle.model_line.specs.Refusal.{refusal}
 use Rattle.model_line.specs.Sound as line_sound
 use Rattle.model_card.specs.Card as cards
@@ -61,13 +69,39 @@ module _ (service : Service) (tei : ℕ) (c : Config) (ranged : line_sound.IsInR
   abbrev on_line : Effect
   on_line = with_course (join tei 0 (tei_begun (empty c.terminals)))
 
+  some : 1 ≤ c.terminals
+  some = (ranges_of c ranged).terminals.least
+
+  -- of whatever side
+  joined-there : terminal_course (terminals.assign tei) (terminal_in l) ≡ terminal_words.join tei 0 (terminal_words.begun (terminal_in l))
+  unfolding terminal_course
+  joined-there =
+      ap (λ o. terminals.unless_refused o (terminal_rows.put_on tei) (terminal_in l))
+      (by-two (is_on tei (frees c.terminals)) (not (is_some (free_place (frees c.terminals)))) TeiTaken TableFull (none-on tei c.terminals) (ap (λ o. not (is_some o)) (free-is c.terminals some)))
+      ∙ ap (λ o. terminal_rows.join_at tei o (terminal_words.begun (terminal_in l))) (free-is c.terminals some)
+
+  there : of_terminal c (terminals.assign tei) l ≡ on_line
+  there = ap (λ (x : terminal_words.Course). of_change c x.told.change (told_of_terminal x.told) (with_terminal x.now l)) joined-there
+
+  here : of_network c (tei_assign tei) l ≡ on_line
+  here = ap with_course (joined tei c.terminals some)
+
+  is-assigned : of_aim c (at_management (tei_assign tei)) l ≡ on_line
+  is-assigned = go (is_terminal c)
+    where
+      go : (b : Bool) → cond b (of_terminal_if c (at_a_terminal (tei_assign tei)) l) (of_network c (tei_assign tei) l) ≡ on_line
+      go true = there
+      go false = here
+
   after-is : line_after c (request (Assign tei)) l ≡ on_line.line
   unfolding line_after
-  after-is = grind (arith, none, joined, ranges_of)
+  after-is = ap (λ o. (of_aim c (unless_refused o (at_management (tei_assign tei))) l).line) none ∙ ap (λ (f : Effect). f.line) is-assigned
 
   answer-is : line_answer c (request (Assign tei)) l ≡ told nothing
   unfolding line_answer
-  answer-is = grind (arith, none, joined, ranges_of)
+  answer-is =
+      ap (λ o. unless_refused_told o (of_aim c (unless_refused o (at_management (tei_assign tei))) l)) none
+      ∙ ap (λ (f : Effect). told f.told) is-assigned
 
   links-fresh : (number : ℕ) → link_at number on_line.line ≡ fresh
   links-fresh number = set-fresh (set l.links (link_number 0 Call) fresh) (link_number 0 Packet) number (λ k. set-fresh l.links (link_number 0 Call) k (all-fresh (link_count c)))
@@ -80,7 +114,7 @@ module _ (service : Service) (tei : ℕ) (c : Config) (ranged : line_sound.IsInR
         placed =
             has-place (set places 0 (Some tei)) tei 0 (table-put places 0 tei (table-empty c.terminals) (none-on tei c.terminals) (free-is c.terminals ((ranges_of c ranged).terminals.least)) few)
             (get_or-set_same places 0 (Some tei) None within);
-        messages = refl;
+        messages = record { management = refl; own = refl };
         units = refl;
         silent = λ number low other. ap (given (terms_at c number on_line.line)) (links-fresh number) ∙ fresh_gives_nothing (terms_at c number on_line.line);
         link = links-fresh (link_number 0 service);

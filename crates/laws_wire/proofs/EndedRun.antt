@@ -57,7 +57,7 @@ module _ (service : Service) (tei : ℕ) (few : tei ≤ 126) (c d : Config) (p q
   near-state = (loose-came n m h.loose (nothing-given n.terms n.link near-hushed.given) (sym (runs-up service tei c p w.near n h.near h.loose.joined.near_up) ∙ h.near_stopped)).state
 
   far-state : m.link.state ≡ Established
-  far-state = grind (arith, loose-came, loose-turned, nothing-given, runs-up)
+  far-state = (loose-came m n (loose-turned n m h.loose) (nothing-given m.terms m.link h.far_hushed.given) (sym (runs-up service tei d q w.far m h.far h.loose.joined.far_up) ∙ h.far_stopped)).state
 
   -- the release is granted
   own : StationStands w.near.card.config service tei p w.near n

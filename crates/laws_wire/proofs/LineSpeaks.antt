@@ -5,13 +5,15 @@ use Rattle.laws_wire.proofs.Vocabulary.{place_at-number, service_at-number, numb
 use Rattle.model_bits.specs.Stream as stream
 use Rattle.model_link.specs.Events as link
 use Rattle.model_link.specs.Sound as link_sound
+use Rattle.laws_line.specs.Served.{HasNoMessage}
+use Rattle.laws_line.proofs.Draining.{no-message-taken}
 use Rattle.model_line.specs.Refusal.{refusal}
 use Rattle.model_line.specs.Sound.{IsSound}
 
 -- The TEI is on the line, neither a message nor unit data waits, and no other link has anything to give.
 pub record Speaks (c : Config) (service : Service) (tei place : ℕ) (x : Link) (l : Line) : Type 0 where
   pub placed : place_in l tei ≡ Some place
-  pub messages : l.management.waiting ≡ []
+  pub messages : HasNoMessage l
   pub units : l.units ≡ []
   pub silent : (number : ℕ) → number < link_count c → number ≢ link_number place service → given (terms_at c number l) (link_at number l) ≡ None
   pub link : link_in l service place ≡ x
@@ -57,7 +59,7 @@ module _ (c : Config) (service : Service) (tei place : ℕ) (l : Line) (s : IsSo
 
   -- so what is taken is what it gives
   pub takes-own : taken c l ≡ option_map (with_given_frame c l number t) (given t x)
-  takes-own = grind (arith, slice_get, option_map, none-given, service_at-number, place_at-number, at, first-is, round_below)
+  takes-own = grind (arith, no-message-taken, h.messages, slice_get, option_map, none-given, service_at-number, place_at-number, at, first-is, round_below)
 
   -- the next frame is called for
   pub goes-on : Speaks c service tei place (after t link.offer x) (line_after c next l)

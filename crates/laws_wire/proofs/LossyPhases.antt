@@ -28,6 +28,7 @@ module _ (service : Service) (tei : ℕ) where
   for-timer P own (timer_T203 s t) is =
       subst (λ s'. P (timer_T203 s' t)) (sym is.0) (subst (λ t'. P (timer_T203 service t')) (sym is.1) (own (timer_T203 service tei) link_timer.T203 (λ l. refl)))
   for-timer P own timer_T201 is = absurd is
+  for-timer P own other is = elim is [ ]
 
   -- the first frame on the way of a station
   pub first-way : (k : Config) (place : ℕ) (past : List LineTold) (s : Endpoint) (n : LinkEndpoint) (f : Parts) (fs : List Parts) → n.way ≡ f ∷ fs → Held k service tei place past s n

@@ -78,4 +78,8 @@ module _ (service : Service) (c d : Config) (line other tei k : ℕ) (ds es : Li
       let fair : HasNoErrors (doing_all (ds ++ es) begun) = subst HasNoErrors (sym (doing-append ds es begun)) (turns-fair timely) in
       let expired : expiries (ds ++ es) ≡ expiries ds = expiries-append ds es ∙ (let none = no-expiries es all in omega (arith, none)) in
       let granted : granted_of (doing_all (ds ++ es) begun) ≡ granted_of w = ap granted_of (doing-append ds es begun) ∙ no-grants es w all in
-      grind (arith, moves-append, moves-come-to-an-end, whole)
+      let bound : moves (ds ++ es) begun ≤ 2 * most_frames k (expiries (ds ++ es)) (granted_of (doing_all (ds ++ es) begun)) =
+      moves-come-to-an-end service c d line other tei k (ds ++ es) can whole wide wide' fair.0 fair.1 in
+      let few : moves (ds ++ es) begun ≤ 2 * most_frames k (expiries ds) (granted_of w) =
+      subst (λ g. moves (ds ++ es) begun ≤ 2 * most_frames k (expiries ds) g) granted (subst (λ x. moves (ds ++ es) begun ≤ 2 * most_frames k x (granted_of (doing_all (ds ++ es) begun))) expired bound) in
+      omega (arith, moves-append ds es begun, few)

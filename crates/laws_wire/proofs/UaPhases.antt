@@ -1,4 +1,5 @@
 -- The end that is called, once it took SABME: its UA is not to come, waits, or is on its way behind what went before.
+use Rattle.std.specs.Prelude.{◌≤◌}
 use Rattle.laws_wire.proofs.Vocabulary.{◌≡◌, ℕ, Bool, false, not, ◌||◌, IsTrue, List, [], ◌∷◌, ◌++◌, refl, sym, ap, subst, ◌∙◌, ◌⊎◌, inl, inr, append_assoc, append-nil, true≢false, arith, All, All-head, All-nil, Service, Parts, spelling, ControlFrame, LinkTimer, Terms, is_multiple_frame, has_outstanding, frame_of, frames_of, course, given, IsInRange, LinkEndpoint, with_sent, Config, LineTold}
 use Rattle.laws_wire.proofs.Vocabulary.{next, terms, Rising, Sane, HasNo, offer-gave, Endpoint, Wire, happens, frame_comes, with_first_of, without_first, EndStep, requests, expires, sends, receives, loses, acting, turned, confirmed, is_poll, is_final, IsTimelyOf, frame_given, with_link, two_ends_without_first, link_expires, TwoEndsStep, Ends, two_ends_acting, link_requests, link_sends, after}
 use Rattle.laws_wire.proofs.Vocabulary.{IsFullTalkOf, gives_information, all-right, line_of, line-grows, rising-reports, offer-stays, rising-lower, flows-low, own_side}
@@ -302,8 +303,41 @@ module _ (service : Service) (tei : ℕ) (c d : Config) (p q : ℕ) (face : Face
       where
         go : (stale : List Parts) → Rising 0 0 stale → Its (without_first w.far) (two_ends_without_first (behind (stale ++ ua u ∷ []) h.m))
             → Comes b (turned (acting loses (turned w))) ⊎ IsAway b (without_first w.far)
-        go (f ∷ fs) rising far = grind (arith, rising-lower)
-        go [] rising far = grind (arith, up-there, flows-low, comes-none)
+        go (f ∷ fs) rising far = inl (record {
+          repeats = h.repeats;
+          near = h.near;
+          m = h.m;
+          stale = fs;
+          far = far;
+          rising = grind (arith, rising-lower);
+          loose = h.loose;
+          rejecting = h.rejecting;
+          flag = h.flag;
+        })
+        go [] rising far = inr (record {
+          M = h.m;
+          held = far;
+          up = up-there;
+          a = none-acknowledged;
+          r = none-taken;
+          rejecting = h.rejecting;
+          delivered = comes-none;
+          sane = h.loose.far_sane;
+          rising = none-rising;
+          flag = h.flag;
+        })
+          where
+            low : h.m.link.r ≤ 0
+            low = flows-low n h.m h.loose.there
+
+            none-taken : h.m.link.r ≡ 0
+            none-taken = omega (arith, low)
+
+            none-acknowledged : h.m.link.a ≡ 0
+            none-acknowledged = grind (arith, h.loose)
+
+            none-rising : Rising 0 h.m.link.r (line_of h.m)
+            none-rising = grind (arith, h.loose)
 
     -- the near end takes what was before UA, or UA
     ignores-first : (f : Parts) (fs : List Parts) → h.stale ≡ f ∷ fs → Rising 0 0 (f ∷ fs) → Comes b (acting receives w)

@@ -91,7 +91,9 @@ module _ (service : Service) (c d : Config) (line other tei k : ℕ) (before sin
           (few-turns service c d line other tei k (before ++ since) es can whole all wide wide' (both-timely before since begun timely on.3))
 
       pub by-left : HasNoErrors last → moves es last ≤ most_left service tei k last
-      by-left fair-now = grind (arith, go, same, fair-goes, whole)
+      by-left fair-now =
+          let first : HasNoErrors (doing_all (before ++ since) begun) = subst HasNoErrors (sym same) fair-now in
+          go (subst (Phases service tei c d 0 0) same (fair-goes service c d line other tei (before ++ since) can whole first.0 first.1))
         where
           x : Setting service c d line other tei
           x = setting service c d line other tei can

@@ -10,7 +10,11 @@ module _ (service : Service) (tei : ℕ) (c d : Config) (p q : ℕ) where
   -- once the end that called was told anything, both are up
   are-up : (w : Wire) → Goes service tei c d p q w → heard_in w.near ≢ [] → AreUp service tei c d p q (confirmed service tei ∷ []) (indicated service tei ∷ []) w
   are-up w (inl h) told = absurd (told h.near.heard)
-  are-up w o told = grind arith
+  are-up w (inr (inl h)) told = absurd (told h.near.heard)
+  are-up w (inr (inr (inl h))) told = absurd (told h.near.heard)
+  are-up w (inr (inr (inr (inl h)))) told = absurd (told h.is.near.heard)
+  are-up w (inr (inr (inr (inr (inl h))))) told = absurd (told h.is.near.heard)
+  are-up w (inr (inr (inr (inr (inr h))))) told = h
 
   abbrev Up : Type 0 → Type 0 → Wire → Type 0
   Up A B w = SureUp service tei c d p q (confirmed service tei ∷ []) (indicated service tei ∷ []) A B w

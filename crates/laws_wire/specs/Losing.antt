@@ -5,7 +5,7 @@ use Rattle.lapd_frame.specs.declared.notes.Note.{Note}
 use Rattle.lapd_frame.specs.declared.notes.Note.TheVariants.{Error}
 use Rattle.lapd_frame.specs.declared.services.Service.{Service}
 use Rattle.lapd_frame.specs.declared.timers.Timer.{Timer}
-use Rattle.lapd_frame.specs.declared.timers.Timer.TheVariants.{T200, T203, T201}
+use Rattle.lapd_frame.specs.declared.timers.Timer.TheVariants.{T200, T203, T201, T202}
 use Rattle.model_line.specs.declared.config.Config.{Config}
 use Rattle.model_line.specs.Event.{LineTold, nothing}
 use Rattle.laws_wire.specs.Wire.{Endpoint, Wire, Step, requests, expires, StepAt, at_near, at_far, doing_all}
@@ -16,6 +16,7 @@ abbrev pub IsOfLink : Service → ℕ → Timer → Type 0
 IsOfLink service tei (T200 s t) = (s ≡ service) × (t ≡ tei)
 IsOfLink service tei (T203 s t) = (s ≡ service) × (t ≡ tei)
 IsOfLink service tei T201 = ⊥
+IsOfLink service tei T202 = ⊥
 
 abbrev pub IsRoughTalkOf : Service → ℕ → Step → Type 0
 IsRoughTalkOf service tei (requests r) = IsData service tei r

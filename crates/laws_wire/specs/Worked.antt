@@ -1,5 +1,5 @@
 -- Worked values: a card of the user's side calls one of the network's, and each end sends data while the other does. Each computes.
-use Rattle.std.specs.Prelude.{◌≡◌, List, [], ◌∷◌, refl}
+use Rattle.std.specs.Prelude.{◌≡◌, List, [], ◌∷◌, refl, None}
 use Rattle.lapd_frame.specs.declared.addresses.Side.TheVariants.{User, Network}
 use Rattle.lapd_frame.specs.declared.services.Service.TheVariants.{Call}
 use Rattle.lapd_frame.specs.Reading.{reading, header_of, control_of, unnumbered_of, supervisory_of}
@@ -14,7 +14,7 @@ use Rattle.laws_wire.specs.Wire.{Wire, requests, sends, receives, StepAt, at_nea
 use Rattle.laws_wire.specs.Call.{calling, confirmed, indicated, data_told}
 
 abbrev pub network : Config
-network = record { lines = 1; terminals = 1; k = 7; k16 = 3; queue = 8; unit_queue = 4; control = 4; slots = 16; n201 = 260; n200 = 3; side = Network; sapi = 16 }
+network = record { lines = 1; terminals = 1; k = 7; k16 = 3; queue = 8; unit_queue = 4; control = 4; slots = 16; n201 = 260; n200 = 3; side = Network; sapi = 16; seed = None }
 
 abbrev pub user : Config
 user = record network { side = User }

@@ -9,13 +9,13 @@ use Rattle.model_card.proofs.Steps.{HasLines, has_lines, by_room, line_sound, af
 event_within : (card : Card) (e : Event) → HasLines card → IsAtLine card e
     → let k = window card.config in
     line.one (line.is_given (answer e card)) + may_send (after e card)
-    ≤ may_send card + 2 * line.one (line.hears_frame e.what) + line.one (line.is_accepted e.what (answer e card))
+    ≤ may_send card + line.brought card.config * line.one (line.hears_frame e.what) + line.one (line.is_accepted e.what (answer e card))
     + (k + 1) * line.one (line.is_running_expiry e.what (line_at e.line card))
     + k * line.one (line.rejects card.config e.what (line_at e.line card))
 event_within card e h within =
     by_room (λ ls a.
     line.one (line.is_given a) + sum_by (line.may_send card.config) ls
-    ≤ may_send card + 2 * line.one (line.hears_frame e.what) + line.one (line.is_accepted e.what a)
+    ≤ may_send card + line.brought card.config * line.one (line.hears_frame e.what) + line.one (line.is_accepted e.what a)
     + (window card.config + 1) * line.one (line.is_running_expiry e.what (line_at e.line card))
     + window card.config * line.one (line.rejects card.config e.what (line_at e.line card))) e card
     (λ full. omega arith)

@@ -1,5 +1,5 @@
 -- The octets stored, and their limit.
-use Rattle.model_card.proofs.Vocabulary.{◌+◌, ◌*◌, ◌≤◌, List, [], ◌∷◌, length, arith, sum_by, All, All-head, All-tail, sum_by-cons, mul-le-mul_left, Config, Line, slots_of, stored_in, stored_few, Card, StoredWithinLimit, IsSound, limit_in, stored, limit}
+use Rattle.model_card.proofs.Vocabulary.{◌+◌, ◌*◌, ◌≤◌, List, [], ◌∷◌, length, subst, arith, sum_by, All, All-head, All-tail, sum_by-cons, mul-le-mul_left, Config, Line, slots_of, stored_in, stored_few, Card, StoredWithinLimit, IsSound, limit_in, stored, limit}
 use Rattle.model_line.specs.Sound as line
 use Rattle.model_card.proofs.CardSound.{always_sound}
 use Rattle.model_card.proofs.Runs.{config_stays}
@@ -13,7 +13,10 @@ stored_by_lines c (l ∷ ls) all =
     rw (sum_by-cons (stored_in c) l ls, sum_by-cons (slots_of c) l ls) (omega (arith, head, rest))
 
 stored_now : (card : Card) → IsSound card → stored card ≤ limit card.config
-stored_now card s = grind (arith, stored_by_lines, mul-le-mul_left)
+stored_now card s =
+    let c = card.config in
+    let all = subst (λ n. stored card ≤ n * limit_in c + sum_by (slots_of c) card.lines * c.n201) s.count (stored_by_lines c card.lines s.lines) in
+    omega (arith, all, mul-le-mul_left c.n201 s.slots)
 
 pub stored_within_limit : StoredWithinLimit
 stored_within_limit = grind (arith, stored_now, config_stays, always_sound)

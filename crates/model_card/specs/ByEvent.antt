@@ -11,7 +11,8 @@ use Rattle.model_card.specs.Machine.{after, answer}
 use Rattle.model_card.specs.Promises.{IsAmortised}
 use Rattle.model_card.specs.Run.{Moment, moments}
 
--- What `IsAmortised` says of a list it says of each event alone: one that is heard raises it by two where it is a frame, and by k
+-- What `IsAmortised` says of a list it says of each event alone: one that is heard raises it by two where it is a frame (or as
+-- many as a terminal may have TEIs), and by k
 -- more where that is an REJ with a valid N(R); an expiry by k + 1 where the timer was running; a request by one where it is
 -- accepted; nothing else raises it. A call that gives a frame lowers it by one, or by two where the frame makes an
 -- acknowledgement needless; any other leaves it as it is.

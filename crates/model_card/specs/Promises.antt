@@ -1,7 +1,7 @@
 -- What is promised of a list of events, from a card on. The laws say of which cards, and of which lists.
 use Rattle.std.specs.Prelude.{◌≡◌, ℕ, ◌+◌, ◌*◌, ◌≤◌, ◌<◌, false, List, fold, map, All}
 use Rattle.model_line.specs.declared.config.Config.{Config}
-use Rattle.model_line.specs.Counts.{is_pool_full}
+use Rattle.model_line.specs.Counts.{brought, is_pool_full}
 use Rattle.model_line.specs.Line.{link_count}
 use Rattle.model_card.specs.Card.{Card, fresh}
 use Rattle.model_card.specs.Counts.{may_send, window, sent, heard, long_heard, accepted, expired, rejected}
@@ -16,14 +16,14 @@ abbrev pub IsWithinLimit : Card → List Event → Type 0
 IsWithinLimit m events = stored (after_all m events) ≤ limit m.config
 
 -- The frames sent, and those that may be sent at the end, are at most those that might be sent at the beginning, two
--- for each frame heard, one for each accepted request, k + 1 for each expiry of a running timer, and k for each REJ with
+-- for each frame heard (or so many as a terminal may have TEIs), one for each accepted request, k + 1 for each expiry of a running timer, and k for each REJ with
 -- a valid N(R); all of them counted over the same moments.
 abbrev pub IsAmortised : Card → List Event → Type 0
 IsAmortised m events =
     let ms = moments m events in
     let end = after_all m events in
     let k = window m.config in
-    sent ms + may_send end ≤ may_send m + 2 * heard ms + accepted ms + (k + 1) * expired ms + k * rejected ms
+    sent ms + may_send end ≤ may_send m + brought m.config * heard ms + accepted ms + (k + 1) * expired ms + k * rejected ms
 
 -- A card as it begins has nothing to send, so there it is the same bound without that.
 abbrev pub IsAmortisedFromZero : Config → List Event → Type 0
@@ -31,7 +31,7 @@ IsAmortisedFromZero c events =
     let ms = moments (fresh c) events in
     let end = after_all (fresh c) events in
     let k = window c in
-    sent ms + may_send end ≤ 2 * heard ms + accepted ms + (k + 1) * expired ms + k * rejected ms
+    sent ms + may_send end ≤ brought c * heard ms + accepted ms + (k + 1) * expired ms + k * rejected ms
 
 -- Each REJ with a valid N(R) is one of the frames heard that have four octets or more.
 abbrev pub AreRejectsLong : Card → List Event → Type 0

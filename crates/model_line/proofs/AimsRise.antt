@@ -1,7 +1,5 @@
 -- By how much an aim raises what a line may still send.
 use Rattle.model_line.proofs.Vocabulary.{◌≡◌, ℕ, refl, arith, Service, Link, event-rises, Config, may_send, fresh_line, link_count, terms, IsInRange, LinkEvent, rises_price, rises_may_send}
-use Rattle.lapd_tei.specs.Machine as tei
-use Rattle.lapd_tei.proofs.LawLemmas as tei_lemmas
 use Rattle.model_line.proofs.Ranges.{terms_in_range}
 use Rattle.model_line.proofs.Sums.{Rise, all_begin}
 
@@ -12,11 +10,10 @@ may_send_of c service x = rises_may_send (terms c service 0) x
 abbrev pub price_of : Config → Service → ℕ → LinkEvent → Link → ℕ
 price_of c service tei e x = rises_price (terms c service tei) e x
 
-pub sends : (c : Config) → IsInRange c → Rise c (may_send_of c) tei.may_send (price_of c) 1
+pub sends : (c : Config) → IsInRange c → Rise c (may_send_of c) (price_of c)
 sends c ranged = record {
   begins = λ service. refl;
   link = λ service tei few e x sound. let own = event-rises (terms c service tei) (terms_in_range c ranged service tei few) x sound e in omega (arith, own);
-  management = tei_lemmas.one_more_waits;
 }
 
 -- a line that begins has nothing to send

@@ -1,21 +1,47 @@
 -- What comes of it that a line is down.
-use Rattle.model_line.proofs.Vocabulary.{◌≡◌, [], None, sym, subst, arith, All-nil, Config, nothing, Effect, at_no_link, of_aim, without_units, Line, stop_of, down_gives_up, IsSound, IsUnitData}
+use Rattle.model_line.proofs.Vocabulary.{◌≡◌, Bool, true, false, cond, List, [], ◌∷◌, ◌++◌, Option, None, Some, option_map, refl, sym, subst, ap, ◌∙◌, arith, All-nil, Config, nothing, Effect, Order, order_of, Procedure, at_no_link, of_aim, of_change, of_network, of_terminal, without_units, Line, Own, is_terminal, Management, stop_of, down_gives_up, IsOfSide, IsSound, IsUnitData, tei_down, terminal_down}
+use Rattle.std.specs.Prelude.{option_to_list}
+use Rattle.lapd_terminal.specs.Words as terminals
+use Rattle.lapd_terminal.proofs.GivenUp.{given_up as terminal_given_up}
 use Rattle.model_line.proofs.SoundParts.{with_units}
 
--- The effect: no unit data, no message and no check are left, and T201 stops.
+-- T202 stops, if it runs.
+abbrev pub stop_202 : Option Procedure → List Order
+stop_202 o = option_to_list (option_map order_of (terminals.stop_of o))
+
+-- The effect: no unit data, no message, no check and no procedure are left, and T201 or T202 stops.
 abbrev pub given_up : Line → Effect
 given_up l = record {
-  line = record l { management = record l.management { check = None; waiting = [] }; units = [] };
-  told = record nothing { orders = stop_of l.management.check };
+  line = record l {
+    management = record l.management { check = None; waiting = [] };
+    own = record l.own { procedure = None; waiting = [] };
+    units = [];
+  };
+  told = record nothing { orders = stop_of l.management.check ++ stop_202 l.own.procedure };
 }
 
-pub down-is : (c : Config) (l : Line) → of_aim c at_no_link l ≡ given_up l
-down-is c l = grind (arith, down_gives_up)
+-- An effect, by its parts.
+abbrev effect_of : Line → List Order → Management → Own → Effect
+effect_of l orders m own = record { line = record l { management = m; own = own; units = [] }; told = record nothing { orders = orders } }
 
--- What holds of that holds of what comes of it.
-pub by-down : (c : Config) (l : Line) (P : Effect → Type 0) → P (given_up l) → P (of_aim c at_no_link l)
-by-down c l P h = subst P (sym (down-is c l)) h
+module _ (c : Config) (l : Line) (s : IsSound c l) where
+  at_network : IsOfSide false l.management l.own → of_network c tei_down (without_units l) ≡ given_up l
+  at_network own = grind (arith, down_gives_up)
 
--- A line without its units is as sound.
-pub down-sound : (c : Config) (l : Line) → IsSound c l → IsSound c (without_units l)
-down-sound c l s = with_units c l s [] (All-nil (IsUnitData c)) (omega arith)
+  at_terminal_side : IsOfSide true l.management l.own → of_terminal c terminal_down (without_units l) ≡ given_up l
+  at_terminal_side own = grind (arith, terminal_given_up)
+
+  pub down-is : of_aim c at_no_link l ≡ given_up l
+  down-is = go (is_terminal c) s.own
+    where
+      go : (b : Bool) → IsOfSide b l.management l.own → cond b (of_terminal c terminal_down (without_units l)) (of_network c tei_down (without_units l)) ≡ given_up l
+      go true own = at_terminal_side own
+      go false own = at_network own
+
+  -- What holds of that holds of what comes of it.
+  pub by-down : (P : Effect → Type 0) → P (given_up l) → P (of_aim c at_no_link l)
+  by-down P h = subst P (sym down-is) h
+
+  -- A line without its units is as sound.
+  pub down-sound : IsSound c (without_units l)
+  down-sound = with_units c l s [] (All-nil (IsUnitData c)) (omega arith)

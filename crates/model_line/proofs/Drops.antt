@@ -1,7 +1,8 @@
 -- What is dropped changes nothing, and costs nothing.
-use Rattle.model_line.proofs.Vocabulary.{arith, ◌≡◌, ℕ, Bool, true, Option, Some, IsSome, refl, ap, ◌∙◌, unwrap_or, set-get_or, none-some, Cause, Unserved, Service, fresh, Config, hears, told, may_send, cause_in, Line, link_number, link_in, with_link, terms, aim_of_heard, Effect, unserved_cause, told_of_link, of_link, of_management, of_aim, unserved_leaves, LinkReceived, link_received, link_told}
+use Rattle.model_line.proofs.Vocabulary.{arith, ◌≡◌, ℕ, Bool, true, false, cond, Option, Some, None, IsSome, refl, sym, ap, ◌∙◌, unwrap_or, set-get_or, none-some, Cause, Unserved, Service, fresh, Config, hears, told, may_send, cause_in, Line, link_number, link_in, with_link, terms, aim_of_heard, Effect, unserved_cause, told_of_link, of_link, of_change, of_management, of_network, of_terminal, of_terminal_if, at_a_terminal, is_terminal, terminal_in, with_terminal, told_of_terminal, LineTold, Change, Gained, Left, Terminal, TerminalEvent, TerminalTold, terminal_after, terminal_told, of_aim, unserved_leaves, LinkReceived, link_received, link_told}
 use Rattle.model_line.proofs.Vocabulary.{link_told_of, TeiEvent, tei_message, StreamEvent}
 use Rattle.lapd_tei.proofs.LawLemmas as tei_lemmas
+use Rattle.lapd_terminal.proofs.Told.{unserved_changes_nothing}
 use Rattle.model_line.specs.Event.{dropped}
 use Rattle.model_line.specs.Machine as lines
 use Rattle.model_line.proofs.ProperAims.{heard_aims}
@@ -28,8 +29,34 @@ link_leaves c service tei place what l cause h =
       ap (λ course. with_link n course.link l) same ∙ ap (λ ls. record l { links = ls }) (set-get_or l.links n fresh),
     )
 
+network_leaves : (c : Config) (event : TeiEvent) (l : Line) → Leaves l (of_network c event l)
+network_leaves c event l cause h = grind (arith, unserved_is, tei_lemmas.unserved_changes_nothing)
+
+its_cause : (c : Config) (o : Option Change) (t : LineTold) (l : Line) → (of_change c o t l).told.cause ≡ t.cause
+its_cause c None t l = refl
+its_cause c (Some (Gained tei place)) t l = refl
+its_cause c (Some (Left tei place)) t l = refl
+
+terminal_leaves : (c : Config) (event : TerminalEvent) (l : Line) → Leaves l (of_terminal c event l)
+terminal_leaves c event l cause h =
+    let t = terminal_told event (terminal_in l) in
+    let is = unserved_is t.unserved cause (sym (its_cause c t.change (told_of_terminal t) (with_terminal (terminal_after event (terminal_in l)) l)) ∙ h) in
+    let same = unserved_changes_nothing event (terminal_in l) is.0 in
+    let whole : of_terminal c event l ≡ record { line = l; told = dropped Unserved } =
+    ap (λ (t : TerminalTold). of_change c t.change (told_of_terminal t) (with_terminal (terminal_after event (terminal_in l)) l)) same.1
+    ∙ ap (λ (m : Terminal). record { line = with_terminal m l; told = dropped Unserved }) same.0 in
+    (ap (λ (out : Effect). out.told) whole ∙ ap dropped is.1, ap (λ (out : Effect). out.line) whole)
+
+terminal_if_leaves : (c : Config) (o : Option TerminalEvent) (l : Line) → Leaves l (of_terminal_if c o l)
+terminal_if_leaves c None l cause h = absurd (none-some cause h)
+terminal_if_leaves c (Some event) l cause h = terminal_leaves c event l cause h
+
 management_leaves : (c : Config) (event : TeiEvent) (l : Line) → Leaves l (of_management c event l)
-management_leaves c event l cause h = grind (arith, unserved_is, tei_lemmas.unserved_changes_nothing)
+management_leaves c event l =
+    elim (is_terminal c) as (λ b. Leaves l (cond b (of_terminal_if c (at_a_terminal event) l) (of_network c event l))) [
+      | true ↦ terminal_if_leaves c (at_a_terminal event) l
+      | false ↦ network_leaves c event l
+    ]
 
 -- what is heard whose answer names a cause
 pub heard_leaves : (c : Config) (e : StreamEvent) (l : Line) (cause : Cause) → cause_in (lines.answer c (hears e) l) ≡ Some cause

@@ -1,32 +1,29 @@
 -- A caller that obeys the orders of a line's answers runs the timers that the line runs.
-use Rattle.model_line.proofs.Vocabulary.{◌≡◌, ◌≢◌, ℕ, ◌+◌, ◌*◌, ◌<◌, ◌==◌, ◌&&◌, Bool, true, false, is_some, List, ◌++◌, length, get_or, set, Option, Some, None, refl, ap, sym, ◌∙◌, subst, arith, length-set, eq-eqb, true≢false, cases_eq, get_or-set_same, get_or-set_other, none-some, Service, Call, Packet, same_service, Order, Timer, T201, LinkTimer, Link, obeyed, runs, timer_at, Follows}
-use Rattle.model_line.proofs.Vocabulary.{Management, IsAt, IsSoundTable, place_of, at-off, at-within, place_of-is, Config, runs_at, is_running, Line, link_number, link_in, terms, with_link, eqb-true, T200, T203, fresh, IsSound, link_cleared, link_told}
+use Rattle.model_line.proofs.Vocabulary.{◌≡◌, ◌≢◌, ℕ, ◌+◌, ◌*◌, ◌<◌, ◌==◌, ◌&&◌, Bool, true, false, is_some, List, ◌++◌, length, get_or, set, Option, Some, None, refl, ap, sym, ◌∙◌, subst, arith, length-set, eq-eqb, true≢false, cases_eq, get_or-set_same, get_or-set_other, none-some, Service, Call, Packet, same_service, is_same, Order, Terms, Timer, T201, T202, LinkTimer, Link, obeyed, runs, timer_at}
+use Rattle.model_line.proofs.Vocabulary.{Management, IsAt, IsSoundTable, place_of, at-off, at-within, place_of-is, Config, runs_at, is_running, Line, Own, link_number, link_in, terms, with_link, eqb-true, T200, T203, fresh, IsSound, link_cleared, link_told}
 use Rattle.model_line.proofs.Numbers.{place_at-number, service_at-number, number_within}
 use Rattle.lapd_tei.specs.Laws as tei_laws
-use Rattle.model_line.proofs.Obeyed.{Steers, as_it_was, steers-event, obeyed-append, service-same, services-equal, both-true}
+use Rattle.model_line.proofs.Obeyed.{Steers, timer_of, as_it_was, steers-event, obeyed-append, service-same, services-equal, both-true}
 use Rattle.model_line.proofs.Places.{has-no-place, has-place, stays-placed}
 
--- A link's timer of the line, by its link_timer.
-abbrev pub timer_of : LinkTimer → Service → ℕ → Timer
-timer_of LinkTimer.T200 service tei = T200 service tei
-timer_of LinkTimer.T203 service tei = T203 service tei
-
--- What holds of T201 and of both kinds holds of each timer.
-pub each-timer : (P : Timer → Type 0) → P T201 → ((k : LinkTimer) (service : Service) (tei : ℕ) → P (timer_of k service tei)) → (timer : Timer) → P timer
-each-timer P x y T201 = x
-each-timer P x y (T200 service tei) = y LinkTimer.T200 service tei
-each-timer P x y (T203 service tei) = y LinkTimer.T203 service tei
+-- What holds of T201, of T202 and of both kinds holds of each timer.
+pub each-timer : (P : Timer → Type 0) → P T201 → P T202 → ((k : LinkTimer) (service : Service) (tei : ℕ) → P (timer_of k service tei)) → (timer : Timer) → P timer
+each-timer P x z y T201 = x
+each-timer P x z y T202 = z
+each-timer P x z y (T200 service tei) = y LinkTimer.T200 service tei
+each-timer P x z y (T203 service tei) = y LinkTimer.T203 service tei
 
 pub running-of : (k : LinkTimer) (service : Service) (tei : ℕ) (l : Line) → is_running (timer_of k service tei) l ≡ runs_at service k (place_of tei l.management.places) l
 running-of k service tei l = grind arith
 
--- lines with the same table, check and links run the same timers
+-- lines with the same table, check, procedure and links run the same timers
 alike : (before after : Line) → after.links ≡ before.links → (k : LinkTimer) (service : Service) (o : Option ℕ) → runs_at service k o after ≡ runs_at service k o before
 alike before after same k service o = grind arith
 
-pub same-running : (before after : Line) → after.management.places ≡ before.management.places → is_some after.management.check ≡ is_some before.management.check → after.links ≡ before.links
+pub same-running : (before after : Line) → after.management.places ≡ before.management.places → is_some after.management.check ≡ is_some before.management.check
+    → is_some after.own.procedure ≡ is_some before.own.procedure → after.links ≡ before.links
     → (timer : Timer) → is_running timer after ≡ is_running timer before
-same-running before after places check links timer = grind (arith, alike)
+same-running before after places check procedure links timer = grind (arith, alike)
 
 its-timer : (c : Config) (k : LinkTimer) (s : Service) (n : ℕ) → timer_at (terms c s n) k ≡ timer_of k s n
 its-timer c k s n = grind arith
@@ -74,7 +71,7 @@ module _ (c : Config) (l : Line) (s : IsSound c l) (service : Service) (tei plac
   link-timer k s' n' = grind (arith, other-timer, both-true, services-equal, eqb-true, running-of, here, its-timer, there)
 
   pub one-steered : (timer : Timer) → Steered timer
-  one-steered = each-timer Steered (steers.others T201 (is_running T201 l) refl refl) link-timer
+  one-steered = each-timer Steered (steers.others T201 (is_running T201 l) refl refl) (steers.others T202 (is_running T202 l) refl refl) link-timer
 
 pub and-false : (b : Bool) → (b && false) ≡ false
 and-false b = grind arith
@@ -85,14 +82,10 @@ chain : (timer : Timer) (b b1 b2 b3 : Bool) (xs ys zs : List Order) → obeyed t
 chain timer b b1 b2 b3 xs ys zs one two three = grind (arith, obeyed-append)
 
 -- An event of TEI management.
-module _ (c : Config) (l : Line) (s : IsSound c l) (m : Management) (sound : IsSoundTable m.places) (orders : List Order) (before : Bool)
-    (follows : Follows before orders (is_some m.check)) where
-  -- T201, which the caller left as `before` says
+module _ (c : Config) (l : Line) (s : IsSound c l) (m : Management) (own : Own) (sound : IsSoundTable m.places) (orders : List Order)
+    (leaves : (k : LinkTimer) (s' : Service) (n' : ℕ) (b : Bool) → obeyed (timer_of k s' n') b orders ≡ b) where
   abbrev pub now : Line
-  now = record l { management = m }
-
-  leaves : (k : LinkTimer) (s' : Service) (n' : ℕ) (b : Bool) → obeyed (timer_of k s' n') b orders ≡ b
-  leaves k s' n' b = grind arith
+  now = record l { management = m; own = own }
 
   -- the table stays
   pub management-stays : m.places ≡ l.management.places → (k : LinkTimer) (s' : Service) (n' : ℕ)
@@ -105,7 +98,7 @@ module _ (c : Config) (l : Line) (s : IsSound c l) (m : Management) (sound : IsS
     both = set (set l.links (link_number place Call) fresh) (link_number place Packet) fresh
 
     abbrev pub anew : Line
-    anew = record l { management = m; links = both }
+    anew = record l { management = m; own = own; links = both }
 
     away : (p : ℕ) (s' : Service) → p ≢ place → get_or both (link_number p s') fresh ≡ get_or l.links (link_number p s') fresh
     away p s' other = grind (arith, get_or-set_other, same-number)
@@ -115,10 +108,10 @@ module _ (c : Config) (l : Line) (s : IsSound c l) (m : Management) (sound : IsS
         → is_running (timer_of k s' n') l ≡ is_running (timer_of k s' n') anew
     elsewhere k s' n' comes was =
         running-of k s' n' l ∙ go (place_of n' l.management.places) refl
-        ∙ ap (λ p. runs_at s' k p (record l { management = m; links = both })) (sym (stays-placed l.management.places m.places place o sound is within n' comes was))
-        ∙ sym (running-of k s' n' (record l { management = m; links = both }))
+        ∙ ap (λ p. runs_at s' k p (record l { management = m; own = own; links = both })) (sym (stays-placed l.management.places m.places place o sound is within n' comes was))
+        ∙ sym (running-of k s' n' (record l { management = m; own = own; links = both }))
       where
-        go : (p : Option ℕ) → place_of n' l.management.places ≡ p → runs_at s' k p l ≡ runs_at s' k p (record l { management = m; links = both })
+        go : (p : Option ℕ) → place_of n' l.management.places ≡ p → runs_at s' k p l ≡ runs_at s' k p (record l { management = m; own = own; links = both })
         go None e = refl
         go (Some p) e =
             ap (λ (z : Link). runs k z.running) (sym (away p s' (λ same. was (subst (λ i. IsAt l.management.places i n') same (place_of-is l.management.places n' p e).1))))
@@ -194,5 +187,11 @@ module _ (c : Config) (l : Line) (s : IsSound c l) (m : Management) (sound : IsS
         go true e = grind (arith, eqb-true, its-own-left, stopped)
         go false e = grind (arith, apart, and-false, chain, leaves, elsewhere, none-some, eq-eqb, some-same)
 
-    pub t201-goes : obeyed T201 before (call ++ packet ++ orders) ≡ is_some m.check
-    t201-goes = grind (arith, chain, by-call, steers-event)
+    -- a timer that is no link's
+    pub own-goes : (timer : Timer) → ((t : Terms) (k : LinkTimer) → is_same (timer_at t k) timer ≡ false) → (before after : Bool) → obeyed timer before orders ≡ after
+        → obeyed timer before (call ++ packet ++ orders) ≡ after
+    own-goes timer other before after follows =
+        chain timer before before before after call packet orders
+        (by-call.others timer before (other (terms c Call tei) LinkTimer.T200) (other (terms c Call tei) LinkTimer.T203))
+        ((steers-event (terms c Packet tei) link_cleared second).others timer before (other (terms c Packet tei) LinkTimer.T200) (other (terms c Packet tei) LinkTimer.T203))
+        follows

@@ -4,10 +4,13 @@ pub mod Ranges
 pub mod Numbers
 pub mod SoundParts
 pub mod LinksSound
+pub mod Obeyed
+pub mod Managed
 pub mod AimsSound
 pub mod Sides
 pub mod ProperAims
 pub mod Offered
+pub mod Outgoing
 pub mod TakenWalk
 pub mod TakenSound
 pub mod NotShort
@@ -19,6 +22,7 @@ pub mod AimsRise
 pub mod LineRises
 pub mod EventsRise
 pub mod NextRises
+pub mod Downs
 pub mod Numbered
 pub mod NumberedEvents
 pub mod SlotsGrow
@@ -30,9 +34,7 @@ pub mod RoomForAll
 pub mod Starts
 pub mod Drops
 pub mod Places
-pub mod Downs
 pub mod LinkMoves
-pub mod Obeyed
 pub mod Following
 pub mod TimersFollow
 pub mod Placed

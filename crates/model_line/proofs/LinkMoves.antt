@@ -1,7 +1,10 @@
 -- What holds of a link that begins, and is kept by each event of a link, holds of all links of a line.
 use Rattle.model_line.proofs.Vocabulary.{arith, ◌≡◌, ℕ, zero, suc, ◌<◌, false, List, [], ◌∷◌, get_or, set, Option, Some, refl, sym, subst, ◌⊎◌, inl, inr, IfSome, option_map_or, unwrap_or, All-head, All-tail, Link, Given, Terms, Change, Config, hears, request, next, LineTold, Aim, of_change, of_aim, Line, UnitData, service_at, place_at, tei_at, link_at, terms, link_count, aim_of_heard}
-use Rattle.model_line.proofs.Vocabulary.{aim_of_expiry, Taken, with_unit, with_given_frame, link_taken, first_taken, taken, line_of, aim_of_request, IsInRange, IsSoundAt, option_map, All, fresh, Event, expiry, after, unless_refused, with_message, refusal, IsSound, link_offer, LinkEvent, link_given, link_after}
+use Rattle.model_line.proofs.Vocabulary.{aim_of_expiry, Taken, with_unit, with_given_frame, link_taken, first_taken, taken, line_of, aim_of_request, IsInRange, IsSoundAt, option_map, All, fresh, Event, expiry, after, unless_refused, at_management, at_terminal, at_no_link, Management, Own, refusal, IsSound, link_offer, LinkEvent, link_given, link_after}
 use Rattle.model_line.proofs.AimsSound.{IsProper}
+use Rattle.model_line.proofs.Downs.{by-down}
+use Rattle.model_line.proofs.Managed.{by-managed, by-own-event}
+use Rattle.model_line.proofs.Outgoing.{GoesOut, without_message}
 use Rattle.model_line.proofs.LinksSound.{sound_in}
 use Rattle.model_line.proofs.Offered.{fresh_gives_nothing}
 use Rattle.model_line.proofs.ProperAims.{heard_proper, expiry_proper, request_proper}
@@ -20,8 +23,15 @@ pub record OfLink (c : Config) (l : Line) (t : Taken) : Type 0 where
   pub given : link_given (terms c (service_at number) tei) (link_at number l) ≡ Some what
   pub is : t ≡ with_given_frame c l number (terms c (service_at number) tei) what
 
+pub record TakesMessage (c : Config) (l : Line) (t : Taken) : Type 0 where
+  pub octets : List ℕ
+  pub m : Management
+  pub own : Own
+  pub out : GoesOut c l octets m own
+  pub is : t ≡ without_message l octets m own
+
 abbrev pub IsOne : Config → Line → Taken → Type 0
-IsOne c l t = ((octets : List ℕ) × (t ≡ with_message l octets)) ⊎ ((unit : UnitData) × (t ≡ with_unit c l unit)) ⊎ OfLink c l t
+IsOne c l t = TakesMessage c l t ⊎ ((unit : UnitData) × (t ≡ with_unit c l unit)) ⊎ OfLink c l t
 
 module _ (c : Config) (l : Line) (s : IsSound c l) where
   of-link : (n : ℕ) → n < link_count c → IfSome (link_taken c l n) (OfLink c l)
@@ -42,7 +52,9 @@ module _ (c : Config) (l : Line) (s : IsSound c l) where
       (of-links ns (All-tail (λ n. n < link_count c) n ns all))
 
   pub taken-one : IfSome (taken c l) (IsOne c l)
-  taken-one = grind (arith, taken_walk)
+  taken-one =
+      taken_walk c l s (IsOne c l) (λ octets m own out. inl (record { octets = octets; m = m; own = own; out = out; is = refl })) (λ unit units e. inr (inl (unit, refl)))
+      (λ n tei few at sound g e. inr (inr (record { number = n; few = few; tei = tei; on_line = at; what = g; given = e; is = refl })))
 
 module _ (P : Link → Type 0) (begins : P fresh) (keeps : (t : Terms) (e : LinkEvent) (x : Link) → link_sound.IsInRange t → link_sound.IsSound t x → P x → P (link_after t e x)) where
   -- one link is another
@@ -59,10 +71,13 @@ module _ (P : Link → Type 0) (begins : P fresh) (keeps : (t : Terms) (e : Link
     changed o r now all = grind (arith, set_holds)
 
     aimed : (aim : Aim) → IsProper c l aim → P (link_at number (of_aim c aim l).line)
-    aimed aim proper = grind (arith, set_holds, terms_in_range, sound_in, changed)
+    aimed (at_management e) proper = by-managed c l s (λ o out. P (link_at number out.line)) e proper (λ o r m own step. changed o r (record l { management = m; own = own }) h)
+    aimed (at_terminal e) proper = by-own-event c l s (λ o out. P (link_at number out.line)) e proper (λ o r m own step. changed o r (record l { management = m; own = own }) h)
+    aimed at_no_link proper = by-down c l s (λ out. P (link_at number out.line)) (h number)
+    aimed aim proper = grind (arith, set_holds, terms_in_range, sound_in)
 
     took : (t : Taken) → IsOne c l t → P (link_at number t.line)
-    took t (inl x) = subst (λ (u : Taken). P (link_at number u.line)) (sym x.1) (h number)
+    took t (inl x) = subst (λ (u : Taken). P (link_at number u.line)) (sym x.is) (h number)
     took t (inr (inl x)) = subst (λ (u : Taken). P (link_at number u.line)) (sym x.1) (h number)
     took t (inr (inr x)) =
         let terms_of = terms c (service_at x.number) x.tei in

@@ -1,8 +1,9 @@
 -- A frame that is taken is no longer among those that may be sent.
-use Rattle.model_line.proofs.Vocabulary.{◌≡◌, ℕ, ◌+◌, ◌*◌, ◌≤◌, ◌<◌, List, ◌∷◌, Option, Some, is_some, arith, Link, Given, Terms, event-rises, offer-falls, frame_of, Message, IsAt, Config, one, may_send, Line, UnitData, link_count, service_at, place_at, terms, link_at, Taken, with_message, with_unit, with_given_frame, taken, next_of, option_map, after, answer, FallsByNext, IsInRange, IsSound}
+use Rattle.model_line.proofs.Vocabulary.{◌≡◌, ℕ, ◌+◌, ◌*◌, ◌≤◌, ◌<◌, List, ◌∷◌, Option, Some, is_some, arith, Link, Given, Terms, event-rises, offer-falls, Management, IsAt, Config, one, may_send, Line, Own, UnitData, link_count, service_at, place_at, terms, link_at, Taken, with_unit, with_given_frame, taken, next_of, option_map, after, answer, FallsByNext, IsInRange, IsSound}
 use Rattle.model_line.proofs.Vocabulary.{offer, given, link_after, rises_sent}
 use Rattle.model_link.specs.Sound as link_sounds
 use Rattle.model_line.proofs.AimsRise.{may_send_of}
+use Rattle.model_line.proofs.Outgoing.{GoesOut, without_message}
 use Rattle.model_line.proofs.TakenWalk.{taken_walk, next_walk}
 use Rattle.model_line.proofs.Ranges.{terms_in_range}
 use Rattle.model_line.proofs.Sums.{one_changed}
@@ -16,8 +17,8 @@ gives : (t : Terms) (l : Link) (g : Given) → given t l ≡ Some g → rises_se
 gives t l g e = grind (arith, is_some)
 
 module _ (c : Config) (ranged : IsInRange c) (l : Line) (s : IsSound c l) where
-  message_falls : (m : Message) (ms : List Message) → l.management.waiting ≡ m ∷ ms → TakesOne c l (with_message l (frame_of c.side m))
-  message_falls m ms e = grind arith
+  message_falls : (octets : List ℕ) (m : Management) (own : Own) → GoesOut c l octets m own → TakesOne c l (without_message l octets m own)
+  message_falls octets m own out = (omega (arith, out.fewer), omega (arith, out.fewer))
 
   unit_falls : (u : UnitData) (us : List UnitData) → l.units ≡ u ∷ us → TakesOne c l (with_unit c l u)
   unit_falls u us e = grind arith

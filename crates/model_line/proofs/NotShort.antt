@@ -1,9 +1,8 @@
 -- What a line gives is not too short for a frame.
-use Rattle.model_line.proofs.Vocabulary.{◌≡◌, ℕ, ◌%◌, ◌≤◌, ◌⊎◌, Bool, true, false, cond, List, [], ◌∷◌, ◌++◌, length, slice_index, IfSome, arith, Sender, Address, Control, spelling, own_side, service_at, Config, Line, Taken, taken, terms, IsSound}
+use Rattle.model_line.proofs.Vocabulary.{◌≡◌, ℕ, ◌%◌, ◌≤◌, ◌⊎◌, Bool, true, false, cond, List, [], ◌∷◌, ◌++◌, length, slice_index, IfSome, inl, arith, Sender, Address, Control, spelling, own_side, service_at, Config, Line, Taken, taken, terms, IsSound}
 use Rattle.lapd_frame.specs.Grammar.{one_of}
 use Rattle.lapd_frame.specs.Services.{sapi_of}
 use Rattle.lapd_frame.specs.declared.controls.Control.TheVariants.{Ui}
-use Rattle.lapd_tei.specs.Messages.{information_of}
 use Rattle.model_link.specs.Link.{address_at}
 use Rattle.model_line.proofs.TakenWalk.{taken_walk}
 use Rattle.std.specs.Option.{unwrap_or}
@@ -28,6 +27,6 @@ IsLong t = IsNotShort t.frame
 pub taken_not_short : (c : Config) (l : Line) → IsSound c l → IfSome (taken c l) IsLong
 taken_not_short c l s =
     taken_walk c l s IsLong
-    (λ m ms e. not_short (record { side = c.side; sapi = 16 }) (record { sapi = 63; command = true; tei = 127 }) (Ui false) (information_of m))
+    (λ octets m own out. inl (omega (arith, out.size)))
     (λ u us e. not_short (own_side c) (record { sapi = sapi_of u.service; command = true; tei = u.tei }) (Ui false) u.contents)
     (λ n tei few at sound g e. not_short (own_side c) (address_at (terms c (service_at n) tei) g.frame.command) g.frame.control (unwrap_or g.contents []))

@@ -1,12 +1,12 @@
 -- What an event delivers at a link of a line: the next eligible I-frame's contents, or none; or its numbers begin anew.
 use Rattle.model_line.proofs.Vocabulary.{◌&&◌, ◌≡◌, ◌≢◌, ℕ, ◌<◌, Bool, true, false, cond, ◌==◌, List, [], ◌∷◌, length, get_or, set, Option, Some, None, is_some, refl, ap, sym, ◌∙◌, subst, inr, arith, eqb-true, eq-eqb, All, list_any, option_or, option_map_or, get_or-set_same, get_or-set_other, All-head, All-tail, Note, Service, Call, Packet, Terms, Link, fresh, is_data, done, delivery, counted_on}
 use Rattle.model_line.proofs.Vocabulary.{event-delivers, IsOwn, notes-own, event-tells, Moves, Management, IsAt, Places, Change, Config, Answer, LineTold, told, same_service, arrived_aimed, arrived, is_change_at, restarts_aimed, restarts, is_data_of, delivered_in, delivered_at, delivered, Line, link_number, service_at, place_at, tei_at, link_at, link_in, terms, link_count, Aim, at_none, at_link}
-use Rattle.model_line.proofs.Vocabulary.{at_management, told_of_link, told_of_management, of_change, of_aim, IsSound, LinkEvent, link_told, link_after, course, tei_told, tei_after}
+use Rattle.model_line.proofs.Vocabulary.{at_management, at_no_link, at_terminal, told_of_link, of_change, of_aim, Effect, Own, IsSound, LinkEvent, link_told, link_after, course}
 use Rattle.std.proofs.Math.Bool.{and-false, and-true, and-or_distrib_right}
 use Rattle.model_link.specs.Deliveries as arrivals
-use Rattle.lapd_tei.proofs.GivenUp as tei_given_up
-use Rattle.lapd_tei.proofs.LawLemmas as tei_laws
 use Rattle.model_line.proofs.AimsSound.{IsProper}
+use Rattle.model_line.proofs.Downs.{by-down}
+use Rattle.model_line.proofs.Managed.{by-managed, by-own-event}
 use Rattle.model_line.proofs.LinksSound.{begin_here, begin_away}
 use Rattle.model_line.proofs.Numbers.{place_at-number, service_at-number, at_place}
 
@@ -129,13 +129,16 @@ module _ (c : Config) (l : Line) (s : IsSound c l) (number : ℕ) (few : number 
       → Part (link_at number l).r None (get_or (set (set l.links (link_number place Call) fresh) (link_number place Packet) fresh) number fresh).r (delivered number l (told r)) b
   place_parts place r within none b here = grind (arith, eqb-true, begin_here, begins_anew, none_at, none_in, eq-eqb, brings_none, begin_away)
 
-  change_parts : (o : Option Change) (r : LineTold) (new : Places) (m : Management) → r.contents ≡ None → Moves l.management.places o new
-      → let of = of_change c o r (record l { management = m }) in
+  change_parts : (o : Option Change) (r : LineTold) (new : Places) (m : Management) (own : Own) → r.contents ≡ None → Moves l.management.places o new
+      → let of = of_change c o r (record l { management = m; own = own }) in
       Part (link_at number l).r None (link_at number of.line).r (delivered number l (told of.told)) (is_change_at (place_at number) o)
-  change_parts o r new m none moves = grind (arith, brings_none, none_at, none_in, place_parts)
+  change_parts o r new m own none moves = grind (arith, brings_none, none_at, none_in, place_parts)
+
+  abbrev PartsOf : Option Change → Effect → Type 0
+  PartsOf o out = Part (link_at number l).r None (link_at number out.line).r (delivered number l (told out.told)) (is_change_at (place_at number) o)
 
   pub aim_parts : (aim : Aim) → IsProper c l aim → HasNoContents aim → Parts aim
-  aim_parts (at_management e) proper none =
-      change_parts (tei_told e l.management).change (told_of_management (tei_told e l.management)) (tei_after e l.management).places
-      (tei_after e l.management) refl (tei_laws.changes_are_told e l.management proper s.management)
-  aim_parts aim proper none = grind (arith, brings_none, none_at, at_its_link, none_in, tei_given_up.down_gives_up)
+  aim_parts (at_management e) proper none = by-managed c l s PartsOf e proper (λ o r m own step. change_parts o r m.places m own step.contents step.moves)
+  aim_parts (at_terminal e) proper none = by-own-event c l s PartsOf e proper (λ o r m own step. change_parts o r m.places m own step.contents step.moves)
+  aim_parts at_no_link proper none = by-down c l s (λ out. PartsOf None out) (grind (arith, brings_none, none_at, none_in))
+  aim_parts aim proper none = grind (arith, brings_none, none_at, at_its_link, none_in)

@@ -1,5 +1,10 @@
 -- What obeying the orders of a link, or of TEI management, comes to for each timer of a line.
-use Rattle.model_line.proofs.Vocabulary.{arith, ◌≡◌, ℕ, ◌==◌, ◌&&◌, Bool, true, false, cond, List, ◌++◌, eq-eqb, fold-append, Service, Order, Timer, same_service, LinkTimer, Terms, Link, is_same, obey, obeyed, IsTimed, ComesInStep, runs, timer_at, stays-in-step, comes-in-step, leaves-others, link_expired, LinkEvent, link_told, link_after}
+use Rattle.model_line.proofs.Vocabulary.{arith, ◌≡◌, ℕ, ◌==◌, ◌&&◌, Bool, true, false, cond, List, ◌++◌, eq-eqb, fold-append, Service, Order, Timer, T200, T203, same_service, LinkTimer, Terms, Link, is_same, obey, obeyed, IsTimed, ComesInStep, runs, timer_at, stays-in-step, comes-in-step, leaves-others, link_expired, LinkEvent, link_told, link_after}
+
+-- A link's timer of the line, by its link_timer.
+abbrev pub timer_of : LinkTimer → Service → ℕ → Timer
+timer_of LinkTimer.T200 service tei = T200 service tei
+timer_of LinkTimer.T203 service tei = T203 service tei
 
 pub obeyed-append : (timer : Timer) (b : Bool) (xs ys : List Order) → obeyed timer b (xs ++ ys) ≡ obeyed timer (obeyed timer b xs) ys
 obeyed-append timer b xs ys = fold-append (obey timer) b xs ys

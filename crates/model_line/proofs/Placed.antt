@@ -1,16 +1,16 @@
 -- What an event of a line starts is of TEIs on the line, and a TEI that is on it before and after is at one place.
 use Rattle.model_line.proofs.Vocabulary.{◌≡◌, ℕ, ◌<◌, Bool, true, false, cond, not, ◌&&◌, List, [], ◌∷◌, ◌++◌, length, get_or, set, is_some, Option, Some, None, IsSome, option_map, refl, ap, sym, ◌∙◌, subst, arith, inl, inr, cases_eq, get_or-set_same, get_or-set_other, none-some, Service, Call, Packet, Order, LinkTimer, Terms, Link, Given, runs, orders_for, timer_at, Management, IsAt, Places}
-use Rattle.model_line.proofs.Vocabulary.{Change, Gained, Left, Follows, t201_follows, at-off, place_of-is, Moves, TeiEvent, tei_down, tei_told, tei_after, Refusal, refusal, unless_refused, unless_refused_told, aim_of, aim_of_request, Config, Event, hears, expiry, request, next, gave, orders_in, Line, fresh, with_link, link_number, link_in, place_in, place_at, service_at, terms, link_at, Aim}
-use Rattle.model_line.proofs.Vocabulary.{at_link, at_management, at_no_link, of_aim, of_change, told_of_management, without_units, Effect, Taken, with_message, with_unit, with_given_frame, taken, next_of, after, answer, IsSound, link_cleared, link_given, link_told, link_offer, LinkEvent, course}
+use Rattle.model_line.proofs.Vocabulary.{Change, Gained, Left, at-off, place_of-is, TeiEvent, TerminalEvent, tei_down, Refusal, refusal, unless_refused, unless_refused_told, aim_of, aim_of_request, Config, Event, hears, expiry, request, next, gave, orders_in, Line, fresh, with_link, link_number, link_in, place_in, place_at, service_at, terms, link_at, Aim}
+use Rattle.model_line.proofs.Vocabulary.{at_link, at_management, at_terminal, at_no_link, of_aim, of_change, LineTold, Own, without_units, Effect, Taken, with_unit, with_given_frame, taken, next_of, after, answer, IsSound, link_cleared, link_given, link_told, link_offer, LinkEvent, course}
 use Rattle.std.proofs.lemmas.Bool.{false≢true}
 use Rattle.std.specs.List.{AllByRecursion}
 use Rattle.lapd_frame.specs.declared.timers.Order.TheVariants.{Start, Stop}
-use Rattle.lapd_frame.specs.declared.timers.Timer.TheVariants.{T201}
 use Rattle.lapd_tei.specs.Laws as tei_laws
-use Rattle.lapd_tei.proofs.LawLemmas as tei_lemmas
 use Rattle.model_link.specs.Told.{order_for}
 use Rattle.model_line.proofs.Downs.{down-sound}
 use Rattle.model_line.proofs.Following.{some-same}
+use Rattle.model_line.proofs.Managed.{IsOwnEvent, Step, by-managed, by-own-event, more_of}
+use Rattle.model_line.proofs.Outgoing.{without_message}
 use Rattle.model_line.proofs.LinkMoves.{IsOne, taken-one}
 use Rattle.model_line.proofs.Places.{has-place}
 use Rattle.model_line.proofs.ProperAims.{event_aims}
@@ -54,10 +54,6 @@ module _ (t : Terms) (l : Line) where
       both-placed l (order_for t LinkTimer.T200 x.running None None) (order_for t LinkTimer.T203 x.running None None)
       (by-order LinkTimer.T200 false (runs LinkTimer.T200 x.running && true) (λ e. absurd (false≢true e)))
       (by-order LinkTimer.T203 false (runs LinkTimer.T203 x.running && true) (λ e. absurd (false≢true e)))
-
--- TEI management orders T201 alone
-t201-placed : (before now : Bool) (orders : List Order) → Follows before orders now → (l : Line) → ArePlaced l orders
-t201-placed before now orders follows l = grind arith
 
 -- the places of a line
 pub place-few : (c : Config) (l : Line) (tei place : ℕ) → IsSound c l → place_in l tei ≡ Some place → place < c.terminals
@@ -109,40 +105,38 @@ module _ (c : Config) (l : Line) (s : IsSound c l) where
       stays f.told.orders f.line refl
       (link-placed t f.line (some-place (place_in f.line tei) place (has-place l.management.places tei place s.management.table at)) x.running (course t e x).started (course t e x).link.running)
 
-  -- an event of TEI management
-  module _ (e : TeiEvent) (fits : tei_laws.IsInRange e) where
-    abbrev m : Management
-    m = tei_after e l.management
-
-    abbrev by : Option Change → Effect
-    by o = of_change c o (told_of_management (tei_told e l.management)) (record l { management = m })
-
-    t201 : (now : Line) → ArePlaced now (tei_told e l.management).orders
-    t201 now = t201-placed (is_some l.management.check) (is_some m.check) (tei_told e l.management).orders (t201_follows e l.management) now
-
-    by-change : (o : Option Change) → Moves l.management.places o m.places → DoesInPlace l (by o)
-    by-change None same = stays (by None).told.orders (by None).line same (t201 (by None).line)
-    by-change (Some (Gained tei place)) joined = record {
-      placed = t201 (by (Some (Gained tei place))).line;
-      once = changed m.places place (Some tei) joined.is_there joined.within
-          (λ other is i at. at-off l.management.places i tei joined.was_off (subst (IsAt l.management.places i) (sym (some-same tei other is)) at));
-      alone = changed-alone m.places place (Some tei) joined.is_there joined.within (λ other more is at. none-some other (sym joined.was_free ∙ at));
-    }
-    by-change (Some (Left tei place)) gone =
-        let now = (by (Some (Left tei place))).line in
-        let first = link_in (record l { management = m }) Call place in
-        let second = link_in (with_link (link_number place Call) fresh (record l { management = m })) Packet place in
+  -- a step of TEI management
+  module _ (t201 t202 : Bool) (more : ℕ) where
+    pub by-step : (o : Option Change) (told : LineTold) (m : Management) (own : Own) → Step c l t201 t202 more o told m own → DoesInPlace l (of_change c o told (record l { management = m; own = own }))
+    by-step None told m own step = stays told.orders (record l { management = m; own = own }) step.moves (step.placed (record l { management = m; own = own }))
+    by-step (Some (Gained tei place)) told m own step =
+        let joined = step.moves in
+        let now = (of_change c (Some (Gained tei place)) told (record l { management = m; own = own })).line in
+        record {
+          placed = step.placed now;
+          once = changed m.places place (Some tei) joined.is_there joined.within
+              (λ other is i at. at-off l.management.places i tei joined.was_off (subst (IsAt l.management.places i) (sym (some-same tei other is)) at));
+          alone = changed-alone m.places place (Some tei) joined.is_there joined.within (λ other more is at. none-some other (sym joined.was_free ∙ at));
+        }
+    by-step (Some (Left tei place)) told m own step =
+        let gone = step.moves in
+        let now = (of_change c (Some (Left tei place)) told (record l { management = m; own = own })).line in
+        let first = link_in (record l { management = m; own = own }) Call place in
+        let second = link_in (with_link (link_number place Call) fresh (record l { management = m; own = own })) Packet place in
         let call = (link_told (terms c Call tei) link_cleared first).orders in
         let packet = (link_told (terms c Packet tei) link_cleared second).orders in
         record {
-          placed = both-placed now (call ++ packet) (tei_told e l.management).orders
-              (both-placed now call packet (cleared-placed (terms c Call tei) now first) (cleared-placed (terms c Packet tei) now second)) (t201 now);
+          placed = both-placed now (call ++ packet) told.orders
+              (both-placed now call packet (cleared-placed (terms c Call tei) now first) (cleared-placed (terms c Packet tei) now second)) (step.placed now);
           once = changed m.places place None gone.is_free gone.within (λ other is i at. none-some other is);
           alone = changed-alone m.places place None gone.is_free gone.within (λ other more is at. none-some more is);
         }
 
-    pub managed : DoesInPlace l (of_aim c (at_management e) l)
-    managed = by-change (tei_told e l.management).change (tei_lemmas.changes_are_told e l.management fits s.management)
+  pub managed : (e : TeiEvent) → tei_laws.IsInRange e → DoesInPlace l (of_aim c (at_management e) l)
+  managed e fits = by-managed c l s (λ o f. DoesInPlace l f) e fits (by-step (is_some l.management.check) (is_some l.own.procedure) (more_of c e))
+
+  pub owned : (e : TerminalEvent) → IsOwnEvent c e → DoesInPlace l (of_aim c (at_terminal e) l)
+  owned e proper = by-own-event c l s (λ o f. DoesInPlace l f) e proper (by-step (is_some l.management.check) (is_some l.own.procedure) 1)
 
 -- what an event is to the parts of a line
 module _ (c : Config) (l : Line) (s : IsSound c l) where
@@ -152,7 +146,7 @@ module _ (c : Config) (l : Line) (s : IsSound c l) where
   aimed : (e : Event) → DoesInPlace l (of_aim c (aim_of c e l) l)
   aimed = event_aims c l (λ takes aim. DoesInPlace l (of_aim c aim l))
       (λ takes. stays c l s [] l refl tt) (λ cause. stays c l s [] l refl tt) (λ parts service to. stays c l s [] l refl tt)
-      (λ service tei place e at. of-link c l s service tei place e at) (λ e fits. managed c l s e fits)
+      (λ service tei place e at. of-link c l s service tei place e at) (λ e fits. managed c l s e fits) (λ e proper. owned c l s e proper)
       (λ unit is few. stays c l s [] (record l { units = l.units ++ unit ∷ [] }) refl tt) given-up
 
   by-refusal : (o : Option Refusal) (aim : Aim) → DoesInPlace l (of_aim c (unless_refused o aim) l)
@@ -165,7 +159,7 @@ module _ (c : Config) (l : Line) (s : IsSound c l) where
   given-orders t x g = grind (arith, none-some)
 
   took : (t : Taken) → IsOne c l t → IsInPlace l t.orders t.line
-  took t (inl x) = subst (λ (u : Taken). IsInPlace l u.orders u.line) (sym x.1) (stays c l s [] (with_message l x.0).line refl tt)
+  took t (inl x) = subst (λ (u : Taken). IsInPlace l u.orders u.line) (sym x.is) (stays c l s [] (without_message l x.octets x.m x.own).line x.out.places tt)
   took t (inr (inl x)) = subst (λ (u : Taken). IsInPlace l u.orders u.line) (sym x.1) (stays c l s [] (with_unit c l x.0).line refl tt)
   took t (inr (inr x)) =
       let terms_of = terms c (service_at x.number) x.tei in

@@ -1,12 +1,13 @@
 -- What holds of each aim that events can have holds of the aim of every event.
 use Rattle.model_line.proofs.Vocabulary.{arith, ◌≡◌, ℕ, ◌<◌, Bool, true, false, ◌&&◌, not, List, length, Option, Some, None, is_some, Result, Ok, Err, cond, ltb-false, leb-false, Cause, Unserved, Address, ReadFault, BadExtension, Undefined, WrongSize, Short, Refusal, Service, Timer, Parts, reading, LinkTimer, place_of-is, IsAt, Config, Event, hears, expiry, request, next, nothing, Line, UnitData}
-use Rattle.model_line.proofs.Vocabulary.{place_in, takes_slot, Request, Aim, at_none, at_link, at_management, at_units, at_no_link, drop_for, to_service, addressed, message_of, aim_of_reading, unless_at_link, heard_side, aim_of_heard, group_told, IsToGroup, at_timer, aim_of_expiry, at_requested, at_deactivated, aim_of_request, carries_contents, refusal, unless_refused, IsUnitData, LinkReceived}
-use Rattle.model_line.proofs.Vocabulary.{LinkRequest, link_expired, link_received, link_requested, LinkEvent, link_undefined, link_wrong_size, link_cleared, link_frame, LinkData, TeiEvent, tei_message, tei_expiry, StreamEvent, stream_frame, dropped, overlong, aim_of}
+use Rattle.model_line.proofs.Vocabulary.{place_in, takes_slot, Request, Aim, at_none, at_link, at_management, at_terminal, at_units, at_no_link, drop_for, to_service, addressed, message_of, aim_of_reading, unless_at_link, heard_side, aim_of_heard, group_told, IsToGroup, at_timer, aim_of_expiry, at_requested, at_deactivated, aim_of_request, carries_contents, refusal, unless_refused, IsUnitData, LinkReceived}
+use Rattle.model_line.proofs.Vocabulary.{LinkRequest, link_expired, link_received, link_requested, LinkEvent, link_undefined, link_wrong_size, link_cleared, link_frame, LinkData, TeiEvent, tei_message, tei_expiry, TerminalEvent, terminal_expiry, StreamEvent, stream_frame, dropped, overlong, aim_of}
 use Rattle.lapd_frame.specs.declared.overlong.Long.{Long}
 use Rattle.lapd_frame.specs.Senders.{long_reading}
 use Rattle.lapd_tei.specs.Laws as tei_laws
 use Rattle.model_line.specs.Heard.{aim_of_long}
 use Rattle.model_line.proofs.AimsSound.{IsProper}
+use Rattle.model_line.proofs.Managed.{IsAsked, IsOwnEvent}
 use Rattle.model_line.proofs.Sides.{side_aims, unit_tei}
 
 -- What a frame that was read brings to a link is of some kind.
@@ -60,7 +61,7 @@ module _ (c : Config) (l : Line) (P : Aim → Type 0) (none : (cause : Cause) �
 -- Of an expiry.
 module _ (l : Line) (P : Aim → Type 0) (none : P (at_none nothing))
     (to_link : (service : Service) (tei place : ℕ) (timer : LinkTimer) → IsAt l.management.places place tei → P (at_link service tei place (link_expired timer)))
-    (to_management : P (at_management tei_expiry)) where
+    (to_management : P (at_management tei_expiry)) (to_terminal : P (at_terminal terminal_expiry)) where
   timer_aims : (service : Service) (tei : ℕ) (timer : LinkTimer) (o : Option ℕ) → place_in l tei ≡ o → P (at_timer service tei timer o)
   timer_aims service tei timer None e = none
   timer_aims service tei timer (Some place) e = to_link service tei place timer (place_of-is l.management.places tei place e).1
@@ -81,7 +82,8 @@ module _ (c : Config) (l : Line) (P : Bool → Aim → Type 0) (none : (takes : 
     (to_link : (service : Service) (tei place : ℕ) (what : LinkRequest) → IsAt l.management.places place tei
     → P (brings_data (link_requested what false)) (at_link service tei place (link_requested what false)))
     (to_cleared : (service : Service) (tei place : ℕ) → IsAt l.management.places place tei → P false (at_link service tei place link_cleared))
-    (to_management : (e : TeiEvent) → tei_laws.IsInRange e → P false (at_management e))
+    (to_management : (e : TeiEvent) → tei_laws.IsInRange e → IsAsked e → P false (at_management e))
+    (to_terminal : (e : TerminalEvent) → IsOwnEvent c e → P false (at_terminal e))
     (to_units : (unit : UnitData) → IsUnitData c unit → length l.units < c.unit_queue → P true (at_units unit))
     (to_no_link : P false at_no_link) where
   requested_aims : (service : Service) (tei : ℕ) (what : LinkRequest) (o : Option ℕ) → place_in l tei ≡ o
@@ -101,6 +103,7 @@ module _ (c : Config) (l : Line) (P : Bool → Aim → Type 0) (none : (takes : 
     (to_group : (parts : Parts) (service : Service) → IsToGroup c parts service → P false (at_none (group_told service parts.info)))
     (to_link : (service : Service) (tei place : ℕ) (e : LinkEvent) → IsAt l.management.places place tei → P (brings_data e) (at_link service tei place e))
     (to_management : (e : TeiEvent) → tei_laws.IsInRange e → P false (at_management e))
+    (to_terminal : (e : TerminalEvent) → IsOwnEvent c e → P false (at_terminal e))
     (to_units : (unit : UnitData) → IsUnitData c unit → length l.units < c.unit_queue → P true (at_units unit))
     (to_no_link : P false at_no_link) where
   pub event_aims : (e : Event) → P (takes_slot c e l) (aim_of c e l)
@@ -109,10 +112,10 @@ module _ (c : Config) (l : Line) (P : Bool → Aim → Type 0) (none : (takes : 
       heard_aims c l (P false) drop (λ service tei place what at. to_link service tei place (link_received what) (place_of-is l.management.places tei place at).1)
       (λ info. to_management (tei_message info) tt) to_group e
   event_aims (expiry timer) =
-      expiry_aims l (P false) (none false) (λ service tei place timer at. to_link service tei place (link_expired timer) at) (to_management tei_expiry tt) timer
+      expiry_aims l (P false) (none false) (λ service tei place timer at. to_link service tei place (link_expired timer) at) (to_management tei_expiry tt) (to_terminal terminal_expiry tt) timer
   event_aims (request r) =
       request_aims c l P none (λ service tei place what at. to_link service tei place (link_requested what false) at)
-      (λ service tei place at. to_link service tei place link_cleared at) to_management to_units to_no_link r
+      (λ service tei place at. to_link service tei place link_cleared at) (λ e range asked. to_management e range) to_terminal to_units to_no_link r
   event_aims next = none false
 
 -- So the aim of each event is one that a line can have.
@@ -120,7 +123,7 @@ module _ (c : Config) (l : Line) where
   pub event_proper : (e : Event) → IsProper c l (aim_of c e l)
   event_proper =
       event_aims c l (λ takes aim. IsProper c l aim) (λ takes. tt) (λ cause. tt) (λ parts service to. tt) (λ service tei place e at. at)
-      (λ e range. range) (λ unit is few. (is, few)) tt
+      (λ e range. range) (λ e proper. proper) (λ unit is few. (is, few)) tt
 
   pub heard_proper : (e : StreamEvent) → IsProper c l (aim_of_heard c l e)
   heard_proper e = event_proper (hears e)

@@ -1,12 +1,13 @@
 -- What a frame is on each side of a line.
-use Rattle.model_line.proofs.Vocabulary.{◌≡◌, ℕ, ◌≤◌, nat_lt, arith, false, Option, eqb-true, leb-true, ltb-false, Unserved, Side, User, Network, Service, Parts, service_of, Config, LineTold, Aim, at_none, at_link, at_management, at_units, at_no_link, group_told, told_of_group, at_side, last_unit_tei, IsToGroup}
+use Rattle.model_line.proofs.Vocabulary.{◌≡◌, ℕ, ◌≤◌, nat_lt, arith, true, false, Option, eqb-true, leb-true, ltb-false, Unserved, Side, User, Network, Service, Parts, service_of, Config, LineTold, Aim, at_none, at_link, at_management, at_terminal, at_units, at_no_link, group_told, told_of_group, at_side, last_unit_tei, has_management, IsToGroup}
 use Rattle.model_line.specs.Event.{dropped}
 
--- What holds of an aim where it is served: of one at TEI management, on the network's side.
+-- What holds of an aim where it is served: of one at TEI management, on a side that has it.
 abbrev pub WhereServed : Config → (Aim → Type 0) → Aim → Type 0
 WhereServed c P (at_none told) = P (at_none told)
 WhereServed c P (at_link service tei place event) = P (at_link service tei place event)
-WhereServed c P (at_management event) = c.side ≡ Network → P (at_management event)
+WhereServed c P (at_management event) = has_management c ≡ true → P (at_management event)
+WhereServed c P (at_terminal event) = P (at_terminal event)
 WhereServed c P (at_units unit) = P (at_units unit)
 WhereServed c P at_no_link = P at_no_link
 

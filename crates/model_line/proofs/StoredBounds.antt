@@ -1,9 +1,12 @@
 -- A sound line holds at most so many octets, and at most N201 octets in each slot.
-use Rattle.model_line.proofs.Vocabulary.{ℕ, zero, suc, ◌+◌, ◌*◌, ◌≤◌, ◌<◌, List, length, arith, sum_by, All, range_with_len, All-drop, sum_by-le, sum_by-cons, Network, queue_of, IsWaitingFrame, ControlFrame, Terms, Config, Line, link_count, service_at, terms, link_at, IsSound, held_by_link, held_in, slots_by_link, slots_of, total_length, unit_length, octets_by_link, stored_in}
+use Rattle.model_line.proofs.Vocabulary.{ℕ, zero, suc, ◌+◌, ◌*◌, ◌≤◌, ◌<◌, Bool, true, false, cond, ap, List, length, arith, sum_by, All, range_with_len, All-drop, sum_by-le, sum_by-cons, Network, queue_of, IsWaitingFrame, ControlFrame, Terms, Config, Line, link_count, service_at, terms, link_at, is_terminal, terminal_in, IsOfSide, IsSound, held_by_link, held_in, slots_by_link, slots_of, total_length, unit_length, octets_by_link, stored_in}
 use Rattle.model_line.proofs.Vocabulary.{rises_held}
 use Rattle.lapd_frame.specs.Grammar.{spelling}
 use Rattle.model_link.specs.Link.{frame_of}
-use Rattle.model_line.specs.Stored.{octets_of}
+use Rattle.lapd_tei.specs.Machine.{held}
+use Rattle.lapd_terminal.specs.Machine as terminals
+use Rattle.lapd_terminal.proofs.SoundWords.{room}
+use Rattle.model_line.specs.Stored.{held_most, octets_of}
 use Rattle.model_line.proofs.Numbers.{sum_bounded}
 use Rattle.model_line.proofs.SoundParts.{any_link}
 
@@ -17,10 +20,17 @@ link_few c l s n few =
     any_link c l s n few (λ t x. rises_held t x ≤ 4 * c.control) (omega arith)
     (λ tei at sound. ring_few (terms c (service_at n) tei) c.control (link_at n l).waiting sound.frames sound.ring)
 
--- of what waits and is remembered
-pub held_few : (c : Config) (l : Line) → IsSound c l → held_in c l ≤ 8 * c.control * c.terminals + 32 + 12
+-- of messages that wait, and of what is remembered
+pub managed_few : (c : Config) (l : Line) → IsSound c l → held l.management + terminals.held (terminal_in l) ≤ held_most c
+managed_few c l s = go (is_terminal c) s.own
+  where
+    go : (b : Bool) → IsOfSide b l.management l.own → held l.management + terminals.held (terminal_in l) ≤ cond b (8 * (c.terminals + 1)) (32 + 12)
+    go true own = omega (arith, ap length own.1.waiting, ap length own.1.remembered, room (terminal_in l) own.0, s.places)
+    go false own = omega (arith, ap length own.1, s.management.queue.few, s.management.memory.few)
+
+pub held_few : (c : Config) (l : Line) → IsSound c l → held_in c l ≤ 8 * c.control * c.terminals + held_most c
 held_few c l s =
-    omega (arith, s.management.queue.few, s.management.memory.few, (sum_bounded (held_by_link c l) 0 (link_count c) (4 * c.control) (λ n few. link_few c l s n (omega (arith, few)))))
+    omega (arith, managed_few c l s, (sum_bounded (held_by_link c l) 0 (link_count c) (4 * c.control) (λ n few. link_few c l s n (omega (arith, few)))))
 
 -- ---- contents
 
@@ -44,5 +54,5 @@ octets_few c l s =
     omega (arith, sum_by-le unit_length c.n201 l.units (λ k d within. (s.units k d within).size), queues)
 
 pub stored_few : (c : Config) (l : Line) → IsSound c l
-    → stored_in c l ≤ (8 * c.control * c.terminals + 32 + 12) + slots_of c l * c.n201
+    → stored_in c l ≤ (8 * c.control * c.terminals + held_most c) + slots_of c l * c.n201
 stored_few c l s = omega (arith, held_few c l s, octets_few c l s)

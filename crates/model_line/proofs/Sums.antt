@@ -1,9 +1,10 @@
 -- Sums over the parts of a line, and by how much an event of a part raises them.
-use Rattle.model_line.proofs.Vocabulary.{◌≡◌, ℕ, zero, suc, ◌+◌, ◌≤◌, ◌<◌, List, [], length, get_or, set, Option, Some, refl, ap, ◌∙◌, arith, length-append, length-set, sum_by, range_with_len, cases_lt, get_or-set_same, get_or-set_other, get_or-replicate, get_or_past, length-replicate, sum_by-cons, Service, Call, Packet, Link, fresh, Moves, Management, IsAt, Change, Gained, at-within, Config}
-use Rattle.model_line.proofs.Vocabulary.{LineTold, Line, fresh_line, link_number, link_count, service_at, link_in, terms, Aim, at_none, at_link, at_management, at_units, at_no_link, without_units, of_link, of_change, told_of_management, of_aim, IsInRange, IsSound, IsUnitData, All-nil, sum_of_links, LinkEvent, link_after, TeiEvent, tei_down, tei_told, tei_after}
+use Rattle.model_line.proofs.Vocabulary.{◌≡◌, ℕ, zero, suc, ◌+◌, ◌≤◌, ◌<◌, Bool, true, false, cond, List, [], ◌∷◌, length, get_or, set, Option, Some, None, refl, ap, ◌∙◌, arith, length-append, length-set, sum_by, range_with_len, cases_lt, get_or-set_same, get_or-set_other, get_or-replicate, get_or_past, length-replicate, sum_by-cons, Service, Call, Packet, Link, fresh, Moves, Management, IsAt, Change, Gained, Left, at-within, Config}
+use Rattle.model_line.proofs.Vocabulary.{LineTold, Line, Own, fresh_line, link_number, link_count, service_at, link_in, terms, Aim, at_none, at_link, at_management, at_terminal, at_units, at_no_link, without_units, of_link, of_change, of_management, of_terminal, of_aim, IsInRange, IsSound, IsUnitData, All-nil, sum_of_links, LinkEvent, link_after, TeiEvent, TerminalEvent, tei_down}
 use Rattle.model_link.specs.Sound as link_sounds
-use Rattle.lapd_tei.proofs.LawLemmas as tei_lemmas
+use Rattle.lapd_tei.specs.Laws as tei_laws
 use Rattle.model_line.proofs.AimsSound.{IsProper}
+use Rattle.model_line.proofs.Managed.{IsOwnEvent, by-managed, by-own-event, more_of}
 use Rattle.model_line.proofs.SoundParts.{with_units}
 use Rattle.model_line.proofs.LinksSound.{sound_in}
 use Rattle.model_line.proofs.Numbers.{service_at-number, number_within, sum_changed}
@@ -37,25 +38,32 @@ module _ (c : Config) (f : Service → Link → ℕ) where
       let head : at_number (fresh_line c).links a ≡ 0 = ap (f (service_at a)) (grind (arith, get_or-replicate, get_or_past, length-replicate, cases_lt)) ∙ none (service_at a) in
       omega (arith, head, all_begin none (a + 1) n, sum_by-cons (at_number (fresh_line c).links) a (range_with_len (a + 1) n))
 
--- The number of a link rises by a price of the event, and that of TEI management by one at most.
-pub record Rise (c : Config) (f : Service → Link → ℕ) (g : Management → ℕ) (price : Service → ℕ → LinkEvent → Link → ℕ) (most : ℕ) : Type 0 where
+-- The messages of TEI management that wait.
+abbrev pub messages : Line → ℕ
+messages l = length l.management.waiting + length l.own.waiting
+
+-- The number of a link rises by a price of the event. (Messages count, or do not.)
+pub record Rise (c : Config) (f : Service → Link → ℕ) (price : Service → ℕ → LinkEvent → Link → ℕ) : Type 0 where
   pub begins : (service : Service) → f service fresh ≡ 0
   pub link : (service : Service) (tei : ℕ) → tei ≤ 126 → (e : LinkEvent) (x : Link) → link_sounds.IsSound (terms c service tei) x
       → f service (link_after (terms c service tei) e x) ≤ f service x + price service tei e x
-  pub management : (e : TeiEvent) (m : Management) → g (tei_after e m) ≤ g m + most
 
-module _ {c : Config} {f : Service → Link → ℕ} {g : Management → ℕ} {price : Service → ℕ → LinkEvent → Link → ℕ} {most : ℕ} (h : Rise c f g price most) where
+module _ {c : Config} {f : Service → Link → ℕ} {price : Service → ℕ → LinkEvent → Link → ℕ} (counted : Bool) (h : Rise c f price) where
+  abbrev pub if_counted : ℕ → ℕ
+  if_counted n = cond counted n 0
+
   -- The sum, with the units that wait.
   abbrev pub total : Line → ℕ
-  total l = g l.management + length l.units + sum_of_links c (at_number c f l.links)
+  total l = if_counted (messages l) + length l.units + sum_of_links c (at_number c f l.links)
 
   -- The price of an aim.
   abbrev pub price_at : Line → Aim → ℕ
   price_at l (at_none what) = 0
   price_at l (at_link service tei place event) = price service tei event (link_in l service place)
-  price_at l (at_management event) = most
+  price_at l (at_management event) = if_counted (more_of c event)
+  price_at l (at_terminal event) = if_counted 1
   price_at l (at_units unit) = 1
-  price_at l at_no_link = most
+  price_at l at_no_link = if_counted 1
 
   link_rises : (l : Line) → IsInRange c → IsSound c l → (service : Service) (tei place : ℕ) (e : LinkEvent) → IsAt l.management.places place tei
       → total (of_link c service tei place e l).line ≤ total l + price service tei e (link_in l service place)
@@ -68,17 +76,33 @@ module _ {c : Config} {f : Service → Link → ℕ} {g : Management → ℕ} {p
       let after : f (service_at n) x ≡ f service x = ap (λ y. f y x) (service_at-number place service) in
       omega (arith, (h.link service tei (s.management.table.range place tei at) e (link_in l service place) (sound_in c ranged l s service tei place at)), sums, before, after)
 
-  change_rises : (l : Line) (m : Management) (change : Option Change) (told : LineTold) → IsSound c l
-      → g m ≤ g l.management + most → Moves l.management.places change m.places
-      → total (of_change c change told (record l { management = m })).line ≤ total l + most
-  change_rises l m (Some (Gained tei place)) told s more joined =
-      omega (arith, more, both_begin c f h.begins l.links place s.count (omega (arith, joined.within, s.places)))
-  change_rises l m change told s more moves = grind (arith, both_begin)
+  messages_rise : (before more after : ℕ) → after ≤ before + more → if_counted after ≤ if_counted before + if_counted more
+  messages_rise before more after few = elim counted as (λ b. cond b after 0 ≤ cond b before 0 + cond b more 0) [ true ↦ few | false ↦ omega arith ]
+
+  change_rises : (l : Line) (more : ℕ) (m : Management) (own : Own) (change : Option Change) (told : LineTold) → IsSound c l
+      → length m.waiting + length own.waiting ≤ messages l + more → Moves l.management.places change m.places
+      → total (of_change c change told (record l { management = m; own = own })).line ≤ total l + if_counted more
+  change_rises l more m own None told s few moves = omega (arith, messages_rise (messages l) more (length m.waiting + length own.waiting) few)
+  change_rises l more m own (Some (Gained tei place)) told s few joined =
+      omega (arith, messages_rise (messages l) more (length m.waiting + length own.waiting) few, both_begin c f h.begins l.links place s.count (omega (arith, joined.within, s.places)))
+  change_rises l more m own (Some (Left tei place)) told s few left =
+      omega (arith, messages_rise (messages l) more (length m.waiting + length own.waiting) few, both_begin c f h.begins l.links place s.count (omega (arith, left.within, s.places)))
+
+  management_rises : (l : Line) → IsSound c l → (e : TeiEvent) → tei_laws.IsInRange e → total (of_management c e l).line ≤ total l + if_counted (more_of c e)
+  management_rises l s e range =
+      by-managed c l s (λ change out. total out.line ≤ total l + if_counted (more_of c e)) e range
+      (λ change told m own step. change_rises l (more_of c e) m own change told s step.rises step.moves)
+
+  own_rises : (l : Line) → IsSound c l → (e : TerminalEvent) → IsOwnEvent c e → total (of_terminal c e l).line ≤ total l + if_counted 1
+  own_rises l s e proper =
+      by-own-event c l s (λ change out. total out.line ≤ total l + if_counted 1) e proper
+      (λ change told m own step. change_rises l 1 m own change told s step.rises step.moves)
 
   pub aim_rises : (l : Line) (aim : Aim) → IsInRange c → IsSound c l → IsProper c l aim → total (of_aim c aim l).line ≤ total l + price_at l aim
+  aim_rises l (at_none what) ranged s proper = omega arith
+  aim_rises l (at_link service tei place event) ranged s proper = link_rises l ranged s service tei place event proper
+  aim_rises l (at_management event) ranged s proper = management_rises l s event proper
+  aim_rises l (at_terminal event) ranged s proper = own_rises l s event proper
+  aim_rises l (at_units unit) ranged s proper = omega (arith, length-append l.units (unit ∷ []))
   aim_rises l at_no_link ranged s proper =
-      let rises = change_rises (without_units l) (tei_after tei_down l.management) (tei_told tei_down l.management).change
-      (told_of_management (tei_told tei_down l.management)) (with_units c l s [] (All-nil (IsUnitData c)) (omega arith))
-      (h.management tei_down l.management) (tei_lemmas.changes_are_told tei_down l.management tt s.management) in
-      omega (arith, rises)
-  aim_rises l aim ranged s proper = grind (arith, link_rises, change_rises, tei_lemmas.changes_are_told, length-append)
+      omega (arith, management_rises (without_units l) (with_units c l s [] (All-nil (IsUnitData c)) (omega arith)) tei_down tt)

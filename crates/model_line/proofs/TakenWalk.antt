@@ -1,7 +1,8 @@
 -- What holds of each frame that can be taken holds of the one that is.
-use Rattle.model_line.proofs.Vocabulary.{◌≡◌, ℕ, zero, suc, ◌+◌, ◌≤◌, ◌<◌, List, [], ◌∷◌, take, drop, Option, Some, None, option_map, IfSome, arith, All, range_with_len, option_or, All-nil, All-cons, All-head, All-tail, All-drop, All-take, All-append, Given, frame_of, Message, IsAt, Config, Line, UnitData, link_count, service_at, place_at, terms, link_at, Taken, with_message, with_unit}
+use Rattle.model_line.proofs.Vocabulary.{◌≡◌, ℕ, zero, suc, ◌+◌, ◌≤◌, ◌<◌, List, [], ◌∷◌, take, drop, Option, Some, None, option_map, IfSome, arith, All, range_with_len, option_or, All-nil, All-cons, All-head, All-tail, All-drop, All-take, All-append, Given, Management, IsAt, Config, Line, Own, UnitData, link_count, service_at, place_at, terms, link_at, Taken, with_unit}
 use Rattle.model_line.proofs.Vocabulary.{with_given_frame, link_taken, first_taken, round, taken, line_of, option_map_or, IsSound, given}
 use Rattle.model_link.specs.Sound as link_sound
+use Rattle.model_line.proofs.Outgoing.{GoesOut, without_message, message_walk}
 use Rattle.model_line.proofs.SoundParts.{any_link}
 
 range_below : (a n top : ℕ) → a + n ≤ top → All (λ x. x < top) (range_with_len a n)
@@ -24,7 +25,7 @@ either P o rest h h' = grind arith
 
 -- A message of TEI management, unit data, or a frame of a link that has a TEI.
 module _ (c : Config) (l : Line) (s : IsSound c l) (P : Taken → Type 0)
-    (message : (m : Message) (ms : List Message) → l.management.waiting ≡ m ∷ ms → P (with_message l (frame_of c.side m)))
+    (message : (octets : List ℕ) (m : Management) (own : Own) → GoesOut c l octets m own → P (without_message l octets m own))
     (unit : (u : UnitData) (us : List UnitData) → l.units ≡ u ∷ us → P (with_unit c l u))
     (by_link : (n tei : ℕ) → n < link_count c → IsAt l.management.places (place_at n) tei → link_sound.IsSound (terms c (service_at n) tei) (link_at n l)
     → (g : Given) → given (terms c (service_at n) tei) (link_at n l) ≡ Some g → P (with_given_frame c l n (terms c (service_at n) tei) g)) where
@@ -38,7 +39,7 @@ module _ (c : Config) (l : Line) (s : IsSound c l) (P : Taken → Type 0)
       (first_walk ns (All-tail (λ n. n < link_count c) n ns all))
 
   pub taken_walk : IfSome (taken c l) P
-  taken_walk = grind (arith, either, first_walk, round_below)
+  taken_walk = grind (arith, either, message_walk, first_walk, round_below)
 
 -- So the line after it is as it was, or what was taken is gone.
 pub next_walk : (c : Config) (l : Line) (P : Taken → Type 0) (Q : Option Taken → Line → Type 0) → IfSome (taken c l) P

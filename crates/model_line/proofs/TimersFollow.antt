@@ -1,16 +1,17 @@
 -- A caller that obeys the orders runs the timers that a line runs: each event of the line.
-use Rattle.model_line.proofs.Vocabulary.{◌≡◌, ℕ, zero, suc, Bool, false, arith, eq-eqb, is_some, List, get_or, replicate, Option, Some, None, refl, ap, sym, ◌∙◌, subst, inl, inr, option_map_or, none-some, Service, Order, Timer, T201, LinkTimer, Link, obeyed, IsTimed, Given, timer_at, Terms, Follows, Moves, Management, IsSoundTable, Change, Gained, Left, t201_follows, expired_t201_follows}
-use Rattle.model_line.proofs.Vocabulary.{place_of-is, Config, request, gave, hears, next, at_link, at_management, told_of_management, of_change, of_aim, at_timer, is_running, orders_in, Line, link_number, service_at, place_at, place_in, link_at, link_in, terms, with_link, fresh_line, aim_of_heard, Taken, with_unit, taken, next_of, line_of, Request, at_requested, at_deactivated, aim_of_request}
-use Rattle.model_line.proofs.Vocabulary.{Down, without_units, at_no_link, option_map, eqb-true, T200, T203, Event, expiry, after, answer, with_message, IsSound, runs_then, link_offer, link_received, link_expired, link_requested, LinkRequest, link_cleared, LinkEvent, link_given, link_told, link_after, StreamEvent, tei_down, tei_message, tei_told, tei_after, tei_expiry, TeiEvent, runs_at}
+use Rattle.model_line.proofs.Vocabulary.{◌≡◌, ℕ, zero, suc, Bool, false, arith, eq-eqb, is_some, List, get_or, replicate, Option, Some, None, refl, ap, sym, ◌∙◌, subst, inl, inr, option_map_or, none-some, Service, Order, Timer, T201, T202, LinkTimer, Link, obeyed, IsTimed, Given, timer_at, Terms, is_same, Management, Change, Gained, Left}
+use Rattle.model_line.proofs.Vocabulary.{place_of-is, Config, request, gave, hears, next, at_link, at_management, at_terminal, Effect, LineTold, Own, of_change, of_aim, at_timer, is_running, orders_in, Line, link_number, service_at, place_at, place_in, link_at, link_in, terms, with_link, fresh_line, aim_of_heard, Taken, with_unit, taken, next_of, line_of, Request, at_requested, at_deactivated, aim_of_request}
+use Rattle.model_line.proofs.Vocabulary.{Down, without_units, at_no_link, option_map, eqb-true, T200, T203, Event, expiry, after, answer, IsSound, runs_then, link_offer, link_received, link_expired, link_requested, LinkRequest, link_cleared, LinkEvent, link_given, link_told, link_after, StreamEvent, tei_down, tei_message, tei_expiry, TeiEvent, TerminalEvent, terminal_expiry, runs_at}
 use Rattle.model_line.proofs.AimsSound.{IsProper}
 use Rattle.model_line.proofs.ProperAims.{heard_aims, request_proper}
 use Rattle.model_line.proofs.TakenWalk.{next_walk}
 use Rattle.lapd_tei.specs.Laws as tei_laws
-use Rattle.lapd_tei.proofs.LawLemmas as tei_lemmas
-use Rattle.model_line.proofs.Following.{timer_of, each-timer, running-of, same-running, one-steered, management-stays, comes, goes, t201-goes}
+use Rattle.model_line.proofs.Managed.{IsOwnEvent, Step, by-expired-201, by-expired-202, by-managed, by-own-event, more_of}
+use Rattle.model_line.proofs.Outgoing.{without_message}
+use Rattle.model_line.proofs.Following.{each-timer, running-of, same-running, one-steered, management-stays, comes, goes, own-goes}
 use Rattle.model_line.proofs.LinkMoves.{IsOne, taken-one}
 use Rattle.model_line.proofs.Places.{has-no-place}
-use Rattle.model_line.proofs.Obeyed.{Steers, as_it_was, without, steers-event, steers-expiry, both-true}
+use Rattle.model_line.proofs.Obeyed.{Steers, timer_of, as_it_was, without, steers-event, steers-expiry, both-true}
 use Rattle.model_line.proofs.Downs.{down-sound}
 
 -- a number is that of its place and its service
@@ -21,46 +22,42 @@ number-is number = grind (arith, eqb-true, eq-eqb)
 abbrev Follow : (Timer → Bool → Bool) → Line → List Order → Line → Type 0
 Follow left before orders after = (timer : Timer) → obeyed timer (left timer (is_running timer before)) orders ≡ is_running timer after
 
--- T201 is left as `left` says, and the others as they were
-module _ (c : Config) (l : Line) (s : IsSound c l) (left : Timer → Bool → Bool) (ours : (k : LinkTimer) (service : Service) (tei : ℕ) (b : Bool) → left (timer_of k service tei) b ≡ b)
-    (e : TeiEvent) (fits : tei_laws.IsInRange e)
-    (follows : Follows (left T201 (is_some l.management.check)) (tei_told e l.management).orders (is_some (tei_after e l.management).check)) where
-  abbrev m : Management
-  m = tei_after e l.management
+-- T201 and T202 are left as `left` says, and the others as they were.
+not-202 : (t : Terms) (k : LinkTimer) → is_same (timer_at t k) T202 ≡ false
+not-202 t k = grind arith
 
-  sound : IsSoundTable m.places
-  sound = (tei_lemmas.sound-after e l.management fits s.management).table
+not-201 : (t : Terms) (k : LinkTimer) → is_same (timer_at t k) T201 ≡ false
+not-201 t k = grind arith
 
+module _ (c : Config) (l : Line) (s : IsSound c l) (left : Timer → Bool → Bool) (ours : (k : LinkTimer) (service : Service) (tei : ℕ) (b : Bool) → left (timer_of k service tei) b ≡ b) (more : ℕ) where
   abbrev t201 : Bool
   t201 = left T201 (is_some l.management.check)
 
-  abbrev orders : List Order
-  orders = (tei_told e l.management).orders
-
-  abbrev ByChange : Option Change → Type 0
-  ByChange o =
-      let f = of_change c o (told_of_management (tei_told e l.management)) (record l { management = m }) in
-      (timer : Timer) → obeyed timer (left timer (is_running timer l)) f.told.orders ≡ is_running timer f.line
+  abbrev t202 : Bool
+  t202 = left T202 (is_some l.own.procedure)
 
   was : (k : LinkTimer) (service : Service) (tei : ℕ) (os : List Order)
       → obeyed (timer_of k service tei) (left (timer_of k service tei) (is_running (timer_of k service tei) l)) os ≡ obeyed (timer_of k service tei) (is_running (timer_of k service tei) l) os
   was k service tei os = ap (λ b. obeyed (timer_of k service tei) b os) (ours k service tei (is_running (timer_of k service tei) l))
 
-  by-change : (o : Option Change) → Moves l.management.places o m.places → ByChange o
-  by-change None moves =
-      each-timer (λ timer. obeyed timer (left timer (is_running timer l)) orders ≡ is_running timer (record l { management = m })) (grind arith)
-      (λ k service tei. was k service tei orders ∙ management-stays c l s m sound orders t201 follows moves k service tei)
-  by-change (Some (Gained tei place)) joined =
-      let f = of_change c (Some (Gained tei place)) (told_of_management (tei_told e l.management)) (record l { management = m }) in
-      each-timer (λ timer. obeyed timer (left timer (is_running timer l)) orders ≡ is_running timer f.line) (grind arith)
-      (λ k service other. was k service other orders ∙ comes c l s m sound orders t201 follows tei place joined k service other)
-  by-change (Some (Left tei place)) gone =
-      let f = of_change c (Some (Left tei place)) (told_of_management (tei_told e l.management)) (record l { management = m }) in
-      each-timer (λ timer. obeyed timer (left timer (is_running timer l)) f.told.orders ≡ is_running timer f.line) (t201-goes c l s m sound orders t201 follows tei place gone)
-      (λ k service other. was k service other f.told.orders ∙ goes c l s m sound orders t201 follows tei place gone k service other)
+  abbrev Follows : Effect → Type 0
+  Follows f = Follow left l f.told.orders f.line
 
-  pub management-followed : Follow left l (of_aim c (at_management e) l).told.orders (of_aim c (at_management e) l).line
-  management-followed = by-change (tei_told e l.management).change (tei_lemmas.changes_are_told e l.management fits s.management)
+  pub by-step : (o : Option Change) (told : LineTold) (m : Management) (own : Own) → Step c l t201 t202 more o told m own → Follows (of_change c o told (record l { management = m; own = own }))
+  by-step None told m own step =
+      let f = of_change c None told (record l { management = m; own = own }) in
+      each-timer (λ timer. obeyed timer (left timer (is_running timer l)) f.told.orders ≡ is_running timer f.line) step.check step.procedure
+      (λ k service tei. was k service tei told.orders ∙ management-stays c l s m own step.sound.table told.orders step.links step.moves k service tei)
+  by-step (Some (Gained tei place)) told m own step =
+      let f = of_change c (Some (Gained tei place)) told (record l { management = m; own = own }) in
+      each-timer (λ timer. obeyed timer (left timer (is_running timer l)) f.told.orders ≡ is_running timer f.line) step.check step.procedure
+      (λ k service other. was k service other told.orders ∙ comes c l s m own step.sound.table told.orders step.links tei place step.moves k service other)
+  by-step (Some (Left tei place)) told m own step =
+      let f = of_change c (Some (Left tei place)) told (record l { management = m; own = own }) in
+      each-timer (λ timer. obeyed timer (left timer (is_running timer l)) f.told.orders ≡ is_running timer f.line)
+      (own-goes c l s m own step.sound.table told.orders step.links tei place step.moves T201 not-201 t201 (is_some m.check) step.check)
+      (own-goes c l s m own step.sound.table told.orders step.links tei place step.moves T202 not-202 t202 (is_some own.procedure) step.procedure)
+      (λ k service other. was k service other f.told.orders ∙ goes c l s m own step.sound.table told.orders step.links tei place step.moves k service other)
 
 -- An event that no part is concerned with, and one of a link.
 module _ (c : Config) (l : Line) (s : IsSound c l) where
@@ -75,7 +72,12 @@ module _ (c : Config) (l : Line) (s : IsSound c l) where
   aimed service tei place e at = link-followed as_it_was service tei place e at (steers-event (terms c service tei) e (link_in l service place))
 
   pub managed : (e : TeiEvent) → tei_laws.IsInRange e → Follow as_it_was l (of_aim c (at_management e) l).told.orders (of_aim c (at_management e) l).line
-  managed e fits = management-followed c l s as_it_was (λ k service tei b. refl) e fits (t201_follows e l.management)
+  managed e fits =
+      by-managed c l s (λ o f. Follow as_it_was l f.told.orders f.line) e fits (by-step c l s as_it_was (λ k service tei b. refl) (more_of c e))
+
+  pub owned : (e : TerminalEvent) → IsOwnEvent c e → Follow as_it_was l (of_aim c (at_terminal e) l).told.orders (of_aim c (at_terminal e) l).line
+  owned e proper =
+      by-own-event c l s (λ o f. Follow as_it_was l f.told.orders f.line) e proper (by-step c l s as_it_was (λ k service tei b. refl) 1)
 
   -- what is heard
   pub heard-followed : (e : StreamEvent) → Follow as_it_was l (of_aim c (aim_of_heard c l e) l).told.orders (of_aim c (aim_of_heard c l e) l).line
@@ -94,11 +96,15 @@ module _ (c : Config) (l : Line) (s : IsSound c l) where
   deactivated service tei None e = λ timer. refl
   deactivated service tei (Some place) e = aimed service tei place link_cleared e
 
+  down-followed : Follow as_it_was (without_units l) (of_aim c at_no_link l).told.orders (of_aim c at_no_link l).line
+  down-followed =
+      by-managed c (without_units l) (down-sound c l s) (λ o f. Follow as_it_was (without_units l) f.told.orders f.line) tei_down tt
+      (by-step c (without_units l) (down-sound c l s) as_it_was (λ k service tei b. refl) 1)
+
   pub request-followed : (r : Request) → IsProper c l (aim_of_request r l) → Follow as_it_was l (of_aim c (aim_of_request r l) l).told.orders (of_aim c (aim_of_request r l) l).line
   request-followed Down proper = λ timer.
-      ap (λ b. obeyed timer b (of_aim c at_no_link l).told.orders) (sym (same-running l (without_units l) refl refl refl timer))
-      ∙ management-followed c (without_units l) (down-sound c l s) as_it_was (λ k service tei b. refl) tei_down tt (t201_follows tei_down l.management) timer
-  request-followed r proper = grind (arith, asked, same-running, managed, deactivated)
+      ap (λ b. obeyed timer b (of_aim c at_no_link l).told.orders) (sym (same-running l (without_units l) refl refl refl refl timer)) ∙ down-followed timer
+  request-followed r proper = grind (arith, asked, same-running, managed, owned, deactivated)
 
   pub expired : (k : LinkTimer) (service : Service) (tei : ℕ) → ((number : ℕ) → IsTimed (link_at number l)) → (o : Option ℕ) → place_in l tei ≡ o
       → Follow (without (timer_of k service tei)) l (of_aim c (at_timer service tei k o) l).told.orders (of_aim c (at_timer service tei k o) l).line
@@ -113,9 +119,16 @@ module _ (c : Config) (l : Line) (s : IsSound c l) where
 
   -- and of T201
   pub t201-expired : Follow (without T201) l (of_aim c (at_management tei_expiry) l).told.orders (of_aim c (at_management tei_expiry) l).line
-  t201-expired = management-followed c l s (without T201) (λ k service tei b. ours k service tei b) tei_expiry tt (expired_t201_follows l.management)
+  t201-expired = by-expired-201 c l s (λ o f. Follow (without T201) l f.told.orders f.line) (by-step c l s (without T201) (λ k service tei b. ours k service tei b) 1)
     where
       ours : (k : LinkTimer) (service : Service) (tei : ℕ) (b : Bool) → without T201 (timer_of k service tei) b ≡ b
+      ours k service tei b = grind arith
+
+  -- and of T202
+  pub t202-expired : Follow (without T202) l (of_aim c (at_terminal terminal_expiry) l).told.orders (of_aim c (at_terminal terminal_expiry) l).line
+  t202-expired = by-expired-202 c l s (λ o f. Follow (without T202) l f.told.orders f.line) (by-step c l s (without T202) (λ k service tei b. ours k service tei b) 1)
+    where
+      ours : (k : LinkTimer) (service : Service) (tei : ℕ) (b : Bool) → without T202 (timer_of k service tei) b ≡ b
       ours k service tei b = grind arith
 
   -- A call for the next frame: what a link gives, it orders as well.
@@ -123,8 +136,10 @@ module _ (c : Config) (l : Line) (s : IsSound c l) where
   given-orders t x g = grind (arith, none-some)
 
   took : (t : Taken) → IsOne c l t → Follow as_it_was l t.orders t.line
-  took t (inl x) = subst (λ (u : Taken). Follow as_it_was l u.orders u.line) (sym x.1) (λ timer. sym (same-running l (with_message l x.0).line refl refl refl timer))
-  took t (inr (inl x)) = subst (λ (u : Taken). Follow as_it_was l u.orders u.line) (sym x.1) (λ timer. sym (same-running l (with_unit c l x.0).line refl refl refl timer))
+  took t (inl x) =
+      subst (λ (u : Taken). Follow as_it_was l u.orders u.line) (sym x.is)
+      (λ timer. sym (same-running l (without_message l x.octets x.m x.own).line x.out.places (ap is_some x.out.check) (ap is_some x.out.procedure) refl timer))
+  took t (inr (inl x)) = subst (λ (u : Taken). Follow as_it_was l u.orders u.line) (sym x.1) (λ timer. sym (same-running l (with_unit c l x.0).line refl refl refl refl timer))
   took t (inr (inr x)) = grind (arith, as_it_was, steered, same-running)
     where
       steers : Steers (terms c (service_at x.number) x.tei) as_it_was x.what.orders (link_at x.number l) (link_after (terms c (service_at x.number) x.tei) link_offer (link_at x.number l))
@@ -150,6 +165,7 @@ runs-follow c (hears e) l timer s timed = heard-followed c l s e timer
 runs-follow c (expiry (T200 service tei)) l timer s timed = expired c l s LinkTimer.T200 service tei timed (place_in l tei) refl timer
 runs-follow c (expiry (T203 service tei)) l timer s timed = expired c l s LinkTimer.T203 service tei timed (place_in l tei) refl timer
 runs-follow c (expiry T201) l timer s timed = t201-expired c l s timer
+runs-follow c (expiry T202) l timer s timed = t202-expired c l s timer
 runs-follow c (request r) l timer s timed = grind (arith, request_proper, request-followed)
 runs-follow c next l timer s timed = next-followed c l s timer
 
@@ -165,5 +181,6 @@ nowhere c tei = has-no-place (replicate c.terminals None) tei (λ i at. none-som
 -- so no timer runs on it
 pub none-run : (c : Config) (timer : Timer) → is_running timer (fresh_line c) ≡ false
 none-run c T201 = refl
+none-run c T202 = refl
 none-run c (T200 service tei) = ap (λ o. runs_at service LinkTimer.T200 o (fresh_line c)) (nowhere c tei)
 none-run c (T203 service tei) = ap (λ o. runs_at service LinkTimer.T203 o (fresh_line c)) (nowhere c tei)

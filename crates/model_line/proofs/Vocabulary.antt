@@ -29,7 +29,7 @@ pub use Rattle.lapd_frame.specs.declared.services.Service.TheVariants.{Call, Pac
 pub use Rattle.lapd_frame.specs.declared.timers.Order.{Order}
 pub use Rattle.lapd_frame.specs.declared.timers.Order.TheVariants.{Start, Stop}
 pub use Rattle.lapd_frame.specs.declared.timers.Timer.{Timer}
-pub use Rattle.lapd_frame.specs.declared.timers.Timer.TheVariants.{T200, T201, T203}
+pub use Rattle.lapd_frame.specs.declared.timers.Timer.TheVariants.{T200, T201, T202, T203}
 pub use Rattle.lapd_tei.proofs.Brief.{IsBrief, told_brief}
 pub use Rattle.lapd_tei.proofs.Followed.{expired_t201_follows, t201_follows}
 pub use Rattle.lapd_tei.proofs.GivenUp.{down_gives_up}
@@ -46,28 +46,35 @@ pub use Rattle.lapd_tei.specs.Table.{Places, is_on, place_of}
 pub use Rattle.lapd_tei.specs.declared.messages.Message.{Message}
 pub use Rattle.lapd_tei.specs.declared.outcome.Change.{Change}
 pub use Rattle.lapd_tei.specs.declared.outcome.Change.TheVariants.{Gained, Left}
+pub use Rattle.lapd_terminal.specs.Events.{Event as TerminalEvent, after as terminal_after, after_offer as terminal_after_offer, down as terminal_down, expiry as terminal_expiry, told as terminal_told}
+unfoldable pub use Rattle.lapd_terminal.specs.Events.{course as terminal_course}
+pub use Rattle.lapd_terminal.specs.Machine.{Terminal, TerminalTold}
+pub use Rattle.lapd_terminal.specs.Messages.{frame_of as own_frame_of}
+pub use Rattle.lapd_terminal.specs.declared.messages.Message.{Message as OwnMessage}
+pub use Rattle.lapd_terminal.specs.declared.outcome.T202Order.{T202Order}
+pub use Rattle.lapd_terminal.specs.declared.procedure.Procedure.{Procedure}
 pub use Rattle.model_bits.specs.Stream.{dropped, overlong, Event as StreamEvent, frame as stream_frame}
 pub use Rattle.model_bits.specs.declared.heard.Cause.{Cause}
 pub use Rattle.model_bits.specs.declared.heard.Cause.TheVariants.{Unserved}
 pub use Rattle.model_line.specs.Config.{is_within}
 unfoldable pub use Rattle.model_line.specs.Config.{sapi_fault}
-pub use Rattle.model_line.specs.Counts.{hears_frame, is_accepted, is_given, is_long_frame, is_pool, is_pool_full, may_send, one, rejects, rejects_aimed}
+pub use Rattle.model_line.specs.Counts.{hears_frame, is_accepted, is_given, brought, is_long_frame, is_pool, is_pool_full, may_send, one, rejects, rejects_aimed}
 pub use Rattle.model_line.specs.Deliveries.{arrived, arrived_aimed, delivered, delivered_at, delivered_in, is_change_at, is_data_of, restarts, restarts_aimed}
-pub use Rattle.model_line.specs.Effect.{Aim, Effect, at_link, at_management, at_no_link, at_none, at_units, of_aim, of_change, of_link, of_management, told_of_link, told_of_management, unserved_cause, without_units}
-pub use Rattle.model_line.specs.Event.{Answer, Event, LineTold, expiry, gave, hears, next, nothing, request, told}
+pub use Rattle.model_line.specs.Effect.{Aim, Effect, at_a_terminal, at_link, at_management, at_no_link, at_none, at_terminal, at_units, change_at_terminal, change_if, change_of, note_of, of_aim, of_change, of_link, of_management, of_network, of_terminal, of_terminal_if, order_of, told_of_link, told_of_management, told_of_terminal, unserved_cause, without_units}
+pub use Rattle.model_line.specs.Event.{Answer, Event, LineTold, expiry, gave, hears, next, nothing, refused, request, told}
 pub use Rattle.model_line.specs.Expiry.{aim_of_expiry, at_timer, is_running, runs_at}
 pub use Rattle.model_line.specs.Laws.{FallsByNext, IsRejectHeard, Rises, cause_in, orders_in}
-pub use Rattle.model_line.specs.Line.{Line, UnitData, fresh_line, link_at, link_count, link_in, link_number, place_at, place_in, service_at, tei_at, terms, terms_at, window, with_link}
+pub use Rattle.model_line.specs.Line.{Line, Own, UnitData, is_terminal, terminal_in, terminal_with, with_terminal, fresh_line, link_at, link_count, link_in, link_number, place_at, place_in, service_at, tei_at, terms, terms_at, window, with_link}
 pub use Rattle.model_line.specs.Machine.{unless_refused, unless_refused_told, aim_of}
 unfoldable pub use Rattle.model_line.specs.Machine.{after, answer, takes_slot}
 pub use Rattle.model_line.specs.Heard.{addressed, aim_of_heard, aim_of_reading, drop_for, heard_side, message_of, to_service, unless_at_link}
-pub use Rattle.model_line.specs.Taken.{first_taken, line_of, link_taken, next_of, own_side, round, Taken, taken, with_given_frame, with_message, with_unit}
+pub use Rattle.model_line.specs.Taken.{first_taken, line_of, link_taken, next_of, own_side, round, Taken, taken, with_given_frame, with_message, with_own_message, with_unit}
 pub use Rattle.model_line.specs.Refusal.{Row, bad_tei, bad_tei_or_group, first_that_holds, no_link, no_link_nor_group, pool_full, queue_full, refusal, too_long, unit_queue_full, wrong_state}
 pub use Rattle.model_line.specs.Request.{Data, Down, Request, Unit}
 pub use Rattle.model_line.specs.Requested.{aim_of_request, at_deactivated, at_requested, carries_contents}
 pub use Rattle.model_line.specs.Runs.{runs_then}
-pub use Rattle.model_line.specs.Sides.{IsToGroup, at_side, group_told, last_unit_tei, told_of_group}
-pub use Rattle.model_line.specs.Sound.{IsInRange, IsSound, IsSoundAt, IsUnitData}
+pub use Rattle.model_line.specs.Sides.{IsToGroup, at_side, group_told, has_management, last_unit_tei, told_of_group}
+pub use Rattle.model_line.specs.Sound.{IsInRange, IsOfSide, IsSound, IsSoundAt, IsUnitData, IsUnused}
 pub use Rattle.model_line.specs.Stored.{held_by_link, held_in, octets_by_link, slots_by_link, slots_of, stored_in, sum_of_links, total_length, unit_length}
 pub use Rattle.model_line.specs.declared.config.Config.{Config}
 pub use Rattle.model_line.specs.declared.config.Field.{Field}

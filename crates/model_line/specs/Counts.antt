@@ -1,5 +1,5 @@
 -- What is counted of a line.
-use Rattle.std.specs.Prelude.{ℕ, ◌+◌, nat_le, Bool, true, false, length, is_some, if◌then◌else◌}
+use Rattle.std.specs.Prelude.{ℕ, ◌+◌, max, nat_le, Bool, true, false, length, is_some, if◌then◌else◌}
 use Rattle.model_bits.specs.Stream as stream
 use Rattle.lapd_frame.specs.declared.refusals.Refusal.{Refusal}
 use Rattle.lapd_frame.specs.declared.refusals.Refusal.TheVariants as refusals
@@ -7,7 +7,7 @@ use Rattle.model_link.specs.Rises as links
 use Rattle.lapd_tei.specs.Machine as tei
 use Rattle.model_line.specs.declared.config.Config.{Config}
 use Rattle.model_line.specs.Event.{Event, hears, expiry, request, next, Answer, told, refused, gave}
-use Rattle.model_line.specs.Line.{Line, terms_at, link_at, link_in}
+use Rattle.model_line.specs.Line.{Line, is_terminal, terms_at, link_at, link_in}
 use Rattle.model_line.specs.Stored.{sum_of_links}
 use Rattle.model_line.specs.Expiry.{is_running}
 use Rattle.model_line.specs.Effect.{Aim, at_link}
@@ -22,7 +22,7 @@ abbrev pub may_send_at_link : Config → Line → ℕ → ℕ
 may_send_at_link c l number = links.may_send (terms_at c number l) (link_at number l)
 
 abbrev pub may_send : Config → Line → ℕ
-may_send c l = tei.may_send l.management + length l.units + sum_of_links c (may_send_at_link c l)
+may_send c l = tei.may_send l.management + length l.own.waiting + length l.units + sum_of_links c (may_send_at_link c l)
 
 -- A frame is heard, or something is dropped in place of one.
 abbrev pub is_frame : stream.Event → Bool
@@ -49,6 +49,11 @@ abbrev pub is_given : Answer → Bool
 is_given (told t) = false
 is_given (refused why) = false
 is_given (gave frame) = is_some frame
+
+-- How many frames one that is heard may bring at most, beside those of an REJ: two, or as a terminal answers a check of all
+-- TEIs, one for each.
+abbrev pub brought : Config → ℕ
+brought c = if is_terminal c then max 2 c.terminals else 2
 
 -- A request that was accepted.
 abbrev pub is_accepted : Event → Answer → Bool

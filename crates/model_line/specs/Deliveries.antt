@@ -7,13 +7,12 @@ use Rattle.lapd_frame.specs.declared.notes.Note.{Note}
 use Rattle.lapd_frame.specs.declared.notes.Note.TheVariants as notes
 use Rattle.std.specs.List.{list_any}
 use Rattle.model_link.specs.Deliveries as links
-use Rattle.lapd_tei.specs.Events as teis
 use Rattle.lapd_tei.specs.declared.outcome.Change.{Change}
 use Rattle.lapd_tei.specs.declared.outcome.Change.TheVariants.{Gained, Left}
 use Rattle.model_line.specs.declared.config.Config.{Config}
 use Rattle.model_line.specs.Event.{Event, Answer, told, refused, gave}
 use Rattle.model_line.specs.Line.{Line, link_number, service_at, place_at, tei_at, terms, link_in}
-use Rattle.model_line.specs.Effect.{Aim, at_none, at_link, at_management, at_units, at_no_link}
+use Rattle.model_line.specs.Effect.{Aim, at_none, at_link, at_management, at_terminal, at_units, at_no_link, change_of, change_at_terminal}
 use Rattle.model_line.specs.Machine.{aim_of}
 
 -- The eligible I-frame that an event brings to a link, if it brings one.
@@ -22,6 +21,7 @@ arrived_aimed c number l (at_none what) = None
 arrived_aimed c number l (at_link service tei place event) =
     if link_number place service == number then links.eligible (terms c service tei) event (link_in l service place) else None
 arrived_aimed c number l (at_management event) = None
+arrived_aimed c number l (at_terminal event) = None
 arrived_aimed c number l (at_units unit) = None
 arrived_aimed c number l at_no_link = None
 
@@ -39,7 +39,8 @@ abbrev pub restarts_aimed : Config → ℕ → Line → Aim → Bool
 restarts_aimed c number l (at_none what) = false
 restarts_aimed c number l (at_link service tei place event) =
     if link_number place service == number then links.restarts (terms c service tei) event (link_in l service place) else false
-restarts_aimed c number l (at_management event) = is_change_at (place_at number) (teis.told event l.management).change
+restarts_aimed c number l (at_management event) = is_change_at (place_at number) (change_of c event l)
+restarts_aimed c number l (at_terminal event) = is_change_at (place_at number) (change_at_terminal event l)
 restarts_aimed c number l (at_units unit) = false
 restarts_aimed c number l at_no_link = false
 

@@ -1,5 +1,5 @@
 -- What an event is to the parts of a line, and what comes of it.
-use Rattle.std.specs.Prelude.{ℕ, Bool, [], ◌∷◌, ◌++◌, Option, Some, None, if◌then◌else◌}
+use Rattle.std.specs.Prelude.{ℕ, Bool, [], ◌∷◌, ◌++◌, Option, Some, None, option_map, option_to_list, if◌then◌else◌}
 use Rattle.std.specs.Option.{option_or}
 use Rattle.model_bits.specs.declared.heard.Cause.{Cause}
 use Rattle.model_bits.specs.declared.heard.Cause.TheVariants.{Unserved}
@@ -11,11 +11,22 @@ use Rattle.model_link.specs.Machine as links
 use Rattle.model_link.specs.Told as link_told
 use Rattle.lapd_tei.specs.Events as teis
 use Rattle.lapd_tei.specs.Machine as tei
+use Rattle.lapd_frame.specs.declared.notes.Note.{Note}
+use Rattle.lapd_frame.specs.declared.notes.Note.TheVariants as notes
+use Rattle.lapd_frame.specs.declared.timers.Order.{Order}
+use Rattle.lapd_frame.specs.declared.timers.Order.TheVariants as orders
+use Rattle.lapd_frame.specs.declared.timers.Timer.TheVariants.{T202}
+use Rattle.lapd_terminal.specs.Events as terminals
+use Rattle.lapd_terminal.specs.Machine.{TerminalTold}
+use Rattle.lapd_terminal.specs.declared.outcome.News.{News}
+use Rattle.lapd_terminal.specs.declared.outcome.News.TheVariants as news
+use Rattle.lapd_terminal.specs.declared.outcome.T202Order.{T202Order}
+use Rattle.lapd_terminal.specs.declared.outcome.T202Order.TheVariants as t202
 use Rattle.lapd_tei.specs.declared.outcome.Change.{Change}
 use Rattle.lapd_tei.specs.declared.outcome.Change.TheVariants.{Gained, Left}
 use Rattle.model_line.specs.declared.config.Config.{Config}
 use Rattle.model_line.specs.Event.{LineTold, nothing}
-use Rattle.model_line.specs.Line.{Line, UnitData, link_number, link_in, with_link, terms}
+use Rattle.model_line.specs.Line.{Line, is_terminal, terminal_in, with_terminal, UnitData, link_number, link_in, with_link, terms}
 
 pub data Aim : Type 0 where
   -- no part is concerned
@@ -24,6 +35,8 @@ pub data Aim : Type 0 where
   at_link : Service → ℕ → ℕ → link.Event → Aim
   -- TEI management is
   at_management : teis.Event → Aim
+  -- a terminal's is, for what the network's has no event
+  at_terminal : terminals.Event → Aim
   -- unit data goes to the end of those that wait
   at_units : UnitData → Aim
   -- what waits and is of no link is given up
@@ -77,10 +90,65 @@ of_change c (Some (Left tei place)) told l =
     let packet = of_link c Packet tei place link.cleared call.line in
     record { line = packet.line; told = with_cleared call.told packet.told told }
 
-abbrev pub of_management : Config → teis.Event → Line → Effect
-of_management c event l =
+abbrev pub of_network : Config → teis.Event → Line → Effect
+of_network c event l =
     let t = teis.told event l.management in
     of_change c t.change (told_of_management t) (record l { management = teis.after event l.management })
+
+-- The same of a terminal. What it tells is a note at most, and an order of T202.
+abbrev pub note_of : News → Note
+note_of (news.Assigned tei) = notes.Assigned tei
+note_of (news.Removed tei) = notes.Removed tei
+note_of news.Denied = notes.Denied
+note_of news.Unassigned = notes.Unassigned
+note_of news.RemoveAll = notes.RemoveAll
+
+abbrev pub order_of : T202Order → Order
+order_of t202.Start = orders.Start T202
+order_of t202.Stop = orders.Stop T202
+
+abbrev pub told_of_terminal : TerminalTold → LineTold
+told_of_terminal t = record {
+  notes = option_to_list (option_map note_of t.news);
+  contents = None;
+  cause = unserved_cause t.unserved;
+  orders = option_to_list (option_map order_of t.order);
+  lost = 0;
+}
+
+abbrev pub of_terminal : Config → terminals.Event → Line → Effect
+of_terminal c event l =
+    let t = terminals.told event (terminal_in l) in
+    of_change c t.change (told_of_terminal t) (with_terminal (terminals.after event (terminal_in l)) l)
+
+-- An event of TEI management is that of the side: of the network's, also at a trunk's end, or of a terminal. (T201 does not
+-- run at a terminal, and it neither checks nor disowns a TEI.)
+abbrev pub at_a_terminal : teis.Event → Option terminals.Event
+at_a_terminal (teis.message octets) = Some (terminals.message octets)
+at_a_terminal teis.expiry = None
+at_a_terminal (teis.assign tei) = Some (terminals.assign tei)
+at_a_terminal (teis.remove tei) = Some (terminals.remove tei)
+at_a_terminal (teis.check tei) = None
+at_a_terminal (teis.disown tei) = None
+at_a_terminal teis.down = Some terminals.down
+
+abbrev pub of_terminal_if : Config → Option terminals.Event → Line → Effect
+of_terminal_if c None l = record { line = l; told = nothing }
+of_terminal_if c (Some event) l = of_terminal c event l
+
+abbrev pub of_management : Config → teis.Event → Line → Effect
+of_management c event l = if is_terminal c then of_terminal_if c (at_a_terminal event) l else of_network c event l
+
+-- The change of the TEIs that such an event brings.
+abbrev pub change_at_terminal : terminals.Event → Line → Option Change
+change_at_terminal event l = (terminals.told event (terminal_in l)).change
+
+abbrev pub change_if : Option terminals.Event → Line → Option Change
+change_if None l = None
+change_if (Some event) l = change_at_terminal event l
+
+abbrev pub change_of : Config → teis.Event → Line → Option Change
+change_of c event l = if is_terminal c then change_if (at_a_terminal event) l else (teis.told event l.management).change
 
 -- The line is down: the unit data that waits is given up, and what TEI management has going.
 abbrev pub without_units : Line → Line
@@ -91,5 +159,6 @@ abbrev pub of_aim : Config → Aim → Line → Effect
 of_aim c (at_none told) l = record { line = l; told = told }
 of_aim c (at_link service tei place event) l = of_link c service tei place event l
 of_aim c (at_management event) l = of_management c event l
+of_aim c (at_terminal event) l = of_terminal c event l
 of_aim c (at_units unit) l = record { line = record l { units = l.units ++ unit ∷ [] }; told = nothing }
 of_aim c at_no_link l = of_management c teis.down (without_units l)

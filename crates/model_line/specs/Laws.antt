@@ -7,17 +7,17 @@ use Rattle.lapd_frame.specs.declared.timers.Order.{Order}
 use Rattle.model_line.specs.declared.config.Config.{Config}
 use Rattle.model_line.specs.Event.{Event, next, NextFrame, Answer, told, refused, gave}
 use Rattle.model_line.specs.Line.{Line}
-use Rattle.model_line.specs.Counts.{one, may_send, hears_frame, hears_long_frame, is_given, is_accepted, is_running_expiry, rejects}
+use Rattle.model_line.specs.Counts.{one, may_send, brought, hears_frame, hears_long_frame, is_given, is_accepted, is_running_expiry, rejects}
 use Rattle.model_line.specs.Machine.{after, answer}
 
 -- The frame that a line gives, and those that it may still send without anything else happening, rise by no more than two
--- for each frame that is heard, one for an accepted request, k + 1 for the expiry of a running timer, and k for an REJ with a
--- valid N(R), where k is the greater of both windows.
+-- for each frame that is heard (or so many as a terminal may have TEIs), one for an accepted request, k + 1 for the expiry of
+-- a running timer, and k for an REJ with a valid N(R), where k is the greater of both windows.
 abbrev pub Rises : Config → Event → Line → Type 0
 Rises c e l =
     let k = max c.k c.k16 in
     one (is_given (answer c e l)) + may_send c (after c e l)
-    ≤ may_send c l + 2 * one (hears_frame e) + one (is_accepted e (answer c e l))
+    ≤ may_send c l + brought c * one (hears_frame e) + one (is_accepted e (answer c e l))
     + (k + 1) * one (is_running_expiry e l) + k * one (rejects c e l)
 
 -- An REJ is a frame of four octets.

@@ -1,12 +1,17 @@
 -- A line: TEI management, the links of its TEIs, unit data that waits, and whose turn it is.
-use Rattle.std.specs.Prelude.{ℕ, ◌+◌, ◌*◌, ◌/◌, ◌%◌, ◌==◌, Bool, List, [], replicate, get_or, set, Option, None, option_map, if◌then◌else◌}
+use Rattle.std.specs.Prelude.{ℕ, ◌+◌, ◌*◌, ◌/◌, ◌%◌, ◌==◌, Bool, false, List, [], replicate, get_or, set, Option, None, is_some, option_map, if◌then◌else◌}
 use Rattle.std.specs.Option.{option_map_or, unwrap_or}
+use Rattle.lapd_frame.specs.declared.addresses.Side.{Side}
+use Rattle.lapd_frame.specs.declared.addresses.Side.TheVariants.{User, Network}
 use Rattle.lapd_frame.specs.declared.services.Service.{Service}
 use Rattle.lapd_frame.specs.declared.services.Service.TheVariants.{Call, Packet}
 use Rattle.model_link.specs.declared.terms.Terms.{Terms}
 use Rattle.model_link.specs.Link.{Link, fresh, state_number}
 use Rattle.lapd_tei.specs.Machine.{Management, empty, place}
 use Rattle.lapd_tei.specs.Table.{is_on}
+use Rattle.lapd_terminal.specs.Machine as terminals
+use Rattle.lapd_terminal.specs.declared.messages.Message.{Message}
+use Rattle.lapd_terminal.specs.declared.procedure.Procedure.{Procedure}
 use Rattle.model_line.specs.declared.config.Config.{Config}
 
 -- Unit data that waits to be sent: to which terminals, and its contents.
@@ -15,9 +20,18 @@ pub record UnitData : Type 0 where
   pub tei : ℕ
   pub contents : List ℕ
 
+-- What a terminal has of TEI management beside the table of the TEIs: its reference number, the procedure that runs, and the
+-- messages that wait.
+pub record Own : Type 0 where
+  pub number : ℕ
+  pub procedure : Option Procedure
+  pub waiting : List Message
+
 pub record Line : Type 0 where
-  -- TEI management
+  -- TEI management: the table of the TEIs, and what the network's side has beside it
   pub management : Management
+  -- and what a terminal has
+  pub own : Own
   -- the links of all places of the TEI table, at each place that of call control before that of packet mode
   pub links : List Link
   -- unit data that waits to be sent, oldest first
@@ -39,10 +53,23 @@ place_at number = number / 2
 abbrev pub link_count : Config → ℕ
 link_count c = 2 * c.terminals
 
+-- Whether a side is a terminal, whose TEIs the network assigns, and the first of its reference numbers, which have 16 bits.
+-- (The seed is looked at for the user's side alone. The other sides use no number.)
+abbrev pub is_at : Side → Option ℕ → Bool
+is_at Network seed = false
+is_at User seed = is_some seed
+
+abbrev pub is_terminal : Config → Bool
+is_terminal c = is_at c.side c.seed
+
+abbrev pub seed_of : Config → ℕ
+seed_of c = if is_terminal c then unwrap_or c.seed 0 % 65536 else 0
+
 -- As a line begins.
 abbrev pub fresh_line : Config → Line
 fresh_line c = record {
   management = empty c.terminals;
+  own = record { number = seed_of c; procedure = None; waiting = [] };
   links = replicate (link_count c) fresh;
   units = [];
   turn = 0;
@@ -70,6 +97,19 @@ link_at number l = get_or l.links number fresh
 
 abbrev pub with_link : ℕ → Link → Line → Line
 with_link number link l = record l { links = set l.links number link }
+
+-- TEI management of a terminal, and the line with another one in its place.
+abbrev pub terminal_with : Management → Own → terminals.Terminal
+terminal_with m own = record { places = m.places; number = own.number; procedure = own.procedure; waiting = own.waiting }
+
+abbrev pub terminal_in : Line → terminals.Terminal
+terminal_in l = terminal_with l.management l.own
+
+abbrev pub with_terminal : terminals.Terminal → Line → Line
+with_terminal t l = record l {
+  management = record l.management { places = t.places };
+  own = record { number = t.number; procedure = t.procedure; waiting = t.waiting };
+}
 
 -- A TEI is on the line, or not, and if it is, at a place.
 abbrev pub has_tei : ℕ → Line → Bool

@@ -8,9 +8,9 @@ use Rattle.model_link.specs.Requests.{serves, is_queue_full}
 use Rattle.lapd_tei.specs.Machine.{messages_limit}
 use Rattle.lapd_tei.specs.Table.{free_place, is_in_use}
 use Rattle.model_line.specs.declared.config.Config.{Config}
-use Rattle.model_line.specs.Request.{Request, Establish, Release, Data, Unit, Assign, Remove, Check, Disown, SetBusy, ClearBusy, Deactivate, Down}
-use Rattle.model_line.specs.Sides.{last_unit_tei, has_management}
-use Rattle.model_line.specs.Line.{Line, terms, has_tei, link_of}
+use Rattle.model_line.specs.Request.{Request, Establish, Release, Data, Unit, Assign, Remove, Check, Disown, AskTei, VerifyTei, SetBusy, ClearBusy, Deactivate, Down}
+use Rattle.model_line.specs.Sides.{last_unit_tei, has_management, is_network}
+use Rattle.model_line.specs.Line.{Line, is_terminal, terms, has_tei, link_of}
 
 -- A row: why, and whether it holds.
 pub record Row : Type 0 where
@@ -71,9 +71,20 @@ check_running l = record { why = CheckRunning; holds = is_some l.management.chec
 abbrev pub control_full : Line → Row
 control_full l = record { why = ControlFull; holds = nat_le messages_limit (length l.management.waiting) }
 
--- TEI management is the network's: the user's side neither takes a TEI off the line, nor checks one, nor disowns one.
+-- A procedure of a terminal runs.
+abbrev pub procedure_running : Line → Row
+procedure_running l = record { why = CheckRunning; holds = is_some l.own.procedure }
+
+-- A trunk's end has no TEI management, and takes no TEI off the line. Only the network's side checks or disowns one, and only a terminal
+-- asks for one and has it verified.
 abbrev pub wrong_side : Config → Row
-wrong_side c = record { why = WrongSide; holds = not (has_management c.side) }
+wrong_side c = record { why = WrongSide; holds = not (has_management c) }
+
+abbrev pub not_network : Config → Row
+not_network c = record { why = WrongSide; holds = not (is_network c.side) }
+
+abbrev pub not_terminal : Config → Row
+not_terminal c = record { why = WrongSide; holds = not (is_terminal c) }
 
 -- The rows that apply to a request, in order, while the card's pool is full or not.
 abbrev pub rows : Config → Bool → Request → Line → List Row
@@ -86,8 +97,10 @@ rows c full (Unit service tei contents) l =
     bad_tei_or_group c tei ∷ no_link_nor_group tei l ∷ too_long c contents ∷ unit_queue_full c l ∷ pool_full full ∷ []
 rows c full (Assign tei) l = bad_tei tei ∷ tei_taken tei l ∷ table_full l ∷ []
 rows c full (Remove tei) l = wrong_side c ∷ bad_tei tei ∷ no_link tei l ∷ control_full l ∷ []
-rows c full (Check tei) l = wrong_side c ∷ bad_tei tei ∷ no_link tei l ∷ check_running l ∷ control_full l ∷ []
-rows c full (Disown tei) l = wrong_side c ∷ bad_tei_or_all tei ∷ tei_in_use tei l ∷ control_full l ∷ []
+rows c full AskTei l = not_terminal c ∷ table_full l ∷ procedure_running l ∷ []
+rows c full (VerifyTei tei) l = not_terminal c ∷ bad_tei tei ∷ no_link tei l ∷ procedure_running l ∷ []
+rows c full (Check tei) l = not_network c ∷ bad_tei tei ∷ no_link tei l ∷ check_running l ∷ control_full l ∷ []
+rows c full (Disown tei) l = not_network c ∷ bad_tei_or_all tei ∷ tei_in_use tei l ∷ control_full l ∷ []
 rows c full (SetBusy service tei) l = bad_tei tei ∷ no_link tei l ∷ wrong_state service tei link.SetBusy l ∷ []
 rows c full (ClearBusy service tei) l = bad_tei tei ∷ no_link tei l ∷ wrong_state service tei link.ClearBusy l ∷ []
 rows c full (Deactivate service tei) l = bad_tei tei ∷ no_link tei l ∷ []

@@ -12,6 +12,8 @@ pub data Request : Type 0 where
   Remove : ℕ → Request
   Check : ℕ → Request
   Disown : ℕ → Request
+  AskTei : Request
+  VerifyTei : ℕ → Request
   SetBusy : Service → ℕ → Request
   ClearBusy : Service → ℕ → Request
   Deactivate : Service → ℕ → Request
@@ -27,6 +29,8 @@ request_of (rust.TheVariants.Assign tei) = Assign tei
 request_of (rust.TheVariants.Remove tei) = Remove tei
 request_of (rust.TheVariants.Check tei) = Check tei
 request_of (rust.TheVariants.Disown tei) = Disown tei
+request_of rust.TheVariants.AskTei = AskTei
+request_of (rust.TheVariants.VerifyTei tei) = VerifyTei tei
 request_of (rust.TheVariants.SetBusy service tei) = SetBusy service tei
 request_of (rust.TheVariants.ClearBusy service tei) = ClearBusy service tei
 request_of (rust.TheVariants.Deactivate service tei) = Deactivate service tei

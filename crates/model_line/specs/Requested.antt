@@ -3,10 +3,11 @@ use Rattle.std.specs.Prelude.{ℕ, Bool, true, false, Option, Some, None}
 use Rattle.lapd_frame.specs.declared.services.Service.{Service}
 use Rattle.model_link.specs.Events as link
 use Rattle.lapd_tei.specs.Events as teis
-use Rattle.model_line.specs.Request.{Request, Establish, Release, Data, Unit, Assign, Remove, Check, Disown, SetBusy, ClearBusy, Deactivate, Down}
+use Rattle.lapd_terminal.specs.Events as terminals
+use Rattle.model_line.specs.Request.{Request, Establish, Release, Data, Unit, Assign, Remove, Check, Disown, AskTei, VerifyTei, SetBusy, ClearBusy, Deactivate, Down}
 use Rattle.model_line.specs.Event.{nothing}
 use Rattle.model_line.specs.Line.{Line, place_in}
-use Rattle.model_line.specs.Effect.{Aim, at_none, at_link, at_management, at_units, at_no_link}
+use Rattle.model_line.specs.Effect.{Aim, at_none, at_link, at_management, at_terminal, at_units, at_no_link}
 
 -- A request of the link of a service with a TEI.
 abbrev pub at_requested : Service → ℕ → link.Request → Option ℕ → Aim
@@ -32,6 +33,8 @@ aim_of_request (Assign tei) l = at_management (teis.assign tei)
 aim_of_request (Remove tei) l = at_management (teis.remove tei)
 aim_of_request (Check tei) l = at_management (teis.check tei)
 aim_of_request (Disown tei) l = at_management (teis.disown tei)
+aim_of_request AskTei l = at_terminal terminals.ask
+aim_of_request (VerifyTei tei) l = at_terminal (terminals.verify tei)
 aim_of_request (SetBusy service tei) l = to_link service tei link.SetBusy l
 aim_of_request (ClearBusy service tei) l = to_link service tei link.ClearBusy l
 aim_of_request (Deactivate service tei) l = at_deactivated service tei (place_in l tei)

@@ -1,5 +1,5 @@
 -- What differs on the two sides of a line, beside the C/R bit.
-use Rattle.std.specs.Prelude.{◌≡◌, ℕ, ◌≤◌, ◌==◌, Bool, true, false, nat_le, List, [], ◌∷◌, length, Option, Some, None, if◌then◌else◌}
+use Rattle.std.specs.Prelude.{◌≡◌, ℕ, ◌≤◌, ◌==◌, ◌&&◌, ◌||◌, Bool, true, false, nat_le, List, [], ◌∷◌, length, Option, Some, None, if◌then◌else◌}
 use Rattle.model_bits.specs.declared.heard.Cause.TheVariants.{Unserved}
 use Rattle.lapd_frame.specs.declared.addresses.Side.{Side}
 use Rattle.lapd_frame.specs.declared.addresses.Side.TheVariants.{User, Network}
@@ -12,7 +12,8 @@ use Rattle.lapd_frame.specs.Services.{service_of}
 use Rattle.lapd_tei.specs.Events as teis
 use Rattle.model_line.specs.declared.config.Config.{Config}
 use Rattle.model_line.specs.Event.{LineTold, nothing, dropped}
-use Rattle.model_line.specs.Effect.{Aim, at_none, at_link, at_management, at_units, at_no_link}
+use Rattle.model_line.specs.Effect.{Aim, at_none, at_link, at_management, at_terminal, at_units, at_no_link}
+use Rattle.model_line.specs.Line.{is_terminal}
 
 -- The group of all terminals of a line (Q.921 clause 3.3.4).
 abbrev pub group_tei : ℕ
@@ -37,16 +38,18 @@ abbrev pub told_at : Config → Side → Parts → LineTold → LineTold
 told_at c Network parts told = told
 told_at c User parts told = told_of_group c parts (service_of parts.address.sapi) told
 
--- TEI management is the network's (clause 5.3): the user's side serves none of its frames (profile).
-abbrev pub managed_at : Side → teis.Event → Aim
-managed_at Network event = at_management event
-managed_at User event = at_none (dropped Unserved)
+-- TEI management is the network's and a terminal's (clause 5.3). A trunk's end serves none of its frames (profile), and a
+-- terminal none but commands.
+abbrev pub managed_at : Config → Parts → Side → teis.Event → Aim
+managed_at c parts Network event = at_management event
+managed_at c parts User event = if is_terminal c && parts.address.command then at_management event else at_none (dropped Unserved)
 
 -- So what a frame is that is for no link depends on the side.
 abbrev pub at_side : Config → Parts → Aim → Aim
 at_side c parts (at_none told) = at_none (told_at c c.side parts told)
 at_side c parts (at_link service tei place event) = at_link service tei place event
-at_side c parts (at_management event) = managed_at c.side event
+at_side c parts (at_management event) = managed_at c parts c.side event
+at_side c parts (at_terminal event) = at_terminal event
 at_side c parts (at_units unit) = at_units unit
 at_side c parts at_no_link = at_no_link
 
@@ -64,7 +67,10 @@ abbrev pub last_unit_tei : Side → ℕ
 last_unit_tei Network = 127
 last_unit_tei User = 126
 
--- Whether a side has TEI management: whether it takes a TEI off the line, checks one, and disowns one.
-abbrev pub has_management : Side → Bool
-has_management Network = true
-has_management User = false
+-- Whether a side is the network's, which checks and disowns TEIs; and whether it has TEI management, and so takes one off the line.
+abbrev pub is_network : Side → Bool
+is_network Network = true
+is_network User = false
+
+abbrev pub has_management : Config → Bool
+has_management c = is_network c.side || is_terminal c

@@ -1,12 +1,13 @@
 -- The octets that a line stores (profile): those of the frames that wait and of assignments that are remembered; and the
 -- contents that wait, which stand in slots of the card.
-use Rattle.std.specs.Prelude.{ℕ, ◌+◌, length, sum_by, List}
+use Rattle.std.specs.Prelude.{ℕ, ◌+◌, ◌*◌, length, sum_by, List, if◌then◌else◌}
 use Rattle.std.specs.List.{range_with_len}
 use Rattle.model_link.specs.Link.{queue_of}
 use Rattle.model_link.specs.Rises as links
 use Rattle.lapd_tei.specs.Machine.{held}
+use Rattle.lapd_terminal.specs.Machine as terminals
 use Rattle.model_line.specs.declared.config.Config.{Config}
-use Rattle.model_line.specs.Line.{Line, UnitData, link_count, terms_at, link_at}
+use Rattle.model_line.specs.Line.{Line, is_terminal, terminal_in, UnitData, link_count, terms_at, link_at}
 
 -- The sum over the links of a line.
 abbrev pub sum_of_links : Config → (ℕ → ℕ) → ℕ
@@ -18,7 +19,12 @@ held_by_link c l number = links.held (terms_at c number l) (link_at number l)
 
 -- What a line holds beside contents in slots.
 abbrev pub held_in : Config → Line → ℕ
-held_in c l = held l.management + sum_of_links c (held_by_link c l)
+held_in c l = held l.management + terminals.held (terminal_in l) + sum_of_links c (held_by_link c l)
+
+-- The messages and assignments that a line holds have so many octets at most: at a terminal one message more than it may have
+-- TEIs.
+abbrev pub held_most : Config → ℕ
+held_most c = if is_terminal c then 8 * (c.terminals + 1) else 32 + 12
 
 -- The slots that a line uses: one for each contents that a link keeps until they are acknowledged, and for each unit
 -- data.

@@ -1,5 +1,5 @@
 -- What a line sends next.
-use Rattle.std.specs.Prelude.{ℕ, ◌+◌, true, false, List, [], ◌∷◌, ◌++◌, take, drop, slice_get, Option, None, option_map}
+use Rattle.std.specs.Prelude.{ℕ, ◌+◌, true, false, List, [], ◌∷◌, ◌++◌, take, drop, slice_get, Option, None, option_map, if◌then◌else◌}
 use Rattle.std.specs.List.{range_with_len}
 use Rattle.std.specs.Option.{option_or, unwrap_or}
 use Rattle.lapd_frame.specs.declared.controls.Control.TheVariants.{Ui}
@@ -13,9 +13,10 @@ use Rattle.model_link.specs.Link.{address_at}
 use Rattle.model_link.specs.Machine as links
 use Rattle.model_link.specs.Told.{Given}
 use Rattle.lapd_tei.specs.Events as teis
+use Rattle.lapd_terminal.specs.Events as terminals
 use Rattle.model_line.specs.declared.config.Config.{Config}
 use Rattle.model_line.specs.Event.{NextFrame}
-use Rattle.model_line.specs.Line.{Line, UnitData, link_count, terms_at, link_at, with_link}
+use Rattle.model_line.specs.Line.{Line, is_terminal, terminal_in, with_terminal, UnitData, link_count, terms_at, link_at, with_link}
 
 -- What is taken: a frame, with orders for timers, and the line without it.
 pub record Taken : Type 0 where
@@ -27,8 +28,13 @@ pub record Taken : Type 0 where
 abbrev pub with_message : Line → List ℕ → Taken
 with_message l octets = record { frame = octets; orders = []; line = record l { management = teis.after_offer l.management } }
 
+abbrev pub with_own_message : Line → List ℕ → Taken
+with_own_message l octets = record { frame = octets; orders = []; line = with_terminal (terminals.after_offer (terminal_in l)) l }
+
 abbrev pub message_taken : Config → Line → Option Taken
-message_taken c l = option_map (with_message l) (teis.offered c.side l.management)
+message_taken c l =
+    if is_terminal c then option_map (with_own_message l) (terminals.offered (terminal_in l))
+    else option_map (with_message l) (teis.offered c.side l.management)
 
 -- Frames are this side's (clause 3.3.2), on a line on which the second service has the SAPI of the configuration.
 abbrev pub own_side : Config → Sender

@@ -3,6 +3,7 @@
 ghost use Rattle.std.specs.Prelude.{◌≡◌, Some};
 ghost use Rattle.model_line.specs.Config.{first_fault, field_name, is_within};
 ghost use Rattle.model_line.specs.Heard.{heard_side};
+ghost use Rattle.model_line.specs.Line.{is_terminal};
 ghost use Rattle.model_line.specs.Taken.{own_side};
 
 use lapd_frame::{Sender, Side};
@@ -44,6 +45,9 @@ pub struct Config {
     /// The SAPI of the second service, [`Service::Packet`](lapd_frame::Service::Packet): 1 to 62, as a rule 16 (Q.921
     /// clause 3.3.3).
     pub sapi: u16,
+    /// Whether a card of the user's side is a terminal, whose TEIs the network assigns: the first of its reference numbers,
+    /// for which a random number is best. None at a trunk's end, and at the network's side.
+    pub seed: Option<u16>,
 }
 
 /// A field of [`Config`], in their order.
@@ -113,6 +117,13 @@ impl Config {
             return Some(Field::Sapi);
         }
         None
+    }
+
+    /// Whether it is of a terminal, a card of the user's side whose TEIs the network assigns.
+    pub fn is_terminal(&self) -> bool
+        ensures { result ≡ is_terminal self.now }
+    {
+        self.side == Side::User && self.seed.is_some()
     }
 
     /// Whose frames a line sends: this side's.

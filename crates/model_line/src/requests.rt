@@ -25,6 +25,10 @@ pub enum Request<'a> {
     /// Tell the terminals that still use the TEI to give it up, or all terminals, with TEI 127: it is not on the line, as after a
     /// restart of the network's side (clause 5.3.4; the request is the profile's).
     Disown(u8),
+    /// Ask the network for a TEI (clause 5.3.2).
+    AskTei,
+    /// Ask the network to check the TEI (clause 5.3.5).
+    VerifyTei(u8),
     /// Take no I-frames on the link for now (own receiver busy, clause 5.6.6; the primitive is the profile's).
     SetBusy(Service, u8),
     /// Take I-frames again.

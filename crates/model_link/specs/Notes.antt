@@ -1,7 +1,7 @@
 -- Notes of data, and whose a note is.
 use Rattle.std.specs.Prelude.{◌≡◌, Bool, true, false}
 use Rattle.lapd_frame.specs.declared.notes.Note.{Note}
-use Rattle.lapd_frame.specs.declared.notes.Note.TheVariants.{EstablishIndication, EstablishConfirm, ReleaseIndication, ReleaseConfirm, Data, Unit, Error, Assigned, Removed, Doubled, Xid}
+use Rattle.lapd_frame.specs.declared.notes.Note.TheVariants.{EstablishIndication, EstablishConfirm, ReleaseIndication, ReleaseConfirm, Data, Unit, Error, Assigned, Removed, Doubled, Denied, Unassigned, RemoveAll, Xid}
 use Rattle.model_link.specs.declared.terms.Terms.{Terms}
 
 -- Whether a note says that contents are delivered.
@@ -26,4 +26,7 @@ IsOwn t (Error service tei code) = (service ≡ t.service) × (tei ≡ t.tei)
 IsOwn t (Assigned tei) = ⊥
 IsOwn t (Removed tei) = ⊥
 IsOwn t (Doubled tei) = ⊥
+IsOwn t Denied = ⊥
+IsOwn t Unassigned = ⊥
+IsOwn t RemoveAll = ⊥
 IsOwn t (Xid service tei) = (service ≡ t.service) × (tei ≡ t.tei)

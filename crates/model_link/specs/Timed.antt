@@ -32,6 +32,7 @@ abbrev pub is_same : Timer → Timer → Bool
 is_same (timers.T200 service tei) (timers.T200 other by) = same_service service other && tei == by
 is_same (timers.T203 service tei) (timers.T203 other by) = same_service service other && tei == by
 is_same timers.T201 timers.T201 = true
+is_same timers.T202 timers.T202 = true
 is_same one other = false
 
 -- Whether a timer runs at a caller's that obeys orders, one after the other: a Start of it starts it, or starts it

@@ -20,10 +20,10 @@ use Rattle.model_timed.specs.Frames.{TimedCard, fresh, frames, after_all, events
 use Rattle.model_timed.specs.Sayings.{said_in, last_start}
 
 abbrev pub usual : Config
-usual = record { lines = 1; terminals = 8; k = 7; k16 = 3; queue = 8; unit_queue = 4; control = 4; slots = 64; n201 = 260; n200 = 3; side = Network; sapi = 16 }
+usual = record { lines = 1; terminals = 8; k = 7; k16 = 3; queue = 8; unit_queue = 4; control = 4; slots = 64; n201 = 260; n200 = 3; side = Network; sapi = 16; seed = None }
 
 abbrev pub lengths : Lengths
-lengths = record { t200 = 10; t203 = 50; t201 = 10 }
+lengths = record { t200 = 10; t203 = 50; t201 = 10; t202 = 20 }
 
 abbrev pub on_0 : line.Event → Step Event
 on_0 e = happens (at 0 e)

@@ -22,6 +22,7 @@ pub const USUAL: Config = Config {
     n200: 3,
     side: Side::Network,
     sapi: 16,
+    seed: None,
 };
 
 /// A card of the usual sizes.

@@ -61,6 +61,7 @@ pub fn config(lines: u16) -> Config {
         n200: 3,
         side: Side::Network,
         sapi: 16,
+        seed: None,
     }
 }
 

@@ -55,7 +55,7 @@ passed_by : (a b c d e : Bool) → a ≡ true → b ≡ true → c ≡ true → 
 passed_by a b c d e ea eb ec ed ee = rw ea (rw eb (rw ec (rw ed (rw ee refl))))
 
 abbrev card_of : ℕ → ℕ → ℕ → ℕ → ℕ → Config
-card_of l t r s n = record { lines = l; terminals = t; k = 1; k16 = 1; queue = 1; unit_queue = 1; control = r; slots = s; n201 = n; n200 = 0; side = Network; sapi = 16 }
+card_of l t r s n = record { lines = l; terminals = t; k = 1; k16 = 1; queue = 1; unit_queue = 1; control = r; slots = s; n201 = n; n200 = 0; side = Network; sapi = 16; seed = None }
 
 starts : (l t r s n : ℕ) → Within 1 64 l → Within 1 8 t → Within 2 16 r → Within 1 8192 s → Within 8 260 n → IsInRange (card_of l t r s n)
 unfolding sapi_fault

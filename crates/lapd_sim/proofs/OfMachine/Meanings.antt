@@ -216,7 +216,7 @@ meaning_brings (line.pull number count) b = octets_only _ _ _ b.board.kind _ (λ
 meaning_brings (line.wait milliseconds) b =
     let end = b.clock.now + milliseconds in
     if_good _ _ _ (nat_le end last_moment) _ TimeOver (λ _. record { led = wait_led milliseconds (scene_of b); says = expiries_say (time_until end b.clock) end (scene_of b) })
-meaning_brings (line.timers t200 t203 t201) b = timers_brought (record { t200 = t200; t203 = t203; t201 = t201 }) b
+meaning_brings (line.timers t200 t203 t201) b = timers_brought (record { t200 = t200; t203 = t203; t201 = t201; t202 = 2000 }) b
 meaning_brings line.stored b = record { led = nothing_led b; says = refl }
 meaning_brings (line.counters number group) b = at_it number b _ (λ within. record { led = nothing_led b; says = refl })
 meaning_brings (line.ask number tei what octets) b =

@@ -231,7 +231,7 @@ with_card (line.next number) s = for_frames s.setup.board.kind (at_line number s
 with_card (line.down number) s = at_line number s (after_down number s)
 with_card (line.pull number count) s = for_octets s.setup.board.kind (at_line number s (after_pull number count s))
 with_card (line.wait milliseconds) s = in_time milliseconds s
-with_card (line.timers t200 t203 t201) s = with_timers (record { t200 = t200; t203 = t203; t201 = t201 }) s
+with_card (line.timers t200 t203 t201) s = with_timers (record { t200 = t200; t203 = t203; t201 = t201; t202 = 2000 }) s
 with_card line.stored s = Ok (after_stored s)
 with_card (line.counters number group) s = at_line number s (after_counters group number s)
 with_card (line.ask number tei what octets) s = at_line number s (after_request number tei what octets s)

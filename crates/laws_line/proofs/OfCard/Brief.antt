@@ -1,5 +1,5 @@
 -- What laws of whole runs say in brief.
-use Rattle.laws_line.proofs.Vocabulary.{arith, ⊎_elim, ◌≡◌, ◌≢◌, ℕ, List, Option, Some, None, refl, ap, ◌∙◌, get_or-set_other, Config, next, Line, link_number, link_count, link_at, Taken, taken, Card, line_at, IsAtLine, AreAtLines, moment_of, each_moment, has_lines, line_sound, fresh as fresh_link, IsOneEvent, IsOfPart, line_of_link as of_link, line_of_management as of_management, of_units}
+use Rattle.laws_line.proofs.Vocabulary.{arith, ⊎_elim, ◌≡◌, ◌≢◌, ℕ, List, Option, Some, None, refl, ap, ◌∙◌, get_or-set_other, Config, next, Line, link_number, link_count, link_at, Taken, taken, Card, line_at, IsAtLine, AreAtLines, moment_of, each_moment, has_lines, line_sound, fresh as fresh_link, IsOneEvent, IsOfPart, line_of_link as of_link, line_of_management as of_management, line_of_terminal as of_terminal, of_units}
 use Rattle.laws_line.proofs.Vocabulary.{of_group, of_down, of_next, IsIdle, IsOwed, contents_of_link, CardEvent as Event, card_after as after, card_answer as answer, CardIsSound as IsSound, LinksStay, LeavesOthers, OthersStay, TellsCause, CausesAreTold}
 use Rattle.model_line.specs.Event as line_event
 use Rattle.model_line.specs.Machine as lines
@@ -52,7 +52,8 @@ module _ (card : Card) (e : Event) (s : IsSound card) (here : IsAtLine card e) w
         others = λ other few away stays.
             ap (link_at other) (own.link service tei place event apart on by).line ∙ get_or-set_other l.links (link_number place service) other _ fresh_link away;
       }
-  by-part apart (of_management event by) = record { one = 0; others = λ other few away stays. (own.management event by).stay other few stays }
+  by-part apart (of_management event net by) = record { one = 0; others = λ other few away stays. (own.management event net by).stay other few stays }
+  by-part apart (of_terminal event is by) = record { one = 0; others = λ other few away stays. (own.terminal event is by).stay other few stays }
   by-part apart (of_units unit granted) = record { one = 0; others = λ other few away stays. ap (link_at other) (own.units unit granted).0 }
   by-part apart (of_group parts service h to) = (record { one = 0; others = λ other few away stays. ap (link_at other) ((heard-group card e s here parts service h to).line) })
   by-part apart (of_down is) = record { one = 0; others = λ other few away stays. ap (link_at other) (own.down is).line }

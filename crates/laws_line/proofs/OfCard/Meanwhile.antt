@@ -1,6 +1,6 @@
 -- A line of a card after so many calls for its next frame, whatever happened at the other lines meanwhile.
 use Rattle.laws_line.proofs.Vocabulary.{◌≡◌, ◌≢◌, ℕ, zero, suc, ◌+◌, ◌<◌, ◌≤◌, ◌==◌, ◌&&◌, and_parts, All, is_take, takes_of, Bool, true, false, cond, List, [], ◌∷◌, ◌++◌, length, get_or, set, refl, sym, ap, ◌∙◌, arith, eqb-false, get_or-set_same, get_or-set_other, All-nil, All-cons, All-head, All-tail, All-get_or, Config, next, Line, fresh_line, Card, line_at, at, wants_room, IsAtLine}
-use Rattle.laws_line.proofs.Vocabulary.{AreAtLines, after_all, after_is_sound, eqb-true, HasNothing, after_takes, frames_to_go, CardEvent as Event, card_after as after, CardIsSound as IsSound, AreTakesAt, takes_at, IsIdleAmong}
+use Rattle.laws_line.proofs.Vocabulary.{subst, taken, AreAtLines, after_all, after_is_sound, eqb-true, HasNothing, after_takes, frames_to_go, CardEvent as Event, card_after as after, CardIsSound as IsSound, AreTakesAt, takes_at, IsIdleAmong}
 use Rattle.model_line.specs.Event as line_event
 use Rattle.model_line.specs.Machine as lines
 use Rattle.model_line.specs.Sound as line_sound
@@ -104,4 +104,7 @@ card-drains card number events s few lines takes less = grind (arith, line-after
 
 pub card-idles : (card : Card) (number : ℕ) (events : List Event) → IsSound card → number < card.config.lines → AreAtLines card events → AreTakesAt number events
     → HasNothing card.config (line_at number card) → IsIdleAmong card number events
-card-idles card number events s few lines takes nothing = grind (arith, line-after, idles, line-sound)
+card-idles card number events s few lines takes nothing =
+    let is = line-after number events card s few lines takes in
+    let i = idles card.config (takes_at number events) (line_at number card) (line-sound card number s few) nothing in
+    record { nothing = subst (HasNothing card.config) (sym is) i.nothing; none = ap (taken card.config) is ∙ i.none; same = is ∙ i.same }

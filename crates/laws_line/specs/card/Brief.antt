@@ -1,5 +1,5 @@
 -- What is promised of a list of events, from a card on, beside what the laws of the trace of a line say of it.
-use Rattle.std.specs.Prelude.{◌≡◌, ◌≢◌, ◌<◌, ℕ, List, All, Ok}
+use Rattle.std.specs.Prelude.{◌≡◌, ◌≢◌, ◌<◌, ◌&&◌, false, ℕ, List, All, Ok}
 use Rattle.lapd_frame.specs.declared.addresses.Side.TheVariants.{User}
 use Rattle.lapd_frame.specs.Grammar.{Parts}
 use Rattle.lapd_frame.specs.Senders.{reading}
@@ -8,7 +8,7 @@ use Rattle.model_bits.specs.declared.heard.Cause.{Cause}
 use Rattle.model_bits.specs.declared.heard.Cause.TheVariants.{Unserved}
 use Rattle.model_line.specs.Event.{hears, told, dropped}
 use Rattle.model_line.specs.Heard.{heard_side}
-use Rattle.model_line.specs.Line.{Line, link_count, place_at, tei_at, link_at}
+use Rattle.model_line.specs.Line.{Line, is_terminal, link_count, place_at, tei_at, link_at}
 use Rattle.model_card.specs.Card.{Card, line_at}
 use Rattle.model_card.specs.Event.{Event}
 use Rattle.model_card.specs.Machine.{after}
@@ -29,11 +29,11 @@ abbrev pub OthersStay : Card → List Event → Type 0
 OthersStay m events = All LeavesOthers (moments m events)
 
 -- Of what is heard and is no frame why it is none is all that is answered; and of a frame of TEI management on the user's side,
--- which serves none, that it is not served.
+-- that serves none, that it is not served: at a trunk's end, and of a response at a terminal.
 pub record TellsCause (m : Moment) : Type 0 where
   pub no_frame : (cause : Cause) → m.event.what ≡ hears (stream.dropped cause) → m.answer ≡ told (dropped cause)
   pub management : (octets : List ℕ) (frame : Parts) → m.event.what ≡ hears (stream.frame octets) → reading (heard_side m.card.config) octets ≡ Ok frame
-      → m.card.config.side ≡ User → frame.address.sapi ≡ 63 → frame.address.tei ≡ 127 → m.answer ≡ told (dropped Unserved)
+      → m.card.config.side ≡ User → (is_terminal m.card.config && frame.address.command) ≡ false → frame.address.sapi ≡ 63 → frame.address.tei ≡ 127 → m.answer ≡ told (dropped Unserved)
 
 abbrev pub CausesAreTold : Card → List Event → Type 0
 CausesAreTold m events = All TellsCause (moments m events)

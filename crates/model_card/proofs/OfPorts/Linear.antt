@@ -1,7 +1,11 @@
 -- The frames sent are linear in the octets received.
 use Rattle.model_card.proofs.OfPorts.Vocabulary.{◌≡◌, ℕ, ◌+◌, ◌*◌, ◌≤◌, ◌<◌, Bool, List, [], ◌∷◌, refl, sym, subst, arith, length-replicate, All, count_by, sum_by, sum_by-cons, sum_by-replicate, mul-le-mul_left, IsInRange, Config, is_frame, is_long_frame, Event, FramesLinear, AreAtLines, Port, after_all, fresh, fresh_port, meant_all, HasSevenOctetsAReject, HasSixOctetsAFrame, IsLinear, accepted}
 use Rattle.model_card.proofs.OfPorts.Vocabulary.{expired, heard, hears_frame, hears_long_frame, may_send, moments_meant, rejected, sent, window}
+use Rattle.std.specs.Prelude.{true, false, cond, max}
 use Rattle.model_bits.specs.Stream as stream
+use Rattle.model_line.specs.Counts.{brought}
+use Rattle.model_line.specs.Line.{is_terminal}
+use Rattle.model_card.specs.ports.Promises.{worth}
 use Rattle.model_line.specs.Event as line
 use Rattle.model_card.specs.Run as runs
 use Rattle.model_card.proofs.Amortised.{frames_amortised_from_zero, rejects_are_long}
@@ -48,9 +52,17 @@ seven_octets c events ranged within =
       rejects_are_long (fresh c).card (meant_all (fresh c) events),
     )
 
-bound : (s w f a x j k o : ℕ) → s + w ≤ 2 * f + a + (k + 1) * x + k * j → 6 * f ≤ o → 7 * j ≤ o
-    → 21 * s ≤ (7 + 3 * k) * o + 21 * a + 21 * (k + 1) * x
-bound s w f a x j k o amortised frames rejects =
+-- what frames bring is worth their octets
+is_worth : (c : Config) (f o : ℕ) → 6 * f ≤ o → 21 * (brought c * f) ≤ worth c * o
+is_worth c f o frames =
+    elim (is_terminal c) as (λ b. 21 * (cond b (max 2 c.terminals) 2 * f) ≤ cond b (4 * cond b (max 2 c.terminals) 2) 7 * o) [
+      | true ↦ omega (arith, mul-le-mul_left (4 * max 2 c.terminals) frames)
+      | false ↦ omega (arith, frames)
+    ]
+
+bound : (b v s w f a x j k o : ℕ) → s + w ≤ b * f + a + (k + 1) * x + k * j → 21 * (b * f) ≤ v * o → 7 * j ≤ o
+    → 21 * s ≤ (v + 3 * k) * o + 21 * a + 21 * (k + 1) * x
+bound b v s w f a x j k o amortised frames rejects =
     let scaled = mul-le-mul_left (3 * k) rejects in
     omega (arith, amortised, frames, scaled)
 
@@ -58,9 +70,9 @@ linear : Fresh IsLinear
 linear c events ranged within =
     let ms = moments_meant c events in
     let meant = meant_all (fresh c) events in
-    bound (sent ms) (may_send (runs.after_all (fresh c).card meant)) (heard ms) (accepted ms) (expired ms) (rejected ms) (window c)
+    bound (brought c) (worth c) (sent ms) (may_send (runs.after_all (fresh c).card meant)) (heard ms) (accepted ms) (expired ms) (rejected ms) (window c)
     (octets_received (after_all (fresh c) events))
-    (frames_amortised_from_zero c meant ranged (meant_at_lines (fresh c) events within)) (six_octets c events ranged within) (seven_octets c events ranged within)
+    (frames_amortised_from_zero c meant ranged (meant_at_lines (fresh c) events within)) (is_worth c (heard ms) (octets_received (after_all (fresh c) events)) (six_octets c events ranged within)) (seven_octets c events ranged within)
 
 pub frames_linear : FramesLinear
 frames_linear = record { frames = six_octets; rejects = seven_octets; linear = linear }

@@ -1,7 +1,9 @@
 -- What is promised of a list of events of octets, from a card on. What is promised of frames holds of what they mean
 -- (`Codec`); this is what is said of octets.
-use Rattle.std.specs.Prelude.{◌≡◌, ℕ, ◌+◌, ◌*◌, ◌≤◌, ◌<◌, List, map}
+use Rattle.std.specs.Prelude.{◌≡◌, ℕ, ◌+◌, ◌*◌, ◌≤◌, ◌<◌, List, map, if◌then◌else◌}
 use Rattle.model_line.specs.declared.config.Config.{Config}
+use Rattle.model_line.specs.Counts.{brought}
+use Rattle.model_line.specs.Line.{is_terminal}
 use Rattle.model_card.specs.Counts.{window, sent, heard, accepted, expired, rejected}
 use Rattle.model_card.specs.Run as runs
 use Rattle.model_card.specs.ports.Card.{OctetCard, fresh}
@@ -30,13 +32,17 @@ HasSevenOctetsAReject c events = 7 * rejected (moments_meant c events) ≤ octet
 
 -- So the frames sent are linear in the octets received, the accepted requests and the expiries: two frames for six
 -- octets, k more for seven. In twenty-firsts of a frame, as 21 is the least multiple of 3 and 7, an octet is worth
--- 21 * 2 / 6 = 7 of the former and 21 * k / 7 = 3 * k of the latter.
+-- 21 * 2 / 6 = 7 of the former and 21 * k / 7 = 3 * k of the latter. (At a terminal six octets bring more frames: an octet
+-- is worth 4 for each.)
+abbrev pub worth : Config → ℕ
+worth c = if is_terminal c then 4 * brought c else 7
+
 abbrev pub IsLinear : Config → List Event → Type 0
 IsLinear c events =
     let ms = moments_meant c events in
     let octets = octets_received (after_all (fresh c) events) in
     let k = window c in
-    21 * sent ms ≤ (7 + 3 * k) * octets + 21 * accepted ms + 21 * (k + 1) * expired ms
+    21 * sent ms ≤ (worth c + 3 * k) * octets + 21 * accepted ms + 21 * (k + 1) * expired ms
 
 -- On a card as it begins, what a line answers except for a full pool is what it would answer on a card of its own, to the
 -- events at it that did not find the pool full.

@@ -1,5 +1,5 @@
 -- Worked values: when pulls call for the next frame, and what goes out then; and frames that stand in octets, as they are heard.
-use Rattle.std.specs.Prelude.{◌≡◌, ℕ, List, [], ◌∷◌, ◌++◌, replicate, Some, refl}
+use Rattle.std.specs.Prelude.{◌≡◌, ℕ, List, [], ◌∷◌, ◌++◌, replicate, Some, refl, None}
 use Rattle.std.proofs.Common.{lit<}
 use Rattle.std.proofs.lemmas.List.Elements.{All-nil, All-cons}
 use Rattle.model_bits.specs.Bits.{bits, flag, low_bits}
@@ -25,7 +25,7 @@ use Rattle.model_card.specs.ports.Run.{moments, meant_all}
 use Rattle.model_card.specs.ports.WholeLaws.{IsThere, Brings}
 
 abbrev small : Config
-small = record { lines = 1; terminals = 1; k = 1; k16 = 1; queue = 1; unit_queue = 1; control = 2; slots = 1; n201 = 8; n200 = 1; side = Network; sapi = 16 }
+small = record { lines = 1; terminals = 1; k = 1; k16 = 1; queue = 1; unit_queue = 1; control = 2; slots = 1; n201 = 8; n200 = 1; side = Network; sapi = 16; seed = None }
 
 -- Unit data of the group, and so many pulls.
 abbrev unit : Request

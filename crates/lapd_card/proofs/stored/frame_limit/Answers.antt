@@ -10,5 +10,6 @@ overflow_add-result c =
     let lines = c.from-3.ensures in
     let slots = c.from-4.ensures in
     let width = c.from-5.ensures in
-    let is : c.from-3.result * (8 * c.from.result * c.from-2.result + 32 + 12) + c.from-4.result * c.from-5.result ≡ limit c.args.config.now = cc in
+    let held = c.most_held.ensures.most in
+    let is : c.from-3.result * (8 * c.from.result * c.from-2.result + c.most_held.result) + c.from-4.result * c.from-5.result ≡ limit c.args.config.now = cc in
     subst (λ n. Fits w32 n) (sym is) (fits_32 (limit c.args.config.now) (limit_small c.args.config.now c.requires))

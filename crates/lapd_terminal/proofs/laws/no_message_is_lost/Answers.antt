@@ -1,5 +1,6 @@
 -- Hand-written answers for `no_message_is_lost`.
 use Rattle.lapd_terminal.proofs.LawLemmas.{sound_throughout, room_is_enough}
+use Rattle.lapd_terminal.proofs.Rising.{few_more_wait}
 use Rattle.lapd_terminal.proofs.laws.no_message_is_lost.Goals as goal
 
 pub returns-clause-sound : goal.returns-clause-sound
@@ -7,3 +8,6 @@ returns-clause-sound c = sound_throughout
 
 pub returns-clause-room : goal.returns-clause-room
 returns-clause-room c = room_is_enough
+
+pub returns-clause-more : goal.returns-clause-more
+returns-clause-more c = few_more_wait

@@ -10,5 +10,5 @@ use Rattle.lapd_card.proofs.card.Card.stored.Given as goal
 abbrev pub invariant-loop-port : goal.invariant-loop-port
 invariant-loop-port g l = record {
   exact : (m : machine.OctetCard) → OctetCardStands g.S.Shelf.store l.self m → l.held ≡ cards.stored m.card + sum_by (held_at m.card.config.n201) (take l.port-index m.ports);
-  small : l.held ≤ 2232192 + l.port-index * 530;
+  small : l.held ≤ 2233984 + l.port-index * 530;
 }

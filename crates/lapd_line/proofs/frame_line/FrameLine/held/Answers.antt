@@ -1,6 +1,8 @@
 -- Hand-written answers for `FrameLine::held`.
-use Rattle.lapd_line.proofs.Vocabulary.{◌+◌, sym, ap, ◌∙◌}
+use Rattle.lapd_line.proofs.Vocabulary.{◌+◌, arith, ap, ◌∙◌, terminal_in}
 use Rattle.lapd_tei.specs.Machine.{held}
+use Rattle.lapd_terminal.specs.Machine as terminals
+use Rattle.lapd_line.proofs.HeldSteps.{managed_is, few_managed, most_few}
 use Rattle.lapd_line.proofs.frame_line.FrameLine.held.Goals as goal
 
 pub held_by_links-requires : goal.held_by_links-requires
@@ -8,7 +10,19 @@ held_by_links-requires c =
     let (store, others, m, st) = c.requires in
     (store, (others, m, st.layer))
 
+pub overflow_add-result : goal.overflow_add-result
+overflow_add-result c =
+    let (store, others, m, st) = c.requires in
+    let layer = c.args.self.now.layer in
+    omega (arith, c.held.ensures, few_managed layer store others m st.layer, most_few layer.config st.layer.range, c.held_by_links.ensures.few)
+
+pub returns-clause-few : goal.returns-clause-few
+returns-clause-few c =
+    let (store, others, m, st) = c.requires in
+    let layer = c.args.self.now.layer in
+    omega (arith, c.held.ensures, few_managed layer store others m st.layer, c.held_by_links.ensures.few)
+
 pub returns-clause-held : goal.returns-clause-held
 returns-clause-held c = λ store others m st.
-    ap (λ n. n + c.held_by_links.result) (c.held.ensures ∙ sym (ap held st.layer.management))
-    ∙ ap (λ n. held m.management + n) (c.held_by_links.ensures.held store others m st.layer)
+    ap (λ n. n + c.held_by_links.result) (c.held.ensures ∙ managed_is c.args.self.now.layer store others m st.layer)
+    ∙ ap (λ n. held m.management + terminals.held (terminal_in m) + n) (c.held_by_links.ensures.held store others m st.layer)

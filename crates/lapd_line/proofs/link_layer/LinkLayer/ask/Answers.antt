@@ -1,5 +1,5 @@
 -- Hand-written answers for `LinkLayer::ask`.
-use Rattle.lapd_line.proofs.Vocabulary.{[], nat_le, sym, arith, place_of-is, used_slots}
+use Rattle.lapd_line.proofs.Vocabulary.{management_of, [], nat_le, sym, arith, place_of-is, used_slots}
 use Rattle.lapd_link.specs.Events as link
 use Rattle.lapd_line.proofs.LayerSteps.{links_standing, number_still, number_low}
 use Rattle.lapd_line.proofs.AddressSteps.{nothing_after}
@@ -15,10 +15,10 @@ pub request-requires-clause-stands : goal.request-requires-clause-stands
 request-requires-clause-stands g c = links_standing c.requires.stands
 
 pub has_frame-requires : goal.has_frame-requires
-has_frame-requires g c = number_still c.request.new.self c.args.service c.requires.stands (place_of-is c.args.self.now.teis.places c.args.tei c.in-Some.place (sym c.in-Some.ensures.place)).1 c.link_number-number.ensures c.in-Ok.ensures.served.terms
+has_frame-requires g c = number_still c.request.new.self c.args.service c.requires.stands (place_of-is (management_of c.args.self.now.teis).places c.args.tei c.in-Some.place (sym c.in-Some.ensures.place)).1 c.link_number-number.ensures c.in-Ok.ensures.served.terms
 
 pub set-requires : goal.set-requires
-set-requires g c = number_low c.args.service c.requires.stands (place_of-is c.args.self.now.teis.places c.args.tei c.in-Some.place (sym c.in-Some.ensures.place)).1 c.link_number-number.ensures
+set-requires g c = number_low c.args.service c.requires.stands (place_of-is (management_of c.args.self.now.teis).places c.args.tei c.in-Some.place (sym c.in-Some.ensures.place)).1 c.link_number-number.ensures
 
 pub returns-in-Ok-clause-granted : goal.returns-in-Ok-clause-granted
 returns-in-Ok-clause-granted g c = λ others m st.

@@ -1,6 +1,5 @@
 -- Hand-written answers for `LinkLayer::request`.
 use Rattle.lapd_line.proofs.Vocabulary.{nat_le, [], refl, ap, sym, subst, used_slots, refusal, request_of, aim_of_request, Serves}
-use Rattle.lapd_line.proofs.LayerRequests.{assign_rows, remove_rows, check_rows, disown_rows}
 use Rattle.lapd_line.proofs.RequestSteps.{refused_as, granted_as, aimed_as, Asks, asks_as, establish_asks, release_asks, data_asks, set_busy_asks, clear_busy_asks}
 use Rattle.lapd_line.proofs.link_layer.LinkLayer.request.Goals as goal
 use Rattle.lapd_line.proofs.link_layer.LinkLayer.request.Goals.{in-Establish, in-Release, in-Data, in-SetBusy, in-ClearBusy}
@@ -31,28 +30,40 @@ pub returns-in-Unit-clause-granted : goal.returns-in-Unit-clause-granted
 returns-in-Unit-clause-granted g c = granted_as _ _ _ (ap request_of c.in-Unit.is) (λ m. refl) c.unit.result c.unit.ensures.granted
 
 pub returns-in-Assign-clause-refused : goal.returns-in-Assign-clause-refused
-returns-in-Assign-clause-refused g c = refused_as _ _ _ (ap request_of c.in-Assign.is) (assign_rows c.args.self.now.config (nat_le c.args.slots (used_slots (g.S.Shelf.store c.args.shelf.now))) c.in-Assign.tei) c.manage.result c.manage.ensures.refused
+returns-in-Assign-clause-refused g c = refused_as _ _ _ (ap request_of c.in-Assign.is) (λ m. refl) c.manage.result c.manage.ensures.refused
 
 pub returns-in-Assign-clause-granted : goal.returns-in-Assign-clause-granted
-returns-in-Assign-clause-granted g c = granted_as _ _ _ (ap request_of c.in-Assign.is) (assign_rows c.args.self.now.config (nat_le c.args.slots (used_slots (g.S.Shelf.store c.args.shelf.now))) c.in-Assign.tei) c.manage.result c.manage.ensures.granted
+returns-in-Assign-clause-granted g c = granted_as _ _ _ (ap request_of c.in-Assign.is) (λ m. refl) c.manage.result c.manage.ensures.granted
 
 pub returns-in-Remove-clause-refused : goal.returns-in-Remove-clause-refused
-returns-in-Remove-clause-refused g c = refused_as _ _ _ (ap request_of c.in-Remove.is) (remove_rows c.args.self.now.config (nat_le c.args.slots (used_slots (g.S.Shelf.store c.args.shelf.now))) c.in-Remove.tei) c.manage-in-Remove.result c.manage-in-Remove.ensures.refused
+returns-in-Remove-clause-refused g c = refused_as _ _ _ (ap request_of c.in-Remove.is) (λ m. refl) c.manage-in-Remove.result c.manage-in-Remove.ensures.refused
 
 pub returns-in-Remove-clause-granted : goal.returns-in-Remove-clause-granted
-returns-in-Remove-clause-granted g c = granted_as _ _ _ (ap request_of c.in-Remove.is) (remove_rows c.args.self.now.config (nat_le c.args.slots (used_slots (g.S.Shelf.store c.args.shelf.now))) c.in-Remove.tei) c.manage-in-Remove.result c.manage-in-Remove.ensures.granted
+returns-in-Remove-clause-granted g c = granted_as _ _ _ (ap request_of c.in-Remove.is) (λ m. refl) c.manage-in-Remove.result c.manage-in-Remove.ensures.granted
 
 pub returns-in-Check-clause-refused : goal.returns-in-Check-clause-refused
-returns-in-Check-clause-refused g c = refused_as _ _ _ (ap request_of c.in-Check.is) (check_rows c.args.self.now.config (nat_le c.args.slots (used_slots (g.S.Shelf.store c.args.shelf.now))) c.in-Check.tei) c.manage-in-Check.result c.manage-in-Check.ensures.refused
+returns-in-Check-clause-refused g c = refused_as _ _ _ (ap request_of c.in-Check.is) (λ m. refl) c.manage-in-Check.result c.manage-in-Check.ensures.refused
 
 pub returns-in-Check-clause-granted : goal.returns-in-Check-clause-granted
-returns-in-Check-clause-granted g c = granted_as _ _ _ (ap request_of c.in-Check.is) (check_rows c.args.self.now.config (nat_le c.args.slots (used_slots (g.S.Shelf.store c.args.shelf.now))) c.in-Check.tei) c.manage-in-Check.result c.manage-in-Check.ensures.granted
+returns-in-Check-clause-granted g c = granted_as _ _ _ (ap request_of c.in-Check.is) (λ m. refl) c.manage-in-Check.result c.manage-in-Check.ensures.granted
 
 pub returns-in-Disown-clause-refused : goal.returns-in-Disown-clause-refused
-returns-in-Disown-clause-refused g c = refused_as _ _ _ (ap request_of c.in-Disown.is) (disown_rows c.args.self.now.config (nat_le c.args.slots (used_slots (g.S.Shelf.store c.args.shelf.now))) c.in-Disown.tei) c.manage-in-Disown.result c.manage-in-Disown.ensures.refused
+returns-in-Disown-clause-refused g c = refused_as _ _ _ (ap request_of c.in-Disown.is) (λ m. refl) c.manage-in-Disown.result c.manage-in-Disown.ensures.refused
 
 pub returns-in-Disown-clause-granted : goal.returns-in-Disown-clause-granted
-returns-in-Disown-clause-granted g c = granted_as _ _ _ (ap request_of c.in-Disown.is) (disown_rows c.args.self.now.config (nat_le c.args.slots (used_slots (g.S.Shelf.store c.args.shelf.now))) c.in-Disown.tei) c.manage-in-Disown.result c.manage-in-Disown.ensures.granted
+returns-in-Disown-clause-granted g c = granted_as _ _ _ (ap request_of c.in-Disown.is) (λ m. refl) c.manage-in-Disown.result c.manage-in-Disown.ensures.granted
+
+pub returns-in-AskTei-clause-refused : goal.returns-in-AskTei-clause-refused
+returns-in-AskTei-clause-refused g c = refused_as _ _ _ (ap request_of c.in-AskTei.is) (λ m. refl) c.manage-in-AskTei.result c.manage-in-AskTei.ensures.refused
+
+pub returns-in-AskTei-clause-granted : goal.returns-in-AskTei-clause-granted
+returns-in-AskTei-clause-granted g c = granted_as _ _ _ (ap request_of c.in-AskTei.is) (λ m. refl) c.manage-in-AskTei.result c.manage-in-AskTei.ensures.granted
+
+pub returns-in-VerifyTei-clause-refused : goal.returns-in-VerifyTei-clause-refused
+returns-in-VerifyTei-clause-refused g c = refused_as _ _ _ (ap request_of c.in-VerifyTei.is) (λ m. refl) c.manage-in-VerifyTei.result c.manage-in-VerifyTei.ensures.refused
+
+pub returns-in-VerifyTei-clause-granted : goal.returns-in-VerifyTei-clause-granted
+returns-in-VerifyTei-clause-granted g c = granted_as _ _ _ (ap request_of c.in-VerifyTei.is) (λ m. refl) c.manage-in-VerifyTei.result c.manage-in-VerifyTei.ensures.granted
 
 pub returns-in-Deactivate-clause-refused : goal.returns-in-Deactivate-clause-refused
 returns-in-Deactivate-clause-refused g c = refused_as _ _ _ (ap request_of c.in-Deactivate.is) (λ m. refl) c.deactivate.result c.deactivate.ensures.refused

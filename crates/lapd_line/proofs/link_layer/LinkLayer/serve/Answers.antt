@@ -1,6 +1,6 @@
 -- Hand-written answers for `LinkLayer::serve`.
 use Rattle.lapd_line.specs.Reports.{octets_of}
-use Rattle.lapd_line.proofs.Vocabulary.{◌≡◌, List, ℕ, Ok, drop, sym, ap, subst, ◌∙◌, Sender, Parts, parts_of, Owned, Store, Line, Aim, aim_of_reading, message_of, at_side, LinkLayer, BareReport, LayerStands, Serves, Bor, heard_of, Heard, Frame, reading, heard_side, aim_of_event}
+use Rattle.lapd_line.proofs.Vocabulary.{management_of, ◌≡◌, List, ℕ, Ok, drop, sym, ap, subst, ◌∙◌, Sender, Parts, parts_of, Owned, Store, Line, Aim, aim_of_reading, message_of, at_side, LinkLayer, BareReport, LayerStands, Serves, Bor, heard_of, Heard, Frame, reading, heard_side, aim_of_event}
 use Rattle.model_link.specs.Events as link
 use Rattle.lapd_line.proofs.AddressSteps.{aimed, serves_as, serves_none, message_sided, managed_sapi}
 use Rattle.lapd_line.proofs.link_layer.LinkLayer.serve.Goals as goal
@@ -17,7 +17,7 @@ pub returns-in-Management : goal.returns-in-Management
 returns-in-Management g c =
     spelled c.args.heard c.in-Frame.octets c.heard_side.result (parts_of c.in-Ok.frame) c.in-Frame.is c.heard_side.ensures c.in-Ok.ensures.reading
     (λ others m st. ap (at_side c.args.self.now.config (parts_of c.in-Ok.frame)) (aimed c.args.self.now (g.S.Shelf.store c.args.shelf.now) others m c.in-Ok.frame.address (link.frame (parts_of c.in-Ok.frame)) (message_of c.in-Ok.frame.control c.in-Ok.frame.info.now) _ c.in-Management.ensures.is st)
-    ∙ message_sided c.args.self.now.config (parts_of c.in-Ok.frame) (managed_sapi c.args.self.now.teis c.in-Ok.frame.address c.in-Management.ensures.is))
+    ∙ message_sided c.args.self.now.config (parts_of c.in-Ok.frame) (managed_sapi (management_of c.args.self.now.teis) c.in-Ok.frame.address c.in-Management.ensures.is))
     (c.message.ensures c.in-Frame.octets.now)
 
 pub returns-in-Link : goal.returns-in-Link

@@ -1,0 +1,21 @@
+-- Hand-written answers for `Managing::give_up`.
+use Rattle.lapd_line.proofs.Vocabulary.{sym, subst, refl, ap, ◌∙◌, at_management, at_terminal, told_of_terminal}
+use Rattle.lapd_tei.specs.Events as teis
+use Rattle.lapd_terminal.specs.Events as terminals
+use Rattle.lapd_line.specs.TeiChanges.{Answers}
+use Rattle.lapd_line.specs.declared.managing.Managing.TheVariants as kind
+use Rattle.lapd_line.proofs.ManagingSteps.{network_answers, terminal_answers}
+use Rattle.lapd_line.proofs.managing.Managing.give_up.Goals as goal
+
+pub returns-in-Network-clause-answers : goal.returns-in-Network-clause-answers
+returns-in-Network-clause-answers c =
+    let e = teis.down in
+    subst (λ x. Answers (at_management e) x (kind.Network c.give_up.new.self) c.give_up.result) (sym c.in-Network.is)
+    (network_answers e c.in-Network.own c.give_up.new.self c.give_up.result tt c.give_up.ensures.after c.give_up.ensures.told)
+
+pub returns-in-Terminal-clause-answers : goal.returns-in-Terminal-clause-answers
+returns-in-Terminal-clause-answers c =
+    let e = teis.down in
+    subst (λ x. Answers (at_management e) x (kind.Terminal c.give_up-in-Terminal.new.self) c.outcome_of.result) (sym c.in-Terminal.is)
+    (terminal_answers e (terminals.down) c.in-Terminal.own c.give_up-in-Terminal.new.self c.outcome_of.result refl tt tt c.give_up-in-Terminal.ensures.after (c.outcome_of.ensures.change ∙ ap (λ t. t.change) c.give_up-in-Terminal.ensures.told)
+    (c.outcome_of.ensures.told ∙ ap told_of_terminal c.give_up-in-Terminal.ensures.told))

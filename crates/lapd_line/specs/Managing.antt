@@ -1,0 +1,56 @@
+-- TEI management of a line, of either kind: what it stands for of the machine's.
+use Rattle.std.specs.Prelude.{◌≡◌, ℕ, ◌+◌, Bool, true, false, List, [], slice_get, Option, Some, None, option_map}
+use Rattle.lapd_frame.specs.declared.addresses.Side.{Side}
+use Rattle.lapd_tei.specs.Events as teis
+use Rattle.lapd_tei.specs.Machine as tei
+use Rattle.lapd_tei.specs.Machine.{Management}
+use Rattle.lapd_tei.specs.Messages as messages
+use Rattle.lapd_terminal.specs.Events as terminals
+use Rattle.lapd_terminal.specs.Machine as terminal
+use Rattle.lapd_terminal.specs.Messages as own_messages
+use Rattle.model_line.specs.declared.config.Config.{Config}
+use Rattle.model_line.specs.Line.{Line, Own, fresh_line, is_terminal}
+use Rattle.lapd_line.specs.declared.managing.Managing.{Managing}
+use Rattle.lapd_line.specs.declared.managing.Managing.TheVariants as kind
+
+-- The table, with what the network's side has beside it; and what a terminal has. Each kind has nothing of the other's.
+abbrev pub management_of : Managing → Management
+management_of (kind.Network m) = m
+management_of (kind.Terminal t) = record { places = t.places; remembered = []; check = None; waiting = [] }
+
+abbrev pub own_of : Managing → Own
+own_of (kind.Network m) = record { number = 0; procedure = None; waiting = [] }
+own_of (kind.Terminal t) = record { number = t.number; procedure = t.procedure; waiting = t.waiting }
+
+abbrev pub is_terminals : Managing → Bool
+is_terminals (kind.Network m) = false
+is_terminals (kind.Terminal t) = true
+
+-- As a line begins.
+pub record IsBegunBy (c : Config) (x : Managing) : Type 0 where
+  pub management : management_of x ≡ (fresh_line c).management
+  pub own : own_of x ≡ (fresh_line c).own
+  pub kind : is_terminals x ≡ is_terminal c
+
+-- The message that has waited longest: its frame, and its type.
+abbrev pub offered_by : Side → Managing → Option (List ℕ)
+offered_by side (kind.Network m) = teis.offered side m
+offered_by side (kind.Terminal t) = terminals.offered t
+
+abbrev pub first_type : Managing → Option ℕ
+first_type (kind.Network m) = option_map messages.type_of (slice_get m.waiting 0)
+first_type (kind.Terminal t) = option_map own_messages.type_of (slice_get t.waiting 0)
+
+-- It is taken.
+abbrev pub without_message : Managing → Managing
+without_message (kind.Network m) = kind.Network (teis.after_offer m)
+without_message (kind.Terminal t) = kind.Terminal (terminals.after_offer t)
+
+pub record Gives (side : Side) (octets : Option (List ℕ)) (old new : Managing) : Type 0 where
+  pub offered : octets ≡ offered_by side old
+  pub after : new ≡ without_message old
+
+-- The octets that are held.
+abbrev pub held_by : Managing → ℕ
+held_by (kind.Network m) = tei.held m
+held_by (kind.Terminal t) = terminal.held t

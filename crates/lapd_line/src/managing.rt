@@ -1,0 +1,222 @@
+//! TEI management of a line, of either kind.
+
+ghost use Rattle.std.specs.Prelude.{◌≡◌, ◌≤◌, ◌<◌, false, length, None, Some, IfOk, IfErr, IfSome, OnOk, OnErr, is_some};
+ghost use Rattle.lapd_frame.specs.declared.addresses.Side.{Side as Spelt};
+ghost use Rattle.lapd_line.specs.Managing.{management_of, own_of, is_terminals, offered_by, first_type, held_by, IsBegunBy, Gives};
+ghost use Rattle.lapd_line.specs.Requests.{asked_aim, is_bad, refusal_at};
+ghost use Rattle.lapd_line.specs.TeiChanges.{IsAnswerTo, Answers};
+ghost use Rattle.lapd_tei.specs.Machine.{place};
+ghost use Rattle.lapd_tei.specs.Outcome.{IsShort, told_of};
+ghost use Rattle.lapd_tei.specs.Events as teis;
+ghost use Rattle.lapd_terminal.specs.Events as terminals;
+ghost use Rattle.lapd_terminal.specs.Outcome.{told_of as terminal_told_of};
+ghost use Rattle.model_line.specs.Effect.{at_management, at_terminal, note_of, order_of, told_of_management, told_of_terminal};
+ghost use Rattle.model_line.specs.Event as line_event;
+ghost use Rattle.model_line.specs.Sound.{IsInRange};
+
+use crate::fault::StartFault;
+use crate::requests::TeiRequest;
+use lapd_frame::{Note, Order, Refusal, ShortList, Side, Timer};
+use lapd_tei::{TeiOutcome, Teis};
+use lapd_terminal::{News, T202Order, TerminalOutcome, TerminalTeis};
+use model_line::Config;
+use std::alloc::Global;
+
+/// TEI management of a line (Q.921 clause 5.3): the network's side of it, or that of a terminal. A trunk's end has the
+/// table of the network's side alone.
+#[derive(Debug, Drop)]
+pub(crate) enum Managing {
+    Network(Teis),
+    Terminal(TerminalTeis),
+}
+
+/// What management is told of a terminal's TEIs.
+fn note_of(news: News) -> Note
+    ensures { result ≡ note_of news }
+{
+    match news {
+        News::Assigned(tei) => Note::Assigned(tei),
+        News::Removed(tei) => Note::Removed(tei),
+        News::Denied => Note::Denied,
+        News::Unassigned => Note::Unassigned,
+        News::RemoveAll => Note::RemoveAll,
+    }
+}
+
+/// What is ordered of T202.
+fn order_of(order: T202Order) -> Order
+    ensures { result ≡ order_of order }
+{
+    match order {
+        T202Order::Start => Order::Start(Timer::T202),
+        T202Order::Stop => Order::Stop(Timer::T202),
+    }
+}
+
+/// What a terminal tells, as the network's side tells it.
+pub(crate) fn outcome_of(told: TerminalOutcome) -> TeiOutcome
+    ensures change { result.change ≡ told.change }
+    ensures told { told_of_management (told_of result) ≡ told_of_terminal (terminal_told_of told) }
+    ensures short { IsShort result }
+{
+    TeiOutcome {
+        notes: match told.news {
+            Some(news) => ShortList::one(note_of(news)),
+            None => ShortList::none(),
+        },
+        change: told.change,
+        orders: match told.order {
+            Some(order) => ShortList::one(order_of(order)),
+            None => ShortList::none(),
+        },
+        lost: 0,
+        unserved: told.unserved,
+    }
+}
+
+/// Nothing happened.
+fn nothing() -> TeiOutcome
+    ensures change { result.change ≡ None }
+    ensures told { told_of_management (told_of result) ≡ line_event.nothing }
+    ensures short { IsShort result }
+{
+    TeiOutcome {
+        notes: ShortList::none(),
+        change: None,
+        orders: ShortList::none(),
+        lost: 0,
+        unserved: false,
+    }
+}
+
+impl Managing {
+    /// TEI management of a line as it begins.
+    pub fn start(alloc: Global, config: &Config) -> Result<Managing, StartFault>
+        requires { IsInRange config.now }
+        ensures { IfOk result (IsBegunBy config.now) }
+    {
+        let places = usize::from(config.terminals);
+        match config.seed {
+            Some(seed) if config.is_terminal() => {
+                Ok(Managing::Terminal(TerminalTeis::start(places, seed)))
+            }
+            _ => Ok(Managing::Network(Teis::start(alloc, places)?)),
+        }
+    }
+
+    /// Serves a message of the other side: the information of a UI command with SAPI 63 and the group TEI.
+    pub fn message(&mut self, information: &[u8]) -> TeiOutcome
+        ensures answers { Answers (at_management (teis.message information.now)) self.old self.new result }
+        ensures short { IsShort result }
+    {
+        match self {
+            Managing::Network(own) => own.message(information),
+            Managing::Terminal(own) => outcome_of(own.message(information)),
+        }
+    }
+
+    /// T201 has expired, which runs at the network's side alone.
+    pub fn expire_t201(&mut self) -> TeiOutcome
+        ensures answers { Answers (at_management teis.expiry) self.old self.new result }
+        ensures short { IsShort result }
+    {
+        match self {
+            Managing::Network(own) => own.expire_t201(),
+            Managing::Terminal(_) => nothing(),
+        }
+    }
+
+    /// T202 has expired, which runs at a terminal alone.
+    pub fn expire_t202(&mut self) -> TeiOutcome
+        ensures answers { Answers (at_terminal terminals.expiry) self.old self.new result }
+        ensures short { IsShort result }
+    {
+        match self {
+            Managing::Network(_) => nothing(),
+            Managing::Terminal(own) => outcome_of(own.expire_t202()),
+        }
+    }
+
+    /// What is asked of it about a TEI.
+    ///
+    /// # Errors
+    ///
+    /// What either kind refuses; `WrongSide` if it has no such request.
+    pub fn ask(&mut self, asked: TeiRequest, tei: u8) -> Result<TeiOutcome, Refusal>
+        requires { is_bad asked tei ≡ false }
+        ensures answers { IfOk result (Answers (asked_aim asked tei) self.old self.new) }
+        ensures accepted { OnOk result (refusal_at asked tei self.old ≡ None) }
+        ensures refused { IfErr result (λ why. refusal_at asked tei self.old ≡ Some why) }
+        ensures unchanged { OnErr result (self.new ≡ self.old) }
+        ensures short { IfOk result IsShort }
+    {
+        match self {
+            Managing::Network(own) => asked.put(tei, own),
+            Managing::Terminal(own) => asked.put_to_terminal(tei, own),
+        }
+    }
+
+    /// The line is down: the messages that wait are given up, and what it has going.
+    pub fn give_up(&mut self) -> TeiOutcome
+        ensures answers { Answers (at_management teis.down) self.old self.new result }
+        ensures short { IsShort result }
+    {
+        match self {
+            Managing::Network(own) => own.give_up(),
+            Managing::Terminal(own) => outcome_of(own.give_up()),
+        }
+    }
+
+    /// The place of a TEI in the table, `None` if it is not on the line.
+    #[inline(always)]
+    pub fn place(&self, tei: u8) -> Option<usize>
+        ensures place { result ≡ place tei (management_of self.now) }
+        ensures within { IfSome result (λ place. place < length (management_of self.now).places) }
+    {
+        match self {
+            Managing::Network(own) => own.place(tei),
+            Managing::Terminal(own) => own.place(tei),
+        }
+    }
+
+    /// Takes the message that has waited longest: the octets of its frame, without the frame check.
+    pub fn offer(&mut self, side: Side) -> Option<[u8; 8]>
+        ensures { Gives side result self.old self.new }
+    {
+        match self {
+            Managing::Network(own) => own.offer(side),
+            Managing::Terminal(own) => own.offer(),
+        }
+    }
+
+    /// Whether a message waits to be sent.
+    #[inline(always)]
+    pub fn has_message(&self) -> bool
+        ensures { (side : Spelt) → result ≡ is_some (offered_by side self.now) }
+    {
+        match self {
+            Managing::Network(own) => own.has_message(),
+            Managing::Terminal(own) => own.has_message(),
+        }
+    }
+
+    /// The type of the message that [`Managing::offer`] takes next (Q.921 clause 5.3.1, table 8).
+    pub fn next_type(&self) -> Option<u8>
+        ensures { result ≡ first_type self.now }
+    {
+        match self {
+            Managing::Network(own) => own.next_type(),
+            Managing::Terminal(own) => own.next_type(),
+        }
+    }
+
+    /// How many octets are held: eight for each message that waits, and what is remembered.
+    pub fn held(&self) -> u32
+        ensures { result ≡ held_by self.now }
+    {
+        match self {
+            Managing::Network(own) => own.held(),
+            Managing::Terminal(own) => own.held(),
+        }
+    }
+}

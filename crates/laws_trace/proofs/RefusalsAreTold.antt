@@ -1,6 +1,7 @@
 -- Why unit data, and what management asks for, is refused: the law.
-use Rattle.laws_trace.proofs.Vocabulary.{◌≡◌, ℕ, ◌==◌, ◌&&◌, ◌<◌, Bool, true, false, not, cond, nat_le, nat_lt, List, length, Option, Some, None, IfSome, is_some, option_map, refl, sym, ap, ◌∙◌, subst, arith, Config, Effect, Line, has_tei, unless_refused_told, Card, line_at}
-use Rattle.laws_trace.proofs.Vocabulary.{is_full, answer_is, refusal, fresh, after_all, AreAtLines, IsInRange, units_of, of_request, config-stays, length-map, unit_frame, Side, User, Network, Refusal, Service, Answer, IsSound, last_unit_tei, used, manages, has_management, refused, Management, Managed, managed_after, managing_is_on as is_on, CardEvent as Event, card_answer as answer, at, free_place}
+use Rattle.laws_trace.proofs.Vocabulary.{◌≡◌, ℕ, ◌==◌, ◌&&◌, ◌<◌, Bool, not, cond, nat_le, nat_lt, List, length, Option, Some, None, IfSome, is_some, option_map, refl, sym, ap, ◌∙◌, subst, Config, Effect, Line, has_tei, unless_refused_told, Card, line_at}
+use Rattle.laws_trace.proofs.Vocabulary.{is_full, answer_is, refusal, fresh, after_all, AreAtLines, IsInRange, units_of, of_request, config-stays, length-map, unit_frame, Side, User, Network, Refusal}
+use Rattle.laws_trace.proofs.Vocabulary.{Service, Answer, IsSound, last_unit_tei, used, manages, has_management, refused, Managed, managed_after, managing_is_on as is_on, CardEvent as Event, card_answer as answer, at, free_place}
 use Rattle.lapd_frame.specs.declared.refusals.Refusal.TheVariants.{BadTei, NoLink, TooLong, QueueFull, PoolFull, WrongSide, TeiTaken, TableFull, CheckRunning, ControlFull}
 use Rattle.lapd_tei.specs.declared.check.Check as check
 use Rattle.model_line.specs.Event as line_event

@@ -202,8 +202,8 @@ pub fn nothing_is_lost_in_vain()
 /// one.
 ///
 /// **Messages** begin as the line is called for its next frame, before all other frames, the oldest first, whole, each
-/// once. At most four are owed. As the line is down none is owed any more, a check that runs is over, and T201 is
-/// stopped.
+/// once, in the octets of clause 5.3.1. At most four are owed. As the line is down none is owed any more, a check that
+/// runs is over, and T201 is stopped.
 ///
 /// **Granted** is exactly this. A TEI of at most 126 is put on a line that does not have it and has room. On the
 /// network's side more is granted, while fewer than four messages are owed. One that is on the line is removed, or

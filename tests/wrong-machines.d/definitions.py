@@ -1,5 +1,6 @@
 """Copies of crates for tests/wrong-machines: of those that define machines and state laws, the definitions alone; of
 cards and of laws those on which rows stand."""
+import functools
 import os
 import re
 import shutil
@@ -114,6 +115,7 @@ def copy(crates, name, folder):
     os.rename(part, at)
 
 
+@functools.lru_cache(maxsize=None)
 def narrowed(text, words=frozenset()):
     """Returns a module without the imports of which it uses no word, unless they hand one of these words on."""
     lines = text.splitlines(True)
@@ -149,7 +151,7 @@ def stood_on(crates, text):
             known = found.setdefault((crate, path), set())
             if not words <= known:
                 known |= words
-                left.append(narrowed(read(f"{crates}/{crate}/specs/{path}.antt"), known))
+                left.append(narrowed(read(f"{crates}/{crate}/specs/{path}.antt"), frozenset(known)))
     return found
 
 
@@ -162,7 +164,7 @@ def keep(crates, names, text):
         for file in files_in(specs):
             path = file.removesuffix(".antt")
             if path in kept:
-                write(f"{specs}/{file}", narrowed(read(f"{specs}/{file}"), kept[path]))
+                write(f"{specs}/{file}", narrowed(read(f"{specs}/{file}"), frozenset(kept[path])))
             elif path in folders:
                 below, left = "" if path == "Lib" else f"{path}/", {*kept, *folders}
                 lines = read(f"{specs}/{file}").splitlines(True)

@@ -6,7 +6,7 @@ import re
 import shutil
 
 # The crates that define machines and state laws, those of cards and of laws, and what a copy of one doesn't have.
-MACHINES = re.compile(r"^(model|laws)_|^lapd_tei$")
+MACHINES = re.compile(r"^(model|laws)_|^lapd_(clock|tei)$")
 LAWS = re.compile(r"^laws_|^model_card$")
 DROPPED = "proofs", "out", "must-fail", "wrong-bodies.txt"
 # A worked value: its statement, what it unfolds, and its proof by computing, alone or field by field.
@@ -23,6 +23,8 @@ WORDS = re.compile(r"[^\s,{}]+(?=[,}])|(?<= as )\w+$", re.MULTILINE)
 HANDS_ON = re.compile(r"(?:unfoldable )?pub use ")
 # A plain type, and what it is named.
 TYPE = re.compile(r"^#\[derive\(Clone, Copy.*\npub(?:\(crate\))? (?:struct|enum) .*\{\n(?:.+\n|\n)*?\}\n", re.MULTILINE)
+# What an error displays.
+DISPLAYED = re.compile(r"^ *#\[error\(.*\n", re.MULTILINE)
 NAME = re.compile(r"^pub (?:struct|enum) (\w+)", re.MULTILINE)
 
 
@@ -39,7 +41,7 @@ def write(path, text):
 
 def types_of(text):
     """Returns what a file of src/ has of plain types, with the imports that they name; and the names of public ones."""
-    types = "\n".join(TYPE.findall(text))
+    types = re.sub(r"(derive\(Clone, Copy).*", r"\1)]", DISPLAYED.sub("", "\n".join(TYPE.findall(text))))
 
     def is_named(line):
         return any(re.search(rf"\b{it}\b", types) for it in re.findall(r"\w+", line.rpartition("::")[2]))

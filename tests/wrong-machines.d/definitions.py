@@ -26,8 +26,11 @@ WORDS = re.compile(r"[^\s,{}]+(?=[,}])|(?<= as )\w+$", re.MULTILINE)
 HANDS_ON = re.compile(r"(?:unfoldable )?pub use ")
 # A plain type, and what it is named.
 TYPE = re.compile(r"^#\[derive\(Clone, Copy.*\npub(?:\(crate\))? (?:struct|enum) .*\{\n(?:.+\n|\n)*?\}\n", re.MULTILINE)
-# What else they derive, and what errors display: no definition needs it.
-DERIVED = re.compile(r"^use thiserror::.*\n|(?<=^#\[derive\(Clone, Copy).*(?=\)\])|^ *#\[error\(.*\n|^#!\[tactic.*\n", re.MULTILINE)
+# What no definition needs of them: what else they derive, what errors display, and of which values they are.
+DERIVED = re.compile(
+    r"^use thiserror::.*\n|(?<=^#\[derive\(Clone, Copy).*(?=\)\])|^ *#\[error\(.*\n|^ *ghost \w+: .*\n|^#!\[tactic.*\n",
+    re.MULTILINE,
+)
 NAME = re.compile(r"^pub (?:struct|enum) (\w+)", re.MULTILINE)
 
 

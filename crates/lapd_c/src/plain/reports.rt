@@ -203,9 +203,7 @@ fn write_order_list(places: &mut [PlainOrder; 4], orders: &ShortList<Order>) -> 
         ShortList::None => 0,
         ShortList::One(orders) => write_orders(places, orders),
         ShortList::Two(orders) => write_orders(places, orders),
-        ShortList::Three(_) | ShortList::Four(_) => {
-            write_several_orders(places, *orders)
-        }
+        ShortList::Three(_) | ShortList::Four(_) => write_several_orders(places, *orders),
     }
 }
 

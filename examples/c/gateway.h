@@ -48,9 +48,9 @@ struct gateway {
  * LAPD_BAD_SAPI), LAPD_WRONG_TIME of a length, or LAPD_NO_MEMORY: none that was not there before is there. */
 LAPD_STATUS gateway_start(gateway *own, const lapd_config *config, const lapd_lengths *lengths);
 
-/* Tells all terminals of a line to give up the TEIs that they still use, twice, since one message may be lost: after the start,
- * as the card knows none of them, except of a line whose TEIs are set by hand. LAPD_REFUSED_TEI_TAKEN: one is on the line.
- * LAPD_REFUSED_CONTROL_FULL: take frames and call again. LAPD_REFUSED_WRONG_SIDE: on the user's side. */
+/* Tells all terminals of a line to give up the TEIs that they still use, twice, since one message may be lost. It is called
+ * after the start, as the card knows none of them, except of a line whose TEIs are set by hand. LAPD_REFUSED_TEI_TAKEN: one
+ * is on the line. LAPD_REFUSED_CONTROL_FULL: take frames and call again. LAPD_REFUSED_WRONG_SIDE: on the user's side. */
 LAPD_STATUS gateway_disown(gateway *own, uint32_t line);
 
 /* Gives back what the start took; the gateway can be started again. Where it was not started nothing happens. */

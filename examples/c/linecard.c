@@ -121,7 +121,8 @@ bool linecard_disown(linecard *own) {
     for (int times = 0; times < 2; times++) { /* one message may be lost */
         if (own->record != NULL)
             fprintf(own->record, "disown 0 %u\n", LAPD_GROUP_TEI);
-        if (!linecard_is_ok(own, lapd_disown(&own->card, 0, LAPD_GROUP_TEI, &report), "disown") || !linecard_tell(own, &report))
+        uint32_t status = lapd_disown(&own->card, 0, LAPD_GROUP_TEI, &report);
+        if (!linecard_is_ok(own, status, "disown") || !linecard_tell(own, &report))
             return false;
     }
     return true;

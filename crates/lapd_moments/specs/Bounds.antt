@@ -2,38 +2,42 @@
 use Rattle.std.specs.Prelude.{◌≡◌, ℕ, ◌+◌, ◌*◌, ◌/◌, ◌<◌, ◌≤◌, false, List, length, get_or, slice_index}
 use Rattle.lapd_clock.specs.Firsts.{never}
 use Rattle.lapd_moments.specs.Places.{expiries_of, place_before, AreNotBefore}
+use Rattle.lapd_moments.specs.declared.lead.Lead.{Lead}
 use Rattle.lapd_moments.specs.declared.place.Place.{Place}
 
--- The least moment of so many places from one on: none has a lesser one, and one has it, if any timer runs there.
-pub record Has (begin count moment : ℕ) (ps : List Place) : Type 0 where
-  pub place : ℕ
-  pub low : begin ≤ place
-  pub high : place < begin + count
-  pub is : (d : Place) → (get_or ps place d).moment ≡ moment
+-- No place of so many has a lesser moment than this one, and no other has a lesser one than that.
+pub record IsEarliest (count place others : ℕ) (ps : List Place) : Type 0 where
+  pub within : place < count
+  pub least : (i : ℕ) (d e : Place) → i < count → (get_or ps place e).moment ≤ (get_or ps i d).moment
+  pub others_late : (i : ℕ) (d : Place) → i < count → (i ≡ place → ⊥) → others ≤ (get_or ps i d).moment
 
-pub record IsLeastOf (begin count moment : ℕ) (ps : List Place) : Type 0 where
-  pub none_before : (i : ℕ) (d : Place) → begin ≤ i → i < begin + count → moment ≤ (get_or ps i d).moment
-  pub is_one : moment < never → Has begin count moment ps
+-- Of so many places from one on, the place that leads has the bound as its moment, and no place has a lesser one, and no other one before
+-- that of the others. Of the places that have not been used none runs.
+pub record IsLead (begin count bound : ℕ) (lead : Lead) (ps : List Place) : Type 0 where
+  pub low : begin ≤ lead.place
+  pub high : lead.place < begin + count
+  pub is : (d : Place) → (get_or ps lead.place d).moment ≡ bound
+  pub least : (i : ℕ) (d : Place) → begin ≤ i → i < begin + count → bound ≤ (get_or ps i d).moment
+  pub others_late : (i : ℕ) (d : Place) → begin ≤ i → i < begin + count → (i ≡ lead.place → ⊥) → lead.others ≤ (get_or ps i d).moment
+  pub fit : lead.used ≤ count
+  pub rest : (i : ℕ) (d : Place) → begin + lead.used ≤ i → i < begin + count → (get_or ps i d).moment ≡ never
 
--- Each line has so many places, one after the other, and its bound is the least moment of these.
-pub record AreBounded (each : ℕ) (bounds : List ℕ) (ps : List Place) : Type 0 where
+-- Each line has so many places, one after the other, and one of these leads.
+pub record AreBounded (each : ℕ) (bounds : List ℕ) (leads : List Lead) (ps : List Place) : Type 0 where
   pub few_lines : length bounds ≤ 64
   pub some : 1 ≤ each
   pub few : each ≤ 33
   pub count : length ps ≡ length bounds * each
   pub of_line : (i : ℕ) (d : Place) → i < length ps → (get_or ps i d).line ≡ i / each
-  pub least : (line : ℕ) → line < length bounds → IsLeastOf (line * each) each (slice_index bounds line) ps
+  pub same : length leads ≡ length bounds
+  pub led : (line : ℕ) (d : Lead) → line < length bounds → IsLead (line * each) each (slice_index bounds line) (get_or leads line d) ps
 
--- Of each line so many places, from its first one on, have been used. At the others no timer runs.
-pub record AreUsed (each : ℕ) (used : List ℕ) (ps : List Place) : Type 0 where
-  pub fit : (line : ℕ) → line < length used → slice_index used line ≤ each
-  pub rest : (line i : ℕ) (d : Place) → line < length used → line * each + slice_index used line ≤ i → i < line * each + each → (get_or ps i d).moment ≡ never
+abbrev pub AreBounds : ℕ → List ℕ → List Place → Type 0
+AreBounds each bounds ps = (leads : List Lead) × AreBounded each bounds leads ps
 
 -- And no timer falls due before the moment that is kept of all.
-pub record AreKept (not_before each : ℕ) (bounds used : List ℕ) (ps : List Place) : Type 0 where
-  pub bounded : AreBounded each bounds ps
-  pub same : length used ≡ length bounds
-  pub rest : AreUsed each used ps
+pub record AreKept (not_before each : ℕ) (bounds : List ℕ) (leads : List Lead) (ps : List Place) : Type 0 where
+  pub bounded : AreBounded each bounds leads ps
   pub none_before : AreNotBefore not_before (expiries_of ps)
 
 -- No place is before this one.

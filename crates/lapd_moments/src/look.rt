@@ -1,12 +1,12 @@
 //! A look for the timer that falls due first.
 
-ghost use Rattle.std.specs.Prelude.{◌≡◌, ◌≢◌, ◌+◌, ◌*◌, ◌<◌, ◌≤◌, nat_lt, length, IfSome, IfNone};
+ghost use Rattle.std.specs.Prelude.{◌≡◌, ◌+◌, ◌*◌, ◌<◌, ◌≤◌, nat_lt, length, IfSome, IfNone};
 ghost use Rattle.std.specs.List.{IsFirstBest};
 ghost use Rattle.lapd_clock.specs.Firsts.{never};
-ghost use Rattle.lapd_moments.specs.Bounds.{AreBounded, IsFoundAt, IsFirstOfLine, IsLeastOf};
+ghost use Rattle.lapd_moments.specs.Bounds.{AreBounds, IsFoundAt, IsFirstOfLine};
 ghost use Rattle.lapd_moments.specs.Places.{expiries_of, AreNotBefore};
 
-use crate::place::{Place, first_place, least_moment};
+use crate::place::{Place, first_place};
 
 /// Looks for the place that falls due first, if it does so until `end`. It answers a moment before which no timer falls due,
 /// and the place that falls due then: it is one of the line with the least bound.
@@ -18,7 +18,7 @@ pub(crate) fn look(
 ) -> (u64, Option<usize>)
     requires end { end < never }
     requires some { 1 ≤ length bounds.now }
-    requires bounded { AreBounded each bounds.now places.now }
+    requires bounded { AreBounds each bounds.now places.now }
     ensures moment { AreNotBefore result.0 (expiries_of places.now) }
     ensures none { IfNone result.1 (end < result.0) }
     ensures first { IfSome result.1 (λ place. IsFoundAt place result.0 end places.now) }
@@ -54,38 +54,4 @@ fn first_of_line(places: &[Place], each: usize, line: usize) -> usize
 {
     let begin = line * each;
     begin + first_place(&places[begin..begin + each])
-}
-
-/// The least moment of a line, of which the moment of one place was `before`, and is now `moment`: of so many of its places.
-/// The least was `bound`.
-///
-/// Only if the timer that was first is started later, or stopped, the places are looked through.
-#[inline(always)]
-pub(crate) fn bound_after(
-    places: &[Place],
-    begin: usize,
-    used: usize,
-    bound: u64,
-    before: u64,
-    moment: u64,
-) -> u64
-    requires within { begin + used ≤ length places.now }
-    ensures sooner { moment ≤ bound → result ≡ moment }
-    ensures other { bound < moment → before ≢ bound → result ≡ bound }
-    ensures looked { bound < moment → before ≡ bound → IsLeastOf begin used result places.now }
-{
-    if moment <= bound {
-        moment
-    } else if before != bound {
-        bound
-    } else {
-        least_of(places, begin, used)
-    }
-}
-
-fn least_of(places: &[Place], begin: usize, used: usize) -> u64
-    requires within { begin + used ≤ length places.now }
-    ensures { IsLeastOf begin used result places.now }
-{
-    least_moment(&places[begin..begin + used])
 }

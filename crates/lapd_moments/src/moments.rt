@@ -1,11 +1,12 @@
 //! The moments of all timers of a card.
 
-ghost use Rattle.std.specs.Prelude.{◌≡◌, ◌+◌, ◌*◌, ◌<◌, ◌≤◌, length, IfSome, IfNone, IfOk};
+ghost use Rattle.std.specs.Prelude.{◌≡◌, ◌+◌, ◌*◌, ◌<◌, ◌≤◌, true, false, length, IfSome, IfNone, IfOk};
 ghost use Rattle.lapd_clock.specs.Timers.{first_due, first_moment};
 ghost use Rattle.lapd_clock.specs.Firsts.{never};
-ghost use Rattle.lapd_moments.specs.Places.{timers_in, with_timer, without_timer, AreNotBefore, IsFirstUntil, IsTaken, RunsAt, is_nowhere};
+ghost use Rattle.lapd_moments.specs.Places.{timers_in, with_timer, without_timer, AreNotBefore, IsFirstUntil, IsRestarted, IsTaken, RunsAt, is_nowhere};
 
-use crate::look::{bound_after, look};
+use crate::lead::{Lead, first_places, lead_after};
+use crate::look::look;
 use crate::place::{NEVER, Place, running_place};
 use lapd_frame::Timer;
 use std::alloc::{AllocError, Global};
@@ -22,8 +23,8 @@ pub struct Moments {
     not_before: u64,
     /// The least moment of each line.
     bounds: Vec<u64>,
-    /// How many places of each line have been used. No timer has run at those after them.
-    used: Vec<usize>,
+    /// Which place of each line has it.
+    leads: Vec<Lead>,
     /// How many places a line has.
     each: usize,
     places: Vec<Place>,
@@ -39,7 +40,7 @@ impl Model for Moments {
 
     ghost view = { λ m. expiries_of m.places.items };
 
-    ghost invariant = { λ m. AreKept m.not_before m.each m.bounds.items m.used.items m.places.items };
+    ghost invariant = { λ m. AreKept m.not_before m.each m.bounds.items m.leads.items m.places.items };
 }
 
 impl Moments {
@@ -58,7 +59,7 @@ impl Moments {
     {
         let each = 4 * terminals + 1;
         let bounds = vec![in alloc; NEVER; lines]?;
-        let used = vec![in alloc; 0; lines]?;
+        let leads = first_places(alloc, lines, each)?;
         let mut places = Vec::with_capacity(alloc, lines * each)?;
         for line in 0..lines {
             for _ in 0..each {
@@ -72,7 +73,7 @@ impl Moments {
         Ok(Moments {
             not_before: NEVER,
             bounds,
-            used,
+            leads,
             each,
             places,
         })
@@ -85,17 +86,35 @@ impl Moments {
         ensures after { self.new ≡ with_timer place timer moment self.old }
     {
         let its = &mut self.places[place];
-        let before = its.moment;
         its.moment = moment;
         its.timer = timer;
         let line = its.line;
         let begin = line * self.each;
-        let used = self.used[line].max(place + 1 - begin);
-        self.used[line] = used;
-        let bound = self.bounds[line];
-        let least = bound_after(&self.places, begin, used, bound, before, moment);
+        let (least, lead) = lead_after(&self.places, begin, self.leads[line], self.bounds[line], place, moment);
         self.bounds[line] = least;
+        self.leads[line] = lead;
         self.not_before = self.not_before.min(moment);
+    }
+
+    /// Starts a timer of a line anew, if it runs and is the one of its line that falls due first, and still is so then. Else
+    /// nothing changes.
+    #[inline(always)]
+    pub fn restart(&mut self, line: usize, timer: Timer, moment: u64) -> bool
+        ensures done { result ≡ true → IsRestarted line timer moment self.old self.new }
+        ensures unchanged { result ≡ false → self.new ≡ self.old }
+    {
+        if line >= self.leads.len() {
+            return false;
+        }
+        let lead = self.leads[line];
+        let its = &mut self.places[lead.place];
+        if its.moment == NEVER || moment > lead.others || !its.is(timer) {
+            return false;
+        }
+        its.moment = moment;
+        self.bounds[line] = moment;
+        self.not_before = self.not_before.min(moment);
+        true
     }
 
     /// Stops the timer of a place, where one runs there.

@@ -3,7 +3,6 @@
 ghost use Rattle.std.specs.Prelude.{◌≡◌, ◌≤◌, ◌<◌, true, false, length, All, HoldsAt, IfSome, IfNone};
 ghost use Rattle.std.specs.List.{IsFirstBest};
 ghost use Rattle.lapd_clock.specs.Timer.{is_same};
-ghost use Rattle.lapd_moments.specs.Bounds.{IsLeastOf};
 ghost use Rattle.lapd_moments.specs.Places.{place_before, place_runs};
 
 use crate::timers::goes_before;
@@ -44,7 +43,8 @@ impl Place {
         self.moment < NEVER && self.line == line && self.is(timer)
     }
 
-    fn is(&self, timer: Timer) -> bool
+    /// Whether it is the place of this timer.
+    pub fn is(&self, timer: Timer) -> bool
         ensures { result ≡ is_same self.now.timer timer }
     {
         self.timer == timer
@@ -63,17 +63,6 @@ pub(crate) fn first_place(places: &[Place]) -> usize
         }
     }
     first
-}
-
-/// The least moment of the places; [`NEVER`] if no timer runs at them.
-pub(crate) fn least_moment(places: &[Place]) -> u64
-    ensures { IsLeastOf 0 (length places.now) result places.now }
-{
-    let mut least = NEVER;
-    for place in places {
-        least = least.min(place.moment);
-    }
-    least
 }
 
 /// The place in which a timer of a line runs.

@@ -19,7 +19,11 @@ pub(crate) struct Lead {
 }
 
 /// Of each line its first place leads, since none has been used.
-pub(crate) fn first_places(alloc: Global, lines: usize, each: usize) -> Result<Vec<Lead>, AllocError>
+pub(crate) fn first_places(
+    alloc: Global,
+    lines: usize,
+    each: usize,
+) -> Result<Vec<Lead>, AllocError>
     requires lines { lines ≤ 64 }
     requires each { each ≤ 33 }
     ensures count { IfOk result (λ leads. length leads.items ≡ lines) }
@@ -58,17 +62,45 @@ pub(crate) fn lead_after(
     let used = lead.used.max(place + 1 - begin);
     if place != lead.place {
         if moment < bound {
-            return (moment, Lead { place, others: bound, used });
+            return (
+                moment,
+                Lead {
+                    place,
+                    others: bound,
+                    used,
+                },
+            );
         }
         let others = lead.others.min(moment);
-        return (bound, Lead { place: lead.place, others, used });
+        return (
+            bound,
+            Lead {
+                place: lead.place,
+                others,
+                used,
+            },
+        );
     }
     if moment <= lead.others {
-        return (moment, Lead { place, others: lead.others, used });
+        return (
+            moment,
+            Lead {
+                place,
+                others: lead.others,
+                used,
+            },
+        );
     }
     let (first, others) = earliest(&places[begin..begin + used]);
     let place = begin + first;
-    (places[place].moment, Lead { place, others, used })
+    (
+        places[place].moment,
+        Lead {
+            place,
+            others,
+            used,
+        },
+    )
 }
 
 /// Which of the places has the least moment, and a moment before which no other falls due.

@@ -10,12 +10,7 @@ use crate::place::{Place, first_place};
 
 /// Looks for the place that falls due first, if it does so until `end`. It answers a moment before which no timer falls due,
 /// and the place that falls due then: it is one of the line with the least bound.
-pub(crate) fn look(
-    bounds: &[u64],
-    places: &[Place],
-    each: usize,
-    end: u64,
-) -> (u64, Option<usize>)
+pub(crate) fn look(bounds: &[u64], places: &[Place], each: usize, end: u64) -> (u64, Option<usize>)
     requires end { end < never }
     requires some { 1 ≤ length bounds.now }
     requires bounded { AreBounds each bounds.now places.now }

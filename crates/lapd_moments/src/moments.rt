@@ -90,7 +90,14 @@ impl Moments {
         its.timer = timer;
         let line = its.line;
         let begin = line * self.each;
-        let (least, lead) = lead_after(&self.places, begin, self.leads[line], self.bounds[line], place, moment);
+        let (least, lead) = lead_after(
+            &self.places,
+            begin,
+            self.leads[line],
+            self.bounds[line],
+            place,
+            moment,
+        );
         self.bounds[line] = least;
         self.leads[line] = lead;
         self.not_before = self.not_before.min(moment);
@@ -107,11 +114,11 @@ impl Moments {
             return false;
         }
         let lead = self.leads[line];
-        let its = &mut self.places[lead.place];
-        if its.moment == NEVER || moment > lead.others || !its.is(timer) {
+        let leading = &mut self.places[lead.place];
+        if leading.moment == NEVER || moment > lead.others || !leading.is(timer) {
             return false;
         }
-        its.moment = moment;
+        leading.moment = moment;
         self.bounds[line] = moment;
         self.not_before = self.not_before.min(moment);
         true

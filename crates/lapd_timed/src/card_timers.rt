@@ -180,8 +180,11 @@ impl CardTimers {
     {
         match order {
             Order::Start(timer) => {
+                let moment = self.moment + self.lengths.of(timer);
+                if self.moments.restart(line, timer, moment) {
+                    return;
+                }
                 if let Some(place) = self.place(card, line, timer) {
-                    let moment = self.moment + self.lengths.of(timer);
                     self.moments.start(place, timer, moment);
                 }
             }

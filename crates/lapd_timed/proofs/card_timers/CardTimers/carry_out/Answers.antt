@@ -1,5 +1,6 @@
 -- A timer is started where it runs, or at its place, or stopped where it runs.
 use Rattle.std.proofs.Common.{◌∙◌, sym, ap, subst}
+use Rattle.lapd_clock.specs.Timer.{Start}
 use Rattle.lapd_moments.specs.Places.{with_timer}
 use Rattle.lapd_timed.specs.Stands.{held}
 use Rattle.lapd_timed.proofs.Carried.{IsDone, restart-done, start-done, start-nowhere, stop-done, stop-nowhere}
@@ -21,7 +22,7 @@ returns-in-Some-clause-after g c =
 pub returns-in_default-clause-after : goal.returns-in_default-clause-after
 returns-in_default-clause-after g c =
     subst (λ o. IsDone g.S.Shelf.store c.args.card.now (held c.args.self.now) c.args.line c.requires.line o (record (held c.args.self.now) { moments = c.restart.new.self })) (sym c.in-Start.is)
-    (subst (λ moments. IsDone g.S.Shelf.store c.args.card.now (held c.args.self.now) c.args.line c.requires.line _ (record (held c.args.self.now) { moments = moments })) (sym (c.restart.ensures.unchanged c.if-restart.false))
+    (subst (λ moments. IsDone g.S.Shelf.store c.args.card.now (held c.args.self.now) c.args.line c.requires.line (Start c.in-Start.timer) (record (held c.args.self.now) { moments = moments })) (sym (c.restart.ensures.unchanged c.if-restart.false))
     (start-nowhere g.S.Shelf.store c.args.card.now (held c.args.self.now) c.args.line c.requires.line c.in-Start.timer c.in_default.ensures.is))
 
 pub returns-in-Some-running_place-clause-after : goal.returns-in-Some-running_place-clause-after

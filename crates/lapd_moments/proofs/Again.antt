@@ -1,7 +1,7 @@
 -- A timer that is started anew in its place.
 use Rattle.std.proofs.lemmas.Bool.{and_parts}
-use Rattle.lapd_clock.proofs.Vocabulary.{◌≡◌, ◌==◌, ℕ, ◌<◌, ◌≤◌, true, List, length, get_or, set, refl, sym, ap, ◌∙◌, subst, arith, get_or-map, Timer, Expiry, is_same, never}
-use Rattle.lapd_moments.specs.OfCard.{Holds, HoldsOwn, HoldsT201, IsLayout, slot_of, t201_of}
+use Rattle.lapd_clock.proofs.Vocabulary.{◌≡◌, ◌==◌, ℕ, ◌<◌, ◌≤◌, true, List, length, get_or, set, sym, ap, ◌∙◌, subst, arith, get_or-map, Timer, Expiry, is_same, never}
+use Rattle.lapd_moments.specs.OfCard.{Holds, HoldsOwn, HoldsT201, IsLayout}
 use Rattle.lapd_moments.specs.Places.{expiry_of, expiries_of, nothing, at, with_timer, IsRestarted, RunsAt}
 use Rattle.lapd_moments.specs.declared.place.Place.{Place}
 use Rattle.lapd_moments.proofs.OfCard.{equal, itself, length_set, replaced}

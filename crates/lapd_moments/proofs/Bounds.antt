@@ -1,14 +1,12 @@
 -- What is kept of each line, when a place changes, and what a look finds.
-use Rattle.lapd_clock.proofs.Vocabulary.{◌≡◌, ℕ, zero, suc, [], ◌∷◌, ◌++◌, take, true, ◌+◌, ◌-◌, ◌*◌, ◌/◌, ◌<◌, ◌≤◌, false, nat_lt, min, List, length, length-set, get_or, set, replicate, slice_index, None, Some, refl, sym, ap, ◌∙◌, subst, arith, nat_tests, AllByRecursion, recursion_from_All, IsFirstBest, cases_lt, cases_eq, inl, inr}
-use Rattle.lapd_clock.proofs.Vocabulary.{get_or_default, get_or-map, sum_by, Expiry, is_before, never}
+use Rattle.lapd_clock.proofs.Vocabulary.{◌≡◌, ℕ, zero, suc, [], ◌∷◌, true, ◌+◌, ◌-◌, ◌*◌, ◌/◌, ◌<◌, ◌≤◌, false, nat_lt, List, length, length-set, get_or, set, replicate, slice_index, None, Some, refl, sym, ap, ◌∙◌, subst, arith, nat_tests, recursion_from_All, IsFirstBest, cases_lt, cases_eq, inl, inr}
+use Rattle.lapd_clock.proofs.Vocabulary.{get_or-map, Expiry, is_before, never}
 use Rattle.std.specs.Prelude.{Option, IfSome, IfNone}
 use Rattle.std.proofs.lemmas.List.{get_or-set_other, length-replicate}
 use Rattle.std.proofs.lemmas.Grind.{get_or-set_at}
 use Rattle.std.proofs.lemmas.List.Edits.{get_or-between, length-between}
-use Rattle.std.proofs.lemmas.List.Sums.{sum_by-set}
 use Rattle.std.specs.List.{between}
 use Rattle.std.proofs.lemmas.Nat.{div-mul-add}
-use Rattle.std.proofs.Math.Seq.{take-append_seam}
 use Rattle.std.proofs.Math.Nat.{div-mul-le_self, lt-div-mul-add}
 use Rattle.lapd_clock.specs.Timer.{T201}
 use Rattle.lapd_clock.proofs.First.{no_earlier}

@@ -60,13 +60,13 @@ pub record AreApart (lines : ℕ) (IsOn : ℕ → ℕ → ℕ → Type 0) : Type
   pub once : (line place other tei : ℕ) → line < lines → IsOn line place tei → IsOn line other tei → place ≡ other
   pub alone : (line place tei other : ℕ) → line < lines → IsOn line place tei → IsOn line place other → tei ≡ other
 
--- Of a line there are four places for the two links of each of its TEIs, and after those one for its T201.
+-- Of a line there is a place for its T201, and after it there are four for the two links of each of its TEIs.
 abbrev pub kind_of : LinkTimer → ℕ
-kind_of T200 = 0
-kind_of T203 = 1
+kind_of T200 = 1
+kind_of T203 = 2
 
 abbrev pub slot_of : ℕ → ℕ → ℕ → LinkTimer → ℕ
 slot_of terminals line number timer = line * (4 * terminals + 1) + (2 * number + kind_of timer)
 
 abbrev pub t201_of : ℕ → ℕ → ℕ
-t201_of terminals line = line * (4 * terminals + 1) + 4 * terminals
+t201_of terminals line = line * (4 * terminals + 1)

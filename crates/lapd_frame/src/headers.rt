@@ -70,11 +70,8 @@ fn supervisory(octet: u8, nr: Seq, pf: bool) -> Option<Control>
     }
 }
 
-// The unnumbered frame of an octet, by its modifier and P/F bits (Q.921 clause 3.4.3). It stands apart: a line that is up has
-// few.
+// The unnumbered frame of an octet, by its modifier and P/F bits (Q.921 clause 3.4.3).
 #[tactic(auto, unfolding(crate::specs::Reading::unnumbered_of))]
-#[cold]
-#[inline(never)]
 fn unnumbered(octet: u8) -> Option<Control>
     ensures { result ≡ unnumbered_of octet }
 {

@@ -53,7 +53,6 @@ fn exchanged(own: u16, sapi: u8) -> u8
 
 // The same of a SAPI that is not that of call control. It stands apart, so that one that is has no part of it in its way.
 #[tactic(auto, unfolding(crate::specs::Senders::exchanged))]
-#[cold]
 #[inline(never)]
 fn exchanged_other(own: u16, sapi: u8) -> u8
     ensures value { result ≡ exchanged own sapi }

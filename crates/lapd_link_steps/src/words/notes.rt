@@ -10,9 +10,6 @@ use lapd_frame::{ErrorCode, Note};
 use model_link::Terms;
 
 impl BareReport {
-    // It stands apart, as what it tells is rare beside contents.
-    #[cold]
-    #[inline(never)]
     pub(crate) fn note(&mut self, note: Note)
         requires { HasRoom 1 0 self.old }
         ensures tells { Tells 1 0 self.old self.new }
@@ -21,8 +18,6 @@ impl BareReport {
         self.notes.push(note);
     }
 
-    #[cold]
-    #[inline(never)]
     pub(crate) fn error(&mut self, terms: &Terms, code: ErrorCode)
         requires { HasRoom 1 0 self.old }
         ensures tells { Tells 1 0 self.old self.new }

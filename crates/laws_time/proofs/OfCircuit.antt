@@ -15,3 +15,11 @@ pub mod Beats
 pub mod Began
 pub mod LongEnough
 pub mod InTime
+pub mod ArrivAs
+pub mod ArrivWay
+pub mod ArrivOpen
+pub mod ArrivPath
+pub mod ArrivFair
+pub mod ArrivSide
+pub mod ArrivHeard
+pub mod ArrivBeat

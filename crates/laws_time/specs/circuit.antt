@@ -4,3 +4,4 @@ pub mod Ends
 pub mod LongEnough
 pub mod Worked
 pub mod WorkedLongEnough
+pub mod Arriving

@@ -13,6 +13,7 @@
 //! How long a call takes at most. Random and chosen runs broke none of these, if layer 3 asks for no unit data and is
 //! not busy, T200 is at least as long as an answer takes, and noise makes no frame.
 
+ghost use Rattle.laws_time.specs.circuit.Arriving.{CallsBearNoise};
 ghost use Rattle.laws_time.specs.circuit.Ends.{EndsAreTimedCards};
 ghost use Rattle.laws_time.specs.circuit.LongEnough.{AnswersComeInTime};
 
@@ -36,4 +37,9 @@ pub fn ends_are_timed_cards()
 /// `specs/circuit/WorkedLongEnough`.)
 pub fn answers_come_in_time()
     ensures { AnswersComeInTime }
+{}
+
+/// A call bears noise.
+pub fn calls_bear_noise()
+    ensures { CallsBearNoise }
 {}

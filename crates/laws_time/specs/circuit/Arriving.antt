@@ -1,0 +1,58 @@
+-- What is told in a call through noise, between two cards with their clocks: which errors at most, and which data.
+use Rattle.std.specs.Prelude.{◌≡◌, Bool, true, false, List, [], ◌∷◌, ◌++◌, map, flat_map, All}
+use Rattle.std.specs.List.{list_any}
+use Rattle.lapd_frame.specs.declared.notes.ErrorCode.{ErrorCode}
+use Rattle.lapd_frame.specs.declared.notes.ErrorCode.TheVariants.{F, G, H, I}
+use Rattle.lapd_frame.specs.declared.notes.Note.{Note}
+use Rattle.lapd_frame.specs.declared.notes.Note.TheVariants.{Error}
+use Rattle.model_bits.specs.StuffingLaws.{AreOctets}
+use Rattle.model_line.specs.Event.{LineTold}
+use Rattle.model_line.specs.Request.{Request, Establish, SetBusy, ClearBusy, Data}
+use Rattle.laws_wire.specs.Call.{confirmed, indicated, data_told, IsBeginningOf}
+use Rattle.laws_wire.specs.Losing.{for_layer_3}
+use Rattle.laws_time.specs.circuit.Clocked.{TimedEndpoint, Beat, after, notes_at}
+use Rattle.laws_time.specs.circuit.LongEnough.{Line, IsFit, AreClear, begins}
+
+-- Layer 3 of the near end asks for the establishment, as the first of all. Then either end asks to send octets, or says that it is
+-- busy, or ready again.
+abbrev pub calls : Line → Beat → Beat
+calls l b = record b { near_asks = Establish l.service l.tei ∷ b.near_asks }
+
+abbrev pub IsAsked : Line → Request → Type 0
+IsAsked l (Data s t contents) = (s ≡ l.service) × (t ≡ l.tei) × AreOctets contents
+IsAsked l (SetBusy s t) = (s ≡ l.service) × (t ≡ l.tei)
+IsAsked l (ClearBusy s t) = (s ≡ l.service) × (t ≡ l.tei)
+IsAsked l other = ⊥
+
+abbrev pub AreAsked : Line → Beat → Type 0
+AreAsked l b = All (IsAsked l) b.near_asks × All (IsAsked l) b.far_asks
+
+-- The errors that an end told. Of these codes are those that N200 is used up (Q.921 clauses 5.5.1.3, 5.5.3.3 and 5.6.7).
+abbrev pub error_in : Note → List ErrorCode
+error_in (Error service tei code) = code ∷ []
+error_in other = []
+
+abbrev pub errors_at : TimedEndpoint → List ErrorCode
+errors_at s = flat_map error_in (notes_at s)
+
+abbrev pub is_used_up : ErrorCode → Bool
+is_used_up G = true
+is_used_up H = true
+is_used_up I = true
+is_used_up other = false
+
+-- An end was told one establishment, and then data that the other was granted to send: a beginning of all that, in order, and nothing
+-- else (except what was dropped).
+abbrev pub heard_at : TimedEndpoint → List LineTold
+heard_at s = flat_map for_layer_3 s.at.told
+
+abbrev pub IsToldInOrder : Line → LineTold → TimedEndpoint → TimedEndpoint → Type 0
+IsToldInOrder l first other s = IsBeginningOf (first ∷ map (data_told l.service l.tei) other.at.granted) (heard_at s)
+
+-- As long as N200 is not used up, the end that calls tells no error, and the other none but F, where its UA was lost.
+abbrev pub CallsBearNoise : Type 0
+CallsBearNoise =
+    (l : Line) (b : Beat) (bs : List Beat) → IsFit l → All (AreAsked l) (b ∷ bs) → AreClear l (calls l b ∷ bs) (begins l) →
+    let w = after l.rate (calls l b ∷ bs) (begins l) in list_any is_used_up (errors_at w.near ++ errors_at w.far) ≡ false →
+    (errors_at w.near ≡ []) × All (λ code. code ≡ F) (errors_at w.far) × (errors_at w.far ≡ [] →
+    IsToldInOrder l (confirmed l.service l.tei) w.far w.near × IsToldInOrder l (indicated l.service l.tei) w.near w.far)

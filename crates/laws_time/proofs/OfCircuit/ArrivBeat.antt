@@ -34,7 +34,7 @@ use Rattle.laws_time.proofs.OfCircuit.ArrivOpen.{parts, are-own, stands, has-non
 use Rattle.laws_time.proofs.OfCircuit.ArrivPath.{Path, path-none, path-both, path-one, path-turned}
 use Rattle.laws_time.proofs.OfCircuit.ArrivSide.{Stood, After, IsBoth, all-comes, fair-happens}
 use Rattle.laws_time.proofs.OfCircuit.ArrivWay.{Going, going-with, before-long, pulled-way}
-use Rattle.laws_time.proofs.OfCircuit.Beats.{at-moment}
+use Rattle.laws_time.proofs.OfCircuit.Beats.{at-moment, Gone}
 use Rattle.laws_time.proofs.OfCircuit.Ends.{at_time}
 use Rattle.laws_time.proofs.OfCircuit.LongEnough.{Pair, by_now, long-ago, near-in-all, far-in-all, in-all, near-low, near-high, far-low, far-high, soon, near-gone, far-gone}
 use Rattle.laws_time.proofs.OfCircuit.Standing.{Ends, bare}
@@ -103,8 +103,11 @@ module _ (l : Line) (some : 1 ≤ l.rate) (near : IsInRange l.near) (far : IsInR
     pub near_heard : heard_of ts ≡ heard_of w.near.at.told
     pub far_heard : heard_of us ≡ heard_of w.far.at.told
 
-  abbrev total : ℕ
-  total = answered_in l.near l.far l.way
+  -- A beat leads there.
+  pub record Led (w : Clocked) (b : Beat) (x y : FrameEndpoint) : Type 0 where
+    pub f : Wire
+    pub path : Path l.service l.tei (record { near = x; far = y }) f
+    pub same : Same (beat l.rate w b) f
 
   abbrev its_by_now : ℕ → ℕ
   its_by_now S = by_now l some near far opposite size t200 t u S
@@ -125,18 +128,18 @@ module _ (l : Line) (some : 1 ≤ l.rate) (near : IsInRange l.near) (far : IsInR
     its-soon : w.beats + 1 ≤ (w.beats / l.rate + 1) * l.rate
     its-soon = soon l some near far opposite size t200 t u w p b talk
 
-    ago : (S m : ℕ) → S + l.lengths.t200 * l.rate ≤ (m + 1) * l.rate → m ≤ w.beats / l.rate → S + answered_in l.near l.far l.way ≤ w.beats
+    pub ago : (S m : ℕ) → S + l.lengths.t200 * l.rate ≤ (m + 1) * l.rate → m ≤ w.beats / l.rate → S + answered_in l.near l.far l.way ≤ w.beats
     ago S m started low = long-ago l some near far opposite size t200 t u S w.beats m started low
 
     -- The far end at first.
     module _ (back : List (List ℕ)) (comes : Going l.far.n201 (port_of w.far.at) w.far.at.way back) (us : List LineTold) (far_heard : heard_of us ≡ heard_of w.far.at.told) where
-      abbrev far_end : LinkEndpoint
+      abbrev pub far_end : LinkEndpoint
       far_end = record (bare l.far l.service l.tei 0 far p.far_ok.but.ends.its) { way = parts l.far l.service l.tei far back (are-own l.far l.service l.tei far w.far.at p.far_ok.but.ends w.far.at.way back comes) }
 
-      far-stands : StationStands l.far l.service l.tei 0 (station back us w.far.at) far_end
+      pub far-stands : StationStands l.far l.service l.tei 0 (station back us w.far.at) far_end
       far-stands = stands l.far l.service l.tei far w.far.at p.far_ok.but.ends w.far.at.way back comes us
 
-      far-finals : (S : ℕ) → p.S ≤ S → S + answered_in l.near l.far l.way ≤ w.beats → HasNo is_final far_end
+      pub far-finals : (S : ℕ) → p.S ≤ S → S + answered_in l.near l.far l.way ≤ w.beats → HasNo is_final far_end
       far-finals S later due_ago =
           let heard_long = before-long l.far.n201 (port_of w.far.at) w.far.at.way back comes w.beats l.way p.far_counts.given p.far_counts.way in
           let all = in-all l some near far opposite size t200 t u p.S in
@@ -240,3 +243,112 @@ module _ (l : Line) (some : 1 ≤ l.rate) (near : IsInRange l.near) (far : IsInR
             all-comes l.service l.tei l.far far l.near l.lengths l.rate l.way (answered_in l.near l.far l.way) w.beats (w.beats / l.rate) ago (far-in-all l some near far opposite size t200 t u)
             p.S2 (its_by_now p.S) near_now near_end near-stands near-finals b.far_asks (length far_asked.clock.running) p.S2 (at_time (w.beats / l.rate) w.far) (station back us w.far.at) far-stood far_both
             (fair-happens port.pull (comes_to (w.beats / l.rate) b.far_asks w.far) far_fair)
+
+        -- Both are pulled.
+        abbrev near_gone : TimedEndpoint
+        near_gone = comes_to (w.beats / l.rate) b.near_asks w.near
+
+        abbrev far_gone : TimedEndpoint
+        far_gone = comes_to (w.beats / l.rate) b.far_asks w.far
+
+        abbrev far_now : FrameEndpoint
+        far_now = station k.stood.there k.stood.ts (comes_to (w.beats / l.rate) b.far_asks w.far).at
+
+        np : PulledTo l.service l.tei l.near near near_gone g.stood.ok.but.ends.ran g.stood.there g.stood.goes g.stood.ts g.stood.heard far_now
+        np = pulls-to l.service l.tei l.near near near_gone g.stood.ok.but.ends.ran g.stood.there g.stood.goes g.stood.ts g.stood.heard far_now
+
+        abbrev near_pulled : FrameEndpoint
+        near_pulled = station np.there' np.ts' (happens port.pull near_gone).at
+
+        kp : PulledTo l.service l.tei l.far far far_gone k.stood.ok.but.ends.ran k.stood.there k.stood.goes k.stood.ts k.stood.heard near_pulled
+        kp = pulls-to l.service l.tei l.far far far_gone k.stood.ok.but.ends.ran k.stood.there k.stood.goes k.stood.ts k.stood.heard near_pulled
+
+        abbrev far_pulled : FrameEndpoint
+        far_pulled = station kp.there' kp.ts' (happens port.pull far_gone).at
+
+        abbrev both_now : FrameEndpoint → FrameEndpoint → Wire
+        both_now x y = record { near = x; far = y }
+
+        to-pulled : Path l.service l.tei (both_now x (station back us w.far.at)) (both_now near_pulled far_pulled)
+        to-pulled =
+            path-both l.service l.tei (both_now x (station back us w.far.at)) (both_now near_now (station back us w.far.at)) (both_now near_pulled far_pulled)
+            (path-both l.service l.tei (both_now x (station back us w.far.at)) (both_now g.x' (station back us w.far.at)) (both_now near_now (station back us w.far.at)) g.path
+            (path-none l.service l.tei (both_now g.x' (station back us w.far.at)) (both_now near_now (station back us w.far.at)) (ap (λ z. both_now z (station back us w.far.at)) g.stood.is)))
+            (path-both l.service l.tei (both_now near_now (station back us w.far.at)) (both_now near_now far_now) (both_now near_pulled far_pulled)
+            (path-turned l.service l.tei (both_now (station back us w.far.at) near_now) (both_now far_now near_now)
+            (path-both l.service l.tei (both_now (station back us w.far.at) near_now) (both_now k.x' near_now) (both_now far_now near_now) k.path
+            (path-none l.service l.tei (both_now k.x' near_now) (both_now far_now near_now) (ap (λ z. both_now z near_now) k.stood.is))))
+            (path-both l.service l.tei (both_now near_now far_now) (both_now near_pulled far_now) (both_now near_pulled far_pulled) np.path
+            (path-turned l.service l.tei (both_now far_now near_pulled) (both_now far_pulled near_pulled) kp.path)))
+
+        -- Both hear.
+        module _ (clear_near : IsClearAt l.near.n201 b.near_noise (gone l.rate b w).near (gone l.rate b w).far) (clear_far : IsClearAt l.near.n201 b.far_noise (gone l.rate b w).far (gone l.rate b w).near) where
+          abbrev vn : TimedEndpoint
+          vn = (gone l.rate b w).near
+
+          abbrev vf : TimedEndpoint
+          vf = (gone l.rate b w).far
+
+          near_has : Gone l.service l.tei l.way l.lengths l.rate l.near near (w.beats / l.rate) w.beats p.S (its_by_now p.S2) (gone l.rate b w).near
+          near_has = near-gone l some near far opposite size t200 t u w p b talk clear_near clear_far
+
+          far_has : Gone l.service l.tei l.way l.lengths l.rate l.far far (w.beats / l.rate) w.beats p.S2 (its_by_now p.S) (gone l.rate b w).far
+          far_has = far-gone l some near far opposite size t200 t u w p b talk clear_near clear_far
+
+          nh : Hears l.service l.tei l.near l.far far (sym size) vn near_has.ok.but.ends.stands.config np.there' np.ts' np.heard' vf.at far_has.ok.but.ends.ran far_pulled kp.there' b.near_noise vf.at.way
+          nh =
+              hears-so l.service l.tei l.near l.far far (sym size) vn near_has.ok.but.ends.stands.config np.there' np.ts' np.heard' vf.at far_has.ok.but.ends.ran far_pulled kp.there' b.near_noise vf.at.way l.way far_has.way
+              (subst (λ n. Going n (port_of vf.at) vf.at.way kp.there') (sym size) kp.goes') clear_near
+
+          abbrev near_heard : TimedEndpoint
+          near_heard = hears b.near_noise vf.at.way vn
+
+          abbrev near_told : FrameEndpoint
+          near_told = station np.there' nh.ts' near_heard.at
+
+          fh : Hears l.service l.tei l.far l.near near size vf far_has.ok.but.ends.stands.config nh.left kp.ts' kp.heard' vn.at near_has.ok.but.ends.ran near_told np.there' b.far_noise vn.at.way
+          fh =
+              hears-so l.service l.tei l.far l.near near size vf far_has.ok.but.ends.stands.config nh.left kp.ts' kp.heard' vn.at near_has.ok.but.ends.ran near_told np.there' b.far_noise vn.at.way l.way near_has.way
+              (subst (λ n. Going n (port_of vn.at) vn.at.way np.there') size np.goes') (subst (λ n. IsClearAt n b.far_noise vf vn) size clear_far)
+
+          abbrev far_heard_now : TimedEndpoint
+          far_heard_now = hears b.far_noise vn.at.way vf
+
+          abbrev last : Wire
+          last = both_now (station fh.left nh.ts' near_heard.at) (station nh.left fh.ts' far_heard_now.at)
+
+          abbrev SamePort : TimedEndpoint → TimedEndpoint → Type 0
+          SamePort v heard = ((port_of heard.at).items ≡ (port_of v.at).items) × ((port_of heard.at).given ≡ (port_of v.at).given) × (heard.at.way ≡ v.at.way)
+
+          near-port : SamePort vn near_heard
+          near-port = heard-port l.near near vn near_has.ok.but.ends.ran b.near_noise vf.at.way
+
+          far-port : SamePort vf far_heard_now
+          far-port = heard-port l.far far vf far_has.ok.but.ends.ran b.far_noise vn.at.way
+
+          beat-path : Path l.service l.tei (both_now x (station back us w.far.at)) last
+          beat-path =
+              path-both l.service l.tei (both_now x (station back us w.far.at)) (both_now near_pulled far_pulled) last to-pulled
+              (path-both l.service l.tei (both_now near_pulled far_pulled) (both_now near_told (station nh.left kp.ts' vf.at)) last nh.path
+              (path-turned l.service l.tei (both_now (station nh.left kp.ts' vf.at) near_told) (both_now (station nh.left fh.ts' far_heard_now.at) (station fh.left nh.ts' near_heard.at)) fh.path))
+
+          beat-same : Same (beat l.rate w b) last
+          beat-same = record {
+            there = fh.left;
+            back = nh.left;
+            goes =
+                going-with l.near.n201 (port_of vn.at) (port_of near_heard.at) (drop 1 vn.at.way) (drop 1 near_heard.at.way) fh.left near-port.0 near-port.1 (ap (drop 1) near-port.2)
+                (subst (λ n. Going n (port_of vn.at) (drop 1 vn.at.way) fh.left) (sym size) fh.goes);
+            comes =
+                going-with l.far.n201 (port_of vf.at) (port_of far_heard_now.at) (drop 1 vf.at.way) (drop 1 far_heard_now.at.way) nh.left far-port.0 far-port.1 (ap (drop 1) far-port.2)
+                (subst (λ n. Going n (port_of vf.at) (drop 1 vf.at.way) nh.left) size nh.goes);
+            ts = nh.ts';
+            us = fh.ts';
+            near_is = refl;
+            far_is = refl;
+            near_heard = nh.heard';
+            far_heard = fh.heard';
+          }
+
+          pub beat-on : Led w b x (station back us w.far.at)
+          beat-on = record { f = last; path = beat-path; same = beat-same }

@@ -50,7 +50,11 @@ t200-used : (t : Terms) (l : Link) → list_any is_used_up (flat_map error_in (c
 t200-used t l fair = grind arith
 
 said-fair : (c : Course) → IsFair (said_by c) → list_any is_used_up (flat_map error_in c.notes) ≡ false
-said-fair c fair = grind (arith, heard_by, append-nil)
+said-fair c fair = by c.notes refl
+  where
+    by : (ns : List Note) → c.notes ≡ ns → list_any is_used_up (flat_map error_in ns) ≡ false
+    by [] e = refl
+    by (n ∷ ns) e = grind (arith, heard_by, append-nil)
 
 none-said : (c : Course) → list_any is_error c.notes ≡ false → TellNoError (said_by c)
 none-said c none = grind (arith, heard_by)

@@ -53,10 +53,10 @@ module _ (service : Service) (tei : ℕ) (c d : Config) (ranged_far : IsInRange 
 
     -- No frame is gained.
     still : (o : Option stream.Event) → gained c.n201 (port_of a.at).received (unwrap_or noise value) ≡ o → ((e : stream.Event) → o ≡ Some e → IsFrame e → ⊥) → Becomes (station there ts a.at) there u
-    still None is no = none-becomes got there a.at ts heard (here None is)
-    still (Some (stream.dropped cause)) is no = dropped-becomes got there a.at ts heard cause (here (Some (stream.dropped cause)) is)
-    still (Some (stream.frame octets)) is no = absurd (no (stream.frame octets) refl tt)
-    still (Some (stream.overlong head)) is no = absurd (no (stream.overlong head) refl tt)
+    still None is nay = none-becomes got there a.at ts heard (here None is)
+    still (Some (stream.dropped cause)) is nay = dropped-becomes got there a.at ts heard cause (here (Some (stream.dropped cause)) is)
+    still (Some (stream.frame octets)) is nay = absurd (nay (stream.frame octets) refl tt)
+    still (Some (stream.overlong head)) is nay = absurd (nay (stream.overlong head) refl tt)
 
     abbrev Result : Type 0
     Result = Comes c.n201 d ranged_far size other ran back value more goes (gained c.n201 (port_of a.at).received (unwrap_or noise value)) clear
@@ -69,12 +69,12 @@ module _ (service : Service) (tei : ℕ) (c d : Config) (ranged_far : IsInRange 
       where
         no-frame : (o : Option stream.Event) → IsNoFrame o
             → (e : stream.Event) → o ≡ Some e → IsFrame e → ⊥
-        no-frame None none e is frame = cc is
-        no-frame (Some (stream.dropped cause)) none (stream.dropped other_cause) is frame = frame
-        no-frame (Some (stream.dropped cause)) none (stream.frame octets) is frame = cc is
-        no-frame (Some (stream.dropped cause)) none (stream.overlong head) is frame = cc is
-        no-frame (Some (stream.frame octets)) none e is frame = none
-        no-frame (Some (stream.overlong head)) none e is frame = none
+        no-frame None none e is so = cc is
+        no-frame (Some (stream.dropped cause)) none (stream.dropped other_cause) is so = so
+        no-frame (Some (stream.dropped cause)) none (stream.frame octets) is so = cc is
+        no-frame (Some (stream.dropped cause)) none (stream.overlong head) is so = cc is
+        no-frame (Some (stream.frame octets)) none e is so = none
+        no-frame (Some (stream.overlong head)) none e is so = none
 
         go : Result → Hears (value ∷ more)
         go (inl x) =
@@ -109,4 +109,4 @@ module _ (service : Service) (tei : ℕ) (c d : Config) (ranged_far : IsInRange 
       → ((value : ℕ) (more : List ℕ) (e : stream.Event) → way ≡ value ∷ more → gained c.n201 (port_of a.at).received (unwrap_or noise value) ≡ Some e → IsFrame e
       → (before : List ℕ) × ((port_of other).given ≡ before ++ way) × (gained c.n201 before value ≡ Some e)) → Hears way
   hears-so [] n long goes clear = absurd (omega (arith, long))
-  hears-so (value ∷ more) n long goes clear = hears-one value more goes (λ e gains frame. clear value more e refl gains frame)
+  hears-so (value ∷ more) n long goes clear = hears-one value more goes (λ e gains so. clear value more e refl gains so)

@@ -95,12 +95,14 @@ module _ (c : Config) (service : Service) (tei : ℕ) (ranged : IsInRange c) whe
   parts (o ∷ os) all = (All-head (IsOwn c service tei 0 ranged) o os all).0 ∷ parts os (All-tail (IsOwn c service tei 0 ranged) o os all)
 
   parts-spelled : (fs : List (List ℕ)) (all : All (IsOwn c service tei 0 ranged) fs) → fs ≡ map (spelling (own_side c)) (parts fs all)
+  unfolding parts
   parts-spelled [] all = refl
   parts-spelled (o ∷ os) all =
       let first = All-head (IsOwn c service tei 0 ranged) o os all in
       let more = parts-spelled os (All-tail (IsOwn c service tei 0 ranged) o os all) in λ i. first.1 i ∷ more i
 
   parts-carried : (fs : List (List ℕ)) (all : All (IsOwn c service tei 0 ranged) fs) → All (IsCarried c service tei) (parts fs all)
+  unfolding parts
   parts-carried [] all = All-nil (IsCarried c service tei)
   parts-carried (o ∷ os) all =
       let first = All-head (IsOwn c service tei 0 ranged) o os all in
@@ -140,10 +142,10 @@ module _ (c : Config) (service : Service) (tei : ℕ) (ranged : IsInRange c) whe
       text-long = let short = given-short c.n201 (port_of s) (fine c service tei 0 ranged s h) in let long = given-long in omega (arith, short, long)
 
       is-not : (o : List ℕ) → (is_of kind c o ≡ true → ⊥) → is_of kind c o ≡ false
-      is-not o no = by (is_of kind c o) refl
+      is-not o nay = by (is_of kind c o) refl
         where
           by : (b : Bool) → is_of kind c o ≡ b → b ≡ false
-          by true e = absurd (no e)
+          by true e = absurd (nay e)
           by false e = refl
 
       -- those that are given in part, or not at all
@@ -154,6 +156,26 @@ module _ (c : Config) (service : Service) (tei : ℕ) (ranged : IsInRange c) whe
           All-cons IsNot f [] (is-not f (λ its. let bound = ok.last last.0 f last.1 its in let long = text-long in omega (arith, bound, long))) (All-nil IsNot)
       on-line (f ∷ g ∷ fs) is few = absurd (omega (arith, few))
 
+      abbrev AllNot : List (List ℕ) → Type 0
+      AllNot fs = All (λ o. is_of kind c o ≡ false) fs
+
+      way-then : (v : ℕ) (rest before : List ℕ) (fs : List (List ℕ)) → Carries c.n201 (port_of s) (v ∷ rest) before fs → most < length before
+          → ((fs : List (List ℕ)) → Carries c.n201 (port_of s) rest (before ++ v ∷ []) fs → most < length (before ++ v ∷ []) → AllNot fs) → All (λ o. is_of kind c o ≡ false) fs
+      way-then v rest before fs carries past then = go (gained c.n201 before v) refl
+        where
+          longer : most < length (before ++ v ∷ [])
+          longer = let more = length-append before (v ∷ []) in omega (arith, more, past)
+
+          go : (g : Option Event) → gained c.n201 before v ≡ g → All (λ o. is_of kind c o ≡ false) fs
+          go None none = then fs (none-heard c.n201 (port_of s) (v ∷ rest) before fs carries v rest refl none) longer
+          go (Some e) some =
+              let f = fine c service tei 0 ranged s h in
+              let x = one-heard c.n201 (port_of s) (v ∷ rest) before fs carries f.sound f.on v rest e refl some in
+              subst (All IsNot) (sym x.frames_are)
+              (All-cons IsNot x.first x.rest
+              (is-not x.first (λ its. let early = ok.done before v rest x.first carries.given (some ∙ ap (λ e. Some e) x.event) its in omega (arith, early, past)))
+              (then x.rest x.carries longer))
+
       none-of-way : (rest before : List ℕ) (fs : List (List ℕ)) → Carries c.n201 (port_of s) rest before fs → most < length before → All (λ o. is_of kind c o ≡ false) fs
       none-of-way [] before fs carries past =
           let f = fine c service tei 0 ranged s h in
@@ -163,20 +185,7 @@ module _ (c : Config) (service : Service) (tei : ℕ) (ranged : IsInRange c) whe
           append_cancel_left (heard_in c.n201 before) (framed o.on_its_way) (framed fs)
           (ap (λ g. heard_in c.n201 g ++ framed o.on_its_way) (sym given) ∙ sym o.heard ∙ carries.are) in
           all-behind IsNot o.on_its_way [] fs same (on-line o.on_its_way refl o.one)
-      none-of-way (v ∷ rest) before fs carries past = go (gained c.n201 before v) refl
-        where
-          longer : most < length (before ++ v ∷ [])
-          longer = let more = length-append before (v ∷ []) in omega (arith, more, past)
-
-          go : (g : Option Event) → gained c.n201 before v ≡ g → All (λ o. is_of kind c o ≡ false) fs
-          go None none = none-of-way rest (before ++ v ∷ []) fs (none-heard c.n201 (port_of s) (v ∷ rest) before fs carries v rest refl none) longer
-          go (Some e) some =
-              let f = fine c service tei 0 ranged s h in
-              let x = one-heard c.n201 (port_of s) (v ∷ rest) before fs carries f.sound f.on v rest e refl some in
-              subst (All IsNot) (sym x.frames_are)
-              (All-cons IsNot x.first x.rest
-              (is-not x.first (λ its. let early = ok.done before v rest x.first carries.given (some ∙ ap (λ e. Some e) x.event) its in omega (arith, early, past)))
-              (none-of-way rest (before ++ v ∷ []) x.rest x.carries longer))
+      none-of-way (v ∷ rest) before fs carries past = way-then v rest before fs carries past (λ fs carries longer. none-of-way rest (before ++ v ∷ []) fs carries longer)
 
       -- and those that wait
       sound : LinkIsSound (terms c service tei) h.its
@@ -203,6 +212,7 @@ module _ (c : Config) (service : Service) (tei : ℕ) (ranged : IsInRange c) whe
       or-false false = refl
 
       none-parts : (fs : List (List ℕ)) (all : All (IsOwn c service tei 0 ranged) fs) → All (λ o. is_of kind c o ≡ false) fs → All (λ (f : Parts). kind f.address.command f.control ≡ false) (parts fs all)
+      unfolding parts
       none-parts [] all none = All-nil (λ (f : Parts). kind f.address.command f.control ≡ false)
       none-parts (o ∷ os) all none =
           let first = All-head Own o os all in

@@ -52,6 +52,7 @@ module _ (service : Service) (tei : ℕ) where
   }
 
   swap-talk : (ds : List StepAt) → All (IsFullTalk service tei) ds → All (IsFullTalk service tei) (all-swapped ds)
+  unfolding all-swapped swapped
   swap-talk [] all = All-nil (IsFullTalk service tei)
   swap-talk (at_near act ∷ ds) all =
       All-cons (IsFullTalk service tei) (at_far act) (all-swapped ds) (All-head (IsFullTalk service tei) (at_near act) ds all) (swap-talk ds (All-tail (IsFullTalk service tei) (at_near act) ds all))
@@ -59,13 +60,13 @@ module _ (service : Service) (tei : ℕ) where
       All-cons (IsFullTalk service tei) (at_near act) (all-swapped ds) (All-head (IsFullTalk service tei) (at_far act) ds all) (swap-talk ds (All-tail (IsFullTalk service tei) (at_far act) ds all))
 
   swap-patient : (ds : List StepAt) (w : Wire) → StayPatient ds w → StayPatient (all-swapped ds) (turned w)
-  unfolding StayPatient
+  unfolding StayPatient all-swapped swapped
   swap-patient [] w h = tt
   swap-patient (at_near act ∷ ds) w h = (h.0, swap-patient ds (acting act w) h.1)
   swap-patient (at_far act ∷ ds) w h = (h.0, swap-patient ds (turned (acting act (turned w))) h.1)
 
   swap-leads : (ds : List StepAt) (w : Wire) → doing_all (all-swapped ds) (turned w) ≡ turned (doing_all ds w)
-  unfolding doing_all
+  unfolding doing_all all-swapped swapped
   swap-leads [] w = refl
   swap-leads (at_near act ∷ ds) w = swap-leads ds (acting act w)
   swap-leads (at_far act ∷ ds) w = swap-leads ds (turned (acting act (turned w)))

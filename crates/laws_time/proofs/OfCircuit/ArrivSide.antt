@@ -1,6 +1,6 @@
 -- What layer 3 asks at an end of the clocked circuit, and what falls due there, is done at the station for which it stands, where T200 is
 -- long enough.
-use Rattle.std.proofs.Common.{arith, ◌≡◌, ℕ, zero, suc, ◌+◌, ◌*◌, ◌≤◌, ◌<◌, ◌||◌, ◌&&◌, Bool, true, false, List, [], ◌∷◌, ◌++◌, length, Option, Some, None, refl, sym, ap, ◌∙◌, subst, All}
+use Rattle.std.proofs.Common.{arith, ◌≡◌, ℕ, zero, suc, ◌+◌, ◌*◌, ◌≤◌, ◌<◌, ◌==◌, ◌||◌, ◌&&◌, Bool, true, false, List, [], ◌∷◌, ◌++◌, length, Option, Some, None, refl, sym, ap, ◌∙◌, subst, All}
 use Rattle.std.specs.Prelude.{fold}
 use Rattle.std.specs.Option.{option_map_or}
 use Rattle.std.proofs.lemmas.List.Elements.{All-nil, All-cons, All-head, All-tail}
@@ -92,6 +92,14 @@ no-polls n h = record {
         All-cons (λ (f : Parts). is_poll f.address.command f.control ≡ false) f fs (poll-asks f.address.command f.control (All-head (λ (f : Parts). asks_frame f.address.command f.control ≡ false) f fs all))
         (all-way fs (All-tail (λ (f : Parts). asks_frame f.address.command f.control ≡ false) f fs all))
 
+-- The states that await an answer.
+same-waits : (k : ℕ) → awaits_in (Some k) ≡ is_waiting k
+same-waits k = by (k == 5) (k == 6) (k == 8)
+  where
+    by : (a b x : Bool) → ((a || b) || x) ≡ (a || (b || x))
+    by true b x = refl
+    by false b x = refl
+
 module _ (service : Service) (tei : ℕ) (c : Config) (ranged : IsInRange c) (d : Config) (lengths : Lengths) (rate transit total n moment : ℕ)
     (ago : (S m : ℕ) → S + lengths.t200 * rate ≤ (m + 1) * rate → m ≤ moment → S + total ≤ n)
     (wide : (S : ℕ) → transit + (S + half c service tei 0 ranged) < S + total)
@@ -181,7 +189,7 @@ module _ (service : Service) (tei : ℕ) (c : Config) (ranged : IsInRange c) (d 
 
     long : e.timer ≡ timers.T200 service tei → IsLongEnough service tei (station h.there h.ts a.at) y
     long same awaits =
-        let waits : is_waiting (state_number h.ok.but.ends.its.state) ≡ true = sym (ap awaits_in (state-is service tei c 0 X its X-stands)) ∙ awaits in
+        let waits : is_waiting (state_number h.ok.but.ends.its.state) ≡ true = sym (same-waits (state_number h.ok.but.ends.its.state)) ∙ sym (ap awaits_in (state-is service tei c 0 X its X-stands)) ∙ awaits in
         let at_due = due-is a.at.line a.clock.now (timers.T200 service tei) a.clock.running e h.ok.but.clock.here falls_now same in
         let due_ago = ago S e.moment (h.ok.timer e.moment waits at_due.0) (subst (λ k. e.moment ≤ k) h.now at_due.1) in
         let heard_long = before-long c.n201 (port_of a.at) a.at.way h.there h.goes n transit h.given h.way in
@@ -215,9 +223,9 @@ module _ (service : Service) (tei : ℕ) (c : Config) (ranged : IsInRange c) (d 
         (long same, fair-may service tei 0 c X its X-stands (fair-parts a.at.told (wire.told_by (wire.answered (line.expiry (timers.T200 service tei)) X)) (subst IsFair told fair)).1)
 
     by-timer : (timer : Timer) → e.timer ≡ timer → is_timer_of service tei timer ≡ true → IsFair (falls_so timer).at.told → After x (falls_so timer)
-    by-timer (timers.T200 of by) same ours =
+    by-timer (timers.T200 of by) same ours fair =
         let own = own-same service tei of by ours in
-        subst (λ t. IsFair (falls_so t).at.told → After x (falls_so t)) (λ i. timers.T200 (sym own.0 i) (sym own.1 i)) (t200-fell (same ∙ (λ i. timers.T200 (own.0 i) (own.1 i))))
+        subst (λ t. IsFair (falls_so t).at.told → After x (falls_so t)) (λ i. timers.T200 (sym own.0 i) (sym own.1 i)) (t200-fell (same ∙ (λ i. timers.T200 (own.0 i) (own.1 i)))) fair
     by-timer (timers.T203 of by) same ours fair = let own = own-same service tei of by ours in fell-with (timers.T203 of by) same own tt
     by-timer timers.T201 same ours fair = absurd (cc ours)
 

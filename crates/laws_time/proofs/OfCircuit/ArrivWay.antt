@@ -19,6 +19,7 @@ use Rattle.model_card.specs.ports.Card.{answer_to}
 use Rattle.model_card.specs.ports.Codec.{frames_among}
 use Rattle.model_card.specs.ports.Port as port
 use Rattle.model_card.specs.ports.Port.{Port, gained, is_due, item_of, next_octet, with_item, with_octet}
+use Rattle.model_card.specs.ports.Sound.{IsSoundPort}
 use Rattle.laws_wire.specs.Wire as wire
 use Rattle.laws_order.specs.circuit.Circuit.{Endpoint as OctetEndpoint, port_of, happens}
 use Rattle.laws_order.proofs.OfCircuit.AsFrames.{as_station, if_meant}
@@ -121,8 +122,8 @@ module _ (n201 : ℕ) (c : Config) (ranged : IsInRange c) (size : c.n201 ≡ n20
   abbrev pub Comes : Type 0
   Comes = Passes ⊎ Loses ⊎ Arrives
 
-  sound : _
-  sound = subst (λ n. Rattle.model_card.specs.ports.Sound.IsSoundPort n (port_of s)) size (sound-port c ranged s ran)
+  sound : IsSoundPort n201 (port_of s)
+  sound = subst (λ n. IsSoundPort n (port_of s)) size (sound-port c ranged s ran)
 
   -- flags come first
   not-given : (flag : ℕ) (flags : List ℕ) → h.flags ≡ flag ∷ flags → (before : List ℕ) → (port_of s).given ≡ before ++ value ∷ more → ⊥
@@ -134,14 +135,12 @@ module _ (n201 : ℕ) (c : Config) (ranged : IsInRange c) (size : c.n201 ≡ n20
       let long = length-append (flag ∷ flags) h.rest in
       omega (arith, all, way, so, long)
 
-  never : (P : Type 0) (e : stream.Event) → IsFrame e → o ≡ Some e → ((before : List ℕ) → (port_of s).given ≡ before ++ value ∷ more → gained n201 before value ≡ Some e → ⊥) → P
-  never P e frame is no = let x = clear e is frame in absurd (no x.0 x.1 x.2)
 
   none-of : (o' : Option stream.Event) → o ≡ o' → ((e : stream.Event) → o ≡ Some e → IsFrame e → ⊥) → IsNoFrame o'
-  none-of None is no = tt
-  none-of (Some (stream.dropped cause)) is no = tt
-  none-of (Some (stream.frame octets)) is no = no (stream.frame octets) is tt
-  none-of (Some (stream.overlong head)) is no = no (stream.overlong head) is tt
+  none-of None is nay = tt
+  none-of (Some (stream.dropped cause)) is nay = tt
+  none-of (Some (stream.frame octets)) is nay = nay (stream.frame octets) is tt
+  none-of (Some (stream.overlong head)) is nay = nay (stream.overlong head) is tt
 
   shorter : (a b w : List ℕ) → a ++ w ≡ b ++ w → a ≡ b
   shorter a b w is = append_cancel_right a b w is
@@ -153,7 +152,7 @@ module _ (n201 : ℕ) (c : Config) (ranged : IsInRange c) (size : c.n201 ≡ n20
       go (f ∷ fs) is =
           let way = h.way_is ∙ ap (λ fs. fs ++ h.rest) is in
           inl (record {
-            none = none-of o refl (λ e gains frame. let x = clear e gains frame in not-given f fs is x.0 x.1);
+            none = none-of o refl (λ e gains its. let x = clear e gains its in not-given f fs is x.0 x.1);
             goes = record {
               flags = fs;
               rest = h.rest;
@@ -178,8 +177,8 @@ module _ (n201 : ℕ) (c : Config) (ranged : IsInRange c) (size : c.n201 ≡ n20
           then left carries = record { flags = []; rest = more; before = h.before ++ value ∷ []; carries = carries; way_is = refl; first = λ some. absurd (omega (arith, some)) }
 
           none-now : gained n201 h.before value ≡ None → (e : stream.Event) → o ≡ Some e → IsFrame e → ⊥
-          none-now none e gains frame =
-              let x = clear e gains frame in
+          none-now none e gains its =
+              let x = clear e gains its in
               none-some e (sym none ∙ ap (λ b. gained n201 b value) (sym (same-before x.0 x.1)) ∙ x.2)
             where
               none-some : (e : stream.Event) → None ≡ Some e → ⊥
@@ -195,7 +194,7 @@ module _ (n201 : ℕ) (c : Config) (ranged : IsInRange c) (size : c.n201 ≡ n20
               same-event e f is = cc is
 
               its : OneHeard n201 (port_of s) h.rest h.before there h.carries sound (on-line c ranged s ran) value more e → (f : stream.Event) → o ≡ Some f → IsFrame f → f ≡ e
-              its x f gains frame = let y = clear f gains frame in same-event f e (sym y.2 ∙ ap (λ b. gained n201 b value) (same-before y.0 y.1) ∙ some)
+              its x f gains so = let y = clear f gains so in same-event f e (sym y.2 ∙ ap (λ b. gained n201 b value) (same-before y.0 y.1) ∙ some)
 
               by-gain : OneHeard n201 (port_of s) h.rest h.before there h.carries sound (on-line c ranged s ran) value more e → (g : Option stream.Event) → o ≡ g → Comes
               by-gain x None is = inr (inl (record { none = subst IsNoFrame (sym is) tt; lost = x.first; left = x.rest; are = x.frames_are; goes = then x.rest x.carries }))

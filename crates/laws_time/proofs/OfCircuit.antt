@@ -23,3 +23,5 @@ pub mod ArrivFair
 pub mod ArrivSide
 pub mod ArrivHeard
 pub mod ArrivBeat
+pub mod ArrivRun
+pub mod ArrivBegan

@@ -135,7 +135,7 @@ module _ (service : Service) (tei : ℕ) (c : Config) (ranged : IsInRange c) (d 
   after-both x u v g k = record { S = k.S; x' = k.x'; stood = k.stood; path = path-both service tei (with x) (with g.x') (with k.x') g.path k.path }
 
   -- An event at both.
-  stood-then : (S : ℕ) (a u : TimedEndpoint) (x : FrameEndpoint) (h : Stood S a x) (e : line.Event) (g : Goes c service tei 0 ranged lengths rate S M a u)
+  pub stood-then : (S : ℕ) (a u : TimedEndpoint) (x : FrameEndpoint) (h : Stood S a x) (e : line.Event) (g : Goes c service tei 0 ranged lengths rate S M a u)
       → Becomes (wire.happens e (station h.there h.ts a.at)) h.there u.at → Stood g.S' u (wire.happens e x)
   stood-then S a u x h e g b = record {
     ok = g.ok;

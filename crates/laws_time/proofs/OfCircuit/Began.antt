@@ -97,7 +97,7 @@ module _ (c : Config) (service : Service) (tei number way : ℕ) (ranged : IsInR
   unfolding after_all meant_all frame_moments
   ran-start = record { within = within; events = []; at_lines = All-nil (IsAtLine (fresh c)); is = refl; exact = All-nil GivesOctets }
 
-  port-is : port_of (circuit.happens (port.request (Assign tei)) (record (octet_endpoint c number) { way = flags way })) ≡ fresh_port
+  pub port-is : port_of (circuit.happens (port.request (Assign tei)) (record (octet_endpoint c number) { way = flags way })) ≡ fresh_port
   port-is = port-after start (port.request (Assign tei)) (within-ports c ranged start ran-start) ∙ fresh_at c number within
 
   none-ordered : octet_orders (answered (port.request (Assign tei)) start) ≡ []

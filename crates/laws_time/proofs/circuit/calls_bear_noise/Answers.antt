@@ -6,4 +6,4 @@ use Rattle.laws_time.proofs.OfCircuit.ArrivFair.{fair-may}
 use Rattle.laws_time.proofs.OfCircuit.ArrivOpen.{has-none}
 use Rattle.laws_time.proofs.OfCircuit.ArrivHeard.{hears-so}
 use Rattle.laws_time.proofs.OfCircuit.ArrivSide.{all-comes}
-use Rattle.laws_time.proofs.OfCircuit.ArrivRun.{reached-from}
+use Rattle.laws_time.proofs.OfCircuit.ArrivBegan.{reached}

@@ -25,3 +25,6 @@ pub mod ArrivHeard
 pub mod ArrivBeat
 pub mod ArrivRun
 pub mod ArrivBegan
+pub mod ArrivTold
+pub mod ArrivLaw
+pub mod ArrivMet

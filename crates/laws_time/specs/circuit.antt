@@ -5,3 +5,4 @@ pub mod LongEnough
 pub mod Worked
 pub mod WorkedLongEnough
 pub mod Arriving
+pub mod WorkedArriving

@@ -36,7 +36,7 @@ codes-append ts us =
     ap (flat_map error_in) (flat_map-append (λ (t : LineTold). t.notes) ts us)
     ∙ flat_map-append error_in (flat_map (λ (t : LineTold). t.notes) ts) (flat_map (λ (t : LineTold). t.notes) us)
 
-neither : (a b : Bool) → (a || b) ≡ false → (a ≡ false) × (b ≡ false)
+pub neither : (a b : Bool) → (a || b) ≡ false → (a ≡ false) × (b ≡ false)
 neither true b is = absurd (cc is)
 neither false b is = (refl, is)
 

@@ -135,7 +135,6 @@ module _ (n201 : ℕ) (c : Config) (ranged : IsInRange c) (size : c.n201 ≡ n20
       let long = length-append (flag ∷ flags) h.rest in
       omega (arith, all, way, so, long)
 
-
   none-of : (o' : Option stream.Event) → o ≡ o' → ((e : stream.Event) → o ≡ Some e → IsFrame e → ⊥) → IsNoFrame o'
   none-of None is nay = tt
   none-of (Some (stream.dropped cause)) is nay = tt

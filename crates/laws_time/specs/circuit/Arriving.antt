@@ -1,5 +1,5 @@
 -- What is told in a call through noise, between two cards with their clocks: which errors at most, and which data.
-use Rattle.std.specs.Prelude.{◌≡◌, Bool, true, false, List, [], ◌∷◌, ◌++◌, map, flat_map, All}
+use Rattle.std.specs.Prelude.{◌≡◌, Bool, true, false, List, [], ◌∷◌, ◌++◌, map, flat_map, All, Ok}
 use Rattle.std.specs.List.{list_any}
 use Rattle.lapd_frame.specs.declared.notes.ErrorCode.{ErrorCode}
 use Rattle.lapd_frame.specs.declared.notes.ErrorCode.TheVariants.{F, G, H, I}
@@ -8,9 +8,11 @@ use Rattle.lapd_frame.specs.declared.notes.Note.TheVariants.{Error}
 use Rattle.model_bits.specs.StuffingLaws.{AreOctets}
 use Rattle.model_line.specs.Event.{LineTold}
 use Rattle.model_line.specs.Request.{Request, Establish, SetBusy, ClearBusy, Data}
+use Rattle.model_link.specs.declared.rooms.Room.{Room}
+use Rattle.model_card.specs.Room.{room}
 use Rattle.laws_wire.specs.Call.{confirmed, indicated, data_told, IsBeginningOf}
 use Rattle.laws_wire.specs.Losing.{for_layer_3}
-use Rattle.laws_time.specs.circuit.Clocked.{TimedEndpoint, Beat, after, notes_at}
+use Rattle.laws_time.specs.circuit.Clocked.{TimedEndpoint, Beat, after, notes_at, contents_at}
 use Rattle.laws_time.specs.circuit.LongEnough.{Line, IsFit, AreClear, begins}
 
 -- Layer 3 of the near end asks for the establishment, as the first of all. Then either end asks to send octets, or says that it is
@@ -41,18 +43,21 @@ is_used_up H = true
 is_used_up I = true
 is_used_up other = false
 
--- An end was told one establishment, and then data that the other was granted to send: a beginning of all that, in order, and nothing
--- else (except what was dropped).
-abbrev pub heard_at : TimedEndpoint → List LineTold
-heard_at s = flat_map for_layer_3 s.at.told
+-- The queue of the link at an end has each of its places (`Card::room`), as all that was granted there is acknowledged.
+abbrev pub HasAllPlaces : Line → TimedEndpoint → Type 0
+HasAllPlaces l s = (left : Room) × (room s.at.line l.service l.tei s.at.card.card ≡ Ok left) × (left.queue ≡ s.at.card.card.config.queue)
 
-abbrev pub IsToldInOrder : Line → LineTold → TimedEndpoint → TimedEndpoint → Type 0
-IsToldInOrder l first other s = IsBeginningOf (first ∷ map (data_told l.service l.tei) other.at.granted) (heard_at s)
+-- An end was told one establishment, and then data that the other was granted to send: a beginning of that, in order, each once, and
+-- nothing else, except what was dropped; and all data, where the other's queue has each of its places.
+pub record IsTold (l : Line) (first : LineTold) (other s : TimedEndpoint) : Type 0 where
+  pub in_order : IsBeginningOf (first ∷ map (data_told l.service l.tei) other.at.granted) (flat_map for_layer_3 s.at.told)
+  pub all : HasAllPlaces l other → contents_at s ≡ other.at.granted
 
--- As long as N200 is not used up, the end that calls tells no error, and the other none but F, where its UA was lost.
+-- As long as N200 is not used up, the end that calls tells no error, and the other none but F, of a UA that was lost. As long as there
+-- is none, each end was told so.
 abbrev pub CallsBearNoise : Type 0
 CallsBearNoise =
     (l : Line) (b : Beat) (bs : List Beat) → IsFit l → All (AreAsked l) (b ∷ bs) → AreClear l (calls l b ∷ bs) (begins l) →
     let w = after l.rate (calls l b ∷ bs) (begins l) in list_any is_used_up (errors_at w.near ++ errors_at w.far) ≡ false →
     (errors_at w.near ≡ []) × All (λ code. code ≡ F) (errors_at w.far) × (errors_at w.far ≡ [] →
-    IsToldInOrder l (confirmed l.service l.tei) w.far w.near × IsToldInOrder l (indicated l.service l.tei) w.near w.far)
+    IsTold l (confirmed l.service l.tei) w.far w.near × IsTold l (indicated l.service l.tei) w.near w.far)

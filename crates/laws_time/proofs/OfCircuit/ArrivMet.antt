@@ -1,5 +1,5 @@
 -- With no octets in transit and no noise each frame that is heard was given; so a run meets the premises of `calls_bear_noise`.
-use Rattle.std.proofs.Common.{arith, ◌≡◌, ℕ, ◌/◌, List, [], ◌∷◌, ◌++◌, length, drop, replicate, Option, Some, None, refl, sym, ap, ◌∙◌, subst, All, append-nil, append_assoc}
+use Rattle.std.proofs.Common.{arith, ◌≡◌, ℕ, ◌<◌, ◌/◌, List, [], ◌∷◌, ◌++◌, length, drop, replicate, Option, Some, None, refl, sym, ap, ◌∙◌, subst, All, append-nil, append_assoc}
 use Rattle.std.proofs.lemmas.List.Elements.{All-nil, All-cons, All-append, All-head, All-tail}
 use Rattle.model_bits.specs.Stream as stream
 use Rattle.model_bits.specs.StuffingLaws.{AreOctets}

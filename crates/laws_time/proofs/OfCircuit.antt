@@ -28,3 +28,4 @@ pub mod ArrivBegan
 pub mod ArrivTold
 pub mod ArrivLaw
 pub mod ArrivMet
+pub mod ArrivIdle

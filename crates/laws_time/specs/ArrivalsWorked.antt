@@ -36,7 +36,7 @@ waits = time 70 ∷ falls_due ∷ time 80 ∷ falls_due ∷ time 90 ∷ falls_du
 
 stays : StaysIn of_frames 0 Call 64 8 waits enquired
 unfolding lines.after lines.answer lines.takes_slot exchanged read_by reading header_of control_of unnumbered_of supervisory_of teis.course teis.refusal seq distance_of named after_all StaysIn
-stays = (refl, refl, refl, refl, refl, refl, refl, tt)
+stays = (refl, (refl, (refl, (refl, (refl, (refl, (refl, tt)))))))
 
 as_long : (after_all frames waits enquired).clock.now ≡ enquired.clock.now + awaiting 0 usual lengths
 unfolding lines.after lines.answer lines.takes_slot exchanged read_by reading header_of control_of unnumbered_of supervisory_of teis.course teis.refusal seq distance_of named after_all

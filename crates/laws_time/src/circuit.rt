@@ -10,9 +10,9 @@
 //! # Open
 //!
 //! That each answer comes: once the line is clean and quiet, and both ends were up as it became so, an end that comes
-//! to state 8 leaves it within that time (an end in state 5 answers no enquiry). How soon what was granted arrives.
-//! How long a call takes at most. Random and chosen runs broke none of these, if layer 3 asks for no unit data and is
-//! not busy, T200 is at least as long as an answer takes, and noise makes no frame.
+//! to state 8 leaves it within that time (an end in state 5 answers no enquiry). How soon what was granted arrives on a
+//! clean line, and a call comes through. Random and chosen runs broke none of these, if layer 3 asks for no unit data
+//! and is not busy, T200 is at least as long as an answer takes, and noise makes no frame.
 
 ghost use Rattle.laws_time.specs.circuit.Arriving.{CallsBearNoise};
 ghost use Rattle.laws_time.specs.circuit.Ends.{EndsAreTimedCards};
@@ -41,8 +41,9 @@ pub fn answers_come_in_time()
 {}
 
 /// A call bears noise. Two cards of octets begin on one line with their clocks, as [`answers_come_in_time`] has it, and
-/// T200 is long enough. Layer 3 of one end asks for the establishment of the link, first of all. Then layer 3 of either
-/// end asks to send octets, or says that it is busy, or ready again, at any time. Noise makes no frame.
+/// T200 is long enough. At first nothing is asked for. At any time layer 3 of one end asks for the establishment of the
+/// link. After that layer 3 of either end asks to send octets, or says that it is busy, or ready again, at any time.
+/// Noise makes no frame.
 ///
 /// Let N200 not be used up: no end tells error G, H or I (Q.921 clauses 5.5.1.3, 5.5.3.3 and 5.6.7). Then the end that
 /// calls tells no error at all, and the other none except F, of a UA that was lost (clause 5.7). Whatever is lost,

@@ -29,8 +29,8 @@ pub fn a_dead_line_is_told()
     ensures octets { ADeadLineIsTold of_octets }
 {}
 
-/// No answer is awaited longer. As long as `Card::state` tells 5 of a link, no more than (N200 + 1) (T200 + late)
-/// milliseconds pass, and so it is with 6, and with 8. Then the answer has come, or N200 is used up (Q.921 clauses
+/// No answer is awaited longer. While `Card::state` tells 5 of a link, no more than (N200 + 1) (T200 + late)
+/// milliseconds pass. The same holds of 6, and of 8. Then the answer has come, or N200 is used up (Q.921 clauses
 /// 5.5.1.3, 5.5.3.3 and 5.6.7), or something else has moved the link. So a call, a release and an enquiry are decided
 /// within that time. It holds at a line of a card of either kind, whatever happened since its start, and whatever
 /// happens meanwhile: any frames come, layer 3 asks for anything, and other links are served. Timers fall due late by a

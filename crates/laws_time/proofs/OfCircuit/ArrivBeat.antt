@@ -78,7 +78,7 @@ module _ (service : Service) (tei : ℕ) (c : Config) (ranged : IsInRange c) (a 
           }
 
 -- What is heard leaves what was put on the line.
-heard-port : (c : Config) (ranged : IsInRange c) (a : TimedEndpoint) (ran : Ran c a.at) (noise : Option ℕ) (way : List ℕ)
+pub heard-port : (c : Config) (ranged : IsInRange c) (a : TimedEndpoint) (ran : Ran c a.at) (noise : Option ℕ) (way : List ℕ)
     → ((port_of (hears noise way a).at).items ≡ (port_of a.at).items) × ((port_of (hears noise way a).at).given ≡ (port_of a.at).given) × ((hears noise way a).at.way ≡ a.at.way)
 heard-port c ranged a ran noise [] = (refl, refl, refl)
 heard-port c ranged a ran noise (value ∷ more) =

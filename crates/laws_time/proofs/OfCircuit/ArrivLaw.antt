@@ -76,10 +76,10 @@ module _ (l : Line) (fit : IsFit l) (start : Wire) (w : Clocked) (r : Reached l 
   is-told = (near-codes ∙ k.near_codes, subst (All (λ code. code ≡ F)) (sym far-codes) k.far_codes, λ none. (near-told none, far-told none))
 
 pub calls-bear-noise : CallsBearNoise
-calls-bear-noise l b bs fit all clear = λ fair.
-    let w = after l.rate (calls l b ∷ bs) (begins l) in
+calls-bear-noise l before bs b fit idle all clear = λ fair.
+    let w = after l.rate (before ++ calls l b ∷ bs) (begins l) in
     let both = neither (list_any is_used_up (errors_at w.near)) (list_any is_used_up (errors_at w.far)) (sym (list_any-append is_used_up (errors_at w.near) (errors_at w.far)) ∙ fair) in
-    let r = reached l fit b bs (All-head (AreAsked l) b bs all) (All-tail (AreAsked l) b bs all) clear both in
+    let r = reached l fit before b bs idle (All-head (AreAsked l) b bs all) (All-tail (AreAsked l) b bs all) clear both in
     let s = setting l.service l.near l.far l.near_line l.far_line l.tei fit.call in
     is-told l fit (calling l.service l.tei l.near l.near_line l.far l.far_line) w r s.face s.back s.near s.far
     (subst (Concluded l.service l.tei l.near l.far 0 0 s.face s.back s.near s.far) r.path.leads

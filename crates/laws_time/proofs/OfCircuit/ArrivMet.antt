@@ -17,7 +17,7 @@ use Rattle.laws_order.specs.circuit.Circuit as circuit
 use Rattle.laws_order.specs.circuit.Through.{octet_endpoint}
 use Rattle.laws_order.proofs.OfCircuit.Projected.{port-after, heard-way, asked-way}
 use Rattle.laws_order.proofs.OfCircuit.Ran.{Ran, goes-on, within-ports}
-use Rattle.laws_time.specs.circuit.Arriving.{IsAsked, AreAsked, IsTold, calls}
+use Rattle.laws_time.specs.circuit.Arriving.{IsIdle, IsAsked, AreAsked, IsTold, calls}
 use Rattle.laws_time.specs.circuit.Clocked.{TimedEndpoint, Clocked, Beat, plain, happens, hears, without_first_octet, comes_to, gone, beat, flags, endpoint, contents_at}
 use Rattle.laws_time.specs.circuit.LongEnough.{Line, IsFit, IsTalk, IsOfLink, IsClearAt, IsFrame, asked, begins}
 unfoldable use Rattle.laws_time.specs.circuit.LongEnough.{AreClear}
@@ -210,4 +210,4 @@ its-clear = clear-line its_line is_fit refl (calls its_line plain ∷ talks) all
 
 -- So all was told there.
 all-told : contents_at talked.far ≡ talked.near.at.granted
-all-told = ((calls-bear-noise its_line plain talks is_fit all-asked its-clear none_used).2 no_errors).1.all has_places
+all-told = ((calls-bear-noise its_line [] talks plain is_fit (All-nil IsIdle) all-asked its-clear none_used).2 no_errors).1.all has_places

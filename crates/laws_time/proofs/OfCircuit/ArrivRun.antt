@@ -134,9 +134,9 @@ module _ (l : Line) (fit : IsFit l) where
 
   -- The first beat, in which layer 3 asks for the establishment first of all.
   module _ (w : Clocked) (p : PairNow l fit w) (goes : Going l.near.n201 (port_of w.near.at) w.near.at.way []) (comes : Going l.far.n201 (port_of w.far.at) w.far.at.way [])
-      (b : Beat) (are_asked : AreAsked l b) where
+      (ts us : List LineTold) (near_heard : heard_of ts ≡ heard_of w.near.at.told) (far_heard : heard_of us ≡ heard_of w.far.at.told) (b : Beat) (are_asked : AreAsked l b) where
     abbrev pub start : Wire
-    start = record { near = wire.happens (line.request (Establish l.service l.tei)) (station [] w.near.at.told w.near.at); far = station [] w.far.at.told w.far.at }
+    start = record { near = wire.happens (line.request (Establish l.service l.tei)) (station [] ts w.near.at); far = station [] us w.far.at }
 
     first-talk : IsTalk l (calls l b)
     first-talk = (All-cons (IsOfLink l.service l.tei) (Establish l.service l.tei) b.near_asks (refl, refl) (all-of-link b.near_asks are_asked.0), all-of-link b.far_asks are_asked.1)
@@ -148,19 +148,19 @@ module _ (l : Line) (fit : IsFit l) where
     a = at_time (w.beats / l.rate) w.near
 
     abbrev x : FrameEndpoint
-    x = station [] w.near.at.told w.near.at
+    x = station [] ts w.near.at
 
     abbrev y : FrameEndpoint
-    y = station [] w.far.at.told w.far.at
+    y = station [] us w.far.at
 
     abbrev StoodNow : ℕ → TimedEndpoint → FrameEndpoint → Type 0
     StoodNow S v z =
-        NearStood l fit.some fit.call.near.0 fit.call.far.0 fit.call.opposite.0 fit.call.opposite.1 fit.t200 (near_card l fit) (far_card l fit) w p (calls l b) first-talk [] comes w.far.at.told refl S v z
+        NearStood l fit.some fit.call.near.0 fit.call.far.0 fit.call.opposite.0 fit.call.opposite.1 fit.t200 (near_card l fit) (far_card l fit) w p (calls l b) first-talk [] comes us far_heard S v z
 
     stood : StoodNow p.S (at_time (w.beats / l.rate) w.near) x
     stood =
-        near-stood l fit.some fit.call.near.0 fit.call.far.0 fit.call.opposite.0 fit.call.opposite.1 fit.t200 (near_card l fit) (far_card l fit) w p (calls l b) first-talk [] comes w.far.at.told refl
-        [] goes w.near.at.told refl
+        near-stood l fit.some fit.call.near.0 fit.call.far.0 fit.call.opposite.0 fit.call.opposite.1 fit.t200 (near_card l fit) (far_card l fit) w p (calls l b) first-talk [] comes us far_heard
+        [] goes ts near_heard
 
     abbrev most : ℕ
     most = by_now l fit.some fit.call.near.0 fit.call.far.0 fit.call.opposite.0 fit.call.opposite.1 fit.t200 (near_card l fit) (far_card l fit) p.S2
@@ -174,9 +174,9 @@ module _ (l : Line) (fit : IsFit l) where
         stood-then l.service l.tei l.near c.near.0 l.far l.lengths l.rate l.way (answered_in l.near l.far l.way) w.beats (w.beats / l.rate)
         (ago l fit.some c.near.0 c.far.0 c.opposite.0 c.opposite.1 fit.t200 t u w p (calls l b) first-talk)
         (near-in-all l fit.some c.near.0 c.far.0 c.opposite.0 c.opposite.1 fit.t200 t u) p.S most y
-        (far_end l fit.some c.near.0 c.far.0 c.opposite.0 c.opposite.1 fit.t200 t u w p (calls l b) first-talk [] comes w.far.at.told refl)
-        (far-stands l fit.some c.near.0 c.far.0 c.opposite.0 c.opposite.1 fit.t200 t u w p (calls l b) first-talk [] comes w.far.at.told refl)
-        (far-finals l fit.some c.near.0 c.far.0 c.opposite.0 c.opposite.1 fit.t200 t u w p (calls l b) first-talk [] comes w.far.at.told refl)
+        (far_end l fit.some c.near.0 c.far.0 c.opposite.0 c.opposite.1 fit.t200 t u w p (calls l b) first-talk [] comes us far_heard)
+        (far-stands l fit.some c.near.0 c.far.0 c.opposite.0 c.opposite.1 fit.t200 t u w p (calls l b) first-talk [] comes us far_heard)
+        (far-finals l fit.some c.near.0 c.far.0 c.opposite.0 c.opposite.1 fit.t200 t u w p (calls l b) first-talk [] comes us far_heard)
         p.S a (asks a ask) x stood (line.request ask) g (asked-becomes ask stood.there a.at stood.ts stood.heard)
 
     first-beat : AreClear l (calls l b ∷ []) w → IsFairBoth (beat l.rate w (calls l b)) → Reached start (beat l.rate w (calls l b))
@@ -185,7 +185,7 @@ module _ (l : Line) (fit : IsFit l) where
         let c = fit.call in
         let now = fair-gone l.rate (calls l b) w fair in
         led-on start w (calls l b) (wire.happens (line.request ask) x) y (path-none l.service l.tei start start refl)
-        (beat-on l fit.some c.near.0 c.far.0 c.opposite.0 c.opposite.1 fit.t200 (near_card l fit) (far_card l fit) w p (calls l b) first-talk [] comes w.far.at.told refl
+        (beat-on l fit.some c.near.0 c.far.0 c.opposite.0 c.opposite.1 fit.t200 (near_card l fit) (far_card l fit) w p (calls l b) first-talk [] comes us far_heard
         g.S' (asks a ask) (wire.happens (line.request ask) x) then b.near_asks refl (all-both b.near_asks are_asked.0) (all-both b.far_asks are_asked.1) now.0 now.1 clear.0 clear.1)
 
     pub reached-from : (bs : List Beat) → All (AreAsked l) bs → AreClear l (calls l b ∷ bs) w → IsFairBoth (after l.rate (calls l b ∷ bs) w) → Reached start (after l.rate (calls l b ∷ bs) w)

@@ -15,8 +15,11 @@ use Rattle.laws_wire.specs.Losing.{for_layer_3}
 use Rattle.laws_time.specs.circuit.Clocked.{TimedEndpoint, Beat, after, notes_at, contents_at}
 use Rattle.laws_time.specs.circuit.LongEnough.{Line, IsFit, AreClear, begins}
 
--- Layer 3 of the near end asks for the establishment, as the first of all. Then either end asks to send octets, or says that it is
--- busy, or ready again.
+-- At first nothing is asked for. Then layer 3 of the near end asks for the establishment; and after that either end asks to send
+-- octets, or says that it is busy, or ready again.
+abbrev pub IsIdle : Beat → Type 0
+IsIdle b = (b.near_asks ≡ []) × (b.far_asks ≡ [])
+
 abbrev pub calls : Line → Beat → Beat
 calls l b = record b { near_asks = Establish l.service l.tei ∷ b.near_asks }
 
@@ -57,7 +60,7 @@ pub record IsTold (l : Line) (first : LineTold) (other s : TimedEndpoint) : Type
 -- is none, each end was told so.
 abbrev pub CallsBearNoise : Type 0
 CallsBearNoise =
-    (l : Line) (b : Beat) (bs : List Beat) → IsFit l → All (AreAsked l) (b ∷ bs) → AreClear l (calls l b ∷ bs) (begins l) →
-    let w = after l.rate (calls l b ∷ bs) (begins l) in list_any is_used_up (errors_at w.near ++ errors_at w.far) ≡ false →
+    (l : Line) (before bs : List Beat) (b : Beat) → IsFit l → All IsIdle before → All (AreAsked l) (b ∷ bs) →
+    AreClear l (before ++ calls l b ∷ bs) (begins l) → let w = after l.rate (before ++ calls l b ∷ bs) (begins l) in list_any is_used_up (errors_at w.near ++ errors_at w.far) ≡ false →
     (errors_at w.near ≡ []) × All (λ code. code ≡ F) (errors_at w.far) × (errors_at w.far ≡ [] →
     IsTold l (confirmed l.service l.tei) w.far w.near × IsTold l (indicated l.service l.tei) w.near w.far)

@@ -14,4 +14,6 @@ pub mod Ended
 pub mod DeadLine
 pub mod OctetsMean
 pub mod DeadLineOfOctets
+pub mod ArrivalsAwaited
+pub mod ArrivalsOfOctets
 pub mod OfCircuit

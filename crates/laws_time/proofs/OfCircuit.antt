@@ -15,3 +15,17 @@ pub mod Beats
 pub mod Began
 pub mod LongEnough
 pub mod InTime
+pub mod ArrivAs
+pub mod ArrivWay
+pub mod ArrivOpen
+pub mod ArrivPath
+pub mod ArrivFair
+pub mod ArrivSide
+pub mod ArrivHeard
+pub mod ArrivBeat
+pub mod ArrivRun
+pub mod ArrivBegan
+pub mod ArrivTold
+pub mod ArrivLaw
+pub mod ArrivMet
+pub mod ArrivIdle

@@ -4,3 +4,5 @@ pub mod Ends
 pub mod LongEnough
 pub mod Worked
 pub mod WorkedLongEnough
+pub mod Arriving
+pub mod WorkedArriving

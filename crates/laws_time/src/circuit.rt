@@ -4,15 +4,17 @@
 //! and nothing else is in it except requests and noise. Its worked runs (`Worked`) compute. There are a call from
 //! nothing, calls that cross, an I-frame that is lost and goes again, and SABME that is heard just before N200 is used
 //! up. There are a dead line, too, and noise that makes a frame of another link. How long an answer takes at most is in
-//! `LongEnough`, and worked out in `WorkedLongEnough`.
+//! `LongEnough`, and worked out in `WorkedLongEnough`. What a call through noise tells is in `Arriving`, and a run that
+//! meets its premises in `WorkedArriving`.
 //!
 //! # Open
 //!
 //! That each answer comes: once the line is clean and quiet, and both ends were up as it became so, an end that comes
-//! to state 8 leaves it within that time (an end in state 5 answers no enquiry). That what was granted arrives in time.
-//! How long a call takes at most. Random and chosen runs broke none of these, if layer 3 asks for no unit data and is
-//! not busy, T200 is at least as long as an answer takes, and noise makes no frame.
+//! to state 8 leaves it within that time (an end in state 5 answers no enquiry). How soon what was granted arrives on a
+//! clean line, and a call comes through. Random and chosen runs broke none of these, if layer 3 asks for no unit data
+//! and is not busy, T200 is at least as long as an answer takes, and noise makes no frame.
 
+ghost use Rattle.laws_time.specs.circuit.Arriving.{CallsBearNoise};
 ghost use Rattle.laws_time.specs.circuit.Ends.{EndsAreTimedCards};
 ghost use Rattle.laws_time.specs.circuit.LongEnough.{AnswersComeInTime};
 
@@ -36,4 +38,21 @@ pub fn ends_are_timed_cards()
 /// `specs/circuit/WorkedLongEnough`.)
 pub fn answers_come_in_time()
     ensures { AnswersComeInTime }
+{}
+
+/// A call bears noise. Two cards of octets begin on one line with their clocks, as [`answers_come_in_time`] has it, and
+/// T200 is long enough. At first nothing is asked for. At any time layer 3 of one end asks for the establishment of the
+/// link. After that layer 3 of either end asks to send octets, or says that it is busy, or ready again, at any time.
+/// Noise makes no frame.
+///
+/// Let N200 not be used up: no end tells error G, H or I (Q.921 clauses 5.5.1.3, 5.5.3.3 and 5.6.7). Then the end that
+/// calls tells no error at all, and the other none except F, of a UA that was lost (clause 5.7). Whatever is lost,
+/// timers and noise bring no other.
+///
+/// As long as there is no such F, each end was told one establishment, and then data that the other was granted to
+/// send. That is a prefix of it, in order, each once, and nothing else is told except what was dropped. Once each place
+/// of the queue at one end is free (`Card::room`), the other was told all data that was granted there. That holds at
+/// any time, in the midst of noise and traffic, too.
+pub fn calls_bear_noise()
+    ensures { CallsBearNoise }
 {}

@@ -1,5 +1,6 @@
 //! The laws. Each is the contract of a call that does nothing.
 
+ghost use Rattle.laws_time.specs.ArrivalsAwaited.{NoAnswerIsAwaitedLonger};
 ghost use Rattle.laws_time.specs.Silence.{ADeadLineIsTold};
 ghost use Rattle.laws_time.specs.Watched.{of_frames, of_octets};
 
@@ -26,4 +27,16 @@ ghost use Rattle.laws_time.specs.Watched.{of_frames, of_octets};
 pub fn a_dead_line_is_told()
     ensures frames { ADeadLineIsTold of_frames }
     ensures octets { ADeadLineIsTold of_octets }
+{}
+
+/// No answer is awaited longer. While `Card::state` tells 5 of a link, no more than (N200 + 1) (T200 + late)
+/// milliseconds pass. The same holds of 6, and of 8. Then the answer has come, or N200 is used up (Q.921 clauses
+/// 5.5.1.3, 5.5.3.3 and 5.6.7), or something else has moved the link. So a call, a release and an enquiry are decided
+/// within that time. It holds at a line of a card of either kind, whatever happened since its start, and whatever
+/// happens meanwhile: any frames come, layer 3 asks for anything, and other links are served. Timers fall due late by a
+/// number of milliseconds at most, which is 0 if the caller is prompt. (`news_is_told` of `laws_trace` says what layer 3
+/// is told as the link moves.)
+pub fn no_answer_is_awaited_longer()
+    ensures frames { NoAnswerIsAwaitedLonger of_frames }
+    ensures octets { NoAnswerIsAwaitedLonger of_octets }
 {}

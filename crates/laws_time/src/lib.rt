@@ -10,5 +10,5 @@
 mod circuit;
 mod laws;
 
-pub use circuit::{answers_come_in_time, ends_are_timed_cards};
-pub use laws::a_dead_line_is_told;
+pub use circuit::{answers_come_in_time, calls_bear_noise, ends_are_timed_cards};
+pub use laws::{a_dead_line_is_told, no_answer_is_awaited_longer};

@@ -132,7 +132,7 @@ module _ (service : Service) (tei transit : ℕ) (lengths : Lengths) (rate : ℕ
   -- The moment comes.
   module _ (moment n S M : ℕ) (rs : List Request) (a : TimedEndpoint) (h : End S M a) (rests : Rests a) (low : a.clock.now ≤ moment) (high : moment ≤ a.clock.now + 1)
       (counts : Counts n a) (soon : n + 1 ≤ (moment + 1) * rate) (all : All (IsOfLink service tei) rs) where
-    at-moment : End S M (at_time moment a)
+    pub at-moment : End S M (at_time moment a)
     at-moment = record {
       but = record {
         ends = h.but.ends;

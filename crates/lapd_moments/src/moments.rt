@@ -103,8 +103,8 @@ impl Moments {
         self.not_before = self.not_before.min(moment);
     }
 
-    /// Starts a timer of a line anew, if it runs and is the one of its line that falls due first, and still is so then. Else
-    /// nothing changes.
+    /// Starts a timer of a line anew, and answers whether it did. It does so only if the timer runs, falls due first of its
+    /// line, and still does so then. Otherwise nothing changes.
     #[inline(always)]
     pub fn restart(&mut self, line: usize, timer: Timer, moment: u64) -> bool
         ensures done { result ≡ true → IsRestarted line timer moment self.old self.new }

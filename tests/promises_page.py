@@ -56,7 +56,7 @@ RUNS = {
 # The law that the pages print whole, and the most lines that it may need.
 HEADLINE, MOST_LINES = 'a_call_comes_through', 200
 # How many wrong machines the page names at a promise; tests/wrong-machines --page has all.
-MOST_ROWS = 6
+MOST_ROWS = 4
 # Premises that many laws of two cards have: what the page calls them.
 SHARED = {'a call': ['CanCall c line d other tei'], 'talk': ['All (IsTalk service tei) ds'],
           'rough talk': ['All (IsRoughTalk service tei) ds'], 'full talk': ['All (IsFullTalk service tei) ds'],

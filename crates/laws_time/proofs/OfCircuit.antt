@@ -15,3 +15,15 @@ pub mod Beats
 pub mod Began
 pub mod LongEnough
 pub mod InTime
+pub mod AnsweredBits
+pub mod AnsweredDue
+pub mod AnsweredRows
+pub mod AnsweredPlace
+pub mod AnsweredEnds
+pub mod AnsweredWalk
+pub mod AnsweredHeard
+pub mod AnsweredBeats
+pub mod AnsweredBeat
+pub mod AnsweredRun
+pub mod Answered
+pub mod AnsweredOnce

@@ -2,5 +2,7 @@
 pub mod Clocked
 pub mod Ends
 pub mod LongEnough
+pub mod Answered
 pub mod Worked
 pub mod WorkedLongEnough
+pub mod WorkedAnswered

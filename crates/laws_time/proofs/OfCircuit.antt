@@ -27,3 +27,4 @@ pub mod AnsweredBeat
 pub mod AnsweredRun
 pub mod Answered
 pub mod AnsweredOnce
+pub mod AnsweredClear

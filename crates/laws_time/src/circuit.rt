@@ -12,7 +12,7 @@
 //!
 //! That commands and answers find a place. That what was granted arrives in time. How long a call takes at most.
 
-ghost use Rattle.laws_time.specs.circuit.Answered.{AnEnquiryIsAnswered, CommandsAreAnswered, OneEnquiryIsEnough};
+ghost use Rattle.laws_time.specs.circuit.Answered.{AnEnquiryIsAnswered, CommandsAreAnswered, NoNoiseIsClear, OneEnquiryIsEnough};
 ghost use Rattle.laws_time.specs.circuit.Ends.{EndsAreTimedCards};
 ghost use Rattle.laws_time.specs.circuit.LongEnough.{AnswersComeInTime};
 
@@ -49,4 +49,10 @@ pub fn commands_are_answered()
     ensures enquiries { AnEnquiryIsAnswered }
     ensures once { OneEnquiryIsEnough }
     ensures others { CommandsAreAnswered }
+{}
+
+/// Without noise from the start on, noise makes no frame: each frame that is heard stood at that place in what the other
+/// end gave. So the premise of the laws above is met by each run without noise.
+pub fn no_noise_makes_no_frame()
+    ensures { NoNoiseIsClear }
 {}

@@ -10,5 +10,7 @@
 mod circuit;
 mod laws;
 
-pub use circuit::{answers_come_in_time, commands_are_answered, ends_are_timed_cards};
+pub use circuit::{
+    answers_come_in_time, commands_are_answered, ends_are_timed_cards, no_noise_makes_no_frame,
+};
 pub use laws::a_dead_line_is_told;

@@ -28,3 +28,4 @@ pub mod AnsweredRun
 pub mod Answered
 pub mod AnsweredOnce
 pub mod AnsweredClear
+pub mod AnsweredMet

@@ -11,9 +11,7 @@ use Rattle.lapd_clock.specs.Timers.{Expiry, is_of as timer_is_of}
 use Rattle.lapd_frame.specs.declared.controls.Control.{Control}
 use Rattle.lapd_frame.specs.declared.services.Service.{Service}
 use Rattle.lapd_frame.specs.declared.timers.Timer.TheVariants as timers
-use Rattle.lapd_frame.specs.declared.addresses.Side.{Side}
-use Rattle.lapd_frame.specs.declared.addresses.Side.TheVariants.{Network, User}
-use Rattle.lapd_frame.specs.Grammar.{Parts, other_side}
+use Rattle.lapd_frame.specs.Grammar.{Parts}
 use Rattle.model_bits.specs.Stream as stream
 use Rattle.model_link.specs.Link.{state_number}
 use Rattle.model_line.specs.Sound.{IsInRange}
@@ -204,6 +202,10 @@ module _ (l : Line) (some : 1 ≤ l.rate) (near : IsInRange l.near) (far : IsInR
             near_counts = record { given = x.given; received = omega (arith, near_received, near_before); way = short (gone l.rate b w).near (beat l.rate w b).near x.way g.way };
             far_counts = record { given = y.given; received = omega (arith, far_received, far_before); way = short (gone l.rate b w).far (beat l.rate w b).far y.way k.way };
           }
+
+      pub pair-later : p.S ≤ pair-then.S
+      unfolding pair-then
+      pair-later = let gone_later = near-gone.later in let heard_later = near-heard.later in omega (arith, gone_later, heard_later)
 
   pub all-pairs : (bs : List Beat) → All (IsTalk l) bs → (w : Clocked) → AreClear l bs w → Pair w → Pair (after l.rate bs w)
   unfolding AreClear

@@ -3,6 +3,7 @@
 use Rattle.std.specs.Prelude.{◌≡◌, ℕ, ◌+◌, ◌*◌, ◌≤◌, false, List, [], ◌∷◌, ◌++◌, replicate, refl}
 use Rattle.std.specs.List.{list_any}
 use Rattle.std.proofs.Common.{arith}
+use Rattle.lapd_frame.specs.declared.notes.ErrorCode.TheVariants.{C}
 use Rattle.lapd_frame.specs.declared.services.Service.TheVariants.{Call}
 use Rattle.lapd_frame.specs.Reading.{reading, header_of, control_of, unnumbered_of, supervisory_of}
 use Rattle.lapd_frame.specs.Senders.{exchanged, reading as read_by}
@@ -57,3 +58,14 @@ not_yet = after 1 (calls its_line plain ∷ replicate 15 plain ++ (sends ∷ [])
 one_taken : HasAllPlaces its_line not_yet.near → ⊥
 unfolding lines.after lines.answer lines.takes_slot exchanged read_by reading header_of control_of unnumbered_of supervisory_of teis.course teis.refusal seq distance_of named low_bits ports.after ports.answer ports.meant fall_due
 one_taken (left, has, free) = cc (has, free)
+
+-- T200 of 10 milliseconds is too short: SABME goes again before its UA has come, so that a second UA comes, and error C is told.
+abbrev pub short_line : Line
+short_line = line_with 1 0 10
+
+abbrev pub impatient : Clocked
+impatient = after 1 (calls short_line plain ∷ replicate 30 plain) (begins short_line)
+
+told_c : errors_at impatient.near ≡ C ∷ []
+unfolding lines.after lines.answer lines.takes_slot exchanged read_by reading header_of control_of unnumbered_of supervisory_of teis.course teis.refusal seq distance_of named low_bits ports.after ports.answer ports.meant fall_due
+told_c = refl

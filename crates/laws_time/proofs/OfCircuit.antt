@@ -27,6 +27,8 @@ pub mod AnsweredBeat
 pub mod AnsweredRun
 pub mod Answered
 pub mod AnsweredOnce
+pub mod AnsweredClear
+pub mod AnsweredMet
 pub mod ArrivAs
 pub mod ArrivWay
 pub mod ArrivOpen

@@ -13,10 +13,11 @@
 //!
 //! That commands and answers find a place. How soon what was granted arrives on a clean line, and a call comes through.
 
-ghost use Rattle.laws_time.specs.circuit.Answered.{AnEnquiryIsAnswered, CommandsAreAnswered, OneEnquiryIsEnough};
+ghost use Rattle.laws_time.specs.circuit.Answered.{AnEnquiryIsAnswered, CommandsAreAnswered, NoNoiseIsClear, OneEnquiryIsEnough};
 ghost use Rattle.laws_time.specs.circuit.Arriving.{CallsBearNoise};
 ghost use Rattle.laws_time.specs.circuit.Ends.{EndsAreTimedCards};
 ghost use Rattle.laws_time.specs.circuit.LongEnough.{AnswersComeInTime};
+ghost use Rattle.laws_time.specs.circuit.WorkedAnswered.{AnEnquiryIsMet};
 
 /// Each end of the clocked circuit is a timed card of octets, as `model_timed` has it. Anything may be asked for at
 /// either end, with any noise, and any number of beats may have passed. Then the card at an end and its clock came
@@ -68,4 +69,12 @@ pub fn commands_are_answered()
 /// any time, in the midst of noise and traffic, too.
 pub fn calls_bear_noise()
     ensures { CallsBearNoise }
+{}
+
+/// Without noise from the start on, noise makes no frame (`clear`): each frame that is heard stood at that place in what
+/// the other end gave. So the premise of the laws above is met by each run without noise. And a worked run meets all
+/// premises of the enquiries in [`commands_are_answered`] (`met`).
+pub fn no_noise_makes_no_frame()
+    ensures clear { NoNoiseIsClear }
+    ensures met { AnEnquiryIsMet }
 {}

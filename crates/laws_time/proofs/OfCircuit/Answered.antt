@@ -20,7 +20,7 @@ use Rattle.laws_time.proofs.OfCircuit.AnsweredRun.{Ready, Stage, asked_by, answe
 use Rattle.laws_time.proofs.OfCircuit.InTime.{pair-begins}
 use Rattle.laws_time.proofs.OfCircuit.Open.{ring}
 use Rattle.laws_time.specs.circuit.Answered.{IsClean, AnEnquiryIsAnswered, CommandsAreAnswered, begun, state_at}
-unfoldable use Rattle.laws_time.specs.circuit.Answered.{Enquires, StaysIn}
+unfoldable use Rattle.laws_time.specs.circuit.Answered.{Enquires, WaitsIn}
 use Rattle.laws_time.specs.circuit.Clocked.{Clocked, Beat, beat, after, flags}
 use Rattle.laws_time.specs.circuit.LongEnough.{Line, IsFit, IsTalk, begins, answered_in, is_of}
 unfoldable use Rattle.laws_time.specs.circuit.LongEnough.{AreClear}
@@ -192,10 +192,10 @@ unfolding Enquires Waits
 enquires-wait l [] w h = tt
 enquires-wait l (b ∷ bs) w h = (h.0, λ is. h.1, enquires-wait l bs (beat l.rate w b) h.2)
 
-stays-wait : (l : Line) (n : ℕ) → (n ≡ 8 → ⊥) → (bs : List Beat) (w : Clocked) → StaysIn l n bs w → Waits l n bs w
-unfolding StaysIn Waits
-stays-wait l n other [] w h = tt
-stays-wait l n other (b ∷ bs) w h = (h.0, λ is. absurd (other is), stays-wait l n other bs (beat l.rate w b) h.1)
+waits-too : (l : Line) (n : ℕ) → (n ≡ 8 → ⊥) → (bs : List Beat) (w : Clocked) → WaitsIn l n bs w → Waits l n bs w
+unfolding WaitsIn Waits
+waits-too l n other [] w h = tt
+waits-too l n other (b ∷ bs) w h = (h.0, λ is. absurd (other is), waits-too l n other bs (beat l.rate w b) h.1)
 
 seven-other : (o : Option ℕ) → o ≡ Some 7 → o ≡ Some 8 → ⊥
 seven-other o is was = cc (sym is ∙ was)
@@ -217,7 +217,7 @@ commands-are-answered l n bs b more h which was states = go which
 
     by : (x : Exchange n) → (n ≡ 8 → ⊥) → length more ≤ answered_in l.near l.far l.way
     by x other =
-        let all = answered-in-time l n x bs b more h.fit h.talk h.clear h.clean was (stays-wait l n other more (begun l bs b) states) h.near_kept h.far_kept in
+        let all = answered-in-time l n x bs b more h.fit h.talk h.clear h.clean was (waits-too l n other more (begun l bs b) states) h.near_kept h.far_kept in
         let few = x.few in omega (arith, all, few)
 
     go : (n ≡ 5) ⊎ (n ≡ 6) → length more ≤ answered_in l.near l.far l.way

@@ -54,12 +54,16 @@ OneEnquiryIsEnough =
     due s.clock ≡ Some x → x.timer ≡ T200 l.service l.tei → state_at l s ≡ Some 8 → ⊥
 
 -- After each of these beats the near end is in this state.
-unfoldable pub StaysIn : Line → ℕ → List Beat → Clocked → Type 0
-StaysIn l n [] w = Unit {0}
-StaysIn l n (b ∷ bs) w = let u = beat l.rate w b in (state_at l u.near ≡ Some n) × StaysIn l n bs u
+unfoldable pub WaitsIn : Line → ℕ → List Beat → Clocked → Type 0
+WaitsIn l n [] w = Unit {0}
+WaitsIn l n (b ∷ bs) w = let u = beat l.rate w b in (state_at l u.near ≡ Some n) × WaitsIn l n bs u
 
 -- It comes to state 5 or 6, in which it waits for the answer to SABME or DISC: so it is then, whatever state the far end is in.
 abbrev pub CommandsAreAnswered : Type 0
 CommandsAreAnswered =
     (l : Line) (n : ℕ) (bs : List Beat) (b : Beat) (more : List Beat) → IsUndisturbed l bs b more → (n ≡ 5) ⊎ (n ≡ 6) →
-    (state_at l (begun l bs b).near ≡ Some n → ⊥) → StaysIn l n more (begun l bs b) → length more ≤ answered_in l.near l.far l.way
+    (state_at l (begun l bs b).near ≡ Some n → ⊥) → WaitsIn l n more (begun l bs b) → length more ≤ answered_in l.near l.far l.way
+
+-- Where there is no noise from the start on, none makes a frame.
+abbrev pub NoNoiseIsClear : Type 0
+NoNoiseIsClear = (l : Line) (bs : List Beat) → IsFit l → All (IsTalk l) bs → All IsClean bs → AreClear l bs (begins l)

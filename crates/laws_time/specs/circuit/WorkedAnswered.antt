@@ -13,15 +13,15 @@ use Rattle.model_card.specs.ports.Card as ports
 use Rattle.laws_wire.specs.Worked as wire
 use Rattle.laws_time.specs.circuit.Clocked.{Beat, plain, after, fall_due}
 use Rattle.laws_time.specs.circuit.LongEnough.{Line, answered_in, begins}
-use Rattle.laws_time.specs.circuit.Answered.{state_at, lost_at}
+use Rattle.laws_time.specs.circuit.Answered.{ComesToEnquire, state_at, lost_at}
 use Rattle.laws_time.specs.circuit.Worked.{asks, calls}
 
--- An octet a millisecond, none in transit, eight octets in a content at most and one control frame: an answer takes 54 octet times at
+-- An octet a millisecond, none in transit, eight octets in a content at most and two control frames: an answer takes 72 octet times at
 -- most. T203 runs for 20 milliseconds.
 abbrev small : Config → Config
-small c = record c { control = 1; n201 = 8 }
+small c = record c { control = 2; n201 = 8 }
 
-abbrev its_line : Line
+abbrev pub its_line : Line
 its_line = record {
   near = small wire.user;
   far = small wire.network;
@@ -29,12 +29,12 @@ its_line = record {
   far_line = 0;
   tei = 0;
   service = Call;
-  lengths = record { t200 = 55; t203 = 20; t201 = 55 };
+  lengths = record { t200 = 73; t203 = 20; t201 = 73 };
   rate = 1;
   way = 0;
 }
 
-at_most : answered_in its_line.near its_line.far its_line.way ≡ 54
+at_most : answered_in its_line.near its_line.far its_line.way ≡ 72
 at_most = refl
 
 -- SABME is answered within 16 beats.
@@ -65,3 +65,10 @@ answered = refl
 none_lost : lost_at (after 1 (up ++ replicate 18 plain) (begins its_line)).near ≡ 0
 unfolding lines.after lines.answer lines.takes_slot exchanged read_by reading header_of control_of unnumbered_of supervisory_of teis.course teis.refusal seq distance_of named low_bits ports.after ports.answer ports.meant fall_due
 none_lost = refl
+
+-- The premises of the law are met: an end comes to state 8 after a plain beat, and three more follow.
+abbrev pub before : List Beat
+before = calls ++ replicate 16 plain
+
+abbrev pub AnEnquiryIsMet : Type 0
+AnEnquiryIsMet = ComesToEnquire its_line before plain (replicate 3 plain)

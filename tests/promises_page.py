@@ -62,7 +62,8 @@ MOST_ROWS = 6
 # Premises that many laws of two cards have: what the page calls them.
 SHARED = {'a call': ['CanCall c line d other tei'], 'talk': ['All (IsTalk service tei) ds'],
           'rough talk': ['All (IsRoughTalk service tei) ds'], 'full talk': ['All (IsFullTalk service tei) ds'],
-          'possible steps': ['All (IsPossible service tei w) hs'], 'within k': ['(terms c service tei).k ≤ k', '(terms d service tei).k ≤ k']}
+          'possible steps': ['All (IsPossible service tei w) hs'], 'within k': ['(terms c service tei).k ≤ k', '(terms d service tei).k ≤ k'],
+          'a timed line': ['IsInRange c', 'number < c.lines', 'ArePrompt w.kind late before begun', 'ArePrompt w.kind late steps t']}
 MACHINE_ROW = re.compile(r'^machine: (\S+)$|^law: (\S+) (\S+)', re.MULTILINE)
 
 

@@ -40,6 +40,7 @@ RUNS = {
     'causes_are_told': 'laws_trace WorkedCauses', 'a_dead_line_is_told': 'laws_time WorkedSilence', 'answers_come_in_time': 'laws_time circuit/WorkedLongEnough',
     'commands_are_answered': 'laws_time circuit/WorkedAnswered',
     'calls_bear_noise': 'laws_time circuit/WorkedArriving', 'no_answer_is_awaited_longer': 'laws_time ArrivalsWorked',
+    'n200_takes_its_time': 'laws_time ArrivalsWorked',
     'timers_are_true': 'model_timed Worked', 'timers_run_the_same': 'model_timed WorkedOctets',
     'frames_are_heard': 'model_card ports/WorkedText', 'given_frames_are_heard': 'laws_trace octets/Worked',
     'frames_go_at_once': 'model_card ports/WorkedText', 'answers_are_heard': 'laws_trace octets/WorkedAnswers',
@@ -61,7 +62,8 @@ MOST_ROWS = 4
 # Premises that many laws of two cards have: what the page calls them.
 SHARED = {'a call': ['CanCall c line d other tei'], 'talk': ['All (IsTalk service tei) ds'],
           'rough talk': ['All (IsRoughTalk service tei) ds'], 'full talk': ['All (IsFullTalk service tei) ds'],
-          'possible steps': ['All (IsPossible service tei w) hs'], 'within k': ['(terms c service tei).k ≤ k', '(terms d service tei).k ≤ k']}
+          'possible steps': ['All (IsPossible service tei w) hs'], 'within k': ['(terms c service tei).k ≤ k', '(terms d service tei).k ≤ k'],
+          'a timed line': ['IsInRange c', 'number < c.lines', 'ArePrompt w.kind late before begun', 'ArePrompt w.kind late steps t']}
 MACHINE_ROW = re.compile(r'^machine: (\S+)$|^law: (\S+) (\S+)', re.MULTILINE)
 
 

@@ -16,4 +16,7 @@ pub mod OctetsMean
 pub mod DeadLineOfOctets
 pub mod ArrivalsAwaited
 pub mod ArrivalsOfOctets
+pub mod ArrivalsErrors
+pub mod ArrivalsOneEvent
+pub mod ArrivalsUsedUp
 pub mod OfCircuit

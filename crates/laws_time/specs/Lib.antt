@@ -4,5 +4,6 @@ pub mod Silence
 pub mod ArrivalsAwaited
 pub mod WorkedSilence
 pub mod ArrivalsWorked
+pub mod ArrivalsUsedUp
 pub mod WorkedPremises
 pub mod circuit

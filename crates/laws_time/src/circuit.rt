@@ -54,14 +54,6 @@ pub fn commands_are_answered()
     ensures others { CommandsAreAnswered }
 {}
 
-/// Without noise from the start on, noise makes no frame (`clear`): each frame that is heard stood at that place in what
-/// the other end gave. So the premise of the laws above is met by each run without noise. And a worked run meets all
-/// premises of the enquiries in [`commands_are_answered`] (`met`).
-pub fn no_noise_makes_no_frame()
-    ensures clear { NoNoiseIsClear }
-    ensures met { AnEnquiryIsMet }
-{}
-
 /// A call bears noise. Two cards of octets begin on one line with their clocks, as [`answers_come_in_time`] has it, and
 /// T200 is long enough. At first nothing is asked for. At any time layer 3 of one end asks for the establishment of the
 /// link. After that layer 3 of either end asks to send octets, or says that it is busy, or ready again, at any time.
@@ -77,4 +69,12 @@ pub fn no_noise_makes_no_frame()
 /// any time, in the midst of noise and traffic, too.
 pub fn calls_bear_noise()
     ensures { CallsBearNoise }
+{}
+
+/// Without noise from the start on, noise makes no frame (`clear`): each frame that is heard stood at that place in what
+/// the other end gave. So the premise of the laws above is met by each run without noise. And a worked run meets all
+/// premises of the enquiries in [`commands_are_answered`] (`met`).
+pub fn no_noise_makes_no_frame()
+    ensures clear { NoNoiseIsClear }
+    ensures met { AnEnquiryIsMet }
 {}

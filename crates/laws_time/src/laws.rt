@@ -1,6 +1,7 @@
 //! The laws. Each is the contract of a call that does nothing.
 
 ghost use Rattle.laws_time.specs.ArrivalsAwaited.{NoAnswerIsAwaitedLonger};
+ghost use Rattle.laws_time.specs.ArrivalsUsedUp.{N200TakesItsTime};
 ghost use Rattle.laws_time.specs.Silence.{ADeadLineIsTold};
 ghost use Rattle.laws_time.specs.Watched.{of_frames, of_octets};
 
@@ -39,4 +40,13 @@ pub fn a_dead_line_is_told()
 pub fn no_answer_is_awaited_longer()
     ensures frames { NoAnswerIsAwaitedLonger of_frames }
     ensures octets { NoAnswerIsAwaitedLonger of_octets }
+{}
+
+/// N200 takes its time. From a time on at which `Card::state` tells 4 or 7 of a link, no error G, H or I of it is told
+/// for (N200 + 1) T200 milliseconds, whatever comes on the line, and whatever layer 3 asks for (Q.921 clauses 5.5.1.3,
+/// 5.5.3.3 and 5.6.7). So noise that lasts for less does not use N200 up. It holds at a line of a card of either kind,
+/// whatever happened before. The moment is that of the last step, up to which time has gone on.
+pub fn n200_takes_its_time()
+    ensures frames { N200TakesItsTime of_frames }
+    ensures octets { N200TakesItsTime of_octets }
 {}

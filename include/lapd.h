@@ -411,13 +411,13 @@ LAPD_STATUS lapd_frame_failed(lapd_card *card, uint32_t line, uint8_t cause, lap
  * Gives the next frame of a line to send: writes it in front of `out`, from the address to the information, without a
  * check, and *length is how many octets it has. The frame counts as sent then, so call it when the controller can take
  * one. LAPD_NO_FRAME: none waits, and nothing has changed. LAPD_WRONG_LENGTH: `room` is less than n201 and four, whatever
- * waits. After the frame nothing of `out` is written; `out` lies outside of *report. Carry out the report's orders as
- * those of each other call. If report->more is 0, the next call would answer LAPD_NO_FRAME, unless something happens at
- * the line before it.
+ * waits. After the frame nothing of `out` is written; `out` lies outside of *report. A card that keeps its own timers has
+ * carried out the report's orders, and it has none; of another, carry them out as those of each other call. If
+ * report->more is 0, the next call would answer LAPD_NO_FRAME, unless something happens at the line before it.
  *
  *     uint8_t out[LAPD_MOST_FRAME];
  *     for (size_t length; lapd_next_frame(&card, line, out, sizeof out, &length, &report) == LAPD_OK;)
- *         ... the report's orders, then out[0] to out[length - 1] to the controller ...
+ *         ... the report's orders, if it has any, then out[0] to out[length - 1] to the controller ...
  */
 LAPD_STATUS lapd_next_frame(lapd_card *card, uint32_t line, uint8_t *out, size_t room, size_t *length,
                             lapd_report *report);
@@ -815,13 +815,13 @@ LAPD_INLINE_STATUS lapd_deactivate(lapd_card *card, uint32_t line, uint8_t servi
  * The same of a whole line, a link a call, since a report has no room for the releases of all: gives up the next link from a
  * place on, which is 0 for the first, and afterwards as the call leaves it. After the last link one call (LAPD_DOWN) gives
  * up what waits on the line and is of none: unit data, and messages of TEI management. A check that runs ends without a
- * result, and its timer stops, which is that report's order. LAPD_NO_MORE_LINKS: the line is down, after two calls for each
- * of its TEIs, and one more, if nothing else was asked or heard there meanwhile. The TEIs stay. Begin again at 0 when the
- * line goes down the next time.
+ * result, and its timer stops; that is the order of that report, except at a card that keeps its own timers.
+ * LAPD_NO_MORE_LINKS: the line is down, after two calls for each of its TEIs, and one more, if nothing else was asked or heard
+ * there meanwhile. The TEIs stay. Begin again at 0 when the line goes down the next time.
  *
  *     uint8_t place = 0;
  *     while (lapd_line_down(&card, line, &place, &report) == LAPD_OK)
- *         ... the report's note, if any, and its orders ...
+ *         ... the report's note, and its orders, if it has any ...
  */
 LAPD_INLINE_STATUS lapd_line_down(lapd_card *card, uint32_t line, uint8_t *place, lapd_report *report) {
     lapd_link link;

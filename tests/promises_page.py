@@ -38,16 +38,19 @@ RUNS = {
     'granted_requests_take_effect': 'laws_trace WorkedRequests', 'rooms_are_told': 'laws_trace WorkedRooms',
     'no_slot_is_lost': 'laws_trace WorkedRooms', 'counters_count': 'laws_trace WorkedCounters',
     'causes_are_told': 'laws_trace WorkedCauses', 'a_dead_line_is_told': 'laws_time WorkedSilence', 'answers_come_in_time': 'laws_time circuit/WorkedLongEnough',
+    'commands_are_answered': 'laws_time circuit/WorkedAnswered',
+    'calls_bear_noise': 'laws_time circuit/WorkedArriving', 'no_answer_is_awaited_longer': 'laws_time ArrivalsWorked',
+    'n200_takes_its_time': 'laws_time ArrivalsWorked',
     'timers_are_true': 'model_timed Worked', 'timers_run_the_same': 'model_timed WorkedOctets',
     'frames_are_heard': 'model_card ports/WorkedText', 'given_frames_are_heard': 'laws_trace octets/Worked',
     'frames_go_at_once': 'model_card ports/WorkedText', 'answers_are_heard': 'laws_trace octets/WorkedAnswers',
     'a_call_comes_through': 'laws_wire Worked', 'cards_deliver': 'laws_wire Worked',
     'a_call_comes_through_in_octets': 'laws_order circuit/WorkedCall', 'calls_are_of_frames': 'laws_order circuit/WorkedMixed',
     'all_is_told_in_beats': 'laws_order circuit/Worked', 'a_call_comes_to_rest': 'laws_order circuit/WorkedDamaged',
-    'told_in_order': 'laws_wire WorkedLosing', 'turns_come_to_an_end': 'laws_wire WorkedResting',
+    'told_in_order': 'laws_wire WorkedLosing',
     'rounds_come_to_rest': 'laws_wire WorkedResting', 'what_is_lost_arrives': 'laws_wire WorkedRecovering',
-    'what_is_lost_arrives_from_rest': 'laws_wire WorkedRecovering', 'expiries_are_counted': 'laws_wire WorkedCounted',
-    'it_arrives_under_traffic': 'laws_wire WorkedArriving', 'a_call_with_losses_comes_through': 'laws_wire WorkedAnswering',
+    'expiries_are_counted': 'laws_wire WorkedCounted',
+    'a_call_with_losses_comes_through': 'laws_wire WorkedAnswering',
     'a_call_with_losses_comes_to_rest': 'laws_wire WorkedSettling', 'a_call_ends': 'laws_wire WorkedEnding',
     'delivered_in_order': 'laws_order Worked', 'delivered_though_damaged': 'laws_order circuit/WorkedDamaged',
     'delivered_between_kinds': 'laws_order circuit/WorkedMixed', 'releases_end': 'laws_order WorkedRelease',
@@ -55,11 +58,12 @@ RUNS = {
 # The law that the pages print whole, and the most lines that it may need.
 HEADLINE, MOST_LINES = 'a_call_comes_through', 200
 # How many wrong machines the page names at a promise; tests/wrong-machines --page has all.
-MOST_ROWS = 6
+MOST_ROWS = 4
 # Premises that many laws of two cards have: what the page calls them.
 SHARED = {'a call': ['CanCall c line d other tei'], 'talk': ['All (IsTalk service tei) ds'],
           'rough talk': ['All (IsRoughTalk service tei) ds'], 'full talk': ['All (IsFullTalk service tei) ds'],
-          'possible steps': ['All (IsPossible service tei w) hs'], 'within k': ['(terms c service tei).k ≤ k', '(terms d service tei).k ≤ k']}
+          'possible steps': ['All (IsPossible service tei w) hs'], 'within k': ['(terms c service tei).k ≤ k', '(terms d service tei).k ≤ k'],
+          'a timed line': ['IsInRange c', 'number < c.lines', 'ArePrompt w.kind late before begun', 'ArePrompt w.kind late steps t']}
 MACHINE_ROW = re.compile(r'^machine: (\S+)$|^law: (\S+) (\S+)', re.MULTILINE)
 
 

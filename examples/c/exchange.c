@@ -113,7 +113,8 @@ static bool run(void) {
     if (capture != NULL)
         pcap_begin(capture);
     uint32_t status = lapd_card_start_timed(&own.card, &linecard_config, &linecard_lengths);
-    bool is_good = linecard_begin(&own, status) && pcap_begin_heads(&own.card, 0, &heard) && serve();
+    bool is_good = linecard_begin(&own, status) && pcap_begin_heads(&own.card, 0, &heard) && linecard_disown(&own)
+                   && serve();
     bool is_captured = linecard_close(&own, capture, "capture");
     return linecard_end(&own) && is_captured && is_good;
 }

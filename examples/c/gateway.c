@@ -10,6 +10,13 @@ uint32_t gateway_start(gateway *own, const lapd_config *config, const lapd_lengt
     return status;
 }
 
+uint32_t gateway_disown(gateway *own, uint32_t line) {
+    uint32_t status = LAPD_OK;
+    for (int times = 0; status == LAPD_OK && times < 2; times++)
+        status = gateway_ask(own, line, LAPD_DISOWN, LAPD_CALL, LAPD_GROUP_TEI, NULL, 0);
+    return status;
+}
+
 void gateway_end(gateway *own) {
     (void)!lapd_card_free(&own->card);
 }

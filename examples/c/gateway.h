@@ -5,6 +5,8 @@
  *     gateway own = GATEWAY_NONE;
  *     own.on_report = layer_3;
  *     uint32_t status = gateway_start(&own, &config, &lengths);
+ *     for (uint32_t line = 0; status == LAPD_OK && line < config.lines; line++)
+ *         status = gateway_disown(&own, line);
  *     ... gateway_advance to the moment that is now; then each frame that came: gateway_frame; then ...
  *     for (uint32_t line = 0; lapd_next_waiting(&own.card, line, &line) == LAPD_OK; line++)
  *         ... if the controller of this line has room for a frame: gateway_take ...
@@ -45,6 +47,11 @@ struct gateway {
 /* Starts the card, at moment 0. LAPD_SECOND_START, the first bad field of the configuration (LAPD_BAD_LINES to
  * LAPD_BAD_SAPI), LAPD_WRONG_TIME of a length, or LAPD_NO_MEMORY: none that was not there before is there. */
 LAPD_STATUS gateway_start(gateway *own, const lapd_config *config, const lapd_lengths *lengths);
+
+/* Tells all terminals of a line to give up the TEIs that they still use, twice, since one message may be lost. It is called
+ * after the start, as the card knows none of them, except of a line whose TEIs are set by hand. LAPD_REFUSED_TEI_TAKEN: one
+ * is on the line. LAPD_REFUSED_CONTROL_FULL: take frames and call again. LAPD_REFUSED_WRONG_SIDE: on the user's side. */
+LAPD_STATUS gateway_disown(gateway *own, uint32_t line);
 
 /* Gives back what the start took; the gateway can be started again. Where it was not started nothing happens. */
 void gateway_end(gateway *own);

@@ -116,6 +116,18 @@ bool linecard_begin(linecard *own, uint32_t status) {
     return linecard_is_ok(own, status, "card");
 }
 
+bool linecard_disown(linecard *own) {
+    static lapd_report report;
+    for (int times = 0; times < 2; times++) { /* one message may be lost */
+        if (own->record != NULL)
+            fprintf(own->record, "disown 0 %u\n", LAPD_GROUP_TEI);
+        uint32_t status = lapd_disown(&own->card, 0, LAPD_GROUP_TEI, &report);
+        if (!linecard_is_ok(own, status, "disown") || !linecard_tell(own, &report))
+            return false;
+    }
+    return true;
+}
+
 bool linecard_end(linecard *own) {
     (void)!lapd_card_free(&own->card);
     return linecard_close(own, own->record, "record");

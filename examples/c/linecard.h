@@ -50,6 +50,9 @@ int linecard_patience(linecard *own);
 /* Time starts, with the card: this is what its start answered. */
 bool linecard_begin(linecard *own, uint32_t status);
 
+/* Tells all terminals to give up the TEIs that they still use: the card knows none of them. */
+bool linecard_disown(linecard *own);
+
 /* Frees the card, and closes the record; whether it was written. */
 bool linecard_end(linecard *own);
 

@@ -1,14 +1,16 @@
 /*
- * clocks.c: answers come in time, tried at random. Two cards of octets are the two ends of a line, and each has its timers.
+ * clocks.c: answers come, and in time, tried at random. Two cards of octets are the two ends of a line, and each has its timers.
  * In a beat each end comes to the moment, layer 3 asks, and what is due falls due. Then each end gives an octet, and
  * receives one, or noise in its place. As T200 falls due in state 5, 6 or 8, no command with P=1 of that end is to come,
  * and no response with F=1 of the other: whether one waits is seen by pulling a copy of the process. The sizes, the rate,
  * the octets in transit, the noise and what is asked for are random; T200 is the least that is long enough, or a little
- * more. This is read from docs/TWO-CARDS.md ("Time"), without any code of the library. For tests alone.
+ * more. And an end that comes to state 5, 6 or 8 without noise leaves it in that time, as long as no frame finds no place
+ * and, for 8, the other end is up. This is read from docs/TWO-CARDS.md ("Time"), without any code of the library. For tests
+ * alone.
  *
  *     clocks RUNS [SEED [SHORTER]]      T200 runs SHORTER milliseconds less than is enough: then some run is to fail
  *
- * The last line is 'N runs, M expiries, L too soon'; the status is 0 where L is 0.
+ * The last line is 'N runs, M expiries, W answers, K too late, L too soon'; the status is 0 where K and L are 0.
  */
 #define _POSIX_C_SOURCE 200809L
 
@@ -55,19 +57,24 @@ typedef struct {
     long ended[MOST_IN_TRANSIT];      /* of the latest frames the octets with which they ended, and their sums: a ring */
     uint32_t sums[MOST_IN_TRANSIT];
     int frames;
+    int state;                        /* after the last beat */
+    long lost, waits;                 /* frames that found no place; beats in that state, or NEVER where a premise fails */
 } end;
 
 typedef struct {
     int rate, way;    /* octets in a millisecond, and in transit */
     int t200, t203;   /* in milliseconds */
+    int answered;     /* in so many octet times a command is answered */
     long now;
     end ends[2];
-    long expiries;
+    bool was_clean;   /* no noise in the last beat */
+    long expiries, answers, late;
 } world;
 
 static lapd_report report;
 
 static void obey(const world *w, end *e) {
+    e->lost += report.lost;
     for (int i = 0; i < report.order_count; i++) {
         const lapd_order *order = &report.orders[i];
         bool is_t200 = order->timer.timer == LAPD_T200;
@@ -188,6 +195,23 @@ static bool hear(world *w, end *e, end *other, bool noise) {
     return false;
 }
 
+/* After a beat: how long an end has been in state 5, 6 or 8, and whether that is too long. */
+static void wait_for_answers(world *w, bool is_clean) {
+    for (int i = 0; i < 2; i++) {
+        end *e = &w->ends[i];
+        int before = e->state, other = state_of(&w->ends[1 - i]);
+        e->state = state_of(e);
+        bool holds = is_clean && e->lost == 0 && w->ends[1 - i].lost == 0 && (e->state != 8 || other >= 7);
+        if (e->state != before && e->waits > 0) w->answers++;
+        if (!holds || e->state == 4 || e->state == 7) e->waits = NEVER;
+        else if (e->state != before) e->waits = w->was_clean ? 1 : NEVER;
+        else if (e->waits != NEVER) e->waits++;
+        if (e->waits > w->answered - (e->state == 8 ? 1 : 0)) w->late++;
+    }
+    w->was_clean = is_clean;
+    w->ends[0].lost = w->ends[1].lost = 0;
+}
+
 /* ---- A run -------------------------------------------------------------------------------------------------------- */
 
 static int start(world *w, int shorter) {
@@ -201,7 +225,8 @@ static int start(world *w, int shorter) {
         lapd_config config = {1, 1, k, k, (uint16_t)(k + below(4)), 1, control, 16, (uint16_t)n201, (uint16_t)below(6), i == 0 ? LAPD_USER : LAPD_NETWORK, 0};
         if (lapd_card_start(&e->card, &config) != LAPD_OK) fails("a start");
         e->network = i == 1;
-        e->t200 = e->t203 = e->last_command = e->last_response = NEVER;
+        e->t200 = e->t203 = e->last_command = e->last_response = e->waits = NEVER;
+        e->state = 4;
         hdlc_listen(&e->own);
         hdlc_listen(&e->other);
         if (lapd_request(&e->card, 0, LAPD_ASSIGN, LAPD_CALL, TEI, NULL, 0, &report) != LAPD_OK) fails("a TEI");
@@ -211,8 +236,8 @@ static int start(world *w, int shorter) {
     }
     /* the longest frame: four octets, the information and its check, a 0 after each fifth bit, a flag, and an octet more */
     int bits = 8 * (n201 + 6), longest = (bits + bits / 5 + 8) / 8 + 1;
-    int answered = 2 * (longest + w->way) + 9 * waiting;
-    w->t200 = (answered + w->rate + w->rate - 1) / w->rate - shorter;
+    w->answered = 2 * (longest + w->way) + 9 * waiting;
+    w->t200 = (w->answered + w->rate + w->rate - 1) / w->rate - shorter;
     if (w->t200 < 1) w->t200 = 1;
     if (shorter == 0 && below(4) == 0) w->t200 += (int)below(50);
     w->t203 = 1 + (int)below(3 * (uint32_t)w->t200);
@@ -232,8 +257,13 @@ static bool run(world *w, int shorter) {
             too_soon = fall_due(w, &w->ends[i], &w->ends[1 - i]);
         }
         for (int i = 0; i < 2; i++) pull(w, &w->ends[i]);
-        for (int i = 0; i < 2; i++)
-            forged = hear(w, &w->ends[i], &w->ends[1 - i], noisy && (int)below(100) < noise) || forged;
+        bool is_clean = true;
+        for (int i = 0; i < 2; i++) {
+            bool damaged = noisy && (int)below(100) < noise;
+            is_clean = is_clean && !damaged;
+            forged = hear(w, &w->ends[i], &w->ends[1 - i], damaged) || forged;
+        }
+        if (!too_soon && !forged) wait_for_answers(w, is_clean);
     }
     for (int i = 0; i < 2; i++)
         if (lapd_card_free(&w->ends[i].card) != LAPD_OK) fails("a card");
@@ -243,7 +273,7 @@ static bool run(world *w, int shorter) {
 int main(int count, char **words) {
     static world w;
     if (count < 2 || count > 4) fails("what is wanted is: clocks RUNS [SEED [SHORTER]]");
-    long runs = atol(words[1]), seed = count > 2 ? atol(words[2]) : 1, expiries = 0, too_soon = 0;
+    long runs = atol(words[1]), seed = count > 2 ? atol(words[2]) : 1, expiries = 0, too_soon = 0, answers = 0, late = 0;
     int shorter = count > 3 ? atoi(words[3]) : 0;
     for (long i = 0; i < runs; i++) {
         chance = ((uint64_t)(seed + i) + 1) * 0x9E3779B97F4A7C15u;
@@ -251,8 +281,11 @@ int main(int count, char **words) {
             too_soon++;
             if (shorter == 0) printf("seed %ld: T200 of %d ms is too short, %d octets a millisecond, %d in transit\n", seed + i, w.t200, w.rate, w.way);
         }
+        if (w.late > 0) printf("seed %ld: an answer takes longer than %d octet times, %d in transit\n", seed + i, w.answered, w.way);
         expiries += w.expiries;
+        answers += w.answers;
+        late += w.late;
     }
-    printf("%ld runs, %ld expiries, %ld too soon\n", runs, expiries, too_soon);
-    return too_soon == 0 ? 0 : 1;
+    printf("%ld runs, %ld expiries, %ld answers, %ld too late, %ld too soon\n", runs, expiries, answers, late, too_soon);
+    return late == 0 && too_soon == 0 ? 0 : 1;
 }

@@ -18,11 +18,13 @@ static const uint8_t sabme[] = {0x00, 0x81, 0x7F}, ua[] = {0x00, 0x81, 0x73}, po
 static const uint8_t data[] = {0x02, 0x81, 0x00, 0x00, 1, 2, 3}, acknowledged[] = {0x02, 0x81, 0x01, 0x02};
 static const uint8_t sabme_65[] = {0x00, 0x83, 0x7F}, ua_65[] = {0x00, 0x83, 0x73};
 static const uint8_t poll_65[] = {0x02, 0x83, 0x01, 0x01};
-/* of TEI management: a request and its denial, a check of TEI 64 and its response, and a check of TEI 65 */
+/* of TEI management: a request and its denial, a check of TEI 64 and its response, the removal of all TEIs, and a check of
+ * TEI 65 */
 static const uint8_t identity_request[] = {0xFC, 0xFF, 0x03, 0x0F, 0x12, 0x34, 0x01, 0xFF};
 static const uint8_t identity_denied[] = {0xFE, 0xFF, 0x03, 0x0F, 0x12, 0x34, 0x03, 0xFF};
 static const uint8_t check_request[] = {0xFE, 0xFF, 0x03, 0x0F, 0x00, 0x00, 0x04, 0x81};
 static const uint8_t check_response[] = {0xFC, 0xFF, 0x03, 0x0F, 0x00, 0x00, 0x05, 0x81};
+static const uint8_t removal_of_all[] = {0xFE, 0xFF, 0x03, 0x0F, 0x00, 0x00, 0x06, 0xFF};
 static const uint8_t check_request_65[] = {0xFE, 0xFF, 0x03, 0x0F, 0x00, 0x00, 0x04, 0x83};
 
 static gateway own = GATEWAY_NONE;
@@ -129,6 +131,16 @@ static void starts(void) {
     WANT(lapd_next_moment(&own.card, &moment) == LAPD_NO_TIMER);
 }
 
+/* All terminals of a line are told twice to give up their TEIs; there is room for that twice. */
+static void disowns(void) {
+    WANT(gateway_disown(&own, config.lines) == LAPD_WRONG_LINE);
+    WANT(gateway_disown(&own, 0) == LAPD_OK && gateway_disown(&own, 0) == LAPD_OK);
+    WANT(gateway_disown(&own, 0) == LAPD_REFUSED_CONTROL_FULL && reports == 0);
+    for (int times = 0; times < 4; times++)
+        WANT(takes(removal_of_all, sizeof removal_of_all));
+    WANT(takes_none());
+}
+
 /* A wrong call changes nothing. */
 static void wrong_calls(uint64_t now) {
     uint8_t out[LAPD_MOST_FRAME];
@@ -140,6 +152,7 @@ static void wrong_calls(uint64_t now) {
     WANT(gateway_ask(&own, 0, 0, LAPD_CALL, 64, NULL, 0) == LAPD_WRONG_REQUEST);
     WANT(gateway_ask(&own, 0, LAPD_DATA, LAPD_CALL, 66, contents, sizeof contents) == LAPD_REFUSED_NO_LINK);
     WANT(gateway_down(&own, config.lines) == LAPD_WRONG_LINE);
+    WANT(gateway_disown(&own, 0) == LAPD_REFUSED_TEI_TAKEN);
     WANT(gateway_take(&own, 0, out, sizeof out - 1, &length, &more) == LAPD_WRONG_LENGTH);
     WANT(gateway_advance(&own, now - 1) == LAPD_WRONG_TIME && gateway_advance(&own, LAPD_LATEST) == LAPD_WRONG_TIME);
     WANT(gateway_advance(&own, UINT64_MAX) == LAPD_WRONG_TIME && own.now == now);
@@ -237,6 +250,7 @@ static void ends(void) {
 
 int main(void) {
     starts();
+    disowns();
     comes_up();
     time_passes();
     goes_down();

@@ -1,12 +1,16 @@
 """Copies of crates for tests/wrong-machines: of those that define machines and state laws, the definitions alone; of
 cards and of laws those on which rows stand."""
+import functools
 import os
 import re
 import shutil
 
+from vithrynel.crates import closure
+
 # The crates that define machines and state laws, those of cards and of laws, and what a copy of one doesn't have.
-MACHINES = re.compile(r"^(model|laws)_|^lapd_(tei|terminal)$")
-LAWS = re.compile(r"^laws_|^model_card$")
+MACHINES = re.compile(r"^(model|laws)_|^lapd_(tei|terminal|clock)$")
+LAWS = re.compile(r"^laws_|^model_(card|timed)$|^lapd_(clock|terminal)$")
+ROOT_FILE = "//! What wrong machines break.\n#![tactic(auto)]\n\n"
 DROPPED = "proofs", "out", "must-fail", "wrong-bodies.txt"
 # A worked value: its statement, what it unfolds, and its proof by computing, alone or field by field.
 WORKED = re.compile(
@@ -22,6 +26,11 @@ WORDS = re.compile(r"[^\s,{}]+(?=[,}])|(?<= as )\w+$", re.MULTILINE)
 HANDS_ON = re.compile(r"(?:unfoldable )?pub use ")
 # A plain type, and what it is named.
 TYPE = re.compile(r"^#\[derive\(Clone, Copy.*\npub(?:\(crate\))? (?:struct|enum) .*\{\n(?:.+\n|\n)*?\}\n", re.MULTILINE)
+# What no definition needs of them: what else they derive, what errors display, and of which values they are.
+DERIVED = re.compile(
+    r"^use thiserror::.*\n|(?<=^#\[derive\(Clone, Copy).*(?=\)\])|^ *#\[error\(.*\n|^ *ghost \w+: .*\n|^#!\[tactic.*\n",
+    re.MULTILINE,
+)
 NAME = re.compile(r"^pub (?:struct|enum) (\w+)", re.MULTILINE)
 
 
@@ -38,7 +47,8 @@ def write(path, text):
 
 def types_of(text):
     """Returns what a file of src/ has of plain types, with the imports that they name; and the names of public ones."""
-    types = "\n".join(TYPE.findall(text))
+    # (what holds of every value of a type needs words of proofs)
+    types = re.sub(r"^ +ghost .*\n", "", "\n".join(TYPE.findall(text)), flags=re.MULTILINE)
 
     def is_named(line):
         return any(re.search(rf"\b{it}\b", types) for it in re.findall(r"\w+", line.rpartition("::")[2]))
@@ -114,6 +124,7 @@ def copy(crates, name, folder):
     os.rename(part, at)
 
 
+@functools.lru_cache(maxsize=None)
 def narrowed(text, words=frozenset()):
     """Returns a module without the imports of which it uses no word, unless they hand one of these words on."""
     lines = text.splitlines(True)
@@ -149,7 +160,7 @@ def stood_on(crates, text):
             known = found.setdefault((crate, path), set())
             if not words <= known:
                 known |= words
-                left.append(narrowed(read(f"{crates}/{crate}/specs/{path}.antt"), known))
+                left.append(narrowed(read(f"{crates}/{crate}/specs/{path}.antt"), frozenset(known)))
     return found
 
 
@@ -162,7 +173,7 @@ def keep(crates, names, text):
         for file in files_in(specs):
             path = file.removesuffix(".antt")
             if path in kept:
-                write(f"{specs}/{file}", narrowed(read(f"{specs}/{file}"), kept[path]))
+                write(f"{specs}/{file}", narrowed(read(f"{specs}/{file}"), frozenset(kept[path])))
             elif path in folders:
                 below, left = "" if path == "Lib" else f"{path}/", {*kept, *folders}
                 lines = read(f"{specs}/{file}").splitlines(True)
@@ -172,14 +183,35 @@ def keep(crates, names, text):
                 os.remove(f"{specs}/{file}")
 
 
+def taken_in(crates):
+    """Returns which crates of these another can take in: they are definitions, and no code stands on them."""
+    below = set().union(*(closure(crates, it) for it in crates if not MACHINES.search(it)))
+    return [it for it in crates if it not in below]
+
+
 def take_in(crates, names, folder):
-    """Puts the definitions of crates into one that stands on them, as modules of their names: it is checked at once."""
+    """Puts definitions of crates, and their types, into a crate that stands on them, as modules of their names: it is checked
+    at once."""
+    of, typed = "|".join(names), []
+    ways = [
+        (rf"\bRattle\.({of})\.specs\.declared\.", r"Rattle.wrong.specs.declared.\1."),
+        (rf"\bRattle\.({of})\.specs\.", r"Rattle.wrong.specs.\1."),
+    ]
     for name in names:
         for file in files_in(f"{crates}/{name}/specs"):
             to = f"{name}.antt" if file == "Lib.antt" else f"{name}/{file}"
             write(f"{folder}/specs/{to}", read(f"{crates}/{name}/specs/{file}"))
-    lib, way = f"{folder}/specs/Lib.antt", re.compile(rf"\bRattle\.({'|'.join(names)})\.specs\.")
+        files = files_in(f"{crates}/{name}/src")
+        typed += [name] * (files != ["lib.rt"])
+        for file in files if name in typed else ():
+            text = re.sub(r"^use crate::", f"use crate::{name}::", read(f"{crates}/{name}/src/{file}"), flags=re.MULTILINE)
+            text = re.sub(rf"^use ({of})::", r"use crate::\1::", DERIVED.sub("", text), flags=re.MULTILINE)
+            write(f"{folder}/src/{name}/{'mod.rt' if file == 'lib.rt' else file}", text)
+    lib, root = f"{folder}/specs/Lib.antt", f"{folder}/src/lib.rt"
     write(lib, "".join(f"pub mod {it}\n" for it in names) + read(lib))
-    for file in files_in(folder):
+    write(root, read(root).replace(ROOT_FILE, ROOT_FILE + "".join(f"pub mod {it};\n" for it in typed) + "\n"))
+    for file in (f"{part}/{it}" for part in ("specs", "proofs", "src") for it in files_in(f"{folder}/{part}")):
         text = read(f"{folder}/{file}")
-        write(f"{folder}/{file}", way.sub(rf"Rattle.{os.path.basename(folder)}.specs.\1.", text))
+        for old, new in ways:
+            text = re.sub(old, new, text)
+        write(f"{folder}/{file}", text)

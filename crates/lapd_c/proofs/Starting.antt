@@ -31,6 +31,11 @@ pub read-is : {A E : Type 0} (wrong : Option E) (r : Result A E) (a b : A) → I
 read-is None r a b _ ok is = ap (the-read a) (sym is ∙ ok refl)
 read-is (Some w) r a b err _ is = ap (the-read a) (sym is ∙ err)
 
+-- where something is read, nothing is wrong
+pub none-wrong : {A E : Type 0} (P : E → Type 0) (wrong : Option E) (r : Result A E) (a : A) → IfSome wrong (λ w. r ≡ Err w) → r ≡ Ok a → IfSome wrong P
+none-wrong P None r a err is = tt
+none-wrong P (Some w) r a err is = absurd (subst (λ x. IfOk x (λ _. ⊥)) (sym err ∙ is) tt)
+
 -- what is read, if it is, meets what a reading in range meets
 pub read-meets : {A E B : Type 0} (P : A → Type 0) (wrong : Option B) (r : Result A E) (a : A) (e : E)
     → IfSome wrong (λ _. r ≡ Err e) → (wrong ≡ None → IsOkAnd r P) → r ≡ Ok a → P a

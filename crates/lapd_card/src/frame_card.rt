@@ -259,6 +259,7 @@ impl<S: Shelf> FrameCard<S> {
     ///
     /// The first row that holds of those that apply to the request ([`Refusal`] has them in order). `PoolFull` holds
     /// exactly if the card holds as many contents as its configuration has slots.
+    #[inline(always)]
     pub fn request(
         &mut self,
         line: usize,

@@ -44,6 +44,20 @@ fn exchanged(own: u16, sapi: u8) -> u8
     ensures value { result ≡ exchanged own sapi }
     ensures small { sapi < 64 → result < 64 }
 {
+    // That of call control, which most frames have, stands for itself.
+    if sapi == Service::Call.sapi() {
+        return sapi;
+    }
+    exchanged_other(own, sapi)
+}
+
+// The same of a SAPI that is not that of call control. It stands apart, so that one that is has no part of it in its way.
+#[tactic(auto, unfolding(crate::specs::Senders::exchanged))]
+#[inline(never)]
+fn exchanged_other(own: u16, sapi: u8) -> u8
+    ensures value { result ≡ exchanged own sapi }
+    ensures small { sapi < 64 → result < 64 }
+{
     let packet = packet_sapi(own);
     if sapi == packet {
         Service::Packet.sapi()

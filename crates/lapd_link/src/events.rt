@@ -6,7 +6,7 @@ ghost use Rattle.model_link.specs.Link as machine;
 ghost use Rattle.model_link.specs.Events as event;
 
 use crate::link::Link;
-use crate::orders::orders;
+use crate::orders::put_orders;
 use crate::outcome::Outcome;
 use crate::received::Received;
 use lapd_frame::ErrorCode;
@@ -130,7 +130,9 @@ impl Link {
     {
         self.queue
             .release_oldest(usize::from(report.released), shelf);
-        report.orders = orders(&self.terms, before, report.started, self.entity.running());
+        let started = report.started;
+        let after = self.entity.running();
+        put_orders(&mut report.orders, &self.terms, before, started, after);
     }
 }
 

@@ -7,8 +7,7 @@ use lapd_frame::{Order, ShortList, Timer};
 use lapd_link_steps::is_the;
 use model_link::{LinkTimer, Terms};
 
-// Start where the event started a timer and left it running, Stop where it ran before and does not after; T200 first.
-#[tactic(auto, using(crate::proofs::OrderSteps::unstarted, crate::proofs::OrderSteps::still_runs))]
+// The orders of an event, as a list.
 #[inline(always)]
 pub(crate) fn orders(
     terms: &Terms,
@@ -18,39 +17,69 @@ pub(crate) fn orders(
 ) -> ShortList<Order>
     ensures { listed result ≡ orders_for terms.now before started after }
 {
+    let mut list = ShortList::none();
+    put_orders(&mut list, terms, before, started, after);
+    list
+}
+
+// Start where the event started a timer and left it running, Stop where it ran before and does not after; T200 first. They are
+// written where they belong, in place of what the list had, so that none is copied.
+#[tactic(auto, using(crate::proofs::OrderSteps::unstarted, crate::proofs::OrderSteps::still_runs))]
+#[inline(always)]
+pub(crate) fn put_orders(
+    list: &mut ShortList<Order>,
+    terms: &Terms,
+    before: Option<LinkTimer>,
+    started: Option<LinkTimer>,
+    after: Option<LinkTimer>,
+)
+    ensures { listed list.new ≡ orders_for terms.now before started after }
+{
     match started {
-        Some(timer) if is_the(timer, after) => start(terms, before, timer),
-        _ => stop(terms, before, after),
+        Some(timer) if is_the(timer, after) => put_start(list, terms, before, timer),
+        _ => put_stop(list, terms, before, after),
     }
 }
 
 // Start, where the event started this timer and left it running. The other stops, if it ran.
 #[inline(always)]
-fn start(terms: &Terms, before: Option<LinkTimer>, timer: LinkTimer) -> ShortList<Order>
-    ensures { listed result ≡ orders_for terms.now before (Some timer) (Some timer) }
+fn put_start(
+    list: &mut ShortList<Order>,
+    terms: &Terms,
+    before: Option<LinkTimer>,
+    timer: LinkTimer,
+)
+    ensures { listed list.new ≡ orders_for terms.now before (Some timer) (Some timer) }
 {
     let start = Order::Start(line_timer(terms, timer));
     match (timer, before) {
         (LinkTimer::T200, Some(LinkTimer::T203)) => {
-            ShortList::Two([start, Order::Stop(line_timer(terms, LinkTimer::T203))])
+            let stop = Order::Stop(line_timer(terms, LinkTimer::T203));
+            *list = ShortList::Two([start, stop]);
         }
         (LinkTimer::T203, Some(LinkTimer::T200)) => {
-            ShortList::Two([Order::Stop(line_timer(terms, LinkTimer::T200)), start])
+            let stop = Order::Stop(line_timer(terms, LinkTimer::T200));
+            *list = ShortList::Two([stop, start]);
         }
-        _ => ShortList::One([start]),
+        _ => *list = ShortList::One([start]),
     }
 }
 
 // Stop, where the event started none.
 #[inline(always)]
-fn stop(terms: &Terms, before: Option<LinkTimer>, after: Option<LinkTimer>) -> ShortList<Order>
-    ensures { listed result ≡ orders_for terms.now before None after }
+fn put_stop(
+    list: &mut ShortList<Order>,
+    terms: &Terms,
+    before: Option<LinkTimer>,
+    after: Option<LinkTimer>,
+)
+    ensures { listed list.new ≡ orders_for terms.now before None after }
 {
     match before {
         Some(timer) if !is_the(timer, after) => {
-            ShortList::one(Order::Stop(line_timer(terms, timer)))
+            *list = ShortList::One([Order::Stop(line_timer(terms, timer))]);
         }
-        _ => ShortList::none(),
+        _ => *list = ShortList::None,
     }
 }
 

@@ -1,30 +1,29 @@
 -- What is kept of each line, when a place changes, and what a look finds.
-use Rattle.lapd_clock.proofs.Vocabulary.{◌≡◌, ℕ, zero, suc, [], ◌∷◌, ◌++◌, take, true, ◌+◌, ◌-◌, ◌*◌, ◌/◌, ◌<◌, ◌≤◌, false, nat_lt, min, List, length, length-set, get_or, set, replicate, slice_index, None, Some, refl, sym, ap, ◌∙◌, subst, arith, nat_tests, AllByRecursion, recursion_from_All, IsFirstBest, cases_lt, cases_eq, inl, inr}
-use Rattle.lapd_clock.proofs.Vocabulary.{get_or_default, get_or-map, sum_by, Expiry, is_before, never}
+use Rattle.lapd_clock.proofs.Vocabulary.{◌≡◌, ℕ, zero, suc, [], ◌∷◌, true, ◌+◌, ◌-◌, ◌*◌, ◌/◌, ◌<◌, ◌≤◌, false, nat_lt, List, length, length-set, get_or, set, replicate, slice_index, None, Some, refl, sym, ap, ◌∙◌, subst, arith, nat_tests, recursion_from_All, IsFirstBest, cases_lt, cases_eq, inl, inr}
+use Rattle.lapd_clock.proofs.Vocabulary.{get_or-map, Expiry, is_before, never}
 use Rattle.std.specs.Prelude.{Option, IfSome, IfNone}
 use Rattle.std.proofs.lemmas.List.{get_or-set_other, length-replicate}
 use Rattle.std.proofs.lemmas.Grind.{get_or-set_at}
 use Rattle.std.proofs.lemmas.List.Edits.{get_or-between, length-between}
-use Rattle.std.proofs.lemmas.List.Sums.{sum_by-set}
 use Rattle.std.specs.List.{between}
 use Rattle.std.proofs.lemmas.Nat.{div-mul-add}
-use Rattle.std.proofs.Math.Seq.{take-append_seam}
 use Rattle.std.proofs.Math.Nat.{div-mul-le_self, lt-div-mul-add}
 use Rattle.lapd_clock.specs.Timer.{T201}
 use Rattle.lapd_clock.proofs.First.{no_earlier}
-use Rattle.lapd_moments.specs.Bounds.{AreBounded, AreKept, IsFoundFirst, IsFoundAt, IsFirstOfLine}
-use Rattle.lapd_moments.specs.Places.{expiry_of, expiries_of, place_before, nothing, at, AreNotBefore, AreOfLines, AreIdleSoFar, IsFirstUntil}
+use Rattle.lapd_moments.specs.Bounds.{IsLead, AreBounded, IsFoundFirst, IsFoundAt, IsFirstOfLine}
+use Rattle.lapd_moments.specs.Places.{expiry_of, expiries_of, place_before, nothing, at, AreNotBefore, AreOfLines, AreIdleSoFar, AreFirstPlaces, IsFirstUntil}
+use Rattle.lapd_moments.specs.declared.lead.Lead.{Lead}
 use Rattle.lapd_moments.specs.declared.place.Place.{Place}
 use Rattle.lapd_moments.proofs.Laid.{in_lines, before_end}
 use Rattle.lapd_moments.proofs.Standing.{All-map, sooner, rest_behind, found_first, same_count}
 
 -- ---- the line of a place
 
-pub line-there : (each i : ℕ) (bounds : List ℕ) (ps : List Place) → AreBounded each bounds ps → i < length ps → i / each < length bounds
-line-there each i bounds ps h within = in_lines i (length bounds) each (omega (arith, h.some)) (omega (arith, within, h.count))
+pub line-there : (each i : ℕ) (bounds : List ℕ) (leads : List Lead) (ps : List Place) → AreBounded each bounds leads ps → i < length ps → i / each < length bounds
+line-there each i bounds leads ps h within = in_lines i (length bounds) each (omega (arith, h.some)) (omega (arith, within, h.count))
 
-pub line-within : (each line : ℕ) (bounds : List ℕ) (ps : List Place) → AreBounded each bounds ps → line < length bounds → line * each + each ≤ length ps
-line-within each line bounds ps h there = let last = before_end line (length bounds) each (each - 1) there (omega (arith, h.some)) in omega (arith, last, h.count, h.some)
+pub line-within : (each line : ℕ) (bounds : List ℕ) (leads : List Lead) (ps : List Place) → AreBounded each bounds leads ps → line < length bounds → line * each + each ≤ length ps
+line-within each line bounds leads ps h there = let last = before_end line (length bounds) each (each - 1) there (omega (arith, h.some)) in omega (arith, last, h.count, h.some)
 
 line-is : (each line i : ℕ) → line * each ≤ i → i < line * each + each → i / each ≡ line
 line-is each line i low high = ap (λ n. n / each) (split (line * each) i low) ∙ div-mul-add line each (i - line * each) (omega (arith, low, high))
@@ -32,73 +31,119 @@ line-is each line i low high = ap (λ n. n / each) (split (line * each) i low) �
     split : (a i : ℕ) → a ≤ i → i ≡ a + (i - a)
     split a i low = omega (arith, low)
 
--- ---- a place changes
+pub record IsOfLine (each line place : ℕ) : Type 0 where
+  pub low : line * each ≤ place
+  pub high : place < line * each + each
 
-abbrev IsNoHigher : List ℕ → List ℕ → Type 0
-IsNoHigher new old = (k : ℕ) → slice_index new k ≤ slice_index old k
-
-pub moved : (each : ℕ) (bounds new : List ℕ) (ps : List Place) (place : ℕ) (p : Place) → AreBounded each bounds ps → length new ≡ length bounds → IsNoHigher new bounds → place < length ps → p.line ≡ place / each
-    → (p.moment < never → slice_index new (place / each) ≤ p.moment) → AreBounded each new (set ps place p)
-moved each bounds new ps place p h same lower within line_is own = record {
-  few_lines = omega (arith, same, h.few_lines);
-  some = h.some;
-  few = h.few;
-  count = length-set ps place p ∙ h.count ∙ ap (λ n. n * each) (sym same);
-  of_line = λ i d there. elim (cases_eq i place) [
-    | inl is ↦ ap (λ (q : Place). q.line) (get_or-set_at ps place i p d is within) ∙ line_is ∙ ap (λ n. n / each) (sym is)
-    | inr apart ↦ ap (λ (q : Place). q.line) (get_or-set_other ps place i p d apart) ∙ h.of_line i d (omega (arith, there, length-set ps place p))
-  ];
-  bounded = λ i d there soon. elim (cases_eq i place) [
-    | inl is ↦
-        let q = get_or-set_at ps place i p d is within in
-        subst (λ (q : Place). slice_index new (i / each) ≤ q.moment) (sym q)
-        (subst (λ n. slice_index new (n / each) ≤ p.moment) (sym is) (own (subst (λ (q : Place). q.moment < never) q soon)))
-    | inr apart ↦
-        let q = get_or-set_other ps place i p d apart in
-        subst (λ (q : Place). slice_index new (i / each) ≤ q.moment) (sym q)
-        (omega (arith, lower (i / each), h.bounded i d (omega (arith, there, length-set ps place p)) (subst (λ (q : Place). q.moment < never) q soon)))
-  ];
+pub of-its-line : (each line place : ℕ) → 1 ≤ each → line ≡ place / each → IsOfLine each line place
+of-its-line each line place some is = record {
+  low = subst (λ n. n * each ≤ place) (sym is) (div-mul-le_self place each);
+  high = subst (λ n. place < n * each + each) (sym is) (lt-div-mul-add (omega (arith, some)));
 }
 
--- a bound that is lowered
-pub lowered : (bounds : List ℕ) (line m : ℕ) → line < length bounds → m ≤ slice_index bounds line → (k : ℕ) → slice_index (set bounds line m) k ≤ slice_index bounds k
-lowered bounds line m there less k = elim (cases_eq k line) [
-  | inl is ↦ omega (arith, less, get_or-set_at bounds line k m 0 is there, ap (slice_index bounds) is)
-  | inr apart ↦ omega (arith, get_or-set_other bounds line k m 0 apart)
-]
+not-both : (each line k i : ℕ) → (line ≡ k → ⊥) → IsOfLine each line i → IsOfLine each k i → ⊥
+not-both each line k i apart one two = apart (sym (line-is each line i one.low one.high) ∙ line-is each k i two.low two.high)
 
-pub started : (each : ℕ) (bounds : List ℕ) (ps : List Place) (place line m : ℕ) (p : Place) → AreBounded each bounds ps → place < length ps → p.line ≡ line → line ≡ place / each → m ≤ slice_index bounds line → m ≤ p.moment
-    → AreBounded each (set bounds line m) (set ps place p)
-started each bounds ps place line m p h within own line_is less moment =
-    let there : line < length bounds = subst (λ n. n < length bounds) (sym line_is) (line-there each place bounds ps h within) in
-    moved each bounds (set bounds line m) ps place p h (length-set bounds line m) (lowered bounds line m there less) within (own ∙ line_is)
-    (λ soon. omega (arith, moment, get_or-set_at bounds line (place / each) m 0 (sym line_is) there))
+pub its-line : (each line place : ℕ) → IsOfLine each line place → place / each ≡ line
+its-line each line place h = line-is each line place h.low h.high
 
-pub stopped : (each : ℕ) (bounds : List ℕ) (ps : List Place) (place : ℕ) (p : Place) → AreBounded each bounds ps → place < length ps → p.line ≡ place / each → p.moment ≡ never → AreBounded each bounds (set ps place p)
-stopped each bounds ps place p h within own rests = moved each bounds bounds ps place p h refl (λ k. omega arith) within own (λ soon. absurd (omega (arith, soon, rests)))
+-- ---- a place changes
+
+-- one line has another lead, and the others keep theirs
+pub changed : (each line place result : ℕ) (bounds : List ℕ) (leads : List Lead) (lead : Lead) (ps : List Place) (p : Place) → AreBounded each bounds leads ps → place < length ps → line ≡ place / each → p.line ≡ line
+    → IsLead (line * each) each result lead (set ps place p) → AreBounded each (set bounds line result) (set leads line lead) (set ps place p)
+changed each line place result bounds leads lead ps p h within line_is own its = record {
+  few_lines = omega (arith, length-set bounds line result, h.few_lines);
+  some = h.some;
+  few = h.few;
+  count = length-set ps place p ∙ h.count ∙ ap (λ n. n * each) (sym (length-set bounds line result));
+  of_line = λ i d there. elim (cases_eq i place) [
+    | inl is ↦ ap (λ (q : Place). q.line) (get_or-set_at ps place i p d is within) ∙ own ∙ line_is ∙ ap (λ n. n / each) (sym is)
+    | inr apart ↦ ap (λ (q : Place). q.line) (get_or-set_other ps place i p d apart) ∙ h.of_line i d (omega (arith, there, length-set ps place p))
+  ];
+  same = length-set leads line lead ∙ h.same ∙ sym (length-set bounds line result);
+  led = λ k d there. elim (cases_eq k line) [
+    | inl is ↦ subst (λ n. IsLead (n * each) each (slice_index (set bounds line result) n) (get_or (set leads line lead) n d) (set ps place p)) (sym is)
+        (subst (λ m. IsLead (line * each) each m (get_or (set leads line lead) line d) (set ps place p)) (sym (get_or-set_at bounds line line result 0 refl line-there'))
+        (subst (λ l. IsLead (line * each) each result l (set ps place p)) (sym (get_or-set_at leads line line lead d refl (omega (arith, h.same, line-there')))) its))
+    | inr apart ↦ subst (λ m. IsLead (k * each) each m (get_or (set leads line lead) k d) (set ps place p)) (sym (get_or-set_other bounds line k result 0 apart))
+        (subst (λ l. IsLead (k * each) each (slice_index bounds k) l (set ps place p)) (sym (get_or-set_other leads line k lead d apart))
+        (kept k apart (get_or leads k d) (h.led k d (omega (arith, there, length-set bounds line result)))))
+  ];
+}
+  where
+    line-there' : line < length bounds
+    line-there' = subst (λ n. n < length bounds) (sym line_is) (line-there each place bounds leads ps h within)
+
+    away : (k i : ℕ) → (k ≡ line → ⊥) → k * each ≤ i → i < k * each + each → i ≡ place → ⊥
+    away k i apart low high same = not-both each k line place apart (subst (IsOfLine each k) same (record { low = low; high = high })) (of-its-line each line place h.some line_is)
+
+    -- a place of another line is as it was
+    as-it-was : (k i : ℕ) (d : Place) → (k ≡ line → ⊥) → k * each ≤ i → i < k * each + each → get_or (set ps place p) i d ≡ get_or ps i d
+    as-it-was k i d apart low high = get_or-set_other ps place i p d (away k i apart low high)
+
+    kept : (k : ℕ) → (k ≡ line → ⊥) → (l : Lead) → IsLead (k * each) each (slice_index bounds k) l ps → IsLead (k * each) each (slice_index bounds k) l (set ps place p)
+    kept k apart l was = record {
+      low = was.low;
+      high = was.high;
+      is = λ d. ap (λ (q : Place). q.moment) (as-it-was k l.place d apart was.low was.high) ∙ was.is d;
+      least = λ i d low high. subst (λ (q : Place). slice_index bounds k ≤ q.moment) (sym (as-it-was k i d apart low high)) (was.least i d low high);
+      others_late = λ i d low high ne. subst (λ (q : Place). l.others ≤ q.moment) (sym (as-it-was k i d apart low high)) (was.others_late i d low high ne);
+      fit = was.fit;
+      rest = λ i d from to. ap (λ (q : Place). q.moment) (as-it-was k i d apart (omega (arith, from)) to) ∙ was.rest i d from to;
+    }
 
 -- what is read at a place is of its line
-pub own-line : (each : ℕ) (bounds : List ℕ) (ps : List Place) (place : ℕ) (u : Place) → AreBounded each bounds ps → place < length ps → u ≡ get_or ps place u → u.line ≡ place / each
-own-line each bounds ps place u h within at_it = ap (λ (p : Place). p.line) at_it ∙ h.of_line place u within
+pub own-line : (each : ℕ) (bounds : List ℕ) (leads : List Lead) (ps : List Place) (place : ℕ) (u : Place) → AreBounded each bounds leads ps → place < length ps → u ≡ get_or ps place u → u.line ≡ place / each
+own-line each bounds leads ps place u h within at_it = ap (λ (p : Place). p.line) at_it ∙ h.of_line place u within
 
-pub its-line-there : (each : ℕ) (bounds : List ℕ) (ps : List Place) (place : ℕ) (u : Place) → AreBounded each bounds ps → place < length ps → u ≡ get_or ps place u → u.line < length bounds
-its-line-there each bounds ps place u h within at_it = subst (λ n. n < length bounds) (sym (own-line each bounds ps place u h within at_it)) (line-there each place bounds ps h within)
+pub its-line-there : (each : ℕ) (bounds : List ℕ) (leads : List Lead) (ps : List Place) (place : ℕ) (u : Place) → AreBounded each bounds leads ps → place < length ps → u ≡ get_or ps place u → u.line < length bounds
+its-line-there each bounds leads ps place u h within at_it = subst (λ n. n < length bounds) (sym (own-line each bounds leads ps place u h within at_it)) (line-there each place bounds leads ps h within)
 
 -- places at which no timer runs
+<<<<<<< HEAD
 pub idle : (each lines : ℕ) (ps : List Place) → lines ≤ 64 → 1 ≤ each → each ≤ 34 → length ps ≡ lines * each → AreOfLines each ps → AreIdleSoFar ps → AreBounded each (replicate lines never) ps
 idle each lines ps few some few_each count of_lines rest = record {
+=======
+resting : (ps : List Place) (i : ℕ) (d : Place) → i < length ps → AreIdleSoFar ps → (get_or ps i d).moment ≡ never
+resting [] i d within rest = absurd (omega (arith, within))
+resting (p ∷ ps) zero d within rest = rest.0
+resting (p ∷ ps) (suc i) d within rest = resting ps i d (omega (arith, within)) rest.1
+
+pub idle : (each lines : ℕ) (leads : List Lead) (ps : List Place) → lines ≤ 64 → 1 ≤ each → each ≤ 33 → length ps ≡ lines * each → AreOfLines each ps → AreIdleSoFar ps → length leads ≡ lines → AreFirstPlaces each leads
+    → AreBounded each (replicate lines never) leads ps
+idle each lines leads ps few some few_each count of_lines rest many firsts = record {
+>>>>>>> main
   few_lines = omega (arith, few, length-replicate lines never);
   some = some;
   few = few_each;
   count = count ∙ ap (λ n. n * each) (sym (length-replicate lines never));
   of_line = λ i d within. ap (λ (e : Expiry). e.line) (sym (get_or-map expiry_of ps i d nothing within)) ∙ of_lines i (omega (arith, within, same_count ps));
-  bounded = λ i d within soon. absurd (omega (arith, soon, resting ps i d within rest));
+  same = many ∙ sym (length-replicate lines never);
+  led = λ line d there.
+      let is : slice_index (replicate lines never) line ≡ never = get_or-replicate lines line there in
+      let within : line < lines = omega (arith, there, length-replicate lines never) in
+      subst (λ m. IsLead (line * each) each m (get_or leads line d) ps) (sym is) (idle-lead line d within (firsts line d (omega (arith, within, many))));
 }
   where
-    resting : (ps : List Place) (i : ℕ) (d : Place) → i < length ps → AreIdleSoFar ps → (get_or ps i d).moment ≡ never
-    resting [] i d within rest = absurd (omega (arith, within))
-    resting (p ∷ ps) zero d within rest = rest.0
-    resting (p ∷ ps) (suc i) d within rest = resting ps i d (omega (arith, within)) rest.1
+    get_or-replicate : (n i : ℕ) → i < length (replicate n never) → slice_index (replicate n never) i ≡ never
+    get_or-replicate zero i there = absurd (omega (arith, there))
+    get_or-replicate (suc n) zero there = refl
+    get_or-replicate (suc n) (suc i) there = get_or-replicate n i (omega (arith, there))
+
+    its-rest : (line i : ℕ) (d : Place) → line < lines → i < line * each + each → (get_or ps i d).moment ≡ never
+    its-rest line i d there high = resting ps i d (omega (arith, high, count, before_end line lines each (each - 1) there (omega (arith, some)), some)) rest
+
+    idle-lead : (line : ℕ) (d : Lead) → line < lines → get_or leads line d ≡ record { place = line * each; others = never; used = 0 } → IsLead (line * each) each never (get_or leads line d) ps
+    idle-lead line d there is = subst (λ l. IsLead (line * each) each never l ps) (sym is) (record {
+      low = omega arith;
+      high = omega (arith, some);
+      is = λ e. its-rest line (line * each) e there (omega (arith, some));
+      least = λ i e low high. omega (arith, its-rest line i e there high);
+      others_late = λ i e low high ne. omega (arith, its-rest line i e there high);
+      fit = omega arith;
+      rest = λ i e from to. its-rest line i e there to;
+    })
 
 -- ---- a look
 
@@ -124,33 +169,56 @@ not_less a b h = grind (arith, nat_tests)
 is_less : (a b : ℕ) → nat_lt a b ≡ true → a < b
 is_less a b h = grind (arith, nat_tests)
 
-pub least-before : (m : ℕ) (each line : ℕ) (bounds : List ℕ) (ps : List Place) → AreBounded each bounds ps → IsFirstBest nat_lt bounds (length bounds) line → m ≡ slice_index bounds line → m ≤ never
-    → AreNotBefore m (expiries_of ps)
-least-before m each line bounds ps h least is small =
-    All-map (λ e. m ≤ e.moment) ps (recursion_from_All (λ p. m ≤ p.moment) ps (λ k d within. elim (cases_lt (get_or ps k d).moment never) [
-      | inl soon ↦ omega (arith, is, h.bounded k d within soon, not_less _ _ (least.1 (k / each) 0 (line-there each k bounds ps h within)))
-      | inr late ↦ omega (arith, small, late)
-    ]))
+-- no place of a line is before its bound
+some-lead : Lead
+some-lead = record { place = 0; others = 0; used = 0 }
 
--- its line is searched: either the bound is right, and the place is the first of all,
+bound-of : (each : ℕ) (bounds : List ℕ) (leads : List Lead) (ps : List Place) → AreBounded each bounds leads ps → (i : ℕ) (d : Place) → i < length ps → slice_index bounds (i / each) ≤ (get_or ps i d).moment
+bound-of each bounds leads ps h i d within = let its = of-its-line each (i / each) i h.some refl in (h.led (i / each) some-lead (line-there each i bounds leads ps h within)).least i d its.low its.high
+
+pub least-before : (m : ℕ) (each line : ℕ) (bounds : List ℕ) (leads : List Lead) (ps : List Place) → AreBounded each bounds leads ps → IsFirstBest nat_lt bounds (length bounds) line → m ≡ slice_index bounds line
+    → AreNotBefore m (expiries_of ps)
+least-before m each line bounds leads ps h least is =
+    All-map (λ e. m ≤ e.moment) ps (recursion_from_All (λ p. m ≤ p.moment) ps (λ k d within.
+    omega (arith, is, bound-of each bounds leads ps h k d within, not_less _ _ (least.1 (k / each) 0 (line-there each k bounds leads ps h within)))))
+
+pub place-within : (each line place : ℕ) (bounds : List ℕ) (leads : List Lead) (ps : List Place) → AreBounded each bounds leads ps → line < length bounds → IsFirstOfLine place each line ps → place < length ps
+place-within each line place bounds leads ps h there first = omega (arith, first.high, line-within each line bounds leads ps h there)
+
+-- the first place of a line falls due at its bound
+pub first-at : (each line place : ℕ) (bounds : List ℕ) (leads : List Lead) (ps : List Place) → AreBounded each bounds leads ps → line < length bounds → IsFirstOfLine place each line ps
+    → (d : Place) → (get_or ps place d).moment ≡ slice_index bounds line
+first-at each line place bounds leads ps h there first d =
+    let its = h.led line some-lead there in
+    let lead = get_or leads line some-lead in
+    same (its.least place d first.low first.high)
+    (omega (arith, its.is d, no_earlier (expiry_of (get_or ps lead.place d)) (expiry_of (get_or ps place d)) (first.none_before lead.place d its.low its.high)))
+  where
+    same : {a b : ℕ} → b ≤ a → a ≤ b → a ≡ b
+    same low high = omega (arith, low, high)
+
+-- so that of the line with the least bound is the first of all
 later_line : (e z : Expiry) → e.moment ≤ z.moment → e.line < z.line → is_before z e ≡ false
 later_line e z moment line = grind (arith, nat_lt, nat_tests)
 
-pub first-of-all : (each line place : ℕ) (bounds : List ℕ) (ps : List Place) → AreBounded each bounds ps → IsFirstBest nat_lt bounds (length bounds) line → IsFirstOfLine place each line ps
-    → ((d : Place) → (get_or ps place d).moment ≡ slice_index bounds line) → slice_index bounds line < never → IsFoundFirst place ps
-first-of-all each line place bounds ps h least first moment_is soon = record { within = within; none_before = none }
+pub first-of-all : (each line place : ℕ) (bounds : List ℕ) (leads : List Lead) (ps : List Place) → AreBounded each bounds leads ps → IsFirstBest nat_lt bounds (length bounds) line → IsFirstOfLine place each line ps
+    → IsFoundFirst place ps
+first-of-all each line place bounds leads ps h least first = record { within = within; none_before = none }
   where
     within : place < length ps
-    within = omega (arith, first.high, line-within each line bounds ps h least.0)
+    within = place-within each line place bounds leads ps h least.0 first
+
+    moment_is : (d : Place) → (get_or ps place d).moment ≡ slice_index bounds line
+    moment_is = first-at each line place bounds leads ps h least.0 first
 
     its_line : (d : Place) → (get_or ps place d).line ≡ line
     its_line d = h.of_line place d within ∙ line-is each line place first.low first.high
 
     -- a place of another line falls due no earlier, and of a lower one later
-    of-other : (k : ℕ) (d : Place) → k < length ps → (k / each ≡ line → ⊥) → (get_or ps k d).moment < never → place_before (get_or ps k d) (get_or ps place d) ≡ false
-    of-other k d there apart run =
-        let bound = h.bounded k d there run in
-        let line_there = line-there each k bounds ps h there in
+    of-other : (k : ℕ) (d : Place) → k < length ps → (k / each ≡ line → ⊥) → place_before (get_or ps k d) (get_or ps place d) ≡ false
+    of-other k d there apart =
+        let bound = bound-of each bounds leads ps h k d there in
+        let line_there = line-there each k bounds leads ps h there in
         elim (cases_lt (k / each) line) [
           | inl lower ↦ rest_behind (expiry_of (get_or ps place d)) (expiry_of (get_or ps k d)) (omega (arith, moment_is d, bound, is_less _ _ (least.2 (k / each) 0 lower)))
           | inr higher ↦ later_line (expiry_of (get_or ps place d)) (expiry_of (get_or ps k d)) (omega (arith, moment_is d, bound, not_less _ _ (least.1 (k / each) 0 line_there)))
@@ -165,63 +233,16 @@ first-of-all each line place bounds ps h least first moment_is soon = record { w
       | inl is ↦ first.none_before k d
           (subst (λ n. n * each ≤ k) is (div-mul-le_self k each))
           (subst (λ n. k < n * each + each) is (lt-div-mul-add (omega (arith, h.some))))
-      | inr apart ↦ elim (cases_lt (get_or ps k d).moment never) [
-        | inl run ↦ of-other k d there apart run
-        | inr late ↦ rest_behind (expiry_of (get_or ps place d)) (expiry_of (get_or ps k d)) (omega (arith, moment_is d, soon, late))
-      ]
+      | inr apart ↦ of-other k d there apart
     ]
 
--- or it is made right
-pub corrected : (each line place m : ℕ) (bounds : List ℕ) (ps : List Place) → AreBounded each bounds ps → line < length bounds → IsFirstOfLine place each line ps
-    → ((d : Place) → (get_or ps place d).moment ≡ m) → AreBounded each (set bounds line m) ps
-corrected each line place m bounds ps h there first moment_is = record {
-  few_lines = omega (arith, h.few_lines, length-set bounds line m);
-  some = h.some;
-  few = h.few;
-  count = h.count ∙ ap (λ n. n * each) (sym (length-set bounds line m));
-  of_line = h.of_line;
-  bounded = λ i d within soon. elim (cases_eq (i / each) line) [
-    | inl is ↦
-        let none = first.none_before i d (subst (λ n. n * each ≤ i) is (div-mul-le_self i each)) (subst (λ n. i < n * each + each) is (lt-div-mul-add (omega (arith, h.some)))) in
-        omega (arith, moment_is d, no_earlier (expiry_of (get_or ps i d)) (expiry_of (get_or ps place d)) none, get_or-set_at bounds line (i / each) m 0 is there)
-    | inr apart ↦ omega (arith, h.bounded i d within soon, get_or-set_other bounds line (i / each) m 0 apart)
-  ];
+pub found-at : (each line place end : ℕ) (bounds : List ℕ) (leads : List Lead) (ps : List Place) → AreBounded each bounds leads ps → IsFirstBest nat_lt bounds (length bounds) line → IsFirstOfLine place each line ps
+    → slice_index bounds line ≤ end → IsFoundAt place (slice_index bounds line) end ps
+found-at each line place end bounds leads ps h least first soon = record {
+  first = first-of-all each line place bounds leads ps h least first;
+  is = first-at each line place bounds leads ps h least.0 first;
+  soon = soon;
 }
-
--- it rises then
-pub rises : (each line place m : ℕ) (bounds : List ℕ) (ps : List Place) (d : Place) → AreBounded each bounds ps → line < length bounds → IsFirstOfLine place each line ps → (get_or ps place d).moment ≡ m
-    → slice_index bounds line < never → (m ≡ slice_index bounds line → ⊥) → slice_index bounds line < m
-rises each line place m bounds ps d h there first moment_is soon apart =
-    let within : place < length ps = omega (arith, first.high, line-within each line bounds ps h there) in
-    elim (cases_lt m never) [
-      | inl run ↦ above (subst (λ n. slice_index bounds n ≤ m) (line-is each line place first.low first.high)
-          (subst (λ n. slice_index bounds (place / each) ≤ n) moment_is (h.bounded place d within (subst (λ n. n < never) (sym moment_is) run)))) apart
-      | inr late ↦ omega (arith, late, soon)
-    ]
-  where
-    above : {a b : ℕ} → b ≤ a → (a ≡ b → ⊥) → b < a
-    above low ne = grind arith
-
--- so that less room is left to rise in
-abbrev pub room : List ℕ → ℕ
-room bounds = sum_by (λ b. never - b) bounds
-
-pub less-room : (bounds : List ℕ) (line m : ℕ) → line < length bounds → slice_index bounds line < m → slice_index bounds line < never → room (set bounds line m) < room bounds
-less-room bounds line m there higher soon = omega (arith, sum_by-set (λ b. never - b) bounds line m 0 there, higher, soon)
-
--- what is read
-pub bound-is : (bounds : List ℕ) (line b : ℕ) → line < length bounds → b ≡ get_or bounds line b → b ≡ slice_index bounds line
-bound-is bounds line b there is = is ∙ get_or_default bounds line b 0 there
-
-pub some-moment : (ps : List Place) (place : ℕ) (d e : Place) → place < length ps → (get_or ps place d).moment ≡ (get_or ps place e).moment
-some-moment ps place d e within = ap (λ (p : Place). p.moment) (get_or_default ps place d e within)
-
-pub place-within : (each line place : ℕ) (bounds : List ℕ) (ps : List Place) → AreBounded each bounds ps → line < length bounds → IsFirstOfLine place each line ps → place < length ps
-place-within each line place bounds ps h there first = omega (arith, first.high, line-within each line bounds ps h there)
-
--- what a slice writes is what the list has then
-pub written : (n : ℕ) (new rest : List ℕ) → n ≡ length new → take n (new ++ rest) ≡ new
-written n new rest e = ap (λ k. take k (new ++ rest)) e ∙ take-append_seam new rest
 
 -- ---- what that says of the timers
 

@@ -1,5 +1,9 @@
 -- The places of a card are laid out line by line.
+<<<<<<< HEAD
 use Rattle.lapd_clock.proofs.Vocabulary.{◌≡◌, Bool, true, false, ℕ, zero, suc, List, [], ◌∷◌, AllByRecursion, never, Expiry, ◌+◌, ◌*◌, ◌/◌, ◌<◌, ◌≤◌, ◌⊎◌, refl, sym, ap, ◌∙◌, subst, arith, inl, inr, cases_lt}
+=======
+use Rattle.lapd_clock.proofs.Vocabulary.{◌≡◌, ℕ, zero, suc, List, [], ◌∷◌, AllByRecursion, never, Expiry, ◌+◌, ◌-◌, ◌*◌, ◌/◌, ◌<◌, ◌≤◌, ◌⊎◌, refl, sym, ap, ◌∙◌, subst, arith, inl, inr, cases_lt}
+>>>>>>> main
 use Rattle.std.specs.Prelude.{◌%◌}
 use Rattle.std.proofs.lemmas.Nat.{div-add-mod'}
 use Rattle.std.proofs.Math.Nat.{div-lt_iff_lt-mul, mod-lt, mul-le-mul_right, suc-mul}
@@ -22,34 +26,56 @@ in_line i d some = mod-lt i some
 place : (terminals lines line w i : ℕ) → i ≡ line * (4 * terminals + 2) + w → line < lines → w < 4 * terminals + 2
     → OfLink lines (2 * terminals) (slot_of terminals) i ⊎ OfLine lines (line_slot_of terminals) i
 place terminals lines line w i is there within =
+<<<<<<< HEAD
     elim (cases_lt w (4 * terminals)) [
       | inr last ↦ elim (cases_lt w (4 * terminals + 1)) [
         | inl first ↦ inr (record { line = line; which = false; line_there = there; is = is ∙ ap (λ n. line * (4 * terminals + 2) + n) (omega (arith, last, first)) })
         | inr second ↦ inr (record { line = line; which = true; line_there = there; is = is ∙ ap (λ n. line * (4 * terminals + 2) + n) (omega (arith, second, within)) })
       ]
       | inl before ↦ elim (cases_lt (w % 2) 1) [
+=======
+    elim (cases_lt w 1) [
+      | inl first ↦ inr (record { line = line; line_there = there; is = omega (arith, is, first) })
+      | inr after ↦ elim (cases_lt ((w - 1) % 2) 1) [
+>>>>>>> main
         | inl even ↦ inl (record {
           line = line;
-          number = w / 2;
+          number = (w - 1) / 2;
           timer = T200;
           line_there = there;
+<<<<<<< HEAD
           number_there = omega (arith, before);
           is = is ∙ ap (λ n. line * (4 * terminals + 2) + n) (omega (arith, even));
+=======
+          number_there = omega (arith, within, after);
+          is = is ∙ ap (λ n. line * (4 * terminals + 1) + n) (omega (arith, even, after));
+>>>>>>> main
         })
         | inr odd ↦ inl (record {
           line = line;
-          number = w / 2;
+          number = (w - 1) / 2;
           timer = T203;
           line_there = there;
+<<<<<<< HEAD
           number_there = omega (arith, before);
           is = is ∙ ap (λ n. line * (4 * terminals + 2) + n) (omega (arith, odd));
+=======
+          number_there = omega (arith, within, after);
+          is = is ∙ ap (λ n. line * (4 * terminals + 1) + n) (omega (arith, odd, after));
+>>>>>>> main
         })
       ]
     ]
 
+<<<<<<< HEAD
 slot_there : (terminals lines line number : ℕ) (timer : LinkTimer) → line < lines → number < 2 * terminals → slot_of terminals line number timer < lines * (4 * terminals + 2)
 slot_there terminals lines line number T200 there within = before_end line lines (4 * terminals + 2) (2 * number + 0) there (omega (arith, within))
 slot_there terminals lines line number T203 there within = before_end line lines (4 * terminals + 2) (2 * number + 1) there (omega (arith, within))
+=======
+slot_there : (terminals lines line number : ℕ) (timer : LinkTimer) → line < lines → number < 2 * terminals → slot_of terminals line number timer < lines * (4 * terminals + 1)
+slot_there terminals lines line number T200 there within = before_end line lines (4 * terminals + 1) (2 * number + 1) there (omega (arith, within))
+slot_there terminals lines line number T203 there within = before_end line lines (4 * terminals + 1) (2 * number + 2) there (omega (arith, within))
+>>>>>>> main
 
 same_line : (a b d w v : ℕ) → w < d → v < d → a * d + w ≡ b * d + v → a ≡ b
 same_line a b d w v less more e =
@@ -61,7 +87,7 @@ same_line a b d w v less more e =
       ]
     ]
 
-in_slot : (terminals number : ℕ) (timer : LinkTimer) → number < 2 * terminals → 2 * number + kind_of timer < 4 * terminals
+in_slot : (terminals number : ℕ) (timer : LinkTimer) → number < 2 * terminals → 2 * number + kind_of timer < 4 * terminals + 1
 in_slot terminals number T200 within = omega (arith, within)
 in_slot terminals number T203 within = omega (arith, within)
 
@@ -92,8 +118,17 @@ beside : (terminals line number other : ℕ) (timer : LinkTimer) (which : Bool) 
 beside terminals line number other timer which within e =
     let d = 4 * terminals + 2 in
     let w = 2 * number + kind_of timer in
+<<<<<<< HEAD
     let lines : other ≡ line = same_line other line d (4 * terminals + line_kind which) w (in_line_slot terminals which) (omega (arith, in_slot terminals number timer within)) e in
     absurd (omega (arith, e, ap (λ n. n * d) lines, in_slot terminals number timer within))
+=======
+    let lines : other ≡ line = same_line other line d 0 w (omega arith) (omega (arith, in_slot terminals number timer within)) (omega (arith, e)) in
+    absurd (omega (arith, e, ap (λ n. n * d) lines, after_t201 timer))
+  where
+    after_t201 : (timer : LinkTimer) → 1 ≤ kind_of timer
+    after_t201 T200 = omega arith
+    after_t201 T203 = omega arith
+>>>>>>> main
 
 same_kind : (which its : Bool) → line_kind which ≡ line_kind its → which ≡ its
 same_kind false false e = refl
@@ -114,8 +149,12 @@ is_layout terminals lines = record {
   apart = apart terminals;
   beside = beside terminals;
   slot_there = slot_there terminals lines;
+<<<<<<< HEAD
   two = two terminals;
   line_slot_there = λ line which there. before_end line lines (4 * terminals + 2) (4 * terminals + line_kind which) there (in_line_slot terminals which);
+=======
+  t201_there = λ line there. omega (arith, before_end line lines (4 * terminals + 1) 0 there (omega arith));
+>>>>>>> main
 }
 
 -- At places at which no timer runs all is as it should be.
@@ -134,9 +173,16 @@ idle_holds terminals lines IsOn es h =
             ∙ div-mul-add line d (2 * number + kind_of timer) (omega (arith, in_slot terminals number timer within));
         its = λ soon. absurd (omega (arith, soon, all-at es (slot_of terminals line number timer) h.rest));
       };
+<<<<<<< HEAD
       at_lines = λ line which there. record {
         line_is = h.of_line (line_slot_of terminals which line) (omega (arith, h.count, before_end line lines d (4 * terminals + line_kind which) there (in_line_slot terminals which)))
             ∙ div-mul-add line d (4 * terminals + line_kind which) (in_line_slot terminals which);
         its = λ soon. absurd (omega (arith, soon, all-at es (line_slot_of terminals which line) h.rest));
+=======
+      at_lines = λ line there. record {
+        line_is = h.of_line (t201_of terminals line) (omega (arith, h.count, before_end line lines d 0 there (omega arith)))
+            ∙ ap (λ n. n / d) (omega arith) ∙ div-mul-add line d 0 (omega arith);
+        its = λ soon. absurd (omega (arith, soon, all-at es (t201_of terminals line) h.rest));
+>>>>>>> main
       };
     }

@@ -41,7 +41,7 @@ both a b e = grind arith
 same_number : (k l : ℕ) → (k == l) ≡ true → k ≡ l
 same_number k l e = grind (arith, nat_tests)
 
-equal : (a b : Timer) → is_same a b ≡ true → a ≡ b
+pub equal : (a b : Timer) → is_same a b ≡ true → a ≡ b
 equal a b e = grind (arith, same_timer)
 
 pub itself : (e : Expiry) (line : ℕ) (timer : Timer) → e.line ≡ line → e.timer ≡ timer → is_of line timer e ≡ true
@@ -165,13 +165,13 @@ at_own [] i z within = absurd (omega (arith, within))
 at_own (x ∷ xs) zero z within = refl
 at_own (x ∷ xs) (suc i) z within = at_own xs i z (omega (arith, within))
 
-length_set : (es : List Expiry) (i : ℕ) (z : Expiry) → length (set es i z) ≡ length es
+pub length_set : (es : List Expiry) (i : ℕ) (z : Expiry) → length (set es i z) ≡ length es
 length_set [] i z = refl
 length_set (x ∷ xs) zero z = refl
 length_set (x ∷ xs) (suc i) z = ap suc (length_set xs i z)
 
 -- one place has its line, and what runs there is what is wanted, or it is as before
-replaced : (P : Expiry → Type 0) (es : List Expiry) (i j : ℕ) (z : Expiry) → i < length es → (j ≡ i → P (at j es) → P z) → P (at j es) → P (at j (set es i z))
+pub replaced : (P : Expiry → Type 0) (es : List Expiry) (i j : ℕ) (z : Expiry) → i < length es → (j ≡ i → P (at j es) → P z) → P (at j es) → P (at j (set es i z))
 replaced P es i j z within own was =
     elim (cases_eq j i) [
       | inl same ↦ subst P (sym (ap (λ n. at n (set es i z)) same ∙ at_own es i z within)) (own same was)

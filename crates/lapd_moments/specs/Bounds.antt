@@ -1,21 +1,43 @@
--- What is kept beside the places, so that a look is short: moments before which no timer falls due, of each line and of all.
+-- What is kept beside the places, so that a look is short: the least moment of each line, and a moment before which no timer falls due.
 use Rattle.std.specs.Prelude.{◌≡◌, ℕ, ◌+◌, ◌*◌, ◌/◌, ◌<◌, ◌≤◌, false, List, length, get_or, slice_index}
 use Rattle.lapd_clock.specs.Firsts.{never}
 use Rattle.lapd_moments.specs.Places.{expiries_of, place_before, AreNotBefore}
+use Rattle.lapd_moments.specs.declared.lead.Lead.{Lead}
 use Rattle.lapd_moments.specs.declared.place.Place.{Place}
 
--- Each line has so many places, one after the other, and a bound: none of its timers falls due before it.
-pub record AreBounded (each : ℕ) (bounds : List ℕ) (ps : List Place) : Type 0 where
+-- No place of so many has a lesser moment than this one, and no other has a lesser one than that.
+pub record IsEarliest (count place others : ℕ) (ps : List Place) : Type 0 where
+  pub within : place < count
+  pub least : (i : ℕ) (d e : Place) → i < count → (get_or ps place e).moment ≤ (get_or ps i d).moment
+  pub others_late : (i : ℕ) (d : Place) → i < count → (i ≡ place → ⊥) → others ≤ (get_or ps i d).moment
+
+-- Of so many places from one on, the place that leads has the bound as its moment, and no place has a lesser one, and no other one before
+-- that of the others. Of the places that have not been used none runs.
+pub record IsLead (begin count bound : ℕ) (lead : Lead) (ps : List Place) : Type 0 where
+  pub low : begin ≤ lead.place
+  pub high : lead.place < begin + count
+  pub is : (d : Place) → (get_or ps lead.place d).moment ≡ bound
+  pub least : (i : ℕ) (d : Place) → begin ≤ i → i < begin + count → bound ≤ (get_or ps i d).moment
+  pub others_late : (i : ℕ) (d : Place) → begin ≤ i → i < begin + count → (i ≡ lead.place → ⊥) → lead.others ≤ (get_or ps i d).moment
+  pub fit : lead.used ≤ count
+  pub rest : (i : ℕ) (d : Place) → begin + lead.used ≤ i → i < begin + count → (get_or ps i d).moment ≡ never
+
+-- Each line has so many places, one after the other, and one of these leads.
+pub record AreBounded (each : ℕ) (bounds : List ℕ) (leads : List Lead) (ps : List Place) : Type 0 where
   pub few_lines : length bounds ≤ 64
   pub some : 1 ≤ each
   pub few : each ≤ 34
   pub count : length ps ≡ length bounds * each
   pub of_line : (i : ℕ) (d : Place) → i < length ps → (get_or ps i d).line ≡ i / each
-  pub bounded : (i : ℕ) (d : Place) → i < length ps → (get_or ps i d).moment < never → slice_index bounds (i / each) ≤ (get_or ps i d).moment
+  pub same : length leads ≡ length bounds
+  pub led : (line : ℕ) (d : Lead) → line < length bounds → IsLead (line * each) each (slice_index bounds line) (get_or leads line d) ps
+
+abbrev pub AreBounds : ℕ → List ℕ → List Place → Type 0
+AreBounds each bounds ps = (leads : List Lead) × AreBounded each bounds leads ps
 
 -- And no timer falls due before the moment that is kept of all.
-pub record AreKept (not_before each : ℕ) (bounds : List ℕ) (ps : List Place) : Type 0 where
-  pub bounded : AreBounded each bounds ps
+pub record AreKept (not_before each : ℕ) (bounds : List ℕ) (leads : List Lead) (ps : List Place) : Type 0 where
+  pub bounded : AreBounded each bounds leads ps
   pub none_before : AreNotBefore not_before (expiries_of ps)
 
 -- No place is before this one.

@@ -5,6 +5,7 @@ use Rattle.lapd_clock.specs.Firsts.{never}
 use Rattle.lapd_clock.specs.Timer.{Timer, T201}
 use Rattle.lapd_clock.specs.Timers.{Expiry, is_before, is_held, is_of}
 use Rattle.lapd_clock.specs.Places.{in_order}
+use Rattle.lapd_moments.specs.declared.lead.Lead.{Lead}
 use Rattle.lapd_moments.specs.declared.place.Place.{Place}
 
 -- What a place holds, as in the set of lapd_clock.
@@ -58,6 +59,12 @@ pub record RunsAt (place line : ℕ) (timer : Timer) (es : List Expiry) : Type 0
 abbrev pub is_nowhere : ℕ → Timer → List Expiry → Type 0
 is_nowhere line timer es = is_held line timer (timers_in es) ≡ false
 
+-- A timer that runs at a place is started anew there.
+pub record IsRestarted (line : ℕ) (timer : Timer) (moment : ℕ) (old new : List Expiry) : Type 0 where
+  pub place : ℕ
+  pub runs : RunsAt place line timer old
+  pub is : new ≡ with_timer place timer moment old
+
 -- A place falls due first, of those whose timers run: it is first in the set.
 pub record IsFirst (place : ℕ) (es : List Expiry) : Type 0 where
   pub within : place < length es
@@ -91,6 +98,10 @@ pub record AreIdle (lines each : ℕ) (es : List Expiry) : Type 0 where
 
 abbrev pub AreIdleSoFar : List Place → Type 0
 AreIdleSoFar ps = AllByRecursion (λ p. p.moment ≡ never) ps
+
+-- Of each line its first place leads, and none has been used.
+abbrev pub AreFirstPlaces : ℕ → List Lead → Type 0
+AreFirstPlaces each leads = (line : ℕ) (d : Lead) → line < length leads → get_or leads line d ≡ record { place = line * each; others = never; used = 0 }
 
 abbrev pub AreOfLines : ℕ → List Place → Type 0
 AreOfLines each ps = (i : ℕ) → i < length ps → (at i (expiries_of ps)).line ≡ i / each

@@ -3,43 +3,27 @@
 ghost use Rattle.std.specs.Prelude.{◌≡◌, ◌+◌, ◌*◌, ◌<◌, ◌≤◌, nat_lt, length, IfSome, IfNone};
 ghost use Rattle.std.specs.List.{IsFirstBest};
 ghost use Rattle.lapd_clock.specs.Firsts.{never};
-ghost use Rattle.lapd_moments.specs.Bounds.{AreBounded, IsFoundAt, IsFirstOfLine};
+ghost use Rattle.lapd_moments.specs.Bounds.{AreBounds, IsFoundAt, IsFirstOfLine};
 ghost use Rattle.lapd_moments.specs.Places.{expiries_of, AreNotBefore};
 
 use crate::place::{Place, first_place};
 
 /// Looks for the place that falls due first, if it does so until `end`. It answers a moment before which no timer falls due,
-/// and the place that falls due then.
-///
-/// The line with the least bound has that place, if its bound is right. Otherwise the bound is made right, and the next
-/// line is tried. A bound is wrong only if a timer has been stopped, or started anew, since it was made right.
-pub(crate) fn look(
-    bounds: &mut [u64],
-    places: &[Place],
-    each: usize,
-    end: u64,
-) -> (u64, Option<usize>)
+/// and the place that falls due then: it is one of the line with the least bound.
+pub(crate) fn look(bounds: &[u64], places: &[Place], each: usize, end: u64) -> (u64, Option<usize>)
     requires end { end < never }
-    requires some { 1 ≤ length bounds.old }
-    requires bounded { AreBounded each bounds.old places.now }
-    ensures bounded { AreBounded each bounds.new places.now }
+    requires some { 1 ≤ length bounds.now }
+    requires bounded { AreBounds each bounds.now places.now }
     ensures moment { AreNotBefore result.0 (expiries_of places.now) }
     ensures none { IfNone result.1 (end < result.0) }
     ensures first { IfSome result.1 (λ place. IsFoundAt place result.0 end places.now) }
 {
-    loop {
-        let line = least(bounds);
-        let bound = bounds[line];
-        if end < bound {
-            return (bound, None);
-        }
-        let place = first_of_line(places, each, line);
-        let moment = places[place].moment;
-        if moment == bound {
-            return (bound, Some(place));
-        }
-        bounds[line] = moment;
+    let line = least(bounds);
+    let bound = bounds[line];
+    if end < bound {
+        return (bound, None);
     }
+    (bound, Some(first_of_line(places, each, line)))
 }
 
 /// The line with the least bound, the lowest of these.

@@ -1,10 +1,11 @@
 //! The moments of all timers of a card.
 
-ghost use Rattle.std.specs.Prelude.{◌≡◌, ◌+◌, ◌*◌, ◌<◌, ◌≤◌, length, IfSome, IfNone, IfOk};
+ghost use Rattle.std.specs.Prelude.{◌≡◌, ◌+◌, ◌*◌, ◌<◌, ◌≤◌, true, false, length, IfSome, IfNone, IfOk};
 ghost use Rattle.lapd_clock.specs.Timers.{first_due, first_moment};
 ghost use Rattle.lapd_clock.specs.Firsts.{never};
-ghost use Rattle.lapd_moments.specs.Places.{timers_in, with_timer, without_timer, AreNotBefore, IsFirstUntil, IsTaken, RunsAt, is_nowhere};
+ghost use Rattle.lapd_moments.specs.Places.{timers_in, with_timer, without_timer, AreNotBefore, IsFirstUntil, IsRestarted, IsTaken, RunsAt, is_nowhere};
 
+use crate::lead::{Lead, first_places, lead_after};
 use crate::look::look;
 use crate::place::{NEVER, Place, running_place};
 use lapd_frame::Timer;
@@ -13,15 +14,17 @@ use std::marker::Model;
 
 /// A place for each timer that a card may run at a time, with the moment at which it falls due.
 ///
-/// A timer is started and stopped in its place, without a look at any other. No timer falls due before a moment that is kept
-/// beside them, so that mostly nothing has to be looked for. Another such moment is kept of each line, so that a look goes
-/// through the places of one line, mostly.
+/// A timer is started and stopped in its place. No timer falls due before a moment that is kept beside them, so that mostly
+/// nothing has to be looked for. The least moment of each line is kept, too, so that a look goes through the places of one line
+/// alone. To keep it, the places of a line are looked through if the timer that was first is started anew or stopped.
 #[derive(Debug, Drop)]
 pub struct Moments {
     /// No timer falls due before it.
     not_before: u64,
-    /// No timer of a line falls due before its bound.
+    /// The least moment of each line.
     bounds: Vec<u64>,
+    /// Which place of each line has it.
+    leads: Vec<Lead>,
     /// How many places a line has.
     each: usize,
     places: Vec<Place>,
@@ -37,14 +40,19 @@ impl Model for Moments {
 
     ghost view = { λ m. expiries_of m.places.items };
 
-    ghost invariant = { λ m. AreKept m.not_before m.each m.bounds.items m.places.items };
+    ghost invariant = { λ m. AreKept m.not_before m.each m.bounds.items m.leads.items m.places.items };
 }
 
 impl Moments {
     ghost use Rattle.lapd_moments.specs.Places.{AreIdle};
 
+<<<<<<< HEAD
     /// The places of so many lines of so many terminals, at which no timer runs: of each line one for T200 and
     /// one for T203 of each link, one for T201, and one for T202.
+=======
+    /// The places of so many lines of so many terminals, at which no timer runs: of each line one for T201, and after it one
+    /// for T200 and one for T203 of each link.
+>>>>>>> main
     ///
     /// # Errors
     ///
@@ -56,6 +64,7 @@ impl Moments {
     {
         let each = 4 * terminals + 2;
         let bounds = vec![in alloc; NEVER; lines]?;
+        let leads = first_places(alloc, lines, each)?;
         let mut places = Vec::with_capacity(alloc, lines * each)?;
         for line in 0..lines {
             for _ in 0..each {
@@ -69,6 +78,7 @@ impl Moments {
         Ok(Moments {
             not_before: NEVER,
             bounds,
+            leads,
             each,
             places,
         })
@@ -84,8 +94,39 @@ impl Moments {
         its.moment = moment;
         its.timer = timer;
         let line = its.line;
-        self.bounds[line] = self.bounds[line].min(moment);
+        let begin = line * self.each;
+        let (least, lead) = lead_after(
+            &self.places,
+            begin,
+            self.leads[line],
+            self.bounds[line],
+            place,
+            moment,
+        );
+        self.bounds[line] = least;
+        self.leads[line] = lead;
         self.not_before = self.not_before.min(moment);
+    }
+
+    /// Starts a timer of a line anew, and answers whether it did. It does so only if the timer runs, falls due first of its
+    /// line, and still does so then. Otherwise nothing changes.
+    #[inline(always)]
+    pub fn restart(&mut self, line: usize, timer: Timer, moment: u64) -> bool
+        ensures done { result ≡ true → IsRestarted line timer moment self.old self.new }
+        ensures unchanged { result ≡ false → self.new ≡ self.old }
+    {
+        if line >= self.leads.len() {
+            return false;
+        }
+        let lead = self.leads[line];
+        let leading = &mut self.places[lead.place];
+        if leading.moment == NEVER || moment > lead.others || !leading.is(timer) {
+            return false;
+        }
+        leading.moment = moment;
+        self.bounds[line] = moment;
+        self.not_before = self.not_before.min(moment);
+        true
     }
 
     /// Stops the timer of a place, where one runs there.
@@ -94,7 +135,8 @@ impl Moments {
         requires place { place < length self.old }
         ensures after { self.new ≡ without_timer place self.old }
     {
-        self.places[place].moment = NEVER;
+        let timer = self.places[place].timer;
+        self.start(place, timer, NEVER);
     }
 
     /// The place at which a timer of a line runs, if it runs at any: it looks through all places.
@@ -130,7 +172,7 @@ impl Moments {
     {
         let place = self.first(now)?;
         let first = self.places[place];
-        self.places[place].moment = NEVER;
+        self.stop(place);
         Some((first.line, first.timer))
     }
 
@@ -153,7 +195,7 @@ impl Moments {
         if self.bounds.is_empty() {
             return None;
         }
-        let (moment, place) = look(&mut self.bounds, &self.places, self.each, end);
+        let (moment, place) = look(&self.bounds, &self.places, self.each, end);
         self.not_before = moment;
         place
     }

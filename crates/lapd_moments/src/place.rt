@@ -43,7 +43,8 @@ impl Place {
         self.moment < NEVER && self.line == line && self.is(timer)
     }
 
-    fn is(&self, timer: Timer) -> bool
+    /// Whether it is the place of this timer.
+    pub fn is(&self, timer: Timer) -> bool
         ensures { result ≡ is_same self.now.timer timer }
     {
         self.timer == timer

@@ -18,6 +18,10 @@ impl SlotQueue {
         ensures slots { self.new ≡ without_oldest_ones count self.old }
         ensures limits { SameLimits (S.store shelf.old) (S.store shelf.new) }
     {
+        // Mostly none is to go.
+        if count == 0 {
+            return;
+        }
         for released in 0..count.min(self.len()) {
             self.release_one(shelf);
         }

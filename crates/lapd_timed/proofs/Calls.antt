@@ -8,7 +8,7 @@ use Rattle.lapd_clock.specs.Timer.{Timer, Lengths, Order}
 use Rattle.lapd_clock.specs.Timers as clocks
 use Rattle.lapd_clock.specs.Timers.{Expiry}
 use Rattle.lapd_clock.specs.Places.{in_order}
-use Rattle.lapd_moments.specs.Places.{AreIdle, timers_in, is_running, at, with_timer, without_timer}
+use Rattle.lapd_moments.specs.Places.{AreIdle, timers_in, is_running, at, with_timer, without_timer, IsRestarted}
 use Rattle.lapd_moments.proofs.Laid.{idle_holds, in_lines}
 use Rattle.lapd_moments.proofs.Standing.{rests}
 use Rattle.model_card.specs.Card as cards
@@ -82,6 +82,9 @@ set-on-lines lines es new i z same is all =
 pub started-on-lines : (lines : ℕ) (es new : List Expiry) (i moment : ℕ) (timer : Timer) → new ≡ with_timer i timer moment es → AreOnLines lines es → AreOnLines lines new
 started-on-lines lines es new i moment timer is all = set-on-lines lines es new i (record (at i es) { moment = moment; timer = timer }) refl is all
 
+pub restarted-on-lines : (lines : ℕ) (es new : List Expiry) (line moment : ℕ) (timer : Timer) → IsRestarted line timer moment es new → AreOnLines lines es → AreOnLines lines new
+restarted-on-lines lines es new line moment timer again all = started-on-lines lines es new again.place moment timer again.is all
+
 pub stopped-on-lines : (lines : ℕ) (es new : List Expiry) (i : ℕ) → new ≡ without_timer i es → AreOnLines lines es → AreOnLines lines new
 stopped-on-lines lines es new i is all = set-on-lines lines es new i (record (at i es) { moment = never }) refl is all
 
@@ -92,6 +95,9 @@ length-set (x ∷ xs) (suc i) z = ap suc (length-set xs i z)
 
 pub started-length : (es new : List Expiry) (i moment : ℕ) (timer : Timer) → new ≡ with_timer i timer moment es → length new ≡ length es
 started-length es new i moment timer is = ap length is ∙ length-set es i (record (at i es) { moment = moment; timer = timer })
+
+pub restarted-length : (es new : List Expiry) (line moment : ℕ) (timer : Timer) → IsRestarted line timer moment es new → length new ≡ length es
+restarted-length es new line moment timer again = started-length es new again.place moment timer again.is
 
 pub stopped-length : (es new : List Expiry) (i : ℕ) → new ≡ without_timer i es → length new ≡ length es
 stopped-length es new i is = ap length is ∙ length-set es i (record (at i es) { moment = never })

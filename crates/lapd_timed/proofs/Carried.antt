@@ -5,7 +5,7 @@ use Rattle.lapd_card.specs.FrameCard.{Held}
 use Rattle.lapd_card.specs.FrameStands.{FrameStands}
 use Rattle.lapd_clock.specs.Timer.{Timer, Order, Start, Stop, duration}
 use Rattle.lapd_clock.specs.Timers.{Expiry}
-use Rattle.lapd_moments.specs.Places.{with_timer, without_timer}
+use Rattle.lapd_moments.specs.Places.{with_timer, without_timer, IsRestarted}
 use Rattle.lapd_store.specs.Store.{Store}
 use Rattle.model_card.specs.Card.{Card, line_at}
 use Rattle.model_card.specs.Event.{Event}
@@ -19,7 +19,7 @@ use Rattle.model_timed.specs.RunTheSame.{left_by, as_they_are}
 use Rattle.model_timed.proofs.Running.{are-placed}
 use Rattle.lapd_timed.specs.Places.{own_place, IsOwnOrFound}
 use Rattle.lapd_timed.specs.Stands.{IsOnAmid, HeldTimers, AreAt, AreKept, HasLedTo}
-use Rattle.lapd_timed.proofs.Carrying.{has-place, carried-start, carried-stop, carried-nowhere}
+use Rattle.lapd_timed.proofs.Carrying.{has-place, carried-restart, carried-start, carried-stop, carried-nowhere}
 use Rattle.lapd_timed.proofs.Finishing.{begins, finished}
 use Rattle.lapd_timed.proofs.Calls.{all-at}
 
@@ -40,6 +40,11 @@ module _ {S : Type 0} (store : S → Store) (card : Held S) (h : HeldTimers) (li
   start-done timer i d es is d_is now most new = λ e m c reached led placed amid.
       carried-start m e reached (at-line e m led) h c amid line within timer i (h.now + d) es (sym (is (after e m) led.stands amid.terminals)) (ap (λ n. h.now + n) d_is)
       (omega (arith, now, most)) new
+
+  pub restart-done : (timer : Timer) (d : ℕ) (es : List Expiry) → IsRestarted line timer (h.now + d) h.moments es → d ≡ duration h.lengths timer
+      → h.now < 2 ^ 63 → d ≤ 3600000 → IsDone (Start timer) (record h { moments = es })
+  restart-done timer d es again d_is now most = λ e m c reached led placed amid.
+      carried-restart m e reached (at-line e m led) h c amid line timer (h.now + d) es again (ap (λ n. h.now + n) d_is) (omega (arith, now, most))
 
   pub start-nowhere : (timer : Timer) → OfMachine (λ m. None ≡ own_place h.terminals line timer (line_at line m)) → IsDone (Start timer) h
   start-nowhere timer is = λ e m c reached led placed amid.

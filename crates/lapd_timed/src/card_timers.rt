@@ -180,8 +180,11 @@ impl CardTimers {
     {
         match order {
             Order::Start(timer) => {
+                let moment = self.moment + self.lengths.of(timer);
+                if self.moments.restart(line, timer, moment) {
+                    return;
+                }
                 if let Some(place) = self.place(card, line, timer) {
-                    let moment = self.moment + self.lengths.of(timer);
                     self.moments.start(place, timer, moment);
                 }
             }
@@ -225,14 +228,18 @@ impl CardTimers {
         match timer {
             Timer::T200(service, tei) => {
                 let number = self.link(card, line, service, tei)?;
-                Some(slot(self.terminals, line, number, 0))
+                Some(slot(self.terminals, line, number, 1))
             }
             Timer::T203(service, tei) => {
                 let number = self.link(card, line, service, tei)?;
-                Some(slot(self.terminals, line, number, 1))
+                Some(slot(self.terminals, line, number, 2))
             }
+<<<<<<< HEAD
             Timer::T201 => Some(slot(self.terminals, line, 2 * self.terminals, 0)),
             Timer::T202 => Some(slot(self.terminals, line, 2 * self.terminals, 1)),
+=======
+            Timer::T201 => Some(slot(self.terminals, line, 0, 0)),
+>>>>>>> main
         }
     }
 
@@ -259,6 +266,7 @@ impl CardTimers {
     }
 }
 
+<<<<<<< HEAD
 /// The place of a timer of a line, by the number of its link and of its kind; after those of all links are those of T201 and T202.
 fn slot(terminals: usize, line: usize, number: usize, kind: usize) -> usize
     requires terminals { terminals ≤ 8 }
@@ -266,6 +274,15 @@ fn slot(terminals: usize, line: usize, number: usize, kind: usize) -> usize
     requires number { number ≤ 16 }
     requires kind { kind ≤ 1 }
     ensures { result ≡ line * (4 * terminals + 2) + (2 * number + kind) }
+=======
+/// The place of a timer of a line, by the number of its link and of its kind; before those of all links is that of T201.
+fn slot(terminals: usize, line: usize, number: usize, kind: usize) -> usize
+    requires terminals { terminals ≤ 8 }
+    requires line { line < 64 }
+    requires number { number < 16 }
+    requires kind { kind ≤ 2 }
+    ensures { result ≡ line * (4 * terminals + 1) + (2 * number + kind) }
+>>>>>>> main
 {
     line * (4 * terminals + 2) + (2 * number + kind)
 }

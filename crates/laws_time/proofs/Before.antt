@@ -43,7 +43,7 @@ use Rattle.laws_time.proofs.Falls.{in-time, dropped, first-all, on-lines}
 none-runs : (timer : LinkTimer) → runs timer (in_state 1) ≡ false
 none-runs timer = grind arith
 
-views-elsewhere : (c : Config) (service : Service) (tei number : ℕ) (v : View) (m : Rattle.model_card.specs.Run.Moment) → (m.event.line == number) ≡ false
+pub views-elsewhere : (c : Config) (service : Service) (tei number : ℕ) (v : View) (m : Rattle.model_card.specs.Run.Moment) → (m.event.line == number) ≡ false
     → (views c service tei number v m).link ≡ cond (not (is_on tei v.teis)) (in_state 1) v.link
 views-elsewhere c service tei number v m other = grind arith
 

@@ -14,4 +14,9 @@ pub mod Ended
 pub mod DeadLine
 pub mod OctetsMean
 pub mod DeadLineOfOctets
+pub mod ArrivalsAwaited
+pub mod ArrivalsOfOctets
+pub mod ArrivalsErrors
+pub mod ArrivalsOneEvent
+pub mod ArrivalsUsedUp
 pub mod OfCircuit

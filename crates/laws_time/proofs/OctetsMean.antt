@@ -38,7 +38,7 @@ inside t = record { card = t.card.card; clock = t.clock }
 abbrev pub meant_at : Event → OctetCard → Option line.Event
 meant_at e m = port.meant m.card.config.n201 e.what (port_at e.line m)
 
-abbrev put : Option line.Event → ℕ → List (Step FrameEvent) → List (Step FrameEvent)
+abbrev pub put : Option line.Event → ℕ → List (Step FrameEvent) → List (Step FrameEvent)
 put None number rest = rest
 put (Some what) number rest = happens (at number what) ∷ rest
 
@@ -123,7 +123,7 @@ pub event-inside : (e : Event) (t : TimedOctetCard) (o : Option line.Event) → 
 event-inside e t None is = same-both (card-is e t.card None is) (ap (λ os. obeyed e.line os t.clock) (orders-are e t.card None is))
 event-inside e t (Some what) is = same-both (card-is e t.card (Some what) is) (ap (λ os. obeyed e.line os t.clock) (orders-are e t.card (Some what) is))
 
-fallen-inside : (t : TimedOctetCard) (o : Option Expiry) → inside (option_map_or (with_expiry octets t) o t) ≡ option_map_or (with_expiry frames (inside t)) o (inside t)
+pub fallen-inside : (t : TimedOctetCard) (o : Option Expiry) → inside (option_map_or (with_expiry octets t) o t) ≡ option_map_or (with_expiry frames (inside t)) o (inside t)
 fallen-inside t None = refl
 fallen-inside t (Some x) = event-inside (expiry_at octets x) (record t { clock = without_first t.clock }) (Some (line.expiry x.timer)) refl
 

@@ -1,6 +1,9 @@
 -- What becomes of a link within so many milliseconds.
 pub mod Watched
 pub mod Silence
+pub mod ArrivalsAwaited
 pub mod WorkedSilence
+pub mod ArrivalsWorked
+pub mod ArrivalsUsedUp
 pub mod WorkedPremises
 pub mod circuit

@@ -2,5 +2,9 @@
 pub mod Clocked
 pub mod Ends
 pub mod LongEnough
+pub mod Answered
 pub mod Worked
 pub mod WorkedLongEnough
+pub mod WorkedAnswered
+pub mod Arriving
+pub mod WorkedArriving

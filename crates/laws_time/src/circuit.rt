@@ -4,17 +4,20 @@
 //! and nothing else is in it except requests and noise. Its worked runs (`Worked`) compute. There are a call from
 //! nothing, calls that cross, an I-frame that is lost and goes again, and SABME that is heard just before N200 is used
 //! up. There are a dead line, too, and noise that makes a frame of another link. How long an answer takes at most is in
-//! `LongEnough`, and worked out in `WorkedLongEnough`.
+//! `LongEnough`, and worked out in `WorkedLongEnough`. Answers that come are in `Answered` and `WorkedAnswered`. What a
+//! call through noise tells is in `Arriving`, and a run that meets its premises in `WorkedArriving`. Random and chosen
+//! runs broke nothing of what is open, if layer 3 asks for no unit data and is not busy, T200 is at least as long as an
+//! answer takes, and noise makes no frame.
 //!
 //! # Open
 //!
-//! That each answer comes: once the line is clean and quiet, and both ends were up as it became so, an end that comes
-//! to state 8 leaves it within that time (an end in state 5 answers no enquiry). That what was granted arrives in time.
-//! How long a call takes at most. Random and chosen runs broke none of these, if layer 3 asks for no unit data and is
-//! not busy, T200 is at least as long as an answer takes, and noise makes no frame.
+//! That commands and answers find a place. How soon what was granted arrives on a clean line, and a call comes through.
 
+ghost use Rattle.laws_time.specs.circuit.Answered.{AnEnquiryIsAnswered, CommandsAreAnswered, NoNoiseIsClear, OneEnquiryIsEnough};
+ghost use Rattle.laws_time.specs.circuit.Arriving.{CallsBearNoise};
 ghost use Rattle.laws_time.specs.circuit.Ends.{EndsAreTimedCards};
 ghost use Rattle.laws_time.specs.circuit.LongEnough.{AnswersComeInTime};
+ghost use Rattle.laws_time.specs.circuit.WorkedAnswered.{AnEnquiryIsMet};
 
 /// Each end of the clocked circuit is a timed card of octets, as `model_timed` has it. Anything may be asked for at
 /// either end, with any noise, and any number of beats may have passed. Then the card at an end and its clock came
@@ -36,4 +39,42 @@ pub fn ends_are_timed_cards()
 /// `specs/circuit/WorkedLongEnough`.)
 pub fn answers_come_in_time()
     ensures { AnswersComeInTime }
+{}
+
+/// Commands are answered in time. An end comes from state 7 to state 8, in which it enquires (`enquiries`), or to state
+/// 5 or 6, in which it waits for the answer to SABME or DISC (`others`). From the beat before on there is no noise. Then
+/// it is in state 8 for fewer than 2 (L + D) + 9 (c + c') octet times, and in state 5 or 6 for no more (Q.921 clauses
+/// 5.5.1.2, 5.5.3.2 and 5.6.7). T200 does not fall due in state 8 meanwhile: one enquiry is enough (`once`). The
+/// lengths, the requests and the noise before are as [`answers_come_in_time`] has them. As long as the end waits, no
+/// frame finds no place at either end (`lost` of a report), and for state 8 the other end is up, in state 7 or 8. (An
+/// end in state 5 answers no enquiry. A command that finds no place is not sent.)
+pub fn commands_are_answered()
+    ensures enquiries { AnEnquiryIsAnswered }
+    ensures once { OneEnquiryIsEnough }
+    ensures others { CommandsAreAnswered }
+{}
+
+/// A call bears noise. Two cards of octets begin on one line with their clocks, as [`answers_come_in_time`] has it, and
+/// T200 is long enough. At first nothing is asked for. At any time layer 3 of one end asks for the establishment of the
+/// link. After that layer 3 of either end asks to send octets, or says that it is busy, or ready again, at any time.
+/// Noise makes no frame.
+///
+/// Let N200 not be used up: no end tells error G, H or I (Q.921 clauses 5.5.1.3, 5.5.3.3 and 5.6.7). Then the end that
+/// calls tells no error at all, and the other none except F, of a UA that was lost (clause 5.7). Whatever is lost,
+/// timers and noise bring no other.
+///
+/// As long as there is no such F, each end was told one establishment, and then data that the other was granted to
+/// send. That is a prefix of it, in order, each once, and nothing else is told except what was dropped. Once each place
+/// of the queue at one end is free (`Card::room`), the other was told all data that was granted there. That holds at
+/// any time, in the midst of noise and traffic, too.
+pub fn calls_bear_noise()
+    ensures { CallsBearNoise }
+{}
+
+/// Without noise from the start on, noise makes no frame (`clear`): each frame that is heard stood at that place in what
+/// the other end gave. So the premise of the laws above is met by each run without noise. And a worked run meets all
+/// premises of the enquiries in [`commands_are_answered`] (`met`).
+pub fn no_noise_makes_no_frame()
+    ensures clear { NoNoiseIsClear }
+    ensures met { AnEnquiryIsMet }
 {}

@@ -1,5 +1,7 @@
 //! The laws. Each is the contract of a call that does nothing.
 
+ghost use Rattle.laws_time.specs.ArrivalsAwaited.{NoAnswerIsAwaitedLonger};
+ghost use Rattle.laws_time.specs.ArrivalsUsedUp.{N200TakesItsTime};
 ghost use Rattle.laws_time.specs.Silence.{ADeadLineIsTold};
 ghost use Rattle.laws_time.specs.Watched.{of_frames, of_octets};
 
@@ -26,4 +28,25 @@ ghost use Rattle.laws_time.specs.Watched.{of_frames, of_octets};
 pub fn a_dead_line_is_told()
     ensures frames { ADeadLineIsTold of_frames }
     ensures octets { ADeadLineIsTold of_octets }
+{}
+
+/// No answer is awaited longer. While `Card::state` tells 5 of a link, no more than (N200 + 1) (T200 + late)
+/// milliseconds pass. The same holds of 6, and of 8. Then the answer has come, or N200 is used up (Q.921 clauses
+/// 5.5.1.3, 5.5.3.3 and 5.6.7), or something else has moved the link. So a call, a release and an enquiry are decided
+/// within that time. It holds at a line of a card of either kind, whatever happened since its start, and whatever
+/// happens meanwhile: any frames come, layer 3 asks for anything, and other links are served. Timers fall due late by a
+/// number of milliseconds at most, which is 0 if the caller is prompt. (`news_is_told` of `laws_trace` says what layer 3
+/// is told as the link moves.)
+pub fn no_answer_is_awaited_longer()
+    ensures frames { NoAnswerIsAwaitedLonger of_frames }
+    ensures octets { NoAnswerIsAwaitedLonger of_octets }
+{}
+
+/// N200 takes its time. From a time on at which `Card::state` tells 4 or 7 of a link, no error G, H or I of it is told
+/// for (N200 + 1) T200 milliseconds, whatever comes on the line, and whatever layer 3 asks for (Q.921 clauses 5.5.1.3,
+/// 5.5.3.3 and 5.6.7). So noise that lasts for less does not use N200 up. It holds at a line of a card of either kind,
+/// whatever happened before. The moment is that of the last step, up to which time has gone on.
+pub fn n200_takes_its_time()
+    ensures frames { N200TakesItsTime of_frames }
+    ensures octets { N200TakesItsTime of_octets }
 {}

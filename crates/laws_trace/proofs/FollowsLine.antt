@@ -7,6 +7,9 @@ use Rattle.laws_trace.proofs.ManagingTables.{AreOn}
 use Rattle.laws_trace.proofs.ManagingNotes.{none-of-teis, link-others, told-orders, Cases, is_management, message_in, message-is-read, heard-cases}
 use Rattle.laws_trace.proofs.OneLink.{given-orders}
 use Rattle.laws_trace.proofs.ReadAgain.{read-again, message-text}
+use Rattle.lapd_frame.specs.Senders.{spelling}
+use Rattle.lapd_tei.specs.declared.messages.Message.TheVariants.{IdentityAssigned, IdentityDenied, IdentityCheckRequest, IdentityRemove}
+use Rattle.laws_trace.specs.TeisAreManaged.{octets_of, message_text}
 
 -- Frames with SAPI 63.
 abbrev of_management : Result Parts ReadFault → Bool
@@ -41,6 +44,21 @@ module _ (c : Config) (l : Line) where
 
   pub deactivated-aims : (service : Service) (tei : ℕ) (o : Option ℕ) → IsUnmanaged (at_deactivated service tei o)
   deactivated-aims service tei o = grind (arith, none-aims, link-aims)
+
+-- A message goes in the octets that are due.
+same-octets : (m : Message) → information_of m ≡ octets_of m
+same-octets (IdentityAssigned ri tei) = refl
+same-octets (IdentityDenied ri) = refl
+same-octets (IdentityCheckRequest tei) = refl
+same-octets (IdentityRemove tei) = refl
+
+same-text : (c : Config) (m : Message) → frame_of c.side m ≡ message_text c m
+same-text c m =
+    message-text c m ∙ ap (λ info. spelling (own_side c) (record { address = record { sapi = 63; command = true; tei = 127 }; control = Ui false; info = info })) (same-octets m)
+
+same-texts : (c : Config) (ms : List Message) → map (frame_of c.side) ms ≡ map (message_text c) ms
+same-texts c [] = refl
+same-texts c (m ∷ ms) = ap (λ text. text ∷ map (frame_of c.side) ms) (same-text c m) ∙ ap (λ texts. message_text c m ∷ texts) (same-texts c ms)
 
 -- One event of a line.
 first-goes : (ms : List Message) (m : Message) → slice_get ms 0 ≡ Some m → take 1 ms ≡ m ∷ []
@@ -134,6 +152,10 @@ module _ (c : Config) (l : Line) (s : IsSound c l) (on : List ℕ) (h : AreOn on
     stays new (ap (λ (l : Line). l.management) x.line) x.its_turn.no_message,
   )
 
+  goes-due : (new : Line) (o : Option Taken) → elim o as (λ o. Type 0) [ None ↦ IsIdle c l new | Some t ↦ IsOwed c (contents_of_link l) l new t.frame ]
+      → (filter (is_message c) (frame_in (gave (option_map next_of o))) ≡ map (message_text c) (take 1 m.waiting)) × Follows later new.management
+  goes-due new o x = let g = goes new o x in (g.0 ∙ same-texts c (take 1 m.waiting), g.1)
+
   pub next-shows : Shows c l next (by_event c next w) (answer c next l) (after c next l).management
   unfolding after answer
-  next-shows = grind (arith, next-orders, taken-one, none-granted, goes (option_map_or line_of (taken c l) l) (taken c l) (served c l s))
+  next-shows = grind (arith, next-orders, taken-one, none-granted, goes-due (option_map_or line_of (taken c l) l) (taken c l) (served c l s))

@@ -110,6 +110,7 @@ pub mod UnitsAreGranted
 pub mod RequestsRefused
 pub mod RequestsOfLink
 pub mod RequestsTakeEffect
+pub mod RefusalsAreTold
 pub mod AnswersAreGiven
 pub mod AnswersSuit
 pub mod CausesAreTold

@@ -1,6 +1,8 @@
 -- What a link gives next is what an observer has it offer.
 use Rattle.laws_trace.proofs.Vocabulary.{◌≡◌, ℕ, zero, suc, ◌+◌, ◌%◌, ◌<◌, ◌≤◌, ◌==◌, Bool, true, false, cond, List, [], ◌∷◌, drop, length, slice_get, Some, None, refl, sym, ap, ◌∙◌, inl, inr, arith, and_parts, fold, Service, place_of-is, Information, ReceiveReady, seq, given-in-order, given-is-offered, IsInOrder, IsOffered, State, Established, ControlFrame, Terms, Link, is_multiple_frame}
 use Rattle.laws_trace.proofs.Vocabulary.{state_number, Given, Config, Line, link_of, place_in, terms, IsInRange, IsSilent, terms_in_range, line_at, moments, ltb-true, lt-ltb, line_frame_of as frame_of, IsSound, fresh, CardEvent as Event, after_all, AreAtLines, is_seq, text, may_go, offers, View, steps, view_of, Outgoing, outgoing_of, is_up, offer, link_after as after, given}
+use Rattle.lapd_frame.specs.declared.services.Service.TheVariants.{Call, Packet}
+use Rattle.laws_trace.specs.FramesAreDue.{window}
 use Rattle.model_link.specs.Sound as link_sound
 use Rattle.laws_link.specs.Sending.{MayGo}
 use Rattle.laws_trace.proofs.LineAtEnd.{line-at-end, link-at-end}
@@ -17,6 +19,11 @@ use Rattle.laws_trace.proofs.TimersAreTimely.{true-now}
 use Rattle.laws_trace.proofs.TimersWatched.{Known, nothing_yet, watch}
 use Rattle.laws_trace.proofs.WaitingNow.{waiting-now}
 use Rattle.laws_trace.proofs.Facts.{some-of, not-so, number-up}
+
+-- The window of a link is that of its service.
+window-is : (c : Config) (service : Service) (tei : ℕ) → window c service ≡ (terms c service tei).k
+window-is c Call tei = refl
+window-is c Packet tei = refl
 
 -- What a link offers, one after the other.
 abbrev unsent : Outgoing → List (List ℕ)
@@ -134,7 +141,7 @@ module _ (c : Config) (events : List Event) (number : ℕ) (ranged : IsInRange c
         ∙ drop-twice own.contents own.a own.s (steps o.view.link.acknowledged o.view.link.next) steps-are
 
   may-so : MayGo t own → may_go c service o.view.link ≡ true
-  may-so may = grind (arith, steps-are, state-is, busy-is, lt-ltb)
+  may-so may = grind (arith, steps-are, state-is, busy-is, lt-ltb, window-is)
 
   -- where none may go, it is the acknowledgement,
   none-sent : (MayGo t own → ⊥) → sends c service tei o (unsent o) ≡ by_itself c service tei o
@@ -142,7 +149,7 @@ module _ (c : Config) (events : List Event) (number : ℕ) (ranged : IsInRange c
     where
       go : (left : List (List ℕ)) → unsent o ≡ left → (b : Bool) → may_go c service o.view.link ≡ b → sends c service tei o left ≡ by_itself c service tei o
       go [] none b may = refl
-      go (contents ∷ rest) some true may = absurd (may_not (grind (arith, and_parts, seven, state-is, steps-are, ltb-true, not-so, busy-is, some-left, unsent-is)))
+      go (contents ∷ rest) some true may = absurd (may_not (grind (arith, and_parts, seven, state-is, steps-are, ltb-true, not-so, busy-is, some-left, unsent-is, window-is)))
       go (contents ∷ rest) some false may = ap (λ b. cond b (text c service tei true (Information (seq o.view.link.next) (seq o.view.link.count) false) contents ∷ []) (by_itself c service tei o)) may
 
   behind-none : own.waiting ≡ [] → offers c service tei o ≡ sends c service tei o (unsent o)

@@ -4,12 +4,12 @@ use Rattle.lapd_seq.specs.Numbers.{seq}
 use Rattle.lapd_frame.specs.declared.controls.Control.{Control}
 use Rattle.lapd_frame.specs.declared.controls.Control.TheVariants.{Information, ReceiveReady}
 use Rattle.lapd_frame.specs.declared.services.Service.{Service}
+use Rattle.lapd_frame.specs.declared.services.Service.TheVariants.{Call, Packet}
 use Rattle.lapd_frame.specs.Senders.{spelling}
 use Rattle.lapd_frame.specs.Services.{sapi_of}
 use Rattle.model_link.specs.declared.frames.ControlFrame.{ControlFrame}
 use Rattle.model_line.specs.declared.config.Config.{Config}
 use Rattle.model_line.specs.Event.{next}
-use Rattle.model_line.specs.Line.{window}
 use Rattle.model_line.specs.Taken.{own_side}
 use Rattle.model_card.specs.Event.{Event}
 use Rattle.laws_trace.specs.LinkFrames.{is_frame_of}
@@ -23,7 +23,12 @@ abbrev pub text : Config → Service → ℕ → Bool → Control → List ℕ �
 text c service tei command control info =
     spelling (own_side c) (record { address = record { sapi = sapi_of service; command = command; tei = tei }; control = control; info = info })
 
--- I-frames may go in state 7, while the terminal is not busy, and fewer than k are outstanding (clauses 5.6.1 and 5.6.5).
+-- I-frames may go in state 7, while the terminal is not busy, and fewer than k are outstanding (clauses 5.6.1 and 5.6.5). Each
+-- service has its own k.
+abbrev pub window : Config → Service → ℕ
+window c Call = c.k
+window c Packet = c.k16
+
 abbrev pub may_go : Config → Service → Observed → Bool
 may_go c service o = o.state == 7 && (not o.busy && nat_lt (steps o.acknowledged o.next) (window c service))
 

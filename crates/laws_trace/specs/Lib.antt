@@ -22,6 +22,7 @@ pub mod Outgoing
 pub mod NoSlotIsLost
 pub mod UnitsAreGranted
 pub mod RequestsTakeEffect
+pub mod RefusalsAreTold
 pub mod FramesAreDue
 pub mod WorkedDue
 pub mod WorkedUnits

@@ -1,12 +1,15 @@
 -- TEIs are managed as the procedures of Q.921 clause 5.3 say: what an answer shows of it is what is due.
-use Rattle.std.specs.Prelude.{◌≡◌, ℕ, ◌==◌, Bool, true, false, List, filter, map, Some}
+use Rattle.std.specs.Prelude.{◌≡◌, ℕ, ◌+◌, ◌*◌, ◌/◌, ◌%◌, ◌==◌, Bool, true, false, List, [], ◌∷◌, filter, map, Some}
 use Rattle.lapd_frame.specs.declared.notes.Note.{Note}
 use Rattle.lapd_frame.specs.declared.notes.Note.TheVariants.{Assigned, Removed, Doubled}
 use Rattle.lapd_frame.specs.declared.timers.Order.{Order}
 use Rattle.lapd_frame.specs.declared.timers.Order.TheVariants.{Start, Stop}
 use Rattle.lapd_frame.specs.declared.timers.Timer.TheVariants.{T201}
+use Rattle.lapd_frame.specs.declared.controls.Control.TheVariants.{Ui}
 use Rattle.lapd_frame.specs.Grammar.{Parts}
-use Rattle.lapd_tei.specs.Messages.{frame_of}
+use Rattle.lapd_frame.specs.Senders.{spelling}
+use Rattle.lapd_tei.specs.declared.messages.Message.{Message}
+use Rattle.lapd_tei.specs.declared.messages.Message.TheVariants.{IdentityAssigned, IdentityDenied, IdentityCheckRequest, IdentityRemove}
 use Rattle.model_line.specs.declared.config.Config.{Config}
 use Rattle.model_line.specs.Event as line_event
 use Rattle.model_line.specs.Event.{Answer}
@@ -33,10 +36,23 @@ is_of_t201 (Start T201) = true
 is_of_t201 (Stop T201) = true
 is_of_t201 other = false
 
+-- A message in octets: 0F, Ri with its high octet first, the type, and Ai with 1 as its extension bit; a denial has Ai 127, and a
+-- check request and a removal have Ri 0 (clause 5.3.1, its figure and table 8). It goes to the group, TEI 127, in a UI command with
+-- SAPI 63 and P=0.
+abbrev pub octets_of : Message → List ℕ
+octets_of (IdentityAssigned ri tei) = 0x0F ∷ (ri / 256) ∷ (ri % 256) ∷ 2 ∷ (2 * tei + 1) ∷ []
+octets_of (IdentityDenied ri) = 0x0F ∷ (ri / 256) ∷ (ri % 256) ∷ 3 ∷ 0xFF ∷ []
+octets_of (IdentityCheckRequest tei) = 0x0F ∷ 0 ∷ 0 ∷ 4 ∷ (2 * tei + 1) ∷ []
+octets_of (IdentityRemove tei) = 0x0F ∷ 0 ∷ 0 ∷ 6 ∷ (2 * tei + 1) ∷ []
+
+abbrev pub message_text : Config → Message → List ℕ
+message_text c message =
+    spelling (own_side c) (record { address = record { sapi = 63; command = true; tei = 127 }; control = Ui false; info = octets_of message })
+
 pub record IsAsDue (c : Config) (due : Managed) (a : Answer) : Type 0 where
   pub notes : filter is_of_teis (notes_of a) ≡ due.notes
   pub orders : filter is_of_t201 (orders_in a) ≡ due.orders
-  pub begins : filter (reads (own_side c) (λ (f : Parts). f.address.sapi == 63)) (frame_in a) ≡ map (frame_of c.side) due.begins
+  pub begins : filter (reads (own_side c) (λ (f : Parts). f.address.sapi == 63)) (frame_in a) ≡ map (message_text c) due.begins
   pub granted : (so : Bool) → due.granted ≡ Some so → is_granted a ≡ so
 
 -- So it is of each event of the line, after whatever happened to the card.

@@ -11,7 +11,6 @@ use Rattle.lapd_frame.specs.Senders.{exchanged, reading as read_by}
 use Rattle.lapd_tei.specs.declared.messages.Message.{Message}
 use Rattle.lapd_tei.specs.declared.messages.Message.TheVariants.{IdentityAssigned, IdentityDenied, IdentityCheckRequest, IdentityRemove}
 use Rattle.lapd_tei.specs.Events as teis
-use Rattle.lapd_tei.specs.Messages.{frame_of}
 use Rattle.model_line.specs.declared.config.Config.{Config}
 use Rattle.model_line.specs.Event.{Answer, expiry, next, nothing, told, gave}
 use Rattle.model_line.specs.Machine as lines
@@ -22,7 +21,7 @@ use Rattle.model_card.specs.Machine.{answer}
 use Rattle.model_card.specs.Run.{after_all}
 use Rattle.laws_line.specs.card.Worked.{usual, on_0}
 use Rattle.laws_trace.specs.Managing.{Managed, nothing_due, none_on, due, managed_after}
-use Rattle.laws_trace.specs.TeisAreManaged.{IsAsDue}
+use Rattle.laws_trace.specs.TeisAreManaged.{message_text, IsAsDue}
 use Rattle.laws_trace.specs.WorkedUnits.{calls, frame_comes}
 
 -- A message of a terminal: its type, Ri 0x1234 and Ai.
@@ -47,6 +46,15 @@ due_behind c before e = due c e.what (managed_after c 0 before)
 
 abbrev owed_after : Config → List Event → List Message
 owed_after c events = (managed_after c 0 events).owed
+
+-- An answer by Ri 0x1234 with TEI 64, and a denial, in octets.
+answer_is : message_text usual (IdentityAssigned 0x1234 64) ≡ 0xFE ∷ 0xFF ∷ 0x03 ∷ 0x0F ∷ 0x12 ∷ 0x34 ∷ 0x02 ∷ 0x81 ∷ []
+unfolding exchanged
+answer_is = refl
+
+denial_is : message_text usual (IdentityDenied 0x1234) ≡ 0xFE ∷ 0xFF ∷ 0x03 ∷ 0x0F ∷ 0x12 ∷ 0x34 ∷ 0x03 ∷ 0xFF ∷ []
+unfolding exchanged
+denial_is = refl
 
 -- A terminal asks for a TEI: the lowest is told, and its answer begins with the next call, and no more then.
 assigned : (due_behind usual [] asks).notes ≡ Assigned 64 ∷ []
@@ -186,7 +194,7 @@ unfolding exchanged read_by reading header_of control_of unnumbered_of
 anew h = cc h.orders
 
 abbrev frame : Answer
-frame = gave (Some (record { octets = frame_of usual.side (IdentityRemove 64); orders = [] }))
+frame = gave (Some (record { octets = message_text usual (IdentityRemove 64); orders = [] }))
 
 not_owed : IsAsDue usual (due_behind usual [] (at 0 next)) frame → ⊥
 unfolding exchanged read_by reading header_of control_of unnumbered_of
@@ -199,6 +207,6 @@ passed_over h = cc h.begins
 runs_while_down : IsAsDue usual (due_behind usual checked (on_0 Down)) (tells [] []) → ⊥
 runs_while_down h = cc h.orders
 
-kept_for_later : IsAsDue usual (due_behind usual (checked ++ on_0 Down ∷ []) (at 0 next)) (gave (Some (record { octets = frame_of usual.side (IdentityCheckRequest 64); orders = [] }))) → ⊥
+kept_for_later : IsAsDue usual (due_behind usual (checked ++ on_0 Down ∷ []) (at 0 next)) (gave (Some (record { octets = message_text usual (IdentityCheckRequest 64); orders = [] }))) → ⊥
 unfolding exchanged read_by reading header_of control_of unnumbered_of
 kept_for_later h = cc h.begins

@@ -1,9 +1,9 @@
 -- Worked values: what follows where layer 3 asks something of a link, by its state, and which requests are refused.
-use Rattle.std.specs.Prelude.{◌≡◌, true, false, List, [], ◌∷◌, ◌++◌, Result, Ok, Err, refl}
+use Rattle.std.specs.Prelude.{◌≡◌, true, false, List, [], ◌∷◌, ◌++◌, Option, None, Some, Result, Ok, Err, refl}
 use Rattle.lapd_frame.specs.declared.controls.Control.TheVariants.{ReceiveReady, ReceiveNotReady, Sabme, Disc, Ua}
 use Rattle.lapd_frame.specs.declared.notes.Note.TheVariants.{ReleaseIndication, ReleaseConfirm}
 use Rattle.lapd_frame.specs.declared.refusals.Refusal.{Refusal}
-use Rattle.lapd_frame.specs.declared.refusals.Refusal.TheVariants.{NoLink, WrongState, TooLong, QueueFull, PoolFull}
+use Rattle.lapd_frame.specs.declared.refusals.Refusal.TheVariants.{NoLink, WrongState, TooLong, QueueFull, PoolFull, CheckRunning}
 use Rattle.lapd_frame.specs.declared.services.Service.TheVariants.{Call}
 use Rattle.lapd_frame.specs.declared.timers.Timer.TheVariants.{T203}
 use Rattle.lapd_frame.specs.Reading.{reading, header_of, control_of, unnumbered_of, supervisory_of}
@@ -14,14 +14,16 @@ use Rattle.model_link.specs.Events as link
 use Rattle.model_line.specs.declared.config.Config.{Config}
 use Rattle.model_line.specs.Event.{Answer, refused, request, expiry}
 use Rattle.model_line.specs.Machine as lines
-use Rattle.model_line.specs.Request.{Request, Assign, Establish, Release, Data, SetBusy}
+use Rattle.model_line.specs.Request.{Request, Assign, Check, Establish, Release, Data, SetBusy, Unit}
 use Rattle.model_card.specs.Event.{Event, at}
 use Rattle.model_card.specs.Run.{moments, after_all}
 use Rattle.laws_link.specs.Waiting.{as_response, as_command}
 use Rattle.laws_line.specs.card.Worked.{usual, on_0, up}
+use Rattle.laws_trace.specs.Managing.{managed_after}
 use Rattle.laws_trace.specs.NoSlotIsLost.{slots_taken}
 use Rattle.laws_trace.specs.Observer.{in_state, moment_of}
 use Rattle.laws_trace.specs.Outgoing.{outgoing_of}
+use Rattle.laws_trace.specs.RefusalsAreTold.{why_not}
 use Rattle.laws_trace.specs.RequestsTakeEffect.{Effect, effect, deactivated, of_tei}
 
 -- What the table has for a request of a link behind events, while a slot is free; and what the card answers.
@@ -150,3 +152,16 @@ given_up = refl
 ended : deactivated Call 64 (outgoing_of usual Call 64 0 leaving).view.link ≡ record { link = in_state 4; waiting = []; kept = []; told = ReleaseConfirm Call 64 ∷ [] }
 unfolding moments lines.after lines.answer lines.takes_slot teis.course teis.refusal seq exchanged read_by reading header_of control_of unnumbered_of supervisory_of
 ended = refl
+
+-- Of other requests: a check is refused while one goes on, and not while none does; and unit data of a TEI that is not on the line.
+abbrev refused_for : List Event → Request → Option Refusal
+refused_for events r = why_not usual events 0 (managed_after usual 0 events) r
+
+goes_on : refused_for (on ++ on_0 (Check 64) ∷ []) (Check 64) ≡ Some CheckRunning
+goes_on = refl
+
+none_goes_on : refused_for on (Check 64) ≡ None
+none_goes_on = refl
+
+no_unit : refused_for on (Unit Call 65 (1 ∷ [])) ≡ Some NoLink
+no_unit = refl

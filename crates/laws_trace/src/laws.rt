@@ -15,6 +15,7 @@ ghost use Rattle.laws_trace.specs.LinksMove.{LinksMove};
 ghost use Rattle.laws_trace.specs.News.{NewsIsTold};
 ghost use Rattle.laws_trace.specs.NoLossInVain.{NoLossInVain};
 ghost use Rattle.laws_trace.specs.NoSlotIsLost.{NoSlotIsLost};
+ghost use Rattle.laws_trace.specs.RefusalsAreTold.{RefusalsAreTold};
 ghost use Rattle.laws_trace.specs.RequestsTakeEffect.{RequestsTakeEffect};
 ghost use Rattle.laws_trace.specs.RoomsAreTold.{RoomsAreTold};
 ghost use Rattle.laws_trace.specs.TeisAreManaged.{TeisAreManaged};
@@ -201,8 +202,8 @@ pub fn nothing_is_lost_in_vain()
 /// one.
 ///
 /// **Messages** begin as the line is called for its next frame, before all other frames, the oldest first, whole, each
-/// once. At most four are owed. As the line is down none is owed any more, a check that runs is over, and T201 is
-/// stopped.
+/// once, in the octets of clause 5.3.1. At most four are owed. As the line is down none is owed any more, a check that
+/// runs is over, and T201 is stopped.
 ///
 /// **Granted** is exactly this. A TEI of at most 126 is put on a line that does not have it and has room. On the
 /// network's side more is granted, while fewer than four messages are owed. One that is on the line is removed, or
@@ -305,10 +306,11 @@ pub fn news_is_told()
 ///
 /// What waits, and what is kept, goes as [`what_is_given_is_due`] has it. A frame comes after those that wait, and is
 /// lost if these are as many as may wait. [`teis_are_managed`] and [`units_go_out`] say which of the other requests are
-/// granted, and what they come to. For which reason they are refused, the table of refusals alone says (`refused` of
-/// `Card::drive`; Q.921 clauses 5.5.1.1, 5.5.3.1, 5.5.3.2, 5.6.1 and 5.6.6, annex B and profile).
+/// granted, and what they come to. Those are refused, too, for the first reason that holds (`others`; Q.921 clauses
+/// 5.5.1.1, 5.5.3.1, 5.5.3.2, 5.6.1 and 5.6.6, annex B and profile).
 pub fn granted_requests_take_effect()
-    ensures { Always RequestsTakeEffect }
+    ensures links { Always RequestsTakeEffect }
+    ensures others { Always RefusalsAreTold }
 {}
 
 /// Rooms are told as they are. Let a link's TEI be on the line. Some places of its queue `FrameCard::room` tells as

@@ -3,16 +3,22 @@ use Rattle.lapd_clock.proofs.Vocabulary.{◌≡◌, ℕ, ◌+◌, ◌<◌, ◌�
 use Rattle.std.specs.Prelude.{Option, IfSome, fold, option_map}
 use Rattle.std.specs.Option.{option_map_or}
 use Rattle.std.proofs.lemmas.List.Sums.{fold-append}
+use Rattle.lapd_clock.specs.Timer.{T200, T203, T201}
 use Rattle.lapd_clock.proofs.First.{no_earlier}
 use Rattle.lapd_clock.proofs.Moments.{moment_of-none, of_itself}
-use Rattle.model_timed.specs.Clock.{Clock, obey, obeyed, stopped, due, first_due, without_first, at_moment}
+use Rattle.model_timed.specs.Clock.{Clock, obey, obeyed, stopped, due, first_due, without_first, at_moment, first_moment}
 use Rattle.model_timed.specs.Timed.{Kind, Timed, Step, happens, time, falls_due, after, after_all, with_expiry, expiry_at, IsInTime, IsPrompt, ArePrompt}
 use Rattle.model_timed.specs.Sayings.{Saying, ordered, expired, order_at, said, said_in, said_by_event, said_by_expiry, started_by, last_start}
-use Rattle.model_timed.specs.TimersAreTrue.{IsTrue, NoneIsPassed, TimersAreTrue}
+use Rattle.model_timed.specs.TimersAreTrue.{length_of, gone_to, IsTrue, NoneIsPassed, FallsDueAt, IsNext, TimersAreTrue}
 use Rattle.model_timed.proofs.Orders.{both, same-number, equal, start-moves, stop-moves, now-stays, lengths-stay, in-order, one-each, all-run}
 
+same-length : (lengths : Lengths) (timer : Timer) → duration lengths timer ≡ length_of lengths timer
+same-length lengths (T200 service tei) = refl
+same-length lengths (T203 service tei) = refl
+same-length lengths T201 = refl
+
 abbrev due_by : Lengths → Timer → Option ℕ → Option ℕ
-due_by lengths timer start = option_map (λ s. s + duration lengths timer) start
+due_by lengths timer start = option_map (λ s. s + length_of lengths timer) start
 
 -- What holds of a clock after sayings, where no timer is passed over by more than so much.
 record Goes (late : ℕ) (lengths : Lengths) (sayings : List Saying) (c : Clock) : Type 0 where
@@ -25,7 +31,7 @@ record Goes (late : ℕ) (lengths : Lengths) (sayings : List Saying) (c : Clock)
 -- an order, and orders one after the other
 by-start : (lengths : Lengths) (t : Timer) (now : ℕ) (b : Bool) (m : Option ℕ) (its : Option ℕ) (ls : Lengths) → ls ≡ lengths → its ≡ due_by lengths t m
     → cond b (Some (now + duration ls t)) its ≡ due_by lengths t (cond b (Some now) m)
-by-start lengths t now true m its ls same h = ap (λ x. Some (now + duration x t)) same
+by-start lengths t now true m its ls same h = ap (λ x. Some (now + duration x t)) same ∙ ap (λ n. Some (now + n)) (same-length lengths t)
 by-start lengths t now false m its ls same h = h
 
 by-stop : (lengths : Lengths) (t : Timer) (b : Bool) (m its : Option ℕ) → its ≡ due_by lengths t m → cond b None its ≡ due_by lengths t (cond b None m)
@@ -132,7 +138,7 @@ module _ (late : ℕ) (lengths : Lengths) where
       → IsTrue late lengths now sayings x
   is-true x now sayings None at is come passed = absurd (none-some x.moment (sym is))
   is-true x now sayings (Some s) at is come passed =
-      let same = same_Some x.moment (s + duration lengths x.timer) is in
+      let same = same_Some x.moment (s + length_of lengths x.timer) is in
       (s, at, omega (arith, same, come), omega (arith, same, passed))
 
   first-true : (sayings : List Saying) (ls : Lengths) (running : List Expiry) (now : ℕ) → Goes late lengths sayings (record { lengths = ls; running = running; now = now })
@@ -175,15 +181,58 @@ module _ (late : ℕ) (lengths : Lengths) where
   not-passed sayings c g line timer = go (last_start line timer sayings) (g.moments line timer)
     where
       go : (m : Option ℕ) → moment_of line timer c.running ≡ due_by lengths timer m → IfSome m (λ start.
-          (c.now ≤ start + duration lengths timer + late) × (due c ≡ None → c.now < start + duration lengths timer))
+          (c.now ≤ start + length_of lengths timer + late) × (due c ≡ None → c.now < start + length_of lengths timer))
       go None is = tt
       go (Some s) is = (
-        held-so (λ n. c.now ≤ n + late) line timer c.running (s + duration lengths timer) g.passed is,
-        λ none. held-so (λ n. c.now < n) line timer c.running (s + duration lengths timer) (none-due c.running c.now g.in_order none) is,
+        held-so (λ n. c.now ≤ n + late) line timer c.running (s + length_of lengths timer) g.passed is,
+        λ none. held-so (λ n. c.now < n) line timer c.running (s + length_of lengths timer) (none-due c.running c.now g.in_order none) is,
       )
+
+  -- and of the moment that is next
+  not-sooner : (e : Expiry) (es : List Expiry) → AllByRecursion (λ x. is_before x e ≡ false) es → AllByRecursion (λ x. e.moment ≤ x.moment) es
+  not-sooner e [] all = tt
+  not-sooner e (x ∷ xs) all = (no_earlier x e all.0, not-sooner e xs all.1)
+
+  not-started : (timer : Timer) (m : Option ℕ) → None ≡ due_by lengths timer m → m ≡ None
+  not-started timer None is = refl
+  not-started timer (Some s) is = absurd (none-some (s + length_of lengths timer) is)
+
+  falls-due : (sayings : List Saying) (e : Expiry) (m : Option ℕ) → last_start e.line e.timer sayings ≡ m → Some e.moment ≡ due_by lengths e.timer m → FallsDueAt lengths e.moment sayings
+  falls-due sayings e None started is = absurd (none-some e.moment (sym is))
+  falls-due sayings e (Some s) started is = (e.line, e.timer, s, started, same_Some e.moment (s + length_of lengths e.timer) is)
+
+  first-next : (sayings : List Saying) (ls : Lengths) (running : List Expiry) (now : ℕ) → Goes late lengths sayings (record { lengths = ls; running = running; now = now })
+      → IsNext lengths (first_moment running) sayings
+  first-next sayings ls [] now g = λ line timer. not-started timer (last_start line timer sayings) (g.moments line timer)
+  first-next sayings ls (e ∷ es) now g = (
+    falls-due sayings e (last_start e.line e.timer sayings) refl (sym (own-moment e es) ∙ g.moments e.line e.timer),
+    λ line timer. least line timer (last_start line timer sayings) (g.moments line timer),
+  )
+    where
+      least : (line : ℕ) (timer : Timer) (m : Option ℕ) → moment_of line timer (e ∷ es) ≡ due_by lengths timer m → IfSome m (λ start. e.moment ≤ start + length_of lengths timer)
+      least line timer None is = tt
+      least line timer (Some s) is = held-so (λ n. e.moment ≤ n) line timer (e ∷ es) (s + length_of lengths timer) (omega arith, not-sooner e es g.in_order.0) is
+
+-- The clock is where time went to last.
+module _ {Card Event : Type 0} (k : Kind Card Event) where
+  fallen-on-time : (t : Timed Card) (o : Option Expiry) → (option_map_or (with_expiry k t) o t).clock.now ≡ t.clock.now
+  fallen-on-time t None = refl
+  fallen-on-time t (Some x) =
+      let then = record t { clock = without_first t.clock } in now-stays (k.line (expiry_at k x)) then.clock (k.orders (expiry_at k x) then.card)
+
+  step-on-time : (t : Timed Card) (s : Step Event) → (after k s t).clock.now ≡ gone_to t.clock.now s
+  step-on-time t (happens e) = now-stays (k.line e) t.clock (k.orders e t.card)
+  step-on-time t (time moment) = refl
+  step-on-time t falls_due = fallen-on-time t (due t.clock)
+
+  all-on-time : (steps : List (Step Event)) (t : Timed Card) → (after_all k steps t).clock.now ≡ fold gone_to t.clock.now steps
+  unfolding after_all
+  all-on-time [] t = refl
+  all-on-time (s ∷ steps) t = all-on-time steps (after k s t) ∙ ap (λ n. fold gone_to n steps) (step-on-time t s)
 
 pub timers_are_true : {Card Event : Type 0} (k : Kind Card Event) → TimersAreTrue k
 timers_are_true k = record {
+  on_time = λ card lengths steps. all-on-time k steps (record { card = card; clock = stopped lengths });
   expiries = λ card lengths late steps prompt.
       let u = after_all k steps (record { card = card; clock = stopped lengths }) in
       first-true late lengths (said_in k steps (record { card = card; clock = stopped lengths })) u.clock.lengths u.clock.running u.clock.now
@@ -191,5 +240,9 @@ timers_are_true k = record {
   none_passed = λ card lengths late steps prompt.
       let u = after_all k steps (record { card = card; clock = stopped lengths }) in
       not-passed late lengths (said_in k steps (record { card = card; clock = stopped lengths })) u.clock
+      (all-go late lengths k [] (record { card = card; clock = stopped lengths }) steps (begins late lengths) prompt);
+  next = λ card lengths late steps prompt.
+      let u = after_all k steps (record { card = card; clock = stopped lengths }) in
+      first-next late lengths (said_in k steps (record { card = card; clock = stopped lengths })) u.clock.lengths u.clock.running u.clock.now
       (all-go late lengths k [] (record { card = card; clock = stopped lengths }) steps (begins late lengths) prompt);
 }

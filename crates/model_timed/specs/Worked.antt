@@ -18,6 +18,7 @@ use Rattle.model_timed.specs.Timed as timed
 use Rattle.model_timed.specs.Timed.{Step, happens, time, falls_due}
 use Rattle.model_timed.specs.Frames.{TimedCard, fresh, frames, after_all, events_of}
 use Rattle.model_timed.specs.Sayings.{said_in, last_start}
+use Rattle.model_timed.specs.TimersAreTrue.{moment_after, IsNext}
 
 abbrev pub usual : Config
 usual = record { lines = 1; terminals = 8; k = 7; k16 = 3; queue = 8; unit_queue = 4; control = 4; slots = 64; n201 = 260; n200 = 3; side = Network; sapi = 16; seed = None }
@@ -76,3 +77,11 @@ nothing_due = refl
 falls_at_40 : events_of (time 40 ∷ falls_due ∷ []) (after_all expired (fresh usual lengths)) ≡ at 0 (line.expiry (T200 Call 64)) ∷ []
 unfolding lines.after lines.answer lines.takes_slot exchanged read_by reading header_of control_of unnumbered_of supervisory_of teis.course teis.refusal seq distance_of named timed.after_all timed.events_of
 falls_at_40 = refl
+
+-- Time went on to 30 last. That nothing is next, where T200 runs, breaks the law.
+at_30 : moment_after expired ≡ 30
+at_30 = refl
+
+none_next : IsNext lengths None (said_in frames expired (fresh usual lengths)) → ⊥
+unfolding lines.after lines.answer lines.takes_slot exchanged read_by reading header_of control_of unnumbered_of supervisory_of teis.course teis.refusal seq distance_of named said_in
+none_next none = cc (none 0 (T200 Call 64))

@@ -190,18 +190,20 @@ fn write_notes(places: &mut [PlainNote; 4], notes: &[Note]) -> u8
     notes.len() as u8
 }
 
-// Mostly there is one order, or none, and then it is written in place.
+// Mostly there is one order, or none, or two, and then it is written in place.
 #[inline(always)]
 fn write_order_list(places: &mut [PlainOrder; 4], orders: &ShortList<Order>) -> u8
     ensures count { result ≡ length (listed orders.now) }
     ensures orders { take result places.new ≡ map plain_order (listed orders.now) }
 {
+    if let ShortList::One(orders) = orders {
+        return write_orders(places, orders);
+    }
     match orders {
         ShortList::None => 0,
         ShortList::One(orders) => write_orders(places, orders),
-        ShortList::Two(_) | ShortList::Three(_) | ShortList::Four(_) => {
-            write_several_orders(places, *orders)
-        }
+        ShortList::Two(orders) => write_orders(places, orders),
+        ShortList::Three(_) | ShortList::Four(_) => write_several_orders(places, *orders),
     }
 }
 

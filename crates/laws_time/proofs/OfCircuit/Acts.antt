@@ -71,7 +71,7 @@ same-services Packet Packet is = refl
 same-services Call Packet is = absurd (true≢false (sym is))
 same-services Packet Call is = absurd (true≢false (sym is))
 
-own-same : (service : Service) (tei : ℕ) (of : Service) (by : ℕ) → is_own service tei of by ≡ true → (of ≡ service) × (by ≡ tei)
+pub own-same : (service : Service) (tei : ℕ) (of : Service) (by : ℕ) → is_own service tei of by ≡ true → (of ≡ service) × (by ≡ tei)
 own-same service tei of by own = let both = and_parts (same_service of service) (by == tei) own in (sym (same-services of service both.0), eqb-true by tei both.1)
 
 and-none : (b : Bool) → (b && false) ≡ false

@@ -46,20 +46,20 @@ same-frame : (f g : List ℕ) → stream.frame f ≡ stream.frame g → f ≡ g
 same-frame f g is = cc is
 
 -- A frame that is heard in a stream of frames is one of them, and nothing else is.
-one-of : (P : List ℕ → Type 0) (fs : List (List ℕ)) (xs ys : List stream.Event) (o : List ℕ) → framed fs ≡ xs ++ stream.frame o ∷ ys → All P fs → P o
+pub one-of : (P : List ℕ → Type 0) (fs : List (List ℕ)) (xs ys : List stream.Event) (o : List ℕ) → framed fs ≡ xs ++ stream.frame o ∷ ys → All P fs → P o
 one-of P [] [] ys o is all = absurd (cc is)
 one-of P [] (x ∷ xs) ys o is all = absurd (cc is)
 one-of P (f ∷ fs) [] ys o is all = subst P (same-frame f o (cc is)) (All-head P f fs all)
 one-of P (f ∷ fs) (x ∷ xs) ys o is all = one-of P fs xs ys o (cc is) (All-tail P f fs all)
 
-none-overlong : (fs : List (List ℕ)) (xs ys : List stream.Event) (head : List ℕ) → framed fs ≡ xs ++ stream.overlong head ∷ ys → ⊥
+pub none-overlong : (fs : List (List ℕ)) (xs ys : List stream.Event) (head : List ℕ) → framed fs ≡ xs ++ stream.overlong head ∷ ys → ⊥
 none-overlong [] [] ys head is = cc is
 none-overlong [] (x ∷ xs) ys head is = cc is
 none-overlong (f ∷ fs) [] ys head is = cc is
 none-overlong (f ∷ fs) (x ∷ xs) ys head is = none-overlong fs xs ys head (cc is)
 
 -- A pull gives an octet, and receives none.
-same-received : (o : Option line.Answer) (p : Port) → (with_octet (with_item o p)).received ≡ p.received
+pub same-received : (o : Option line.Answer) (p : Port) → (with_octet (with_item o p)).received ≡ p.received
 same-received None p = refl
 same-received (Some a) p = refl
 
@@ -132,7 +132,7 @@ module _ (service : Service) (tei transit : ℕ) (lengths : Lengths) (rate : ℕ
   -- The moment comes.
   module _ (moment n S M : ℕ) (rs : List Request) (a : TimedEndpoint) (h : End S M a) (rests : Rests a) (low : a.clock.now ≤ moment) (high : moment ≤ a.clock.now + 1)
       (counts : Counts n a) (soon : n + 1 ≤ (moment + 1) * rate) (all : All (IsOfLink service tei) rs) where
-    at-moment : End S M (at_time moment a)
+    pub at-moment : End S M (at_time moment a)
     at-moment = record {
       but = record {
         ends = h.but.ends;

@@ -84,7 +84,7 @@ sends-none n201 kind most p is = subst (λ p. Sends n201 kind most p []) (sym is
 })
 
 module _ (c : Config) (service : Service) (tei number way : ℕ) (ranged : IsInRange c) (within : number < c.lines) (few : tei ≤ 126) (lengths : Lengths) (in_range : AreInRange lengths) (rate : ℕ) where
-  abbrev start : OctetEndpoint
+  abbrev pub start : OctetEndpoint
   start = record (octet_endpoint c number) { way = flags way }
 
   abbrev begun : OctetEndpoint
@@ -97,10 +97,10 @@ module _ (c : Config) (service : Service) (tei number way : ℕ) (ranged : IsInR
   unfolding after_all meant_all frame_moments
   ran-start = record { within = within; events = []; at_lines = All-nil (IsAtLine (fresh c)); is = refl; exact = All-nil GivesOctets }
 
-  port-is : port_of (circuit.happens (port.request (Assign tei)) (record (octet_endpoint c number) { way = flags way })) ≡ fresh_port
+  pub port-is : port_of (circuit.happens (port.request (Assign tei)) (record (octet_endpoint c number) { way = flags way })) ≡ fresh_port
   port-is = port-after start (port.request (Assign tei)) (within-ports c ranged start ran-start) ∙ fresh_at c number within
 
-  none-ordered : octet_orders (answered (port.request (Assign tei)) start) ≡ []
+  pub none-ordered : octet_orders (answered (port.request (Assign tei)) start) ≡ []
   none-ordered = orders-are (octet_at number (port.request (Assign tei))) start.card (Some (line.request (Assign tei))) refl ∙ assign-orders number tei start.card.card
 
   abbrev ends : Ends c service tei 0 ranged (circuit.happens (port.request (Assign tei)) (record (octet_endpoint c number) { way = flags way }))

@@ -56,7 +56,7 @@ use Rattle.laws_time.specs.circuit.Clocked.{TimedEndpoint, happens}
 use Rattle.laws_time.specs.circuit.LongEnough.{is_of, is_waiting}
 use Rattle.model_line.specs.Taken.{own_side}
 
-or-false : (b : Bool) → (b || false) ≡ b
+pub or-false : (b : Bool) → (b || false) ≡ b
 or-false true = refl
 or-false false = refl
 

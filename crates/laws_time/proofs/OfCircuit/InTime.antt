@@ -10,16 +10,16 @@ use Rattle.laws_time.specs.circuit.Clocked.{Clocked, after}
 use Rattle.laws_time.specs.circuit.LongEnough.{Line, IsFit, IsTalk, AnswersComeInTime, begins}
 
 module _ (l : Line) (fit : IsFit l) where
-  abbrev near_card : TimedOctetCard
+  abbrev pub near_card : TimedOctetCard
   near_card = fresh l.near l.lengths
 
-  abbrev far_card : TimedOctetCard
+  abbrev pub far_card : TimedOctetCard
   far_card = fresh l.far l.lengths
 
-  abbrev PairNow : Clocked → Type 0
+  abbrev pub PairNow : Clocked → Type 0
   PairNow w = Pair l fit.some fit.call.near.0 fit.call.far.0 fit.call.opposite.0 fit.call.opposite.1 fit.t200 (fresh l.near l.lengths) (fresh l.far l.lengths) w
 
-  pair-begins : PairNow (begins l)
+  pub pair-begins : PairNow (begins l)
   pair-begins =
       let call = fit.call in
       let most = by_now l fit.some call.near.0 call.far.0 call.opposite.0 call.opposite.1 fit.t200 near_card far_card 0 in

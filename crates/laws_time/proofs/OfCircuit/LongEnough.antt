@@ -11,9 +11,7 @@ use Rattle.lapd_clock.specs.Timers.{Expiry, is_of as timer_is_of}
 use Rattle.lapd_frame.specs.declared.controls.Control.{Control}
 use Rattle.lapd_frame.specs.declared.services.Service.{Service}
 use Rattle.lapd_frame.specs.declared.timers.Timer.TheVariants as timers
-use Rattle.lapd_frame.specs.declared.addresses.Side.{Side}
-use Rattle.lapd_frame.specs.declared.addresses.Side.TheVariants.{Network, User}
-use Rattle.lapd_frame.specs.Grammar.{Parts, other_side}
+use Rattle.lapd_frame.specs.Grammar.{Parts}
 use Rattle.model_bits.specs.Stream as stream
 use Rattle.model_link.specs.Link.{state_number}
 use Rattle.model_line.specs.Sound.{IsInRange}
@@ -68,7 +66,7 @@ is-due : (n m : ℕ) → nat_le n m ≡ true → n ≤ m
 is-due n m is = grind arith
 
 -- The moment of a timer that falls due.
-due-is : (line now : ℕ) (its : Rattle.lapd_frame.specs.declared.timers.Timer.Timer) (xs : List Expiry) (x : Expiry) → AllByRecursion (λ x. x.line ≡ line) xs → first_due xs now ≡ Some x → x.timer ≡ its
+pub due-is : (line now : ℕ) (its : Rattle.lapd_frame.specs.declared.timers.Timer.Timer) (xs : List Expiry) (x : Expiry) → AllByRecursion (λ x. x.line ≡ line) xs → first_due xs now ≡ Some x → x.timer ≡ its
     → (moment_of line its xs ≡ Some x.moment) × (x.moment ≤ now)
 due-is line now its [] x here is same = cc is
 due-is line now its (e ∷ es) x here is same = go (nat_le e.moment now) refl is
@@ -132,19 +130,19 @@ module _ (l : Line) (some : 1 ≤ l.rate) (near : IsInRange l.near) (far : IsInR
     abbrev moment : ℕ
     moment = w.beats / l.rate
 
-    soon : w.beats + 1 ≤ (w.beats / l.rate + 1) * l.rate
+    pub soon : w.beats + 1 ≤ (w.beats / l.rate + 1) * l.rate
     soon = soon-now w.beats l.rate some
 
-    near-low : w.near.clock.now ≤ w.beats / l.rate
+    pub near-low : w.near.clock.now ≤ w.beats / l.rate
     near-low = subst (λ n. n ≤ w.beats / l.rate) (sym p.both.near_now) (next-moment l.rate w.beats some).0
 
-    near-high : w.beats / l.rate ≤ w.near.clock.now + 1
+    pub near-high : w.beats / l.rate ≤ w.near.clock.now + 1
     near-high = subst (λ n. w.beats / l.rate ≤ n + 1) (sym p.both.near_now) (next-moment l.rate w.beats some).1
 
-    far-low : w.far.clock.now ≤ w.beats / l.rate
+    pub far-low : w.far.clock.now ≤ w.beats / l.rate
     far-low = subst (λ n. n ≤ w.beats / l.rate) (sym p.both.far_now) (next-moment l.rate w.beats some).0
 
-    far-high : w.beats / l.rate ≤ w.far.clock.now + 1
+    pub far-high : w.beats / l.rate ≤ w.far.clock.now + 1
     far-high = subst (λ n. w.beats / l.rate ≤ n + 1) (sym p.both.far_now) (next-moment l.rate w.beats some).1
 
     -- As timers fall due,
@@ -158,11 +156,11 @@ module _ (l : Line) (some : 1 ≤ l.rate) (near : IsInRange l.near) (far : IsInR
 
     -- and after the beat.
     module _ (clear_near : IsClearAt l.near.n201 b.near_noise (gone l.rate b w).near (gone l.rate b w).far) (clear_far : IsClearAt l.near.n201 b.far_noise (gone l.rate b w).far (gone l.rate b w).near) where
-      near-gone : Gone l.service l.tei l.way l.lengths l.rate l.near near (w.beats / l.rate) w.beats p.S (by_now p.S2) (gone l.rate b w).near
+      pub near-gone : Gone l.service l.tei l.way l.lengths l.rate l.near near (w.beats / l.rate) w.beats p.S (by_now p.S2) (gone l.rate b w).near
       near-gone =
           gone-on l.service l.tei l.way l.lengths l.rate l.near near (w.beats / l.rate) w.beats p.S (by_now p.S2) b.near_asks w.near p.near_ok p.both.near near-low near-high p.near_counts soon talk.0
 
-      far-gone : Gone l.service l.tei l.way l.lengths l.rate l.far far (w.beats / l.rate) w.beats p.S2 (by_now p.S) (gone l.rate b w).far
+      pub far-gone : Gone l.service l.tei l.way l.lengths l.rate l.far far (w.beats / l.rate) w.beats p.S2 (by_now p.S) (gone l.rate b w).far
       far-gone =
           gone-on l.service l.tei l.way l.lengths l.rate l.far far (w.beats / l.rate) w.beats p.S2 (by_now p.S) b.far_asks w.far p.far_ok p.both.far far-low far-high p.far_counts soon talk.1
 
@@ -205,6 +203,10 @@ module _ (l : Line) (some : 1 ≤ l.rate) (near : IsInRange l.near) (far : IsInR
             far_counts = record { given = y.given; received = omega (arith, far_received, far_before); way = short (gone l.rate b w).far (beat l.rate w b).far y.way k.way };
           }
 
+      pub pair-later : p.S ≤ pair-then.S
+      unfolding pair-then
+      pair-later = let gone_later = near-gone.later in let heard_later = near-heard.later in omega (arith, gone_later, heard_later)
+
   pub all-pairs : (bs : List Beat) → All (IsTalk l) bs → (w : Clocked) → AreClear l bs w → Pair w → Pair (after l.rate bs w)
   unfolding AreClear
   all-pairs [] talk w clear p = p
@@ -212,7 +214,7 @@ module _ (l : Line) (some : 1 ≤ l.rate) (near : IsInRange l.near) (far : IsInR
       all-pairs bs (All-tail (IsTalk l) b bs talk) (beat l.rate w b) clear.2 (pair-then w p b (All-head (IsTalk l) b bs talk) clear.0 clear.1)
 
   -- T200 that falls due runs at least as long as the answer takes.
-  long-ago : (S beats m : ℕ) → S + l.lengths.t200 * l.rate ≤ (m + 1) * l.rate → m ≤ beats / l.rate → S + answered_in l.near l.far l.way ≤ beats
+  pub long-ago : (S beats m : ℕ) → S + l.lengths.t200 * l.rate ≤ (m + 1) * l.rate → m ≤ beats / l.rate → S + answered_in l.near l.far l.way ≤ beats
   long-ago S beats m started low =
       let whole = mul-div-le beats l.rate in
       let up = mul-le (m + 1) l.rate (beats / l.rate + 1) l.rate (omega (arith, low)) (omega arith) in
@@ -222,13 +224,13 @@ module _ (l : Line) (some : 1 ≤ l.rate) (near : IsInRange l.near) (far : IsInR
   same-longest : longest_text l.near.n201 / 8 ≡ longest_text l.far.n201 / 8
   same-longest = ap (λ n. longest_text n / 8) size
 
-  near-in-all : (S : ℕ) → l.way + (S + half l.near l.service l.tei 0 near) < S + answered_in l.near l.far l.way
+  pub near-in-all : (S : ℕ) → l.way + (S + half l.near l.service l.tei 0 near) < S + answered_in l.near l.far l.way
   near-in-all S = omega arith
 
-  far-in-all : (S : ℕ) → l.way + (S + half l.far l.service l.tei 0 far) < S + answered_in l.near l.far l.way
+  pub far-in-all : (S : ℕ) → l.way + (S + half l.far l.service l.tei 0 far) < S + answered_in l.near l.far l.way
   far-in-all S = let same = same-longest in omega (arith, same)
 
-  in-all : (S : ℕ) → l.way + by_now S < S + answered_in l.near l.far l.way
+  pub in-all : (S : ℕ) → l.way + by_now S < S + answered_in l.near l.far l.way
   in-all S = let same = same-longest in omega (arith, same)
 
   module _ (w : Clocked) (p : Pair w) (b : Beat) (talk : IsTalk l b) (n : ℕ) where

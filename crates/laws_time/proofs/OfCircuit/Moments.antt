@@ -29,7 +29,7 @@ is_waiting n = n == 5 || (n == 6 || n == 8)
 pub awaits-in : (o : Observed) → is_waiting o.state ≡ true → awaits o ≡ true
 awaits-in o is = grind arith
 
-not-7 : (n : ℕ) → is_waiting n ≡ true → (n == 7) ≡ false
+pub not-7 : (n : ℕ) → is_waiting n ≡ true → (n == 7) ≡ false
 not-7 n is = grind (arith, eqb-true)
 
 abbrev is_own_t200 : Service → ℕ → line.Event → Bool

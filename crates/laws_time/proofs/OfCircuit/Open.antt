@@ -51,7 +51,7 @@ stuffed-longest [] = omega arith
 stuffed-longest (true ∷ true ∷ true ∷ true ∷ true ∷ b) = let more = stuffed-longest b in omega (arith, more)
 stuffed-longest (x ∷ b) = let more = stuffed-longest b in omega (arith, more)
 
-short-text : (octets : List ℕ) → length octets ≤ 4 → length (item_text (frame octets)) ≤ 72
+pub short-text : (octets : List ℕ) → length octets ≤ 4 → length (item_text (frame octets)) ≤ 72
 short-text octets few = grind (arith, stuffed-longest, length-append, length-bits, length-check)
 
 -- A state that awaits nothing puts no command.

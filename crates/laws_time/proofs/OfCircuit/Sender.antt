@@ -57,14 +57,14 @@ module _ (n201 : ℕ) where
         subst (GoOut n201 p.given) exact
         (go_out n201 sent_items p.given (left_of p) (same_text p.items ∙ h.sound.text.text) (heard_whole n201 p.items h.on.long h.sound.sizes) (cut_sent p.items p.given h.on.cut))
 
-    all-given : (front : List Item) → p.items ≡ front ++ idle ∷ [] → framed (frames_among p.items) ≡ heard_in n201 p.given
+    pub all-given : (front : List Item) → p.items ≡ front ++ idle ∷ [] → framed (frames_among p.items) ≡ heard_in n201 p.given
     all-given front is =
         subst (λ frames. framed frames ≡ heard_in n201 p.given) exact
         (all_out n201 sent_items p.given (left_of p) (same_text p.items ∙ h.sound.text.text) (heard_whole n201 p.items h.on.long h.sound.sizes)
         (map sent front) (ap (map sent) is ∙ map-append sent front (idle ∷ [])) (cut_sent p.items p.given h.on.cut))
 
     -- what was given is no longer than the text
-    given-short : 8 * length p.given ≤ text_length p.items
+    pub given-short : 8 * length p.given ≤ text_length p.items
     given-short = let all = ap length h.sound.text.text ∙ length-append (bits p.given) (left_of p) in omega (arith, all, length-bits p.given)
 
   -- An octet more is given, before which an item may be put on the line.

@@ -1,5 +1,5 @@
 -- An end of the circuit, on whose line one link alone speaks, after each event.
-use Rattle.std.proofs.Common.{arith, ◌≡◌, ℕ, ◌<◌, Bool, true, false, cond, List, [], ◌∷◌, ◌++◌, length, map, Option, Some, None, option_map, refl, sym, ap, ◌∙◌, subst, All, inl, inr, append-nil}
+use Rattle.std.proofs.Common.{arith, ◌≡◌, ℕ, ◌<◌, Bool, true, false, cond, List, [], ◌∷◌, ◌++◌, length, map, Option, Some, None, option_map, refl, sym, ap, ◌∙◌, subst, All, ◌⊎◌, inl, inr, append-nil}
 use Rattle.std.proofs.lemmas.List.{set-get_or}
 use Rattle.std.proofs.lemmas.List.Elements.{All-nil, All-append, All-cons, All-head, All-tail}
 use Rattle.std.specs.Option.{option_map_or}
@@ -40,7 +40,8 @@ use Rattle.laws_wire.specs.Wire as wire
 use Rattle.laws_wire.specs.Wire.{Endpoint as FrameEndpoint, frames_by}
 use Rattle.laws_wire.proofs.LineSpeaks.{Speaks}
 use Rattle.laws_wire.proofs.Answered.{gives-taken}
-use Rattle.laws_wire.proofs.Standing.{IsCarried, StationStands, asks-stands, expires-stands, takes-stands, gives-stands, gives-frames}
+use Rattle.laws_wire.proofs.Speaking.{said_by}
+use Rattle.laws_wire.proofs.Standing.{IsCarried, StationStands, asks-stands, Granted, expires-stands, takes-stands, gives-stands, gives-frames}
 use Rattle.laws_order.specs.circuit.Circuit.{Endpoint as OctetEndpoint, port_of, happens}
 use Rattle.laws_order.proofs.OfCircuit.AsFrames.{as_station, if_meant, heard-as, asked-as, pulled-as}
 use Rattle.laws_order.proofs.OfCircuit.AtPort.{next_of_card, pull-between, pull-put, pull-given}
@@ -51,7 +52,7 @@ use Rattle.laws_time.proofs.OfCircuit.Taken.{Took, takes-now}
 use Rattle.model_line.specs.Taken.{own_side}
 
 -- An expiry as the card of frames inside has it.
-expired-reply : (timer : Timer) (s : OctetEndpoint) (way : List (List ℕ))
+pub expired-reply : (timer : Timer) (s : OctetEndpoint) (way : List (List ℕ))
     → as_station way (happens (port.expiry timer) s) ≡ wire.happens (line.expiry timer) (as_station way s)
 unfolding after answer meant line_answer takes_slot
 expired-reply timer s way = grind (arith, append-nil)
@@ -180,13 +181,28 @@ module _ (c : Config) (service : Service) (tei place : ℕ) (ranged : IsInRange 
         given = ap (λ (p : Port). p.given) same-port;
       }
 
+      abbrev Stood : Type 0
+      Stood =
+          (wire.happens (line.request r) (as_station [] s) ≡ as_station [] s)
+          ⊎ Granted service tei place (as_station [] s) (bare h.its) own r asked aims (wire.happens (line.request r) (as_station [] s))
+
+      asked-by : Stood → Moved s (happens (port.request r) s) h IsThat
+      asked-by (inl none) = refused-moved (subst (λ z. StationStands c service tei place z (bare h.its)) (sym (asked-is ∙ ap bared none)) h.stands)
+      asked-by (inr g) =
+          granted-moved (finish s.card.card.config h.stands.config asked_then (wire.happens (line.request r) (as_station [] s)) (with_link (link.requested asked false) (bare h.its)) asked-is g.stands)
+
       pub ends-asked : Moved s (happens (port.request r) s) h IsThat
-      ends-asked =
-          elim (asks-stands service tei place (as_station [] s) (bare h.its) own r asked aims) [
-            | inl none ↦ refused-moved (subst (λ z. StationStands c service tei place z (bare h.its)) (sym (asked-is ∙ ap bared none)) h.stands)
-            | inr g ↦ granted-moved (finish s.card.card.config h.stands.config asked_then (wire.happens (line.request r) (as_station [] s))
-                (with_link (link.requested asked false) (bare h.its)) asked-is g.stands)
-          ]
+      ends-asked = asked-by (asks-stands service tei place (as_station [] s) (bare h.its) own r asked aims)
+
+      -- What it is told, if it is granted.
+      told-by : (x : Stood) (e : link.Event) → (asked-by x).event ≡ Some e → (happens (port.request r) s).told ≡ s.told ++ said_by (links.course (terms c service tei) (link.requested asked false) h.its)
+      unfolding asked-by refused-moved granted-moved
+      told-by (inl none) e is = cc is
+      told-by (inr g) e is = ap (λ (x : FrameEndpoint). x.told) asked-is ∙ g.told
+
+      pub asked-told : (e : link.Event) → ends-asked.event ≡ Some e → (happens (port.request r) s).told ≡ s.told ++ said_by (links.course (terms c service tei) (link.requested asked false) h.its)
+      unfolding ends-asked
+      asked-told e is = told-by (asks-stands service tei place (as_station [] s) (bare h.its) own r asked aims) e is
 
     -- a timer of the link expires
     module _ (timer : Timer) (its : LinkTimer) (aims : (l : Line) → aim_of_expiry timer l ≡ at_timer service tei its (place_in l tei)) where
@@ -273,6 +289,10 @@ module _ (c : Config) (service : Service) (tei place : ℕ) (ranged : IsInRange 
               given = ap (λ (p : Port). p.given) port-now;
             }
 
+        pub heard-event : (is : gained s.card.card.config.n201 (port_of s).received value ≡ Some (stream.frame octets)) → (heard-frame is).event ≡ Some (link.received (link.frame f))
+        unfolding heard-frame
+        heard-event is = refl
+
     -- ---- an octet is pulled
 
     abbrev pulled : OctetEndpoint
@@ -287,6 +307,7 @@ module _ (c : Config) (service : Service) (tei place : ℕ) (ranged : IsInRange 
       pub value : ℕ
       pub gave : Gave c.n201 (port_of s) (port_of (happens port.pull s)) new value
       pub took : Took c service tei new h.its.waiting ends.its.waiting
+      pub its_is : (ends.its ≡ h.its) ⊎ (ends.its ≡ links.after (terms c service tei) link.offer h.its)
 
     not-due : is_due (port_of s) ≡ false → Pulled
     not-due none =
@@ -298,6 +319,7 @@ module _ (c : Config) (service : Service) (tei place : ℕ) (ranged : IsInRange 
           value = given.0;
           gave = record { few = omega arith; items = between.1 ∙ sym (append-nil (port_of s).items); given = given.1 };
           took = inl (refl, refl);
+          its_is = inl refl;
         }
 
     given-now : Option NextFrame
@@ -352,6 +374,7 @@ module _ (c : Config) (service : Service) (tei place : ℕ) (ranged : IsInRange 
           value = given.0;
           gave = record { few = omega arith; items = put; given = given.1 };
           took = inr (takes-now c service tei h.its (given_in (next_of_card s.line s.card.card)) frames-are carried);
+          its_is = inr refl;
         }
       where
         gives-so : (a : Answer) → next_of_card s.line s.card.card ≡ a → (f : NextFrame) → given_in a ≡ Some f → AreOctets f.octets

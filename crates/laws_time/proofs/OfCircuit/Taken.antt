@@ -43,7 +43,7 @@ module _ (c : Config) (service : Service) (tei : ℕ) where
   abbrev pub TookDue : List Item → List ControlFrame → List ControlFrame → Type 0
   TookDue new ws now =
       ((f : ControlFrame) × (new ≡ frame (text f) ∷ []) × (ws ≡ f ∷ now))
-      ⊎ ((now ≡ []) × ((o : List ℕ) → new ≡ frame o ∷ [] → (p : Parts) × (o ≡ spelling (own_side c) p) × (reading (own_side c) o ≡ Ok p) × IsPlain p))
+      ⊎ ((now ≡ []) × ((o : List ℕ) → new ≡ frame o ∷ [] → (p : Parts) × (o ≡ spelling (own_side c) p) × (reading (own_side c) o ≡ Ok p) × IsPlain p) × (ws ≡ []))
 
   abbrev pub Took : List Item → List ControlFrame → List ControlFrame → Type 0
   Took new ws now = ((new ≡ []) × (now ≡ ws)) ⊎ TookDue new ws now
@@ -98,7 +98,7 @@ module _ (c : Config) (service : Service) (tei : ℕ) where
       go : (ws : List ControlFrame) → l.waiting ≡ ws → TookDue (item_of o ∷ []) l.waiting (links.after (terms c service tei) link.offer l).waiting
       go [] is =
           let x = given-none l is in
-          inr (x.0, λ octets put. plain (frame_given (terms c service tei) (links.given (terms c service tei) l)) x.1 carried octets (sym (one o octets put) ∙ are))
+          inr (x.0, λ octets put. plain (frame_given (terms c service tei) (links.given (terms c service tei) l)) x.1 carried octets (sym (one o octets put) ∙ are), is)
       go (f ∷ fs) is =
           let x = given-first l f fs is in
           inl (f, named o (text f) (are ∙ ap (map (spelling (own_side c))) x.0), is ∙ ap (λ ws. f ∷ ws) (sym x.1))

@@ -7,8 +7,11 @@ use Rattle.lapd_c.specs.Calls.{Begins, fresh, HasBegun}
 use Rattle.lapd_c.specs.Config.{config_fault, config_in}
 use Rattle.lapd_c.specs.Kept.{timers_held, TimersStandIn}
 use Rattle.lapd_c.specs.Timers.{lengths_in}
-use Rattle.lapd_c.proofs.Starting.{read-is, read-meets}
+use Rattle.lapd_c.proofs.Starting.{none-wrong, read-is, read-meets}
 use Rattle.lapd_c.proofs.card.start_timed.Goals as goal
+
+pub returns-clause-fault : goal.returns-clause-fault
+returns-clause-fault c _ = none-wrong _ (config_fault c.args.config.now) c.read.result c.in-Ok.value c.read.ensures.fault c.in-Ok.is
 
 pub returns-clause-begun : goal.returns-clause-begun
 returns-clause-begun c _ =

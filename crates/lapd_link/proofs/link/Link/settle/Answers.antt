@@ -3,4 +3,4 @@ use Rattle.lapd_link.proofs.Vocabulary.{◌≤◌, List, sym, subst, Order, star
 use Rattle.lapd_link.proofs.link.Link.settle.Goals as goal
 
 pub returns-clause-starts : goal.returns-clause-starts
-returns-clause-starts g c = subst (λ (orders : List Order). starts orders ≤ 1) (sym c.orders-report.ensures) (one-start c.args.self.now.terms c.args.before c.args.report.now.started c.running.result)
+returns-clause-starts g c = subst (λ (orders : List Order). starts orders ≤ 1) (sym c.put_orders.ensures) (one-start c.args.self.now.terms c.args.before c.args.report.now.started c.running-after.result)

@@ -1,24 +1,39 @@
--- One place changes, and no timer falls due before the lesser of both moments.
-use Rattle.std.proofs.Common.{◌∙◌, refl, ap, arith}
+-- One place changes, and which leads in its line.
+use Rattle.std.proofs.Common.{◌∙◌, ◌*◌, refl, ap, subst, arith}
+use Rattle.lapd_moments.specs.Bounds.{IsLead}
 use Rattle.lapd_moments.specs.Places.{with_timer}
-use Rattle.lapd_moments.proofs.Standing.{changed_is, set_later, there}
-use Rattle.lapd_moments.proofs.Bounds.{started, own-line, its-line-there, bound-is}
+use Rattle.lapd_moments.proofs.Keeping.{of-line, in-places, its-lead, used-within, lead-within, kept-after}
+use Rattle.lapd_moments.proofs.Standing.{changed_is, there}
 use Rattle.lapd_moments.proofs.moments.Moments.start.Goals as goal
+
+pub lead_after-least-requires-clause-used : goal.lead_after-least-requires-clause-used
+lead_after-least-requires-clause-used c =
+    let within = there c.args.place c.self.inside.places.items c.args.self.now c.self.view_is c.requires.place in
+    used-within c.self.inside.not_before c.self.inside.each c.args.place c.self.inside.bounds.items c.self.inside.leads.items c.self.inside.places.items c.index_mut-its.result.now c.self.invariant within c.index_mut-its.ensures.value
+    c.index.result.now c.index-2.result.now c.deref.result.now _ c.index.ensures c.index-2.ensures c.deref.ensures.value
+
+pub lead_after-least-requires-clause-there : goal.lead_after-least-requires-clause-there
+lead_after-least-requires-clause-there c =
+    let within = there c.args.place c.self.inside.places.items c.args.self.now c.self.view_is c.requires.place in
+    lead-within c.self.inside.not_before c.self.inside.each c.args.place c.self.inside.bounds.items c.self.inside.leads.items c.self.inside.places.items c.index_mut-its.result.now c.self.invariant within c.index_mut-its.ensures.value
+    c.index.result.now c.index-2.result.now c.deref.result.now _ c.index.ensures c.index-2.ensures c.deref.ensures.value
 
 pub invariant_of-self : goal.invariant_of-self
 invariant_of-self c =
     let within = there c.args.place c.self.inside.places.items c.args.self.now c.self.view_is c.requires.place in
-    record {
-      bounded = started c.self.inside.each c.self.inside.bounds.items c.self.inside.places.items c.args.place c.index_mut-its.result.now.line _ _ c.self.invariant.bounded within refl
-          (own-line c.self.inside.each c.self.inside.bounds.items c.self.inside.places.items c.args.place c.index_mut-its.result.now c.self.invariant.bounded within c.index_mut-its.ensures.value)
-          (omega (
-            arith,
-            bound-is c.self.inside.bounds.items c.index_mut-its.result.now.line c.index.result.now
-                (its-line-there c.self.inside.each c.self.inside.bounds.items c.self.inside.places.items c.args.place c.index_mut-its.result.now c.self.invariant.bounded within c.index_mut-its.ensures.value) c.index.ensures,
-          ))
-          (omega arith);
-      none_before = set_later _ c.self.inside.not_before c.self.inside.places.items c.args.place _ (omega arith) (omega arith) c.self.invariant.none_before;
-    }
+    let nb = c.self.inside.not_before in
+    let each = c.self.inside.each in
+    let bounds = c.self.inside.bounds.items in
+    let leads = c.self.inside.leads.items in
+    let ps = c.self.inside.places.items in
+    let u = c.index_mut-its.result.now in
+    let at_it = c.index_mut-its.ensures.value in
+    kept-after nb each c.args.place bounds leads ps u c.self.invariant within at_it c.min-self-inside.result c.lead_after-least.result.0 c.lead_after-least.result.1 _ refl (omega arith) (omega arith)
+    (subst (λ xs. IsLead (u.line * each) each c.lead_after-least.result.0 c.lead_after-least.result.1 xs) c.deref.ensures.value
+    (c.lead_after-least.ensures each ps _
+    (its-lead nb each c.args.place bounds leads ps u c.self.invariant within at_it c.index.result.now c.index-2.result.now c.index.ensures c.index-2.ensures)
+    (of-line nb each c.args.place bounds leads ps u c.self.invariant within at_it).high
+    (in-places nb each c.args.place bounds leads ps u c.self.invariant within at_it) refl c.deref.ensures.value))
 
 pub returns : goal.returns
 returns c =

@@ -1,0 +1,54 @@
+-- A timer that is started anew in its place.
+use Rattle.std.proofs.lemmas.Bool.{and_parts}
+use Rattle.lapd_clock.proofs.Vocabulary.{◌≡◌, ◌==◌, ℕ, ◌<◌, ◌≤◌, true, List, length, get_or, set, sym, ap, ◌∙◌, subst, arith, get_or-map, Timer, Expiry, is_same, never}
+use Rattle.lapd_moments.specs.OfCard.{Holds, HoldsOwn, HoldsT201, IsLayout}
+use Rattle.lapd_moments.specs.Places.{expiry_of, expiries_of, nothing, at, with_timer, IsRestarted, RunsAt}
+use Rattle.lapd_moments.specs.declared.place.Place.{Place}
+use Rattle.lapd_moments.proofs.OfCard.{equal, itself, length_set, replaced}
+use Rattle.lapd_moments.proofs.Standing.{changed_is, same_count}
+use Rattle.lapd_clock.specs.Timers.{is_of}
+use Rattle.model_link.specs.declared.timers.LinkTimer.{LinkTimer}
+
+pub restarted-is : (ps : List Place) (es : List Expiry) (place : ℕ) (u : Place) (line : ℕ) (timer : Timer) (moment : ℕ) → expiries_of ps ≡ es → place < length ps → u ≡ get_or ps place u → u.line ≡ line
+    → is_same u.timer timer ≡ true → (u.moment ≡ never → ⊥) → u.moment ≤ never → IsRestarted line timer moment es (expiries_of (set ps place (record u { moment = moment })))
+restarted-is ps es place u line timer moment is within at_it own same runs small =
+    let it : at place es ≡ expiry_of u = ap (at place) (sym is) ∙ get_or-map expiry_of ps place u nothing within ∙ ap expiry_of (sym at_it) in
+    let timer_is : u.timer ≡ timer = equal u.timer timer same in
+    record {
+      place = place;
+      runs = record {
+        within = omega (arith, within, same_count ps, ap length is);
+        runs = subst (λ (e : Expiry). e.moment < never) (sym it) (less small runs);
+        its = ap (is_of line timer) it ∙ itself (expiry_of u) line timer own timer_is;
+      };
+      is = changed_is ps place u u.timer moment within at_it ∙ ap (with_timer place u.timer moment) is ∙ ap (λ t. with_timer place t moment es) timer_is;
+    }
+  where
+    less : {a b : ℕ} → a ≤ b → (a ≡ b → ⊥) → a < b
+    less le ne = grind arith
+
+-- which timer runs
+timer-is : (i line : ℕ) (timer : Timer) (es : List Expiry) → RunsAt i line timer es → (at i es).timer ≡ timer
+timer-is i line timer es runs = equal (at i es).timer timer (and_parts ((at i es).line == line) (is_same (at i es).timer timer) runs.its).1
+
+-- it is held as before
+pub holds_restarted : (lines links : ℕ) (slot : ℕ → ℕ → LinkTimer → ℕ) (t201 : ℕ → ℕ) (IsOn : ℕ → ℕ → ℕ → Type 0) (es : List Expiry) → Holds lines links slot t201 IsOn es
+    → (i line : ℕ) (timer : Timer) (moment : ℕ) → RunsAt i line timer es → Holds lines links slot t201 IsOn (with_timer i timer moment es)
+holds_restarted lines links slot t201 IsOn es h i line timer moment runs = record {
+  layout = subst (λ n. IsLayout lines links n slot t201) (sym (length_set es i _)) h.layout;
+  at_links = λ line' number k there within. replaced (HoldsOwn IsOn line' number k) es i (slot line' number k) _ runs.within
+      (λ same was. record {
+        line_is = ap (λ n. (at n es).line) (sym same) ∙ was.line_is;
+        its = λ soon. let who = was.its (subst (λ n. (at n es).moment < never) (sym same) runs.runs) in (who.0, (who.1.0, sym its-timer ∙ ap (λ n. (at n es).timer) (sym same) ∙ who.1.1));
+      })
+      (h.at_links line' number k there within);
+  at_lines = λ line' there. replaced (HoldsT201 line') es i (t201 line') _ runs.within
+      (λ same was. record {
+        line_is = ap (λ n. (at n es).line) (sym same) ∙ was.line_is;
+        its = λ soon. sym its-timer ∙ ap (λ n. (at n es).timer) (sym same) ∙ was.its (subst (λ n. (at n es).moment < never) (sym same) runs.runs);
+      })
+      (h.at_lines line' there);
+}
+  where
+    its-timer : (at i es).timer ≡ timer
+    its-timer = timer-is i line timer es runs

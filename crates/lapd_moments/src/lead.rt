@@ -1,0 +1,124 @@
+//! Which place of a line falls due first, when one of them changes.
+
+ghost use Rattle.std.specs.Prelude.{◌≡◌, ◌+◌, ◌*◌, ◌<◌, ◌≤◌, ℕ, List, length, set, IfOk};
+ghost use Rattle.lapd_moments.specs.Bounds.{IsEarliest, IsLead};
+ghost use Rattle.lapd_moments.specs.Places.{AreFirstPlaces};
+
+use crate::place::{NEVER, Place};
+use std::alloc::{AllocError, Global};
+
+/// The place of a line that falls due first, and what is known of the others.
+#[derive(Clone, Copy, Debug)]
+pub(crate) struct Lead {
+    /// No place of the line has a lesser moment than this one.
+    pub place: usize,
+    /// No other place has a lesser moment than this.
+    pub others: u64,
+    /// How many places of the line have been used, from its first one on: no timer has run at those after them.
+    pub used: usize,
+}
+
+/// Of each line its first place leads, since none has been used.
+pub(crate) fn first_places(
+    alloc: Global,
+    lines: usize,
+    each: usize,
+) -> Result<Vec<Lead>, AllocError>
+    requires lines { lines ≤ 64 }
+    requires each { each ≤ 33 }
+    ensures count { IfOk result (λ leads. length leads.items ≡ lines) }
+    ensures first { IfOk result (λ leads. AreFirstPlaces each leads.items) }
+{
+    let mut leads = Vec::with_capacity(alloc, lines)?;
+    for line in 0..lines {
+        leads.push(Lead {
+            place: line * each,
+            others: NEVER,
+            used: 0,
+        })?;
+    }
+    Ok(leads)
+}
+
+/// Which place leads, of a line whose places begin here, and its moment, now that a place of the line has this moment. `lead` led
+/// before, and its moment was `bound`.
+///
+/// The places are looked through only if the place that led has a moment after what is known of the others.
+#[inline(always)]
+pub(crate) fn lead_after(
+    places: &[Place],
+    begin: usize,
+    lead: Lead,
+    bound: u64,
+    place: usize,
+    moment: u64,
+) -> (u64, Lead)
+    requires within { begin ≤ place × place < length places.now }
+    requires used { begin + lead.used ≤ length places.now }
+    requires there { lead.place < length places.now }
+    ensures { (count : ℕ) (before : List Place) (p : Place) → IsLead begin count bound lead before → place < begin + count → begin + count ≤ length before
+        → p.moment ≡ moment → places.now ≡ set before place p → IsLead begin count result.0 result.1 places.now }
+{
+    let used = lead.used.max(place + 1 - begin);
+    if place != lead.place {
+        if moment < bound {
+            return (
+                moment,
+                Lead {
+                    place,
+                    others: bound,
+                    used,
+                },
+            );
+        }
+        let others = lead.others.min(moment);
+        return (
+            bound,
+            Lead {
+                place: lead.place,
+                others,
+                used,
+            },
+        );
+    }
+    if moment <= lead.others {
+        return (
+            moment,
+            Lead {
+                place,
+                others: lead.others,
+                used,
+            },
+        );
+    }
+    let (first, others) = earliest(&places[begin..begin + used]);
+    let place = begin + first;
+    (
+        places[place].moment,
+        Lead {
+            place,
+            others,
+            used,
+        },
+    )
+}
+
+/// Which of the places has the least moment, and a moment before which no other falls due.
+fn earliest(places: &[Place]) -> (usize, u64)
+    requires { 1 ≤ length places.now }
+    ensures { IsEarliest (length places.now) result.0 result.1 places.now }
+{
+    let mut first = 0;
+    let mut others = NEVER;
+    for place in 1..places.len() {
+        let moment = places[place].moment;
+        let least = places[first].moment;
+        if moment < least {
+            others = least;
+            first = place;
+        } else {
+            others = others.min(moment);
+        }
+    }
+    (first, others)
+}

@@ -1,0 +1,342 @@
+-- No answer is awaited longer than T200 may run out.
+use Rattle.std.proofs.Common.{arith, ◌≡◌, ℕ, ◌+◌, ◌-◌, ◌*◌, ◌<◌, ◌≤◌, ◌==◌, ◌&&◌, ◌||◌, not, Bool, true, false, cond, List, [], ◌∷◌, ◌++◌, Option, Some, None, refl, sym, ap, ◌∙◌, subst, eqb-true, is_some, inl, inr, append-nil, append_assoc, option_map}
+use Rattle.std.specs.Option.{option_map_or}
+use Rattle.std.specs.Prelude.{option_to_list, nat_lt, fold}
+use Rattle.std.proofs.lemmas.Bool.{true≢false, ltb-true}
+use Rattle.std.proofs.lemmas.Nat.{mul-le}
+use Rattle.lapd_clock.specs.Timer.{Lengths, is_same}
+use Rattle.lapd_clock.specs.Timers.{Expiry, is_of}
+use Rattle.lapd_frame.specs.declared.services.Service.{Service}
+use Rattle.lapd_frame.specs.declared.timers.Timer.{Timer}
+use Rattle.lapd_frame.specs.declared.timers.Timer.TheVariants as timers
+use Rattle.lapd_frame.specs.Services.{same_service}
+use Rattle.model_line.proofs.Obeyed.{both-true, services-equal}
+use Rattle.model_line.specs.Event as line_event
+use Rattle.model_line.specs.Event.{Answer, expiry, hears, request, next}
+use Rattle.model_line.specs.Sound.{IsInRange}
+use Rattle.model_line.specs.declared.config.Config.{Config}
+use Rattle.model_link.specs.declared.timers.LinkTimer.{LinkTimer}
+use Rattle.model_link.specs.declared.timers.LinkTimer.TheVariants.{T200, T203}
+use Rattle.model_card.specs.Card as cards
+use Rattle.model_card.specs.Card.{state}
+use Rattle.model_card.specs.Event.{Event, at}
+use Rattle.model_card.specs.Machine.{answer}
+use Rattle.model_card.specs.Run as runs_of
+use Rattle.model_card.specs.Run.{Moment}
+use Rattle.laws_trace.specs.Managing.{is_on}
+use Rattle.laws_trace.specs.Observer.{Observed, View, view_of, view_behind, by_event, by_t200, by_frame_begun, awaits, moment_of}
+use Rattle.laws_trace.specs.TimersAreTimely.{runs, is_anew, is_timer_of}
+use Rattle.laws_trace.specs.Trace.{is_own, frame_in}
+use Rattle.model_timed.specs.Clock.{Clock, due, without_first, at_moment}
+use Rattle.model_timed.specs.Frames.{TimedCard, fresh, after, event_of, IsNoExpiry}
+use Rattle.model_timed.specs.Frames.{after_all, events_of, ArePrompt}
+use Rattle.model_timed.specs.Timed.{Step, happens, time, falls_due}
+unfoldable use Rattle.model_timed.specs.Timed.{after_all as timed_after_all, events_of as timed_events_of, ArePrompt as TimedArePrompt}
+use Rattle.laws_time.specs.Watched.{of_frames}
+use Rattle.laws_time.specs.ArrivalsAwaited.{NoAnswerIsAwaitedLonger}
+unfoldable use Rattle.laws_time.specs.ArrivalsAwaited.{StaysIn}
+use Rattle.laws_time.proofs.TimedFrames.{with_event, expiry_of, with_expiry as timed_expiry, IsPrompt}
+use Rattle.laws_time.proofs.Links.{view-then, on-where, state-is, elsewhere, stays-on}
+use Rattle.laws_time.proofs.Moments.{own, IsOf}
+use Rattle.laws_time.proofs.Walk.{Stands, Holds, seen, step, q-is}
+use Rattle.laws_time.proofs.Falls.{in-time}
+use Rattle.laws_time.proofs.Before.{Goes, other-line, step-goes, dropped-holds, before-goes, begins, t200-leads, expired-anew}
+use Rattle.laws_time.proofs.Phases.{one-more}
+use Rattle.laws_time.proofs.OfCircuit.Moments.{is_waiting, awaits-in, not-anew}
+
+abbrev is_own_t200 : Service → ℕ → line_event.Event → Bool
+is_own_t200 service tei (expiry (timers.T200 of by)) = is_own service tei of by
+is_own_t200 service tei other = false
+
+-- As long as the state stays, T200 alone counts expiries.
+one-count : (c : Config) (service : Service) (tei : ℕ) (o : Observed) (f : List ℕ) → (by_frame_begun c service tei o f).expiries ≡ o.expiries
+one-count c service tei o f = grind arith
+
+begun-count : (c : Config) (service : Service) (tei : ℕ) (fs : List (List ℕ)) (o : Observed) → (fold (by_frame_begun c service tei) o fs).expiries ≡ o.expiries
+begun-count c service tei [] o = refl
+begun-count c service tei (f ∷ fs) o = begun-count c service tei fs (by_frame_begun c service tei o f) ∙ one-count c service tei o f
+
+one-of-three : (n : ℕ) → is_waiting n ≡ true → (P : ℕ → Type 0) → P 5 → P 6 → P 8 → P n
+one-of-three n is P five six eight = go (n == 5) refl (n == 6) refl
+  where
+    go : (a : Bool) → (n == 5) ≡ a → (b : Bool) → (n == 6) ≡ b → P n
+    go true e b f = subst P (sym (eqb-true n 5 e)) five
+    go false e true f = subst P (sym (eqb-true n 6 f)) six
+    go false e false f = subst P (sym (eqb-true n 8 (ap (λ x. x || (false || (n == 8))) (sym e) ∙ ap (λ x. (n == 5) || (x || (n == 8))) (sym f) ∙ is))) eight
+
+counts-same : (c : Config) (service : Service) (tei : ℕ) (what : line_event.Event) (a : Answer) (o : Observed) → is_own_t200 service tei what ≡ false → is_waiting o.state ≡ true
+    → (by_event c service tei what a o).state ≡ o.state → (by_event c service tei what a o).expiries ≡ o.expiries
+counts-same c service tei (hears e) a o other waits same = grind arith
+counts-same c service tei (request r) a o other waits same = grind arith
+counts-same c service tei (expiry timer) a o other waits same = grind arith
+counts-same c service tei next a o other waits same = begun-count c service tei (frame_in a) o
+
+-- T200 expires there: it does so once more, or the state is left.
+led-on : (n200 : ℕ) (o : Observed) → is_waiting o.state ≡ true → nat_lt o.expiries n200 ≡ true → by_t200 n200 o ≡ record o { expiries = o.expiries + 1 }
+led-on n200 o waits less = grind (arith, eqb-true)
+
+led-out : (n200 : ℕ) (o : Observed) → is_waiting o.state ≡ true → nat_lt o.expiries n200 ≡ false → (by_t200 n200 o).state ≡ o.state → ⊥
+led-out n200 o waits none same = grind (arith, eqb-true)
+
+no-expiry : (service : Service) (tei : ℕ) (what : line_event.Event) → IsNoExpiry what → is_own_t200 service tei what ≡ false
+no-expiry service tei what none = grind arith
+
+differs : (service : Service) (tei : ℕ) (timer its : Timer) → IsOf service tei its → is_timer_of service tei timer ≡ false → is_same timer its ≡ false
+differs service tei timer its of none = go (is_same timer its) refl
+  where
+    go : (b : Bool) → is_same timer its ≡ b → b ≡ false
+    go true e = absurd (true≢false (sym (own service tei its timer of e) ∙ none))
+    go false e = refl
+
+and-false : (b : Bool) → (b && false) ≡ false
+and-false true = refl
+and-false false = refl
+
+module _ (c : Config) (lengths : Lengths) (late number : ℕ) (ranged : IsInRange c) (within : number < c.lines) (service : Service) (tei n limit : ℕ) (waiting : is_waiting n ≡ true) where
+  abbrev G : List Event → TimedCard → Type 0
+  G events t = Goes c lengths late number ranged within service tei events t
+
+  abbrev S : List Event → TimedCard → Type 0
+  S events t = Stands c lengths late number ranged within service tei events t
+
+  abbrev o_at : List Event → Observed
+  o_at events = seen c lengths late number ranged within service tei events
+
+  abbrev H : List Event → Clock → (ℕ → Type 0) → Type 0
+  H events clock P = Holds c lengths late number ranged within service tei T200 events clock P
+
+  -- T200 falls due so early that all expiries that are left come by the limit.
+  abbrev D : ℕ → ℕ → Type 0
+  D expiries m = m + late + (c.n200 - expiries) * (lengths.t200 + late) ≤ limit
+
+  pub record Awaits (events : List Event) (t : TimedCard) : Type 0 where
+    pub goes : G events t
+    pub on : is_on tei (view_of c service tei number events).teis ≡ true
+    pub state_is : (o_at events).state ≡ n
+    pub due_by : H events t.clock (D (o_at events).expiries)
+
+  waits-at : (o : Observed) → o.state ≡ n → is_waiting o.state ≡ true
+  waits-at o is = ap is_waiting is ∙ waiting
+
+  runs-at : (o : Observed) → o.state ≡ n → runs T200 o ≡ true
+  runs-at o is = awaits-in o (waits-at o is)
+
+  abbrev IsThere : List Event → Event → Type 0
+  IsThere events e = (is_on tei (view_of c service tei number (events ++ e ∷ [])).teis ≡ true) × ((o_at (events ++ e ∷ [])).state ≡ n)
+
+  -- An event of the line.
+  module _ (events : List Event) (t u : TimedCard) (w : Awaits events t) (s : S events u) (what : line_event.Event)
+      (g : G (events ++ at number what ∷ []) (with_event (at number what) u)) (there : IsThere events (at number what)) where
+    abbrev o : Observed
+    o = o_at events
+
+    abbrev q : Observed
+    q = (view_behind c service tei number events what).link
+
+    abbrev more : List Event
+    more = events ++ at number what ∷ []
+
+    is-q : o_at (events ++ at number what ∷ []) ≡ q
+    is-q = q-is c lengths late number ranged within service tei events u s what T200
+
+    on-then : is_on tei (view_behind c service tei number events what).teis ≡ true
+    on-then = ap (λ (v : View). is_on tei v.teis) (sym (view-then c service tei number events (at number what))) ∙ there.0
+
+    same-state : q.state ≡ o.state
+    same-state = ap (λ (x : Observed). x.state) (sym is-q) ∙ there.1 ∙ sym w.state_is
+
+    -- that is not the expiry of T200
+    still : is_own_t200 service tei what ≡ false → H events u.clock (D o.expiries) → Awaits (events ++ at number what ∷ []) (with_event (at number what) u)
+    still other h =
+        let by = stays-on c events number ranged s.all within service tei what w.on on-then in
+        let count : q.expiries ≡ o.expiries =
+        ap (λ (x : Observed). x.expiries) by
+        ∙ counts-same c service tei what (moment_of c events number what).answer o other (waits-at o w.state_is) (ap (λ (x : Observed). x.state) (sym by) ∙ same-state) in
+        let none : is_anew c service tei T200 o q what ≡ false = not-anew c events number ranged s.all within service tei what u.clock (waits-at o w.state_is) same-state (omega (arith, count)) in
+        let never : (not (runs T200 o) || is_anew c service tei T200 o q what) ≡ false =
+        ap (λ b. not b || is_anew c service tei T200 o q what) (runs-at o w.state_is) ∙ none in
+        record {
+          goes = g;
+          on = there.0;
+          state_is = there.1;
+          due_by = step c lengths late number ranged within service tei events u s what T200 (D o.expiries) (D (o_at more).expiries) (λ run kept. h run)
+              (λ run m late_is d. subst (λ e. D e m) (sym (ap (λ (x : Observed). x.expiries) is-q ∙ count)) d)
+              (λ begun run. absurd (true≢false (sym begun ∙ never)));
+        }
+
+  -- It falls due at m, and expires once more.
+  again : (now m e : ℕ) → now ≤ m + late → e < c.n200 → D e m → D (e + 1) (now + lengths.t200)
+  again now m e late_is less d =
+      let one : c.n200 - e ≡ (c.n200 - (e + 1)) + 1 = omega (arith, less) in
+      let left = ap (λ k. k * (lengths.t200 + late)) one ∙ one-more (c.n200 - (e + 1)) (lengths.t200 + late) in
+      omega (arith, d, left, late_is)
+
+  module _ (events : List Event) (t u : TimedCard) (w : Awaits events t) (s : S events u) (same_now : u.clock.now ≡ t.clock.now)
+      (g : G (events ++ at number (expiry (timers.T200 service tei)) ∷ []) (with_event (at number (expiry (timers.T200 service tei))) u))
+      (there : IsThere events (at number (expiry (timers.T200 service tei)))) where
+    abbrev its : line_event.Event
+    its = expiry (timers.T200 service tei)
+
+    abbrev o_was : Observed
+    o_was = o_at events
+
+    leads : o_at (events ++ at number (expiry (timers.T200 service tei)) ∷ []) ≡ by_t200 c.n200 o_was
+    leads = is-q events t u w s its g there ∙ t200-leads c number ranged within service tei events s.all w.on
+
+    expired : Awaits (events ++ at number (expiry (timers.T200 service tei)) ∷ []) (with_event (at number (expiry (timers.T200 service tei))) u)
+    expired = go (nat_lt o_was.expiries c.n200) refl
+      where
+        go : (b : Bool) → nat_lt o_was.expiries c.n200 ≡ b → Awaits (events ++ at number (expiry (timers.T200 service tei)) ∷ []) (with_event (at number (expiry (timers.T200 service tei))) u)
+        go false none = absurd (led-out c.n200 o_was (waits-at o_was w.state_is) none (ap (λ (x : Observed). x.state) (sym leads) ∙ there.1 ∙ sym w.state_is))
+        go true less =
+            let count = ap (λ (x : Observed). x.expiries) (leads ∙ led-on c.n200 o_was (waits-at o_was w.state_is) less) in
+            let d = w.due_by (runs-at o_was w.state_is) in
+            record {
+              goes = g;
+              on = there.0;
+              state_is = there.1;
+              due_by = step c lengths late number ranged within service tei events u s its T200 (λ m. ⊥) (D (o_at (events ++ at number its ∷ [])).expiries)
+                  (λ run kept. absurd (true≢false (sym (expired-anew c number ranged within service tei events s.all T200 run) ∙ kept)))
+                  (λ run m late_is h. absurd h)
+                  (λ begun run. subst (λ e. D e (u.clock.now + lengths.t200)) (sym count)
+                  (again u.clock.now d.0 o_was.expiries (subst (λ k. k ≤ d.0 + late) (sym same_now) d.2) (ltb-true o_was.expiries c.n200 less) d.3));
+            }
+
+  -- An event at another line.
+  elsewhere-awaits : (events : List Event) (t u : TimedCard) → Awaits events t → S events u → (e : Event) → (e.line == number) ≡ false → G (events ++ e ∷ []) (with_event e u) → IsThere events e
+      → H events u.clock (D (o_at events).expiries) → Awaits (events ++ e ∷ []) (with_event e u)
+  elsewhere-awaits events t u w s e other g there h =
+      let m : Moment = record { card = runs_of.after_all (cards.fresh c) events; event = e; answer = answer e (runs_of.after_all (cards.fresh c) events) } in
+      let same : o_at (events ++ e ∷ []) ≡ o_at events =
+      ap (λ (v : View). v.link) (view-then c service tei number events e) ∙ elsewhere c service tei number (view_of c service tei number events) m other w.on in
+      record {
+        goes = g;
+        on = there.0;
+        state_is = there.1;
+        due_by = subst (λ (o : Observed). H (events ++ e ∷ []) (with_event e u).clock (D o.expiries)) (sym same)
+            (other-line c lengths late number ranged within service tei events u s (D (o_at events).expiries) e T200 other h);
+      }
+
+  event-awaits : (events : List Event) (t u : TimedCard) → Awaits events t → S events u → (e : Event) → G (events ++ e ∷ []) (with_event e u) → IsThere events e
+      → ((e.line == number) ≡ false → H events u.clock (D (o_at events).expiries))
+      → (G (events ++ at number e.what ∷ []) (with_event (at number e.what) u) → IsThere events (at number e.what) → Awaits (events ++ at number e.what ∷ []) (with_event (at number e.what) u))
+      → Awaits (events ++ e ∷ []) (with_event e u)
+  event-awaits events t u w s e g there apart here = go (e.line == number) refl
+    where
+      go : (b : Bool) → (e.line == number) ≡ b → Awaits (events ++ e ∷ []) (with_event e u)
+      go false other = elsewhere-awaits events t u w s e other g there (apart other)
+      go true own_line =
+          let is = eqb-true e.line number own_line in
+          subst (λ n. Awaits (events ++ at n e.what ∷ []) (with_event (at n e.what) u)) (sym is)
+          (here (subst (λ n. G (events ++ at n e.what ∷ []) (with_event (at n e.what) u)) is g) (subst (λ n. IsThere events (at n e.what)) is there))
+
+  -- A timer falls due.
+  module _ (events : List Event) (t : TimedCard) (w : Awaits events t) (x : Expiry) (is : due t.clock ≡ Some x) where
+    abbrev u : TimedCard
+    u = record t { clock = without_first t.clock }
+
+    based : S events u
+    based = record { card = w.goes.stands.card; all = w.goes.stands.all; lengths_are = w.goes.stands.lengths_are }
+
+    dropped : is_of number (timers.T200 service tei) x ≡ false → H events u.clock (D (o_at events).expiries)
+    dropped other run = dropped-holds c lengths late number ranged within service tei (D (o_at events).expiries) events t x is T200 other (w.due_by run)
+
+    by-timer : is_same x.timer (timers.T200 service tei) ≡ false → is_of number (timers.T200 service tei) x ≡ false
+    by-timer other = ap (λ b. (x.line == number) && b) other ∙ and-false (x.line == number)
+
+    abbrev Own : Timer → Type 0
+    Own timer = G (events ++ at number (expiry timer) ∷ []) (with_event (at number (expiry timer)) u) → IsThere events (at number (expiry timer))
+        → Awaits (events ++ at number (expiry timer) ∷ []) (with_event (at number (expiry timer)) u)
+
+    foreign : (timer : Timer) → x.timer ≡ timer → is_own_t200 service tei (expiry timer) ≡ false → is_same timer (timers.T200 service tei) ≡ false → Own timer
+    foreign timer same none other g there =
+        still events t u w based (expiry timer) g there none (dropped (by-timer (ap (λ timer. is_same timer (timers.T200 service tei)) same ∙ other)))
+
+    any : (timer : Timer) → x.timer ≡ timer → Own timer
+    any timers.T201 same = foreign timers.T201 same refl refl
+    any (timers.T203 of by) same = foreign (timers.T203 of by) same refl refl
+    any (timers.T200 of by) same = go (is_own service tei of by) refl
+      where
+        go : (b : Bool) → is_own service tei of by ≡ b → Own (timers.T200 of by)
+        go false none = foreign (timers.T200 of by) same none (differs service tei (timers.T200 of by) (timers.T200 service tei) (inl refl) none)
+        go true mine =
+            let parts = both-true (same_service of service) (by == tei) mine in
+            let is_it : timers.T200 of by ≡ timers.T200 service tei = ap (λ s. timers.T200 s by) (services-equal of service parts.0) ∙ ap (timers.T200 service) (eqb-true by tei parts.1) in
+            subst Own (sym is_it) (expired events t u w based refl)
+
+    fell-awaits : G (events ++ expiry_of x ∷ []) (with_event (expiry_of x) u) → IsThere events (expiry_of x) → Awaits (events ++ expiry_of x ∷ []) (with_event (expiry_of x) u)
+    fell-awaits g there =
+        event-awaits events t u w based (expiry_of x) g there (λ other. dropped (ap (λ b. b && is_same x.timer (timers.T200 service tei)) other)) (any x.timer refl)
+
+  -- A step.
+  there-now : (events : List Event) (e : Event) (t : TimedCard) → G (events ++ e ∷ []) t → state number service tei t.card ≡ Some n → IsThere events e
+  there-now events e t g is =
+      let its = ap (state number service tei) (sym g.stands.card) ∙ is in
+      (on-where c (events ++ e ∷ []) number ranged g.stands.all within service tei (ap is_some its), state-is c (events ++ e ∷ []) number ranged g.stands.all within service tei n its)
+
+  step-awaits : (events : List Event) (t : TimedCard) (d : Step Event) → Awaits events t → IsPrompt late d t → state number service tei (after d t).card ≡ Some n
+      → Awaits (events ++ option_to_list (event_of d t)) (after d t)
+  step-awaits events t (happens e) w prompt is =
+      let g = step-goes c lengths late number ranged within service tei events t (happens e) w.goes prompt in
+      event-awaits events t t w w.goes.stands e g (there-now events e (with_event e t) g is) (λ other. w.due_by)
+      (λ g2 there. still events t t w w.goes.stands e.what g2 there (no-expiry service tei e.what prompt.1) w.due_by)
+  step-awaits events t (time moment) w prompt is =
+      let u = record t { clock = at_moment moment t.clock } in
+      subst (λ es. Awaits es (record t { clock = at_moment moment t.clock })) (sym (append-nil events))
+      (record {
+        goes = subst (λ es. G es (record t { clock = at_moment moment t.clock })) (append-nil events) (step-goes c lengths late number ranged within service tei events t (time moment) w.goes prompt);
+        on = w.on;
+        state_is = w.state_is;
+        due_by = λ run. let d = w.due_by run in (d.0, d.1, in-time late moment number (timers.T200 service tei) t.clock.running d.0 prompt.1 d.1, d.3);
+      })
+  step-awaits events t falls_due w prompt is = go (due t.clock) refl (step-goes c lengths late number ranged within service tei events t falls_due w.goes prompt) is
+    where
+      go : (o : Option Expiry) → due t.clock ≡ o → G (events ++ option_to_list (option_map expiry_of o)) (option_map_or (timed_expiry t) o t)
+          → state number service tei (option_map_or (timed_expiry t) o t).card ≡ Some n → Awaits (events ++ option_to_list (option_map expiry_of o)) (option_map_or (timed_expiry t) o t)
+      go None is g at_n = subst (λ es. Awaits es t) (sym (append-nil events)) w
+      go (Some x) is g at_n = fell-awaits events t w x is g (there-now events (expiry_of x) (timed_expiry t x) g at_n)
+
+  pub steps-await : (events : List Event) (t : TimedCard) (steps : List (Step Event)) → Awaits events t → ArePrompt late steps t → StaysIn of_frames number service tei n steps t
+      → Awaits (events ++ events_of steps t) (after_all steps t)
+  unfolding timed_after_all timed_events_of TimedArePrompt StaysIn
+  steps-await events t [] w prompt stays = subst (λ es. Awaits es t) (sym (append-nil events)) w
+  steps-await events t (d ∷ steps) w prompt stays =
+      subst (λ es. Awaits es (after_all steps (after d t))) (append_assoc events (option_to_list (event_of d t)) (events_of steps (after d t)))
+      (steps-await (events ++ option_to_list (event_of d t)) (after d t) steps (step-awaits events t d w prompt.0 stays.0) prompt.1 stays.1)
+
+  pub in-the-limit : (events : List Event) (t : TimedCard) → Awaits events t → t.clock.now ≤ limit
+  in-the-limit events t w = let d = w.due_by (runs-at (o_at events) w.state_is) in omega (arith, d.2, d.3)
+
+pub no-answer-is-awaited-longer : NoAnswerIsAwaitedLonger of_frames
+no-answer-is-awaited-longer service c lengths late number tei n before steps ranged within waiting prompt_before prompt at_n stays =
+    in-the-limit c lengths late number ranged within service tei n limit waiting (events ++ events_of steps t) (after_all steps t)
+    (steps-await c lengths late number ranged within service tei n limit waiting events t steps first prompt stays)
+  where
+    t : TimedCard
+    t = after_all before (fresh c lengths)
+
+    events : List Event
+    events = events_of before (fresh c lengths)
+
+    limit : ℕ
+    limit = (after_all before (fresh c lengths)).clock.now + (c.n200 + 1) * (lengths.t200 + late)
+
+    g : Goes c lengths late number ranged within service tei (events_of before (fresh c lengths)) (after_all before (fresh c lengths))
+    g = before-goes c lengths late number ranged within service tei [] (fresh c lengths) before (begins c lengths late number ranged within service tei) prompt_before
+
+    its : state number service tei (runs_of.after_all (cards.fresh c) (events_of before (fresh c lengths))) ≡ Some n
+    its = ap (state number service tei) (sym g.stands.card) ∙ at_n
+
+    early : (now m e : ℕ) → m ≤ now + lengths.t200 → m + late + (c.n200 - e) * (lengths.t200 + late) ≤ now + (c.n200 + 1) * (lengths.t200 + late)
+    early now m e low =
+        let fewer = mul-le (c.n200 - e) (lengths.t200 + late) c.n200 (lengths.t200 + late) (omega arith) (omega arith) in
+        let whole = one-more c.n200 (lengths.t200 + late) in
+        omega (arith, fewer, whole, low)
+
+    first : Awaits c lengths late number ranged within service tei n limit waiting events t
+    first = record {
+      goes = g;
+      on = on-where c (events_of before (fresh c lengths)) number ranged g.stands.all within service tei (ap is_some its);
+      state_is = state-is c (events_of before (fresh c lengths)) number ranged g.stands.all within service tei n its;
+      due_by = λ run. let d = g.timers_are T200 run in (d.0, d.1, d.2, early t.clock.now d.0 (seen c lengths late number ranged within service tei events).expiries d.3);
+    }

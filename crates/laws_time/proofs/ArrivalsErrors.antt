@@ -1,0 +1,188 @@
+-- By which events N200 is used up, and how often T200 has expired.
+use Rattle.std.proofs.Common.{arith, ◌≡◌, ℕ, ◌+◌, ◌-◌, ◌==◌, ◌&&◌, ◌||◌, not, Bool, true, false, cond, List, [], ◌∷◌, ◌++◌, map, length, Option, Some, None, Ok, Err, refl, sym, ap, ◌∙◌, eqb-true, eq-eqb, inl, inr, ◌⊎◌, append-nil}
+use Rattle.std.specs.Option.{option_map_or, option_and_then}
+use Rattle.std.specs.Result.{result_err}
+use Rattle.std.specs.Prelude.{option_to_list, nat_lt, flat_map}
+use Rattle.std.specs.List.{list_any}
+use Rattle.std.proofs.lemmas.Bool.{true≢false}
+use Rattle.std.proofs.lemmas.Grind.{flat_map-append}
+use Rattle.std.proofs.lemmas.List.Folds.{list_any-append}
+use Rattle.lapd_frame.specs.declared.controls.Control.{Control}
+use Rattle.lapd_frame.specs.declared.controls.Control.TheVariants.{Information, ReceiveReady, ReceiveNotReady, Reject, Sabme, Disc, Ui, Ua, Dm, Frmr, Xid}
+use Rattle.lapd_frame.specs.declared.faults.ReadFault.{ReadFault}
+use Rattle.lapd_frame.specs.declared.notes.ErrorCode.{ErrorCode}
+use Rattle.lapd_frame.specs.declared.notes.ErrorCode.TheVariants.{A, F, J, K, O}
+use Rattle.lapd_frame.specs.declared.notes.Note.{Note}
+use Rattle.lapd_frame.specs.declared.notes.Note.TheVariants.{Error}
+use Rattle.lapd_frame.specs.Grammar.{Parts}
+use Rattle.lapd_frame.specs.Senders.{reading, long_reading}
+use Rattle.lapd_frame.specs.declared.overlong.Long.TheVariants as long
+use Rattle.model_bits.specs.Stream as stream
+use Rattle.model_line.specs.Heard.{heard_side}
+use Rattle.lapd_frame.specs.declared.services.Service.{Service}
+use Rattle.lapd_frame.specs.declared.timers.Timer.{Timer}
+use Rattle.lapd_frame.specs.declared.timers.Timer.TheVariants as timers
+use Rattle.model_line.specs.Event as line_event
+use Rattle.model_line.specs.Event.{Answer, expiry, hears, request, next}
+use Rattle.model_line.specs.declared.config.Config.{Config}
+use Rattle.model_link.specs.declared.timers.LinkTimer.TheVariants.{T200, T203}
+use Rattle.model_card.specs.Card.{state}
+use Rattle.model_card.specs.Event.{Event}
+use Rattle.model_card.specs.Machine.{answer}
+use Rattle.laws_trace.specs.LinkFrames.{malformed, fault_of, faulty_long, its_frame, frame_of}
+use Rattle.laws_trace.specs.News.{notes_due, wrong, wrong_frame, wrong_number, given_up, due as due_notes, brings, is_xid, is_sabme, releases}
+use Rattle.laws_trace.specs.Observer.{Observed, by_event, by_expiry, by_t200, awaits}
+use Rattle.laws_trace.specs.TimersAreTimely.{runs}
+use Rattle.laws_trace.specs.Trace.{is_own, is_up, frame_in}
+use Rattle.model_timed.specs.Timed.{time}
+use Rattle.laws_time.specs.circuit.Arriving.{error_in, is_used_up}
+use Rattle.laws_time.proofs.Links.{there}
+use Rattle.laws_time.proofs.OfCircuit.Moments.{is_waiting, not-7}
+
+abbrev pub Used : List Note → Bool
+Used ns = list_any is_used_up (flat_map error_in ns)
+
+pub used-append : (ns ms : List Note) → Used ns ≡ false → Used ms ≡ false → Used (ns ++ ms) ≡ false
+used-append ns ms first then =
+    ap (list_any is_used_up) (flat_map-append error_in ns ms) ∙ list_any-append is_used_up (flat_map error_in ns) (flat_map error_in ms)
+    ∙ ap (λ b. b || Used ms) first ∙ then
+
+abbrev pub is_own_t200 : Service → ℕ → line_event.Event → Bool
+is_own_t200 service tei (expiry (timers.T200 of by)) = is_own service tei of by
+is_own_t200 service tei other = false
+
+-- Where an end comes to a state in which it awaits an answer, T200 has not expired there.
+pub moved-zero : (c : Config) (service : Service) (tei : ℕ) (what : line_event.Event) (a : Answer) (o : Observed) → is_waiting (by_event c service tei what a o).state ≡ true
+    → (o.state == (by_event c service tei what a o).state) ≡ false → (by_event c service tei what a o).expiries ≡ 0
+moved-zero c service tei (hears e) a o waits moves = grind (arith, eq-eqb)
+moved-zero c service tei (request r) a o waits moves = grind (arith, eq-eqb)
+moved-zero c service tei (expiry timer) a o waits moves = grind (arith, eq-eqb)
+moved-zero c service tei next a o waits moves = absurd (true≢false (sym (eq-eqb o.state o.state refl) ∙ ap (λ n. o.state == n) (sym (same (frame_in a) o)) ∙ moves))
+  where
+    one : (f : List ℕ) (o : Observed) → (Rattle.laws_trace.specs.Observer.by_frame_begun c service tei o f).state ≡ o.state
+    one f o = grind arith
+
+    same : (fs : List (List ℕ)) (o : Observed) → (Rattle.std.specs.Prelude.fold (Rattle.laws_trace.specs.Observer.by_frame_begun c service tei) o fs).state ≡ o.state
+    same [] o = refl
+    same (f ∷ fs) o = same fs (Rattle.laws_trace.specs.Observer.by_frame_begun c service tei o f) ∙ one f o
+
+-- What T200 leads to: no expiry is counted, or one more.
+pub led : (n200 : ℕ) (o : Observed) → is_waiting (by_t200 n200 o).state ≡ true → runs T200 o ≡ true
+    → ((by_t200 n200 o).expiries ≡ 0) ⊎ (((by_t200 n200 o).expiries ≡ o.expiries + 1) × (is_waiting o.state ≡ true))
+led n200 o waits run = go (o.state == 7) refl (nat_lt o.expiries n200) refl (o.state == 8) refl
+  where
+    go : (a : Bool) → (o.state == 7) ≡ a → (b : Bool) → nat_lt o.expiries n200 ≡ b → (d : Bool) → (o.state == 8) ≡ d
+        → ((by_t200 n200 o).expiries ≡ 0) ⊎ (((by_t200 n200 o).expiries ≡ o.expiries + 1) × (is_waiting o.state ≡ true))
+    go true e b f d g = inl (grind arith)
+    go false e true f d g = inr (grind (arith, eqb-true))
+    go false e false f d g = inl (grind arith)
+
+pub idle-off : (n200 : ℕ) (o : Observed) → runs T200 o ≡ false → runs T200 (by_t200 n200 o) ≡ false
+idle-off n200 o none = grind arith
+
+-- Errors by which N200 is used up are told as T200 expires for the last time.
+map-codes : (service : Service) (tei : ℕ) (cs : List ErrorCode) → flat_map error_in (map (Error service tei) cs) ≡ cs
+map-codes service tei [] = refl
+map-codes service tei (code ∷ cs) = ap (λ xs. code ∷ xs) (map-codes service tei cs)
+
+due-none : (service : Service) (tei : ℕ) (xid sabme released : Bool) (was : Observed) (to : ℕ) → flat_map error_in (due_notes service tei xid sabme released was to) ≡ []
+due-none service tei xid sabme released was to = grind arith
+
+used-is : (c : Config) (service : Service) (tei : ℕ) (o q : Observed) (what : line_event.Event) (a : Answer) → Used (notes_due c service tei o q what a) ≡ true
+    → list_any is_used_up (wrong c service tei what o.state q.state) ≡ true
+used-is c service tei o q what a is = go (o.state == 1) refl
+  where
+    cs : List ErrorCode
+    cs = wrong c service tei what o.state q.state
+
+    rest : List Note
+    rest = due_notes service tei (brings is_xid c service tei what) (brings is_sabme c service tei what) (releases service tei what a) o q.state
+
+    all : flat_map error_in (map (Error service tei) cs ++ rest) ≡ cs
+    all = flat_map-append error_in (map (Error service tei) cs) rest
+        ∙ ap (λ xs. xs ++ flat_map error_in rest) (map-codes service tei cs)
+        ∙ ap (λ xs. cs ++ xs) (due-none service tei (brings is_xid c service tei what) (brings is_sabme c service tei what) (releases service tei what a) o q.state) ∙ append-nil cs
+
+    go : (b : Bool) → (o.state == 1) ≡ b → list_any is_used_up (wrong c service tei what o.state q.state) ≡ true
+    go true e = absurd (true≢false (sym is ∙ ap (λ b. Used (cond b [] (map (Error service tei) cs ++ rest))) e))
+    go false e = ap (list_any is_used_up) (sym all) ∙ sym (ap (λ b. Used (cond b [] (map (Error service tei) cs ++ rest))) e) ∙ is
+
+fault-none : (service : Service) (tei : ℕ) (fault : ReadFault) → list_any is_used_up (option_to_list (fault_of service tei fault)) ≡ false
+fault-none service tei fault = grind arith
+
+malformed-none : (c : Config) (service : Service) (tei : ℕ) (e : stream.Event) → list_any is_used_up (option_to_list (malformed c service tei e)) ≡ false
+malformed-none c service tei (stream.frame octets) = go (result_err (reading (heard_side c) octets))
+  where
+    go : (o : Option ReadFault) → list_any is_used_up (option_to_list (option_and_then (fault_of service tei) o)) ≡ false
+    go None = refl
+    go (Some fault) = fault-none service tei fault
+malformed-none c service tei (stream.overlong head) = go (long_reading (heard_side c) head)
+  where
+    go : (r : _) → list_any is_used_up (option_to_list (faulty_long service tei r)) ≡ false
+    go (Ok (long.Information address)) = grind arith
+    go (Ok (long.Unnumbered address)) = refl
+    go (Err fault) = fault-none service tei fault
+malformed-none c service tei (stream.dropped cause) = refl
+
+number-none : (final : Bool) (was to : ℕ) → list_any is_used_up (wrong_number final was to) ≡ false
+number-none final was to = go (was == 7 && final) (is_up was && to == 5)
+  where
+    go : (a b : Bool) → list_any is_used_up (cond a (A ∷ []) [] ++ cond b (J ∷ []) []) ≡ false
+    go true true = refl
+    go true false = refl
+    go false true = refl
+    go false false = refl
+
+by-one : (b : Bool) (x : ErrorCode) → is_used_up x ≡ false → list_any is_used_up (cond b (x ∷ []) []) ≡ false
+by-one true x none = ap (λ b. b || false) none
+by-one false x none = refl
+
+frame-none : (l command : Bool) (k : Control) (was to : ℕ) → list_any is_used_up (wrong_frame l command k was to) ≡ false
+frame-none l command (Information ns nr p) was to = go (l && is_up was)
+  where
+    go : (b : Bool) → list_any is_used_up (cond b (O ∷ []) (wrong_number false was to)) ≡ false
+    go true = refl
+    go false = number-none false was to
+frame-none l command (ReceiveReady nr pf) was to = number-none (not command && pf) was to
+frame-none l command (ReceiveNotReady nr pf) was to = number-none (not command && pf) was to
+frame-none l command (Reject nr pf) was to = number-none (not command && pf) was to
+frame-none l command (Sabme p) was to = by-one (is_up was) F refl
+frame-none l command (Disc p) was to = refl
+frame-none l command (Ui p) was to = refl
+frame-none l command (Ua f) was to = grind arith
+frame-none l command (Dm f) was to = grind arith
+frame-none l command (Frmr f) was to = by-one (is_up was) K refl
+frame-none l command (Xid pf) was to = refl
+
+hears-none : (c : Config) (service : Service) (tei : ℕ) (e : stream.Event) (was to : ℕ) → list_any is_used_up (wrong c service tei (hears e) was to) ≡ false
+hears-none c service tei e was to =
+    list_any-append is_used_up (cond (is_up was) (option_to_list (malformed c service tei e)) [])
+    (option_map_or (λ (f : Parts). wrong_frame (nat_lt c.n201 (length f.info)) f.address.command f.control was to) (its_frame service tei (frame_of c e)) [])
+    ∙ ap (λ b. b || list_any is_used_up (option_map_or (λ (f : Parts). wrong_frame (nat_lt c.n201 (length f.info)) f.address.command f.control was to) (its_frame service tei (frame_of c e)) [])) (up (is_up was))
+    ∙ framed (its_frame service tei (frame_of c e))
+  where
+    up : (b : Bool) → list_any is_used_up (cond b (option_to_list (malformed c service tei e)) []) ≡ false
+    up true = malformed-none c service tei e
+    up false = refl
+
+    framed : (o : Option Parts) → list_any is_used_up (option_map_or (λ (f : Parts). wrong_frame (nat_lt c.n201 (length f.info)) f.address.command f.control was to) o []) ≡ false
+    framed None = refl
+    framed (Some f) = frame-none (nat_lt c.n201 (length f.info)) f.address.command f.control was to
+
+-- The state is left.
+left-means : (was to : ℕ) → list_any is_used_up (given_up was to) ≡ true → (is_waiting was ≡ true) × ((was == to) ≡ false) × ((to == 1) ≡ false)
+left-means was to is = (grind (arith, eqb-true), grind (arith, eqb-true), grind (arith, eqb-true))
+
+pub used-means : (c : Config) (service : Service) (tei : ℕ) (o q : Observed) (what : line_event.Event) (a : Answer) → Used (notes_due c service tei o q what a) ≡ true
+    → (timer : Timer) × (what ≡ expiry timer) × (is_waiting o.state ≡ true) × ((o.state == q.state) ≡ false) × ((q.state == 1) ≡ false)
+used-means c service tei o q (hears e) a is = absurd (true≢false (sym (used-is c service tei o q (hears e) a is) ∙ hears-none c service tei e o.state q.state))
+used-means c service tei o q (request r) a is = absurd (true≢false (sym (used-is c service tei o q (request r) a is)))
+used-means c service tei o q next a is = absurd (true≢false (sym (used-is c service tei o q next a is)))
+used-means c service tei o q (expiry timer) a is =
+    let x = left-means o.state q.state (used-is c service tei o q (expiry timer) a is) in (timer, refl, x.0, x.1, x.2)
+
+pub expiry-means : (c : Config) (service : Service) (tei : ℕ) (o : Observed) (timer : Timer) → is_waiting o.state ≡ true → (o.state == (by_expiry c service tei timer o).state) ≡ false
+    → (is_own_t200 service tei (expiry timer) ≡ true) × (nat_lt o.expiries c.n200 ≡ false)
+expiry-means c service tei o (timers.T200 of by) waits moves = (grind (arith, eq-eqb), grind (arith, eq-eqb, eqb-true))
+expiry-means c service tei o (timers.T203 of by) waits moves = absurd (grind (arith, eq-eqb, not-7))
+expiry-means c service tei o timers.T201 waits moves = absurd (true≢false (sym (eq-eqb o.state o.state refl) ∙ moves))

@@ -1,0 +1,230 @@
+-- One event of a line: how soon T200 falls due then, and that N200 is not used up by it.
+use Rattle.std.proofs.Common.{arith, ◌≡◌, ℕ, ◌+◌, ◌-◌, ◌*◌, ◌<◌, ◌≤◌, ◌==◌, ◌&&◌, ◌||◌, not, Bool, true, false, cond, List, [], ◌∷◌, ◌++◌, Some, None, refl, sym, ap, ◌∙◌, subst, eqb-true, eq-eqb, inl, inr, ◌⊎◌, filter, nat_le}
+use Rattle.std.specs.Prelude.{nat_lt}
+use Rattle.std.proofs.lemmas.Bool.{true≢false, ltb-false}
+use Rattle.std.proofs.lemmas.Nat.{mul-le}
+use Rattle.lapd_clock.specs.Moments.{moment_of}
+use Rattle.lapd_clock.specs.Timer.{Lengths, is_same}
+use Rattle.lapd_clock.specs.Timers.{Expiry, is_of}
+use Rattle.lapd_frame.specs.declared.services.Service.{Service}
+use Rattle.lapd_frame.specs.declared.timers.Timer.{Timer}
+use Rattle.model_line.specs.Event as line_event
+use Rattle.model_line.specs.Event.{expiry}
+use Rattle.model_line.specs.Sound.{IsInRange}
+use Rattle.model_line.specs.declared.config.Config.{Config}
+use Rattle.model_link.specs.declared.timers.LinkTimer.TheVariants.{T200}
+use Rattle.model_card.specs.Card.{state}
+use Rattle.model_card.specs.Event.{Event, at}
+use Rattle.model_card.specs.Machine.{answer}
+use Rattle.laws_line.specs.Heard.{notes_of}
+use Rattle.laws_trace.specs.Managing.{is_on}
+use Rattle.laws_trace.specs.News.{notes_due, is_news, brings}
+use Rattle.laws_trace.specs.Observer.{Observed, view_of, view_behind, by_event, awaits, in_state, moment_of as moment_at}
+use Rattle.laws_trace.specs.TimersAreTimely.{renews, is_anew, is_timer_of}
+use Rattle.laws_trace.proofs.ObservedLaws.{news-is-told-so}
+use Rattle.model_timed.specs.Clock.{Clock, due, first_due}
+use Rattle.model_timed.specs.Frames.{TimedCard, IsNoExpiry}
+use Rattle.laws_time.specs.Silence.{news_in}
+use Rattle.laws_time.specs.Watched.{of_frames}
+use Rattle.laws_time.proofs.TimedFrames.{with_event}
+use Rattle.laws_time.proofs.Links.{stays-on, there}
+use Rattle.laws_time.proofs.Moments.{own, IsOf}
+use Rattle.laws_time.proofs.Walk.{Stands, Holds, seen, step, q-is, stands-then}
+use Rattle.laws_time.proofs.Before.{Goes}
+use Rattle.laws_time.proofs.Phases.{one-more}
+use Rattle.laws_time.proofs.OfCircuit.Moments.{is_waiting, awaits-in, counts-on, not-anew}
+use Rattle.laws_time.proofs.ArrivalsErrors.{moved-zero, used-means, expiry-means, is_own_t200, Used}
+
+pub or-parts : (a b : Bool) → (a || b) ≡ false → (a ≡ false) × (b ≡ false)
+or-parts true b is = absurd (cc is)
+or-parts false b is = (refl, is)
+
+pub un-not : (b : Bool) → not b ≡ false → b ≡ true
+un-not true e = refl
+un-not false e = absurd (cc e)
+
+pub differs : (service : Service) (tei : ℕ) (timer its : Timer) → IsOf service tei its → is_timer_of service tei timer ≡ false → is_same timer its ≡ false
+differs service tei timer its of none = go (is_same timer its) refl
+  where
+    go : (b : Bool) → is_same timer its ≡ b → b ≡ false
+    go true e = absurd (true≢false (sym (own service tei its timer of e) ∙ none))
+    go false e = refl
+
+pub and-false : (b : Bool) → (b && false) ≡ false
+and-false true = refl
+and-false false = refl
+
+pub no-expiry : (service : Service) (tei : ℕ) (what : line_event.Event) → IsNoExpiry what → is_own_t200 service tei what ≡ false
+no-expiry service tei what none = grind arith
+
+pub none-expires : (what : line_event.Event) (timer : Timer) → IsNoExpiry what → what ≡ expiry timer → ⊥
+none-expires what timer none is = subst IsNoExpiry is none
+
+-- The timer that falls due is the first.
+pub due-now : (number : ℕ) (its : Timer) (xs : List Expiry) (now : ℕ) (x : Expiry) → first_due xs now ≡ Some x → is_of number its x ≡ true → (moment_of number its xs ≡ Some x.moment) × (x.moment ≤ now)
+due-now number its [] now x is same = cc is
+due-now number its (e ∷ es) now x is same = go (nat_le e.moment now) refl is
+  where
+    is-first : (e x : Expiry) → Some e ≡ Some x → e ≡ x
+    is-first e x is = cc is
+
+    low : (n m : ℕ) → nat_le n m ≡ true → n ≤ m
+    low n m is = grind arith
+
+    go : (b : Bool) → nat_le e.moment now ≡ b → cond b (Some e) None ≡ Some x → (moment_of number its (e ∷ es) ≡ Some x.moment) × (x.moment ≤ now)
+    go false later is = cc is
+    go true early is =
+        let one = is-first e x is in (
+          ap (λ b. cond b (Some e.moment) (moment_of number its es)) (ap (is_of number its) one ∙ same) ∙ ap (λ (e : Expiry). Some e.moment) one,
+          subst (λ (e : Expiry). e.moment ≤ now) one (low e.moment now early),
+        )
+
+module _ (c : Config) (lengths : Lengths) (late number : ℕ) (ranged : IsInRange c) (within : number < c.lines) (service : Service) (tei t0 : ℕ) where
+  abbrev pub G : List Event → TimedCard → Type 0
+  G events t = Goes c lengths late number ranged within service tei events t
+
+  abbrev pub S : List Event → TimedCard → Type 0
+  S events t = Stands c lengths late number ranged within service tei events t
+
+  abbrev pub o_at : List Event → Observed
+  o_at events = seen c lengths late number ranged within service tei events
+
+  abbrev pub H : List Event → Clock → (ℕ → Type 0) → Type 0
+  H events clock P = Holds c lengths late number ranged within service tei T200 events clock P
+
+  -- T200 falls due no sooner than it has run out so often.
+  abbrev pub P : Observed → ℕ → Type 0
+  P o m = is_waiting o.state ≡ true → t0 + (o.expiries + 1) * lengths.t200 ≤ m
+
+  pub record Runs (events : List Event) (t : TimedCard) : Type 0 where
+    pub goes : G events t
+    pub since : t0 ≤ t.clock.now
+    pub due_by : H events t.clock (P (o_at events))
+
+  pub first-time : (now m : ℕ) (q : Observed) → t0 ≤ now → q.expiries ≡ 0 → t0 + (q.expiries + 1) * lengths.t200 ≤ now + lengths.t200
+  first-time now m q since zero = let one = ap (λ e. (e + 1) * lengths.t200) zero in omega (arith, since, one)
+
+  pub once-more : (now m e : ℕ) → m ≤ now → t0 + (e + 1) * lengths.t200 ≤ m → t0 + (e + 1 + 1) * lengths.t200 ≤ now + lengths.t200
+  once-more now m e low h = let more = one-more (e + 1) lengths.t200 in omega (arith, low, h, more)
+
+  pub fewer : (a b m : ℕ) → a ≤ b → t0 + (b + 1) * lengths.t200 ≤ m → t0 + (a + 1) * lengths.t200 ≤ m
+  fewer a b m less h = let few = mul-le (a + 1) lengths.t200 (b + 1) lengths.t200 (omega (arith, less)) (omega arith) in omega (arith, h, few)
+
+  -- An event of the line.
+  module _ (events : List Event) (u : TimedCard) (s : S events u) (what : line_event.Event) where
+    abbrev pub o : Observed
+    o = o_at events
+
+    abbrev pub q : Observed
+    q = (view_behind c service tei number events what).link
+
+    abbrev pub more : List Event
+    more = events ++ at number what ∷ []
+
+    pub is-q : o_at (events ++ at number what ∷ []) ≡ q
+    is-q = q-is c lengths late number ranged within service tei events u s what T200
+
+    abbrev pub on_was : Bool
+    on_was = is_on tei (view_of c service tei number events).teis
+
+    abbrev pub on_now : Bool
+    on_now = is_on tei (view_behind c service tei number events what).teis
+
+    pub views-own : q ≡ cond (not on_now) (in_state 1) (cond on_was (by_event c service tei what (moment_at c events number what).answer o) (in_state 4))
+    views-own =
+        ap (λ b. cond (not on_now) (in_state 1) (cond on_was (cond b (by_event c service tei what (moment_at c events number what).answer o) o) (in_state 4))) (eq-eqb number number refl)
+
+    -- where it awaits an answer its TEI is on the line
+    q-by : is_waiting o.state ≡ true → (q ≡ in_state 1) ⊎ (q ≡ by_event c service tei what (moment_at c events number what).answer o)
+    q-by waits = go on_now refl
+      where
+        on-before : is_on tei (view_of c service tei number events).teis ≡ true
+        on-before = there c events number ranged s.all within service tei T200 (awaits-in o waits)
+
+        go : (b : Bool) → on_now ≡ b → (q ≡ in_state 1) ⊎ (q ≡ by_event c service tei what (moment_at c events number what).answer o)
+        go true on = inr (stays-on c events number ranged s.all within service tei what on-before on)
+        go false off = inl (views-own ∙ ap (λ b. cond (not b) (in_state 1) (cond on_was (by_event c service tei what (moment_at c events number what).answer o) (in_state 4))) off)
+
+    q-waits : is_waiting q.state ≡ true → q ≡ by_event c service tei what (moment_at c events number what).answer o
+    q-waits waits = go on_now on_was views-own
+      where
+        go : (a b : Bool) → q ≡ cond (not a) (in_state 1) (cond b (by_event c service tei what (moment_at c events number what).answer o) (in_state 4)) → q ≡ by_event c service tei what (moment_at c events number what).answer o
+        go false b e = absurd (true≢false (sym waits ∙ ap (λ (q : Observed). is_waiting q.state) e))
+        go true true e = e
+        go true false e = absurd (true≢false (sym waits ∙ ap (λ (q : Observed). is_waiting q.state) e))
+
+    -- that starts T200 anew
+    pub anew-due : is_anew c service tei T200 o q what ≡ true → (is_waiting q.state ≡ true → t0 + (q.expiries + 1) * lengths.t200 ≤ u.clock.now + lengths.t200)
+        → H (events ++ at number what ∷ []) (with_event (at number what) u).clock (P (o_at (events ++ at number what ∷ [])))
+    anew-due anew bound =
+        step c lengths late number ranged within service tei events u s what T200 (λ m. ⊥) (P (o_at more)) (λ run kept. absurd (true≢false (sym anew ∙ kept))) (λ run m late_is h. absurd h)
+        (λ begun run. subst (λ x. P x (u.clock.now + lengths.t200)) (sym is-q) bound)
+
+    same-there : is_anew c service tei T200 o q what ≡ false → (o.state ≡ q.state) × (q.expiries ≤ o.expiries)
+    same-there none =
+        let parts = or-parts (not (o.state == q.state) || nat_lt o.expiries q.expiries) (o.state == 7 && brings (renews T200 o.acknowledged o.busy) c service tei what) none in
+        let both = or-parts (not (o.state == q.state)) (nat_lt o.expiries q.expiries) parts.0 in
+        (eqb-true o.state q.state (un-not (o.state == q.state) both.0), ltb-false o.expiries q.expiries both.1)
+
+    -- or lets it run on
+    on-due : is_anew c service tei T200 o q what ≡ false → H events u.clock (P o) → H (events ++ at number what ∷ []) (with_event (at number what) u).clock (P (o_at (events ++ at number what ∷ [])))
+    on-due none h =
+        let same = same-there none in
+        step c lengths late number ranged within service tei events u s what T200 (P o) (P (o_at more)) (λ run kept. h run)
+        (λ run m late_is p. subst (λ x. P x m) (sym is-q) (λ waits. fewer q.expiries o.expiries m same.1 (p (ap is_waiting same.0 ∙ waits))))
+        (λ begun run. subst (λ x. P x (u.clock.now + lengths.t200)) (sym is-q)
+        (λ waits. absurd (true≢false (sym begun ∙ ap (λ b. not b || is_anew c service tei T200 o q what) (awaits-in o (ap is_waiting same.0 ∙ waits)) ∙ none))))
+
+    -- What is told.
+    pub own-news : news_in of_frames service tei number (Some (at number what)) u.card ≡ notes_due c service tei o q what (moment_at c events number what).answer
+    own-news =
+        ap (λ b. cond b (filter (is_news service tei) (notes_of (answer (at number what) u.card))) []) (eq-eqb number number refl)
+        ∙ ap (λ card. filter (is_news service tei) (notes_of (answer (at number what) card))) s.card
+        ∙ news-is-told-so c (events ++ at number what ∷ []) number ranged ((stands-then c lengths late number ranged within service tei events u (at number what) s within).all) within service tei events what [] refl
+
+    abbrev NoneUsed : Type 0
+    NoneUsed = Used (news_in of_frames service tei number (Some (at number what)) u.card) ≡ false
+
+    -- It is no expiry of its T200.
+    module _ (other : is_own_t200 service tei what ≡ false) (since : t0 ≤ u.clock.now) (h : H events u.clock (P (o_at events))) where
+      zero-then : is_anew c service tei T200 o q what ≡ true → is_waiting q.state ≡ true → q.expiries ≡ 0
+      zero-then anew waits = go (o.state == q.state) refl
+        where
+          by : q ≡ by_event c service tei what (moment_at c events number what).answer o
+          by = q-waits waits
+
+          few : q.expiries ≤ o.expiries
+          few = subst (λ (q : Observed). q.expiries ≤ o.expiries) (sym by) (counts-on c service tei what (moment_at c events number what).answer o other)
+
+          never : (o.state == q.state) ≡ true → is_anew c service tei T200 o q what ≡ false
+          never same = not-anew c events number ranged s.all within service tei what u.clock (ap is_waiting (eqb-true o.state q.state same) ∙ waits) (sym (eqb-true o.state q.state same)) few
+
+          go : (b : Bool) → (o.state == q.state) ≡ b → q.expiries ≡ 0
+          go true same = absurd (true≢false (sym anew ∙ never same))
+          go false moves =
+              ap (λ (q : Observed). q.expiries) by
+              ∙ moved-zero c service tei what (moment_at c events number what).answer o (ap (λ (q : Observed). is_waiting q.state) (sym by) ∙ waits) (ap (λ (q : Observed). o.state == q.state) (sym by) ∙ moves)
+
+      pub other-due : H (events ++ at number what ∷ []) (with_event (at number what) u).clock (P (o_at (events ++ at number what ∷ [])))
+      other-due = go (is_anew c service tei T200 o q what) refl
+        where
+          go : (b : Bool) → is_anew c service tei T200 o q what ≡ b → H (events ++ at number what ∷ []) (with_event (at number what) u).clock (P (o_at (events ++ at number what ∷ [])))
+          go true anew = anew-due anew (λ waits. first-time u.clock.now u.clock.now q since (zero-then anew waits))
+          go false none = on-due none h
+
+      pub other-news : Used (news_in of_frames service tei number (Some (at number what)) u.card) ≡ false
+      other-news = ap Used own-news ∙ go (Used (notes_due c service tei o q what (moment_at c events number what).answer)) refl
+        where
+          go : (b : Bool) → Used (notes_due c service tei o q what (moment_at c events number what).answer) ≡ b → b ≡ false
+          go false e = refl
+          go true e = absurd (by (used-means c service tei o q what (moment_at c events number what).answer e))
+            where
+              by : ((timer : Timer) × (what ≡ expiry timer) × (is_waiting o.state ≡ true) × ((o.state == q.state) ≡ false) × ((q.state == 1) ≡ false)) → ⊥
+              by (timer, is, waits, moves, off) = led-off (q-by waits)
+                where
+                  led-off : (q ≡ in_state 1) ⊎ (q ≡ by_event c service tei what (moment_at c events number what).answer o) → ⊥
+                  led-off (inl gone) = true≢false (ap (λ (q : Observed). q.state == 1) (sym gone) ∙ off)
+                  led-off (inr led_by) =
+                      true≢false (sym (expiry-means c service tei o timer waits
+                      (ap (λ (q : Observed). o.state == q.state) (ap (λ x. by_event c service tei x (moment_at c events number what).answer o) (sym is) ∙ sym led_by) ∙ moves)).0
+                      ∙ ap (is_own_t200 service tei) (sym is) ∙ other)

@@ -1,0 +1,303 @@
+-- N200 is used up no sooner than T200 has run out so often.
+use Rattle.std.proofs.Common.{arith, ◌≡◌, ℕ, ◌+◌, ◌-◌, ◌*◌, ◌<◌, ◌≤◌, ◌==◌, ◌&&◌, ◌||◌, not, Bool, true, false, cond, List, [], ◌∷◌, ◌++◌, Option, Some, None, refl, sym, ap, ◌∙◌, subst, eqb-true, inl, inr, ◌⊎◌, append-nil, option_map, filter}
+use Rattle.std.specs.Option.{option_map_or}
+use Rattle.std.specs.Prelude.{option_to_list}
+use Rattle.std.proofs.lemmas.Bool.{true≢false, ltb-false}
+use Rattle.lapd_clock.specs.Moments.{moment_of}
+use Rattle.lapd_clock.specs.Timer.{Lengths, is_same}
+use Rattle.lapd_clock.specs.Timers.{Expiry, is_of}
+use Rattle.lapd_frame.specs.declared.notes.ErrorCode.TheVariants.{A}
+use Rattle.lapd_frame.specs.declared.notes.Note.{Note}
+use Rattle.lapd_frame.specs.declared.services.Service.{Service}
+use Rattle.lapd_frame.specs.declared.timers.Timer.{Timer}
+use Rattle.lapd_frame.specs.declared.timers.Timer.TheVariants as timers
+use Rattle.lapd_frame.specs.Services.{same_service}
+use Rattle.model_line.proofs.Obeyed.{both-true, services-equal}
+use Rattle.model_line.specs.Laws.{orders_in}
+use Rattle.model_line.specs.Event as line_event
+use Rattle.model_line.specs.Event.{expiry}
+use Rattle.model_line.specs.Sound.{IsInRange}
+use Rattle.model_line.specs.declared.config.Config.{Config}
+use Rattle.model_link.specs.declared.timers.LinkTimer.TheVariants.{T200, T203}
+use Rattle.model_card.specs.Card as cards
+use Rattle.model_card.specs.Card.{state}
+use Rattle.model_card.specs.Event.{Event, at}
+use Rattle.model_card.specs.Machine.{answer}
+use Rattle.model_card.specs.Run as runs_of
+use Rattle.model_card.specs.Run.{Moment}
+use Rattle.laws_line.specs.Heard.{notes_of}
+use Rattle.laws_trace.specs.Managing.{is_on}
+use Rattle.laws_trace.specs.News.{notes_due, is_news}
+use Rattle.laws_trace.specs.Observer.{Observed, View, view_of, view_behind, by_event, by_expiry, by_t200, in_state, moment_of as moment_at}
+use Rattle.laws_trace.specs.TimersAreTimely.{runs}
+use Rattle.laws_trace.specs.Trace.{is_own}
+use Rattle.laws_trace.proofs.LinkLed.{own-is}
+use Rattle.model_timed.specs.Clock.{Clock, due, without_first, at_moment}
+use Rattle.model_timed.specs.Frames.{TimedCard, fresh, after, event_of}
+use Rattle.model_timed.specs.Frames.{after_all, events_of, ArePrompt}
+use Rattle.model_timed.specs.Timed.{Step, happens, time, falls_due}
+unfoldable use Rattle.model_timed.specs.Timed.{after_all as timed_after_all, ArePrompt as TimedArePrompt}
+use Rattle.laws_time.specs.ArrivalsUsedUp.{N200TakesItsTime}
+use Rattle.laws_time.specs.Silence.{news_in}
+unfoldable use Rattle.laws_time.specs.Silence.{news}
+use Rattle.laws_time.specs.Watched.{of_frames}
+use Rattle.laws_time.proofs.TimedFrames.{with_event, expiry_of, with_expiry as timed_expiry, IsPrompt}
+use Rattle.laws_time.proofs.Links.{view-then, state-is, there}
+use Rattle.laws_time.proofs.Moments.{itself, now-stays}
+use Rattle.laws_time.proofs.Walk.{Stands, Holds, seen, step}
+use Rattle.laws_time.proofs.Falls.{in-time}
+use Rattle.laws_time.proofs.Before.{Goes, views-elsewhere, other-line, step-goes, dropped-holds, before-goes, begins, t200-leads, expired-anew}
+use Rattle.laws_time.proofs.OfCircuit.Moments.{is_waiting, awaits-in}
+use Rattle.laws_time.proofs.ArrivalsErrors.{used-append, led, idle-off, used-means, expiry-means, is_own_t200, Used}
+use Rattle.laws_time.proofs.ArrivalsOneEvent.{differs, and-false, no-expiry, due-now, Runs, first-time, once-more, fewer, is-q, views-own, anew-due, own-news, other-due, other-news}
+
+module _ (c : Config) (lengths : Lengths) (late number : ℕ) (ranged : IsInRange c) (within : number < c.lines) (service : Service) (tei t0 : ℕ) where
+  abbrev G : List Event → TimedCard → Type 0
+  G events t = Goes c lengths late number ranged within service tei events t
+
+  abbrev S : List Event → TimedCard → Type 0
+  S events t = Stands c lengths late number ranged within service tei events t
+
+  abbrev o_at : List Event → Observed
+  o_at events = seen c lengths late number ranged within service tei events
+
+  abbrev H : List Event → Clock → (ℕ → Type 0) → Type 0
+  H events clock P = Holds c lengths late number ranged within service tei T200 events clock P
+
+  -- T200 falls due no sooner than it has run out so often.
+  abbrev P : Observed → ℕ → Type 0
+  P o m = is_waiting o.state ≡ true → t0 + (o.expiries + 1) * lengths.t200 ≤ m
+
+  -- T200 falls due and expires.
+  module _ (events : List Event) (t u : TimedCard) (w : Runs c lengths late number ranged within service tei t0 events t) (s : S events u) (m0 : ℕ) (same_now : u.clock.now ≡ t.clock.now)
+      (at_m : moment_of number (timers.T200 service tei) t.clock.running ≡ Some m0) (low : m0 ≤ t.clock.now) (soon : t.clock.now < t0 + (c.n200 + 1) * lengths.t200) where
+    abbrev its : line_event.Event
+    its = expiry (timers.T200 service tei)
+
+    abbrev o_was : Observed
+    o_was = o_at events
+
+    abbrev q_then : Observed
+    q_then = (view_behind c service tei number events (expiry (timers.T200 service tei))).link
+
+    -- as often as it has run out
+    bound : is_waiting o_was.state ≡ true → t0 + (o_was.expiries + 1) * lengths.t200 ≤ m0
+    bound waits =
+        let d = w.due_by (awaits-in o_was waits) in
+        let same : d.0 ≡ m0 = one d.0 m0 (sym d.1 ∙ at_m) in
+        subst (λ m. t0 + (o_was.expiries + 1) * lengths.t200 ≤ m) same (d.3 waits)
+      where
+        one : (a b : ℕ) → Some a ≡ Some b → a ≡ b
+        one a b e = cc e
+
+    since-now : t0 ≤ u.clock.now
+    since-now = subst (λ n. t0 ≤ n) (sym same_now) w.since
+
+    led-by : runs T200 o_was ≡ true → q_then ≡ by_t200 c.n200 o_was
+    led-by run = t200-leads c number ranged within service tei events s.all (there c events number ranged s.all within service tei T200 run)
+
+    expired-due : H (events ++ at number (expiry (timers.T200 service tei)) ∷ []) (with_event (at number (expiry (timers.T200 service tei))) u).clock (P (o_at (events ++ at number (expiry (timers.T200 service tei)) ∷ [])))
+    expired-due = go (runs T200 o_was) refl
+      where
+        once : (run : runs T200 o_was ≡ true) → is_waiting q_then.state ≡ true
+            → ((by_t200 c.n200 o_was).expiries ≡ 0) ⊎ (((by_t200 c.n200 o_was).expiries ≡ o_was.expiries + 1) × (is_waiting o_was.state ≡ true)) → t0 + (q_then.expiries + 1) * lengths.t200 ≤ u.clock.now + lengths.t200
+        once run waits (inl zero) = first-time c lengths late number ranged within service tei t0 u.clock.now u.clock.now q_then since-now (ap (λ (q : Observed). q.expiries) (led-by run) ∙ zero)
+        once run waits (inr (count, was)) =
+            subst (λ e. t0 + (e + 1) * lengths.t200 ≤ u.clock.now + lengths.t200) (sym (ap (λ (q : Observed). q.expiries) (led-by run) ∙ count))
+            (once-more c lengths late number ranged within service tei t0 u.clock.now m0 o_was.expiries (subst (λ n. m0 ≤ n) (sym same_now) low) (bound was))
+
+        go : (b : Bool) → runs T200 o_was ≡ b → H (events ++ at number (expiry (timers.T200 service tei)) ∷ []) (with_event (at number (expiry (timers.T200 service tei))) u).clock (P (o_at (events ++ at number (expiry (timers.T200 service tei)) ∷ [])))
+        go true run =
+            anew-due c lengths late number ranged within service tei t0 events u s its (expired-anew c number ranged within service tei events s.all T200 run)
+            (λ waits. once run waits (led c.n200 o_was (ap (λ (q : Observed). is_waiting q.state) (sym (led-by run)) ∙ waits) run))
+        go false none = λ run.
+            absurd (true≢false (sym run ∙ ap (runs T200) (is-q c lengths late number ranged within service tei t0 events u s its) ∙ off (is_on tei (view_of c service tei number events).teis) refl (is_on tei (view_behind c service tei number events its).teis) refl))
+          where
+            on_then : Bool
+            on_then = is_on tei (view_behind c service tei number events its).teis
+
+            none-on : (b : Bool) → runs T200 (cond (not b) (in_state 1) (in_state 4)) ≡ false
+            none-on true = refl
+            none-on false = refl
+
+            off : (a : Bool) → is_on tei (view_of c service tei number events).teis ≡ a → (b : Bool) → is_on tei (view_behind c service tei number events its).teis ≡ b → runs T200 q_then ≡ false
+            off true on b e =
+                ap (runs T200) (t200-leads c number ranged within service tei events s.all on) ∙ idle-off c.n200 o_was none
+            off false on b e = ap (runs T200) (views-own c lengths late number ranged within service tei t0 events u s its ∙ ap (λ a. cond (not on_then) (in_state 1) (cond a (by_event c service tei its (moment_at c events number its).answer o_was) (in_state 4))) on) ∙ none-on on_then
+
+    expired-news : Used (news_in of_frames service tei number (Some (at number (expiry (timers.T200 service tei)))) u.card) ≡ false
+    expired-news = ap Used (own-news c lengths late number ranged within service tei t0 events u s its) ∙ go (Used (notes_due c service tei o_was q_then its (moment_at c events number its).answer)) refl
+      where
+        never : (is_waiting o_was.state ≡ true) → ((o_was.state == q_then.state) ≡ false) → ⊥
+        never waits moves =
+            let run = awaits-in o_was waits in
+            let x = expiry-means c service tei o_was (timers.T200 service tei) waits (ap (λ (q : Observed). o_was.state == q.state) (sym (is-by run)) ∙ moves) in
+            let many : c.n200 ≤ o_was.expiries = ltb-false o_was.expiries c.n200 x.1 in
+            let b = fewer c lengths late number ranged within service tei t0 c.n200 o_was.expiries m0 many (bound waits) in
+            absurd (omega (arith, b, low, soon))
+          where
+            is-by : runs T200 o_was ≡ true → q_then ≡ by_expiry c service tei (timers.T200 service tei) o_was
+            is-by run = led-by run ∙ sym (ap (λ b. cond b (by_t200 c.n200 o_was) o_was) (own-is service tei))
+
+        go : (b : Bool) → Used (notes_due c service tei o_was q_then its (moment_at c events number its).answer) ≡ b → b ≡ false
+        go false e = refl
+        go true e = let x = used-means c service tei o_was q_then its (moment_at c events number its).answer e in absurd (never x.2 x.3)
+
+  -- An event at either line.
+  none-there : (e : Event) (card : cards.Card) → (e.line == number) ≡ false → Used (news_in of_frames service tei number (Some e) card) ≡ false
+  none-there e card other = ap (λ b. Used (cond b (filter (is_news service tei) (notes_of (answer e card))) [])) other
+
+  abbrev Then : List Event → TimedCard → Event → Type 0
+  Then events u e = H (events ++ e ∷ []) (with_event e u).clock (P (o_at (events ++ e ∷ []))) × (Used (news_in of_frames service tei number (Some e) u.card) ≡ false)
+
+  event-runs : (events : List Event) (u : TimedCard) (s : S events u) (e : Event) → ((e.line == number) ≡ false → H events u.clock (P (o_at events)))
+      → ((e.line == number) ≡ true → Then events u (at number e.what)) → Then events u e
+  event-runs events u s e apart here = go (e.line == number) refl
+    where
+      go : (b : Bool) → (e.line == number) ≡ b → Then events u e
+      go true own_line = subst (λ n. Then events u (at n e.what)) (sym (eqb-true e.line number own_line)) (here own_line)
+      go false other = (elsewhere-due (apart other), none-there e u.card other)
+        where
+          elsewhere-due : H events u.clock (P (o_at events)) → H (events ++ e ∷ []) (with_event e u).clock (P (o_at (events ++ e ∷ [])))
+          elsewhere-due h = by (is_on tei (view_of c service tei number events).teis) refl
+            where
+              m : Moment
+              m = record { card = runs_of.after_all (cards.fresh c) events; event = e; answer = answer e (runs_of.after_all (cards.fresh c) events) }
+
+              is : o_at (events ++ e ∷ []) ≡ cond (not (is_on tei (view_of c service tei number events).teis)) (in_state 1) (o_at events)
+              is = ap (λ (v : View). v.link) (view-then c service tei number events e) ∙ views-elsewhere c service tei number (view_of c service tei number events) m other
+
+              by : (b : Bool) → is_on tei (view_of c service tei number events).teis ≡ b → H (events ++ e ∷ []) (with_event e u).clock (P (o_at (events ++ e ∷ [])))
+              by true on =
+                  subst (λ (o : Observed). H (events ++ e ∷ []) (with_event e u).clock (P o)) (sym (is ∙ ap (λ b. cond (not b) (in_state 1) (o_at events)) on))
+                  (other-line c lengths late number ranged within service tei events u s (P (o_at events)) e T200 other h)
+              by false off = λ run. absurd (true≢false (sym run ∙ ap (runs T200) (is ∙ ap (λ b. cond (not b) (in_state 1) (o_at events)) off)))
+
+  -- A timer falls due.
+  module _ (events : List Event) (t : TimedCard) (w : Runs c lengths late number ranged within service tei t0 events t) (x : Expiry) (is : due t.clock ≡ Some x) (soon : t.clock.now < t0 + (c.n200 + 1) * lengths.t200) where
+    abbrev u : TimedCard
+    u = record t { clock = without_first t.clock }
+
+    based : S events u
+    based = record { card = w.goes.stands.card; all = w.goes.stands.all; lengths_are = w.goes.stands.lengths_are }
+
+    dropped : is_of number (timers.T200 service tei) x ≡ false → H events u.clock (P (o_at events))
+    dropped other run = dropped-holds c lengths late number ranged within service tei (P (o_at events)) events t x is T200 other (w.due_by run)
+
+    by-timer : is_same x.timer (timers.T200 service tei) ≡ false → is_of number (timers.T200 service tei) x ≡ false
+    by-timer other = ap (λ b. (x.line == number) && b) other ∙ and-false (x.line == number)
+
+    foreign : (timer : Timer) → x.timer ≡ timer → is_own_t200 service tei (expiry timer) ≡ false → is_same timer (timers.T200 service tei) ≡ false → Then events u (at number (expiry timer))
+    foreign timer same none other =
+        let h = dropped (by-timer (ap (λ timer. is_same timer (timers.T200 service tei)) same ∙ other)) in
+        (other-due c lengths late number ranged within service tei t0 events u based (expiry timer) none w.since h, other-news c lengths late number ranged within service tei t0 events u based (expiry timer) none w.since h)
+
+    mine : (x.line == number) ≡ true → x.timer ≡ timers.T200 service tei → Then events u (at number (expiry (timers.T200 service tei)))
+    mine own_line same =
+        let its_own : is_of number (timers.T200 service tei) x ≡ true = ap (λ b. b && is_same x.timer (timers.T200 service tei)) own_line ∙ ap (λ timer. is_same timer (timers.T200 service tei)) same ∙ itself (timers.T200 service tei) in
+        let d = due-now number (timers.T200 service tei) t.clock.running t.clock.now x is its_own in
+        (expired-due events t u w based x.moment refl d.0 d.1 soon, expired-news events t u w based x.moment refl d.0 d.1 soon)
+
+    any : (x.line == number) ≡ true → (timer : Timer) → x.timer ≡ timer → Then events u (at number (expiry timer))
+    any own_line timers.T201 same = foreign timers.T201 same refl refl
+    any own_line (timers.T203 of by) same = foreign (timers.T203 of by) same refl refl
+    any own_line (timers.T200 of by) same = go (is_own service tei of by) refl
+      where
+        go : (b : Bool) → is_own service tei of by ≡ b → Then events u (at number (expiry (timers.T200 of by)))
+        go false none = foreign (timers.T200 of by) same none (differs service tei (timers.T200 of by) (timers.T200 service tei) (inl refl) none)
+        go true ours =
+            let parts = both-true (same_service of service) (by == tei) ours in
+            let is_it : timers.T200 of by ≡ timers.T200 service tei = ap (λ s. timers.T200 s by) (services-equal of service parts.0) ∙ ap (timers.T200 service) (eqb-true by tei parts.1) in
+            subst (λ timer. Then events u (at number (expiry timer))) (sym is_it) (mine own_line (same ∙ is_it))
+
+    fell-runs : Then events u (expiry_of x)
+    fell-runs =
+        event-runs events u based (expiry_of x) (λ other. dropped (ap (λ b. b && is_same x.timer (timers.T200 service tei)) other)) (λ own_line. any own_line x.timer refl)
+
+  -- A step.
+  pub record Stepped (events : List Event) (t : TimedCard) (told : List Note) : Type 0 where
+    pub runs_on : Runs c lengths late number ranged within service tei t0 events t
+    pub none : Used told ≡ false
+
+  later : (e : Event) (u : TimedCard) → t0 ≤ u.clock.now → t0 ≤ (with_event e u).clock.now
+  later e u since = subst (λ n. t0 ≤ n) (sym (now-stays e.line u.clock (orders_in (answer e u.card)))) since
+
+  step-runs : (events : List Event) (t : TimedCard) (d : Step Event) → Runs c lengths late number ranged within service tei t0 events t → IsPrompt late d t → t.clock.now < t0 + (c.n200 + 1) * lengths.t200
+      → Stepped (events ++ option_to_list (event_of d t)) (after d t) (news_in of_frames service tei number (event_of d t) t.card)
+  step-runs events t (happens e) w prompt soon =
+      let g = step-goes c lengths late number ranged within service tei events t (happens e) w.goes prompt in
+      let none = no-expiry service tei e.what prompt.1 in
+      let x = event-runs events t w.goes.stands e (λ other. w.due_by)
+      (λ own_line. (other-due c lengths late number ranged within service tei t0 events t w.goes.stands e.what none w.since w.due_by, other-news c lengths late number ranged within service tei t0 events t w.goes.stands e.what none w.since w.due_by)) in
+      record { runs_on = record { goes = g; since = later e t w.since; due_by = x.0 }; none = x.1 }
+  step-runs events t (time moment) w prompt soon =
+      let g = step-goes c lengths late number ranged within service tei events t (time moment) w.goes prompt in
+      record {
+        runs_on = subst (λ es. Runs c lengths late number ranged within service tei t0 es (record t { clock = at_moment moment t.clock })) (sym (append-nil events))
+            (record {
+              goes = subst (λ es. G es (record t { clock = at_moment moment t.clock })) (append-nil events) g;
+              since = let first = w.since in let on = prompt.0 in omega (arith, first, on);
+              due_by = λ run. let d = w.due_by run in (d.0, d.1, in-time late moment number (timers.T200 service tei) t.clock.running d.0 prompt.1 d.1, d.3);
+            });
+        none = refl;
+      }
+  step-runs events t falls_due w prompt soon = go (due t.clock) refl (step-goes c lengths late number ranged within service tei events t falls_due w.goes prompt)
+    where
+      go : (o : Option Expiry) → due t.clock ≡ o → G (events ++ option_to_list (option_map expiry_of o)) (option_map_or (timed_expiry t) o t)
+          → Stepped (events ++ option_to_list (option_map expiry_of o)) (option_map_or (timed_expiry t) o t) (news_in of_frames service tei number (option_map expiry_of o) t.card)
+      go None is g = record { runs_on = subst (λ es. Runs c lengths late number ranged within service tei t0 es t) (sym (append-nil events)) w; none = refl }
+      go (Some x) is g =
+          let y = fell-runs events t w x is soon in
+          record { runs_on = record { goes = g; since = later (expiry_of x) (record t { clock = without_first t.clock }) w.since; due_by = y.0 }; none = y.1 }
+
+  -- Time goes on.
+  later-on : (t : TimedCard) (d : Step Event) → IsPrompt late d t → t.clock.now ≤ (after d t).clock.now
+  later-on t (happens e) prompt = let same = now-stays e.line t.clock (orders_in (answer e t.card)) in omega (arith, same)
+  later-on t (time moment) prompt = prompt.0
+  later-on t falls_due prompt = go (due t.clock)
+    where
+      go : (o : Option Expiry) → t.clock.now ≤ (option_map_or (timed_expiry t) o t).clock.now
+      go None = omega arith
+      go (Some x) =
+          let same = now-stays x.line (without_first t.clock) (orders_in (answer (expiry_of x) t.card)) in omega (arith, same)
+
+  all-later : (t : TimedCard) (steps : List (Step Event)) → ArePrompt late steps t → t.clock.now ≤ (after_all steps t).clock.now
+  unfolding timed_after_all TimedArePrompt
+  all-later t [] prompt = omega arith
+  all-later t (d ∷ steps) prompt = let one = later-on t d prompt.0 in let rest = all-later (after d t) steps prompt.1 in omega (arith, one, rest)
+
+  pub steps-run : (events : List Event) (t : TimedCard) (steps : List (Step Event)) → Runs c lengths late number ranged within service tei t0 events t → ArePrompt late steps t → (after_all steps t).clock.now < t0 + (c.n200 + 1) * lengths.t200
+      → Used (news of_frames service tei number steps t) ≡ false
+  unfolding timed_after_all TimedArePrompt news
+  steps-run events t [] w prompt soon = refl
+  steps-run events t (d ∷ steps) w prompt soon =
+      let rest = all-later (after d t) steps prompt.1 in let one = later-on t d prompt.0 in
+      let x = step-runs events t d w prompt.0 (omega (arith, soon, rest, one)) in
+      used-append (news_in of_frames service tei number (event_of d t) t.card) (news of_frames service tei number steps (after d t)) x.none
+      (steps-run (events ++ option_to_list (event_of d t)) (after d t) steps x.runs_on prompt.1 soon)
+
+pub n200-takes-its-time : N200TakesItsTime of_frames
+n200-takes-its-time service c lengths late number tei n before steps ranged within idle prompt_before prompt at_n soon =
+    steps-run c lengths late number ranged within service tei t.clock.now events t steps first prompt soon
+  where
+    t : TimedCard
+    t = after_all before (fresh c lengths)
+
+    events : List Event
+    events = events_of before (fresh c lengths)
+
+    g : Goes c lengths late number ranged within service tei (events_of before (fresh c lengths)) (after_all before (fresh c lengths))
+    g = before-goes c lengths late number ranged within service tei [] (fresh c lengths) before (begins c lengths late number ranged within service tei) prompt_before
+
+    its : (seen c lengths late number ranged within service tei (events_of before (fresh c lengths))).state ≡ n
+    its = state-is c (events_of before (fresh c lengths)) number ranged g.stands.all within service tei n (ap (state number service tei) (sym g.stands.card) ∙ at_n)
+
+    not-waiting : (n : ℕ) → (n == 4 || n == 7) ≡ true → is_waiting n ≡ true → ⊥
+    not-waiting n idle waits = true≢false (grind (arith, eqb-true))
+
+    first : Runs c lengths late number ranged within service tei t.clock.now events t
+    first = record {
+      goes = g;
+      since = omega arith;
+      due_by = λ run. let d = g.timers_are T200 run in (d.0, d.1, d.2, λ waits. absurd (not-waiting n idle (ap is_waiting (sym its) ∙ waits)));
+    }

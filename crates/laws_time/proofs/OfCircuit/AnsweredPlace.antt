@@ -1,0 +1,162 @@
+-- What an end gave comes to the other as it is, once there is no noise; so a frame whose opening flag came so is heard.
+use Rattle.std.proofs.Common.{arith, ◌≡◌, ℕ, ◌+◌, ◌*◌, ◌≤◌, Bool, List, [], ◌∷◌, ◌++◌, length, map, replicate, Some, refl, sym, ap, ◌∙◌, subst, All, append-nil, append_assoc, length-append}
+use Rattle.std.specs.Prelude.{flat_map}
+use Rattle.std.proofs.lemmas.List.{length-replicate}
+use Rattle.std.proofs.lemmas.List.Elements.{All-head, All-cons, All-nil}
+use Rattle.model_bits.specs.Bits.{bits, flag}
+use Rattle.model_bits.specs.RoundTrip.{IsHeardWhole, AreHeardWhole}
+use Rattle.model_bits.specs.Sent.{Item, idle, frame, frame_text, item_text, line_text}
+use Rattle.model_bits.specs.Stream as stream
+use Rattle.model_bits.specs.StuffingLaws.{AreOctets}
+use Rattle.model_bits.proofs.BitLemmas.{bits-append, length-bits}
+use Rattle.model_bits.proofs.RoundTripFrame.{some_text}
+use Rattle.model_card.proofs.OfPorts.AsOctets.{sent, all_exact, heard_whole}
+use Rattle.model_card.proofs.OfPorts.PortGoesOn.{frames_among-append}
+use Rattle.model_card.specs.ports.Codec.{frames_among}
+use Rattle.model_card.specs.ports.GoingOut.{as_octets}
+use Rattle.model_card.specs.ports.Port.{Port, gained, left_of}
+use Rattle.laws_line.proofs.OfCard.Meanwhile.{all-right}
+use Rattle.laws_time.proofs.OfCircuit.AnsweredBits.{longer-begins, frame-gained}
+use Rattle.laws_time.proofs.OfCircuit.AnsweredDue.{OnLine, one-more}
+use Rattle.laws_time.proofs.OfCircuit.Sender.{Fine, text_length}
+
+-- All octets that were in transit from an end, the flags of the beginning first.
+abbrev pub all_sent : ℕ → Port → List ℕ
+all_sent way p = replicate way 0x7E ++ p.given
+
+-- Of those the other end received some as they were, after some that came with noise, and the rest is in transit.
+pub record Comes (way clean : ℕ) (p : Port) (transit : List ℕ) (q : Port) : Type 0 where
+  pub noisy : List ℕ
+  pub as_sent : List ℕ
+  pub before : List ℕ
+  pub received : q.received ≡ noisy ++ as_sent
+  pub sent : all_sent way p ≡ (before ++ as_sent) ++ transit
+  pub few : length before ≤ clean
+
+ends-flag : (items : List Item) (before : List Bool) → (z : List Bool) × (before ++ (flag ++ flat_map item_text items) ≡ z ++ flag)
+ends-flag [] before = (before, refl)
+ends-flag (idle ∷ items) before = let x = ends-flag items (before ++ flag) in (x.0, sym (append_assoc before flag (flag ++ flat_map item_text items)) ∙ x.1)
+ends-flag (frame o ∷ items) before =
+    let x = ends-flag items ((before ++ flag) ++ frame_text o) in
+    let rest = flat_map item_text items in (
+      x.0,
+      ap (λ b. before ++ (flag ++ b)) (append_assoc (frame_text o) flag rest)
+          ∙ sym (append_assoc before flag (frame_text o ++ (flag ++ rest))) ∙ sym (append_assoc (before ++ flag) (frame_text o) (flag ++ rest)) ∙ x.1,
+    )
+
+text-of : (xs ys : List Item) (before : List Bool) → before ++ flat_map item_text (xs ++ ys) ≡ (before ++ flat_map item_text xs) ++ flat_map item_text ys
+text-of [] ys before = ap (λ b. b ++ flat_map item_text ys) (sym (append-nil before))
+text-of (x ∷ xs) ys before =
+    sym (append_assoc before (item_text x) (flat_map item_text (xs ++ ys))) ∙ text-of xs ys (before ++ item_text x)
+    ∙ ap (λ b. b ++ flat_map item_text ys) (append_assoc before (item_text x) (flat_map item_text xs))
+
+whole-of : (n201 : ℕ) (xs : List Item) (o : List ℕ) (ys : List Item) → AreHeardWhole n201 (map sent (xs ++ frame o ∷ ys)) → IsHeardWhole n201 (as_octets o)
+whole-of n201 [] o ys all = all.0
+whole-of n201 (idle ∷ xs) o ys all = whole-of n201 xs o ys all
+whole-of n201 (frame f ∷ xs) o ys all = whole-of n201 xs o ys all.1
+
+pub one-among : (P : List ℕ → Type 0) (items xs : List Item) (o : List ℕ) (ys : List Item) → items ≡ xs ++ frame o ∷ ys → All P (frames_among items) → P o
+one-among P items xs o ys is all =
+    All-head P o (frames_among ys)
+    (all-right P (frames_among xs) (frames_among (frame o ∷ ys)) (subst (All P) (ap frames_among is ∙ frames_among-append xs (frame o ∷ ys)) all))
+
+module _ (n201 : ℕ) (kind : List ℕ → Bool) (low most way heard clean : ℕ) (p q : Port) (value : ℕ) (more : List ℕ) (h : Fine n201 p) (c : Comes way clean p (value ∷ more) q)
+    (d : OnLine kind low most way heard p) (now : text_length (d.front ++ frame d.o ∷ []) + 8 * way ≤ 8 * (heard + 1)) (soon : clean + 1 ≤ low)
+    (so_many : length c.before + length c.as_sent ≡ heard) where
+  abbrev T : List Bool
+  T = frame_text d.o ++ flag
+
+  abbrev R : List Bool
+  R = flat_map item_text d.more
+
+  abbrev first : List Bool
+  first = bits (replicate way 0x7E)
+
+  abbrev tail : List Bool
+  tail = bits more ++ left_of p
+
+  z : (z : List Bool) × (line_text d.front ≡ z ++ flag)
+  z = ends-flag d.front []
+
+  its-octets : AreOctets d.o
+  its-octets = one-among AreOctets p.items d.front d.o d.more d.items h.octets
+
+  exact : as_octets d.o ≡ d.o
+  exact = cc (all_exact (d.o ∷ []) (All-cons AreOctets d.o [] its-octets (All-nil AreOctets)))
+
+  whole : IsHeardWhole n201 d.o
+  whole = subst (IsHeardWhole n201) exact (whole-of n201 d.front d.o d.more (subst (λ is. AreHeardWhole n201 (map sent is)) d.items (heard_whole n201 p.items h.on.long h.sound.sizes)))
+
+  -- the text of the line, in two ways
+  text-is : line_text p.items ≡ z.0 ++ (flag ++ (T ++ R))
+  text-is =
+      ap line_text d.items ∙ text-of d.front (frame d.o ∷ d.more) flag ∙ ap (λ b. b ++ (T ++ R)) z.1 ∙ append_assoc z.0 flag (T ++ R)
+
+  came-is : bits (all_sent way p) ++ left_of p ≡ bits c.before ++ (bits c.as_sent ++ (bits (value ∷ []) ++ tail))
+  came-is =
+      ap (λ os. bits os ++ left_of p) (c.sent ∙ append_assoc c.before c.as_sent (value ∷ more))
+      ∙ ap (λ b. b ++ left_of p) (bits-append c.before (c.as_sent ++ value ∷ more) ∙ ap (λ b. bits c.before ++ b) (bits-append c.as_sent (value ∷ more) ∙ ap (λ b. bits c.as_sent ++ b) (bits-append (value ∷ []) more)))
+      ∙ append_assoc (bits c.before) (bits c.as_sent ++ (bits (value ∷ []) ++ bits more)) (left_of p)
+      ∙ ap (λ b. bits c.before ++ b) (append_assoc (bits c.as_sent) (bits (value ∷ []) ++ bits more) (left_of p) ∙ ap (λ b. bits c.as_sent ++ b) (append_assoc (bits (value ∷ [])) (bits more) (left_of p)))
+
+  sent-is : bits (all_sent way p) ++ left_of p ≡ (first ++ z.0) ++ (flag ++ (T ++ R))
+  sent-is =
+      ap (λ b. b ++ left_of p) (bits-append (replicate way 0x7E) p.given) ∙ append_assoc first (bits p.given) (left_of p)
+      ∙ ap (λ b. first ++ b) (sym h.sound.text.text ∙ text-is) ∙ sym (append_assoc first z.0 (flag ++ (T ++ R)))
+
+  first-long : length first ≡ 8 * way
+  first-long = let all = length-bits (replicate way 0x7E) in let n = length-replicate {A = ℕ} way 0x7E in omega (arith, all, n)
+
+  front-long : text_length d.front ≡ length z.0 + 8
+  front-long = ap length z.1 ∙ length-append z.0 flag
+
+  end-long : text_length (d.front ++ frame d.o ∷ []) ≡ length z.0 + 8 + length T
+  end-long = let x = one-more d.front d.o in let y = front-long in omega (arith, x, y)
+
+  T-long : 9 ≤ length T
+  T-long = let x = length-append (frame_text d.o) flag in let y = some_text d.o in omega (arith, x, y)
+
+  before-long : length (bits c.before) ≡ 8 * length c.before
+  before-long = length-bits c.before
+
+  sent-long : length (bits c.as_sent) ≡ 8 * length c.as_sent
+  sent-long = length-bits c.as_sent
+
+  u : (u : List Bool) × (first ++ z.0 ≡ bits c.before ++ u) × (bits c.as_sent ++ (bits (value ∷ []) ++ tail) ≡ u ++ (flag ++ (T ++ R)))
+  u =
+      let low_is = d.after_low in let a = length-append first z.0 in let few = c.few in
+      let l1 = first-long in let l2 = front-long in let l3 = before-long in
+      longer-begins (bits c.before) (bits c.as_sent ++ (bits (value ∷ []) ++ tail)) (first ++ z.0) (flag ++ (T ++ R)) (sym came-is ∙ sent-is)
+      (omega (arith, low_is, a, few, l1, l2, l3, soon))
+
+  u-long : 8 * way + length z.0 ≡ 8 * length c.before + length u.0
+  u-long = let a = ap length u.1 in let b = length-append first z.0 in let k = length-append (bits c.before) u.0 in let l1 = first-long in let l3 = before-long in omega (arith, a, b, k, l1, l3)
+
+  part : (part : List Bool) × (bits c.as_sent ≡ (u.0 ++ flag) ++ part) × (T ++ R ≡ part ++ (bits (value ∷ []) ++ tail))
+  part =
+      let a = u-long in let l = length-append u.0 flag in let s = sent-long in let e = end-long in let t = T-long in
+      longer-begins (u.0 ++ flag) (T ++ R) (bits c.as_sent) (bits (value ∷ []) ++ tail) (append_assoc u.0 flag (T ++ R) ∙ sym u.2)
+      (omega (arith, a, l, s, e, t, now, so_many))
+
+  part-long : 8 * length c.as_sent ≡ length u.0 + 8 + length part.0
+  part-long = let a = ap length part.1 in let l = length-append u.0 flag in let b = length-append (u.0 ++ flag) part.0 in let s = sent-long in omega (arith, a, l, b, s)
+
+  rest : (rest : List Bool) × (T ≡ part.0 ++ rest) × (bits (value ∷ []) ++ tail ≡ rest ++ R)
+  rest =
+      let come = d.to_come in let e = end-long in let a = u-long in let b = part-long in
+      longer-begins part.0 (bits (value ∷ []) ++ tail) T R (sym part.2) (omega (arith, come, e, a, b, so_many))
+
+  rest-long : length T ≡ length part.0 + length rest.0
+  rest-long = ap length rest.1 ∙ length-append part.0 rest.0
+
+  extra : (extra : List Bool) × (bits (value ∷ []) ≡ rest.0 ++ extra) × (R ≡ extra ++ tail)
+  extra =
+      let e = end-long in let a = u-long in let b = part-long in let r = rest-long in let one = length-bits (value ∷ []) in
+      longer-begins rest.0 R (bits (value ∷ [])) tail (sym rest.2) (omega (arith, e, a, b, r, one, now, so_many))
+
+  pub heard-here : gained n201 q.received value ≡ Some (stream.frame d.o)
+  heard-here =
+      let come = d.to_come in let e = end-long in let a = u-long in let b = part-long in let r = rest-long in
+      ap (λ os. gained n201 os value) c.received
+      ∙ frame-gained n201 d.o whole c.noisy c.as_sent value u.0 part.0 rest.0 extra.0 (part.1 ∙ append_assoc u.0 flag part.0) rest.1 extra.1
+      (omega (arith, come, e, a, b, r, so_many))

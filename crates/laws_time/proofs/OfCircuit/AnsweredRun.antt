@@ -1,0 +1,371 @@
+-- A beat without noise, after an end came to a state in which it waits for an answer: its command is on its way, or the answer is.
+use Rattle.std.proofs.Common.{arith, true, ◌≡◌, ℕ, ◌+◌, ◌/◌, ◌≤◌, List, [], ◌∷◌, ◌++◌, length, Option, Some, None, refl, sym, ap, ◌∙◌, subst, ◌⊎◌, inl, inr, length-append, replicate}
+use Rattle.std.specs.Option.{unwrap_or, option_map_or}
+use Rattle.std.proofs.lemmas.Bool.{cases_eq}
+use Rattle.std.proofs.lemmas.List.{length-replicate}
+use Rattle.lapd_frame.specs.Grammar.{Parts}
+use Rattle.model_link.specs.Events as link
+use Rattle.model_link.specs.Events.{Event as LinkEvent}
+use Rattle.model_link.specs.Link.{Link, state_number, is_multiple_frame}
+use Rattle.model_link.specs.Machine as links
+use Rattle.model_line.specs.Heard.{heard_side}
+use Rattle.model_line.specs.Taken.{own_side}
+use Rattle.model_line.specs.Line.{terms}
+use Rattle.model_card.specs.ports.Port as port
+use Rattle.model_card.specs.ports.Port.{Port, gained}
+use Rattle.model_timed.specs.Octets.{TimedOctetCard, fresh}
+use Rattle.laws_order.specs.circuit.Circuit.{Endpoint as OctetEndpoint, port_of}
+use Rattle.laws_order.specs.circuit.Circuit as circuit
+use Rattle.laws_wire.proofs.Spelled.{sides-turned}
+use Rattle.laws_time.proofs.OfCircuit.AnsweredBeat.{same-some, DueHere, from-here, to-here, due-kept, asks-moved, asks-kept, still-kept}
+use Rattle.laws_time.proofs.OfCircuit.AnsweredBeats.{Beaten, PairAt, near-come, far-come, near-pulls, far-pulls, beaten, comes-pulled, comes-heard}
+use Rattle.laws_time.proofs.OfCircuit.AnsweredDue.{Due, IsNow, due-heard, due-soon}
+use Rattle.laws_time.proofs.OfCircuit.AnsweredEnds.{lost, lost-more, DueAt, due-moved, due-pull, text-low}
+use Rattle.laws_time.proofs.OfCircuit.AnsweredHeard.{Hears, plain, answer-heard, command-heard, hears-moved}
+use Rattle.laws_time.proofs.OfCircuit.AnsweredPlace.{Comes, one-among, heard-here}
+use Rattle.laws_time.proofs.OfCircuit.AnsweredRows.{Exchange, up-is, offer-stays}
+use Rattle.laws_time.proofs.OfCircuit.AnsweredWalk.{IsKept, Kept, comes-kept}
+use Rattle.laws_time.proofs.OfCircuit.LongEnough.{by_now, soon, near-low, near-high, far-low, far-high, pair-then}
+use Rattle.laws_time.proofs.OfCircuit.Open.{ring, half}
+use Rattle.laws_time.proofs.OfCircuit.Standing.{Ends, IsOwn, Moved, fine}
+use Rattle.laws_time.proofs.OfCircuit.Under.{state-here}
+use Rattle.laws_time.specs.circuit.Answered.{IsClean, state_at}
+use Rattle.laws_time.specs.circuit.Clocked.{TimedEndpoint, Clocked, Beat, gone, beat, happens, comes_to, without_first_octet}
+use Rattle.laws_time.specs.circuit.LongEnough.{Line, IsFit, IsTalk, IsClearAt, is_of}
+
+-- So many octets were heard.
+count-of : (way clean : ℕ) (p q : Port) (transit : List ℕ) (h : Comes way clean p transit q) (n : ℕ) → length p.given ≡ n + 1 → length transit ≡ way + 1 → length h.before + length h.as_sent ≡ n
+count-of way clean p q transit h n given long =
+    let all = ap length h.sent ∙ length-append (h.before ++ h.as_sent) transit in
+    let front = length-append h.before h.as_sent in
+    let sent = length-append (replicate way 0x7E) p.given in
+    let flags = length-replicate {A = ℕ} way 0x7E in
+    omega (arith, all, front, sent, flags, given, long)
+
+module _ (l : Line) (fit : IsFit l) (n : ℕ) (x : Exchange n) (start clean base other_base : ℕ) where
+  -- By these octets the command is given, and the answer.
+  abbrev pub asked_by : ℕ
+  asked_by = start + x.late + half l.near l.service l.tei 0 fit.call.near.0
+
+  abbrev pub answered_by : ℕ
+  answered_by = start + x.late + half l.near l.service l.tei 0 fit.call.near.0 + l.way + 1 + half l.far l.service l.tei 0 fit.call.far.0
+
+  abbrev pub NearDue : ℕ → OctetEndpoint → Type 0
+  NearDue heard s = DueHere l.near l.service l.tei fit.call.near.0 x.asking start asked_by l.way heard s
+
+  abbrev pub FarDue : ℕ → OctetEndpoint → Type 0
+  FarDue heard s = DueHere l.far l.service l.tei fit.call.far.0 x.answering start answered_by l.way heard s
+
+  abbrev pub Stage : Clocked → Type 0
+  Stage w = NearDue w.beats w.near.at ⊎ FarDue w.beats w.far.at
+
+  pub record Ready (w : Clocked) : Type 0 where
+    pub pair : PairAt l fit w
+    pub near_low : base ≤ lost w.near.at
+    pub far_low : other_base ≤ lost w.far.at
+    pub near_comes : Comes l.way clean (port_of w.near.at) w.near.at.way (port_of w.far.at)
+    pub far_comes : Comes l.way clean (port_of w.far.at) w.far.at.way (port_of w.near.at)
+
+  module _ (soon_clean : clean + 1 ≤ start) (w : Clocked) (y : Ready w) (b : Beat) (talk : IsTalk l b) (is_clean : IsClean b) (near_clear : IsClearAt l.near.n201 b.near_noise (gone l.rate b w).near (gone l.rate b w).far)
+      (far_clear : IsClearAt l.near.n201 b.far_noise (gone l.rate b w).far (gone l.rate b w).near) where
+    abbrev v : Clocked
+    v = gone l.rate b w
+
+    abbrev u : Clocked
+    u = beat l.rate w b
+
+    abbrev n1 : TimedEndpoint
+    n1 = comes_to (w.beats / l.rate) b.near_asks w.near
+
+    abbrev f1 : TimedEndpoint
+    f1 = comes_to (w.beats / l.rate) b.far_asks w.far
+
+    abbrev opposite : own_side l.far ≡ heard_side l.near
+    opposite = fit.call.opposite.0
+
+    abbrev size : l.near.n201 ≡ l.far.n201
+    size = fit.call.opposite.1
+
+    abbrev a : TimedOctetCard
+    a = fresh l.near l.lengths
+
+    abbrev d : TimedOctetCard
+    d = fresh l.far l.lengths
+
+    abbrev p : PairAt l fit w
+    p = y.pair
+
+    abbrev z : Beaten w (gone l.rate b w) (beat l.rate w b) b
+    z = beaten l fit w y.pair b talk
+
+    -- the ends after their requests and expiries, after their pulls, and after the octet that comes
+    abbrev near1 : Ends l.near l.service l.tei 0 fit.call.near.0 n1.at
+    near1 = (near-come l fit w y.pair b talk).ok.but.ends
+
+    abbrev far1 : Ends l.far l.service l.tei 0 fit.call.far.0 f1.at
+    far1 = (far-come l fit w y.pair b talk).ok.but.ends
+
+    abbrev near2 : Ends l.near l.service l.tei 0 fit.call.near.0 v.near.at
+    near2 = (near-pulls l fit w y.pair b talk).ends
+
+    abbrev far2 : Ends l.far l.service l.tei 0 fit.call.far.0 v.far.at
+    far2 = (far-pulls l fit w y.pair b talk).ends
+
+    abbrev near_then : TimedEndpoint
+    near_then = happens (port.octet z.near.value) v.near
+
+    abbrev far_then : TimedEndpoint
+    far_then = happens (port.octet z.far.value) v.far
+
+    near-is : u.near ≡ without_first_octet (happens (port.octet z.near.value) v.near)
+    near-is = z.near.is ∙ ap (λ o. without_first_octet (happens (port.octet (unwrap_or o z.near.value)) v.near)) is_clean.0
+
+    far-is : u.far ≡ without_first_octet (happens (port.octet z.far.value) v.far)
+    far-is = z.far.is ∙ ap (λ o. without_first_octet (happens (port.octet (unwrap_or o z.far.value)) v.far)) is_clean.1
+
+    near_hears : Hears l.near l.service l.tei fit.call.near.0 l.far fit.call.far.0 l.near.n201 refl (sym size) (sym opposite) v.near.at (circuit.happens (port.octet z.near.value) v.near.at) near2
+    near_hears =
+        hears-moved l.near l.service l.tei fit.call.near.0 l.far fit.call.far.0 l.near.n201 refl (sym size) (sym opposite) v.near v.far near2 far2
+        (subst (λ o. IsClearAt l.near.n201 o v.near v.far) is_clean.0 near_clear) z.near.value z.near.more z.near.comes
+
+    abbrev near_mv : Moved l.near l.service l.tei 0 fit.call.near.0 v.near.at (circuit.happens (port.octet z.near.value) v.near.at) near2 (λ e. (f : Parts) × (e ≡ link.received (link.frame f)))
+    near_mv = near_hears.0
+
+    far_hears : Hears l.far l.service l.tei fit.call.far.0 l.near fit.call.near.0 l.near.n201 (sym size) refl (sym (sides-turned l.near l.far opposite)) v.far.at (circuit.happens (port.octet z.far.value) v.far.at) far2
+    far_hears =
+        hears-moved l.far l.service l.tei fit.call.far.0 l.near fit.call.near.0 l.near.n201 (sym size) refl (sym (sides-turned l.near l.far opposite)) v.far v.near far2 near2
+        (subst (λ o. IsClearAt l.near.n201 o v.far v.near) is_clean.1 far_clear) z.far.value z.far.more z.far.comes
+
+    abbrev far_mv : Moved l.far l.service l.tei 0 fit.call.far.0 v.far.at (circuit.happens (port.octet z.far.value) v.far.at) far2 (λ e. (f : Parts) × (e ≡ link.received (link.frame f)))
+    far_mv = far_hears.0
+
+    -- what holds of the port and the link of an end, as it comes to the moment
+    near-walk : (D : Port → Link → Type 0) (base : ℕ) → IsKept l.near l.service l.tei fit.call.near.0 l.lengths l.rate D → base ≤ lost w.near.at
+        → (lost w.near.at ≤ base → D (port_of w.near.at) p.near_ok.but.ends.its) → Kept l.near l.service l.tei fit.call.near.0 l.lengths l.rate D base n1.at near1
+    near-walk D base on low so =
+        comes-kept l.near l.service l.tei fit.call.near.0 l.lengths l.rate D base on l.way (w.beats / l.rate) w.beats p.S
+        (by_now l fit.some fit.call.near.0 fit.call.far.0 opposite size fit.t200 a d p.S2) b.near_asks w.near p.near_ok p.both.near
+        (near-low l fit.some fit.call.near.0 fit.call.far.0 opposite size fit.t200 a d w p b talk) (near-high l fit.some fit.call.near.0 fit.call.far.0 opposite size fit.t200 a d w p b talk) p.near_counts
+        (soon l fit.some fit.call.near.0 fit.call.far.0 opposite size fit.t200 a d w p b talk) talk.0 (low, so) near1
+
+    far-walk : (D : Port → Link → Type 0) (base : ℕ) → IsKept l.far l.service l.tei fit.call.far.0 l.lengths l.rate D → base ≤ lost w.far.at
+        → (lost w.far.at ≤ base → D (port_of w.far.at) p.far_ok.but.ends.its) → Kept l.far l.service l.tei fit.call.far.0 l.lengths l.rate D base f1.at far1
+    far-walk D base on low so =
+        comes-kept l.far l.service l.tei fit.call.far.0 l.lengths l.rate D base on l.way (w.beats / l.rate) w.beats p.S2
+        (by_now l fit.some fit.call.near.0 fit.call.far.0 opposite size fit.t200 a d p.S) b.far_asks w.far p.far_ok p.both.far
+        (far-low l fit.some fit.call.near.0 fit.call.far.0 opposite size fit.t200 a d w p b talk) (far-high l fit.some fit.call.near.0 fit.call.far.0 opposite size fit.t200 a d w p b talk) p.far_counts
+        (soon l fit.some fit.call.near.0 fit.call.far.0 opposite size fit.t200 a d w p b talk) talk.1 (low, so) far1
+
+    -- what is lost only grows
+    pub near-lost : (lost w.near.at ≤ lost n1.at) × (lost n1.at ≤ lost v.near.at) × (lost v.near.at ≤ lost u.near.at)
+    near-lost = (
+      (near-walk (λ p x. Unit {0}) (lost w.near.at) (λ s u h may mv calm y. tt) (omega arith) (λ few. tt)).0,
+      lost-more port.pull n1.at,
+      subst (λ (e : TimedEndpoint). lost v.near.at ≤ lost e.at) (sym near-is) (lost-more (port.octet z.near.value) v.near.at),
+    )
+
+    pub far-lost : (lost w.far.at ≤ lost f1.at) × (lost f1.at ≤ lost v.far.at) × (lost v.far.at ≤ lost u.far.at)
+    far-lost = (
+      (far-walk (λ p x. Unit {0}) (lost w.far.at) (λ s u h may mv calm y. tt) (omega arith) (λ few. tt)).0,
+      lost-more port.pull f1.at,
+      subst (λ (e : TimedEndpoint). lost v.far.at ≤ lost e.at) (sym far-is) (lost-more (port.octet z.far.value) v.far.at),
+    )
+
+    -- what is in transit after the pulls
+    near_coming : Comes l.way clean (port_of v.near.at) (z.far.value ∷ z.far.more) (port_of v.far.at)
+    near_coming =
+        comes-pulled l.way w.near v.near u.near v.far b.near_noise z.near_sent z.near z.far.value z.far.more z.far.comes clean (port_of w.far.at) (port_of v.far.at) z.far_sent.received y.near_comes
+
+    far_coming : Comes l.way clean (port_of v.far.at) (z.near.value ∷ z.near.more) (port_of v.near.at)
+    far_coming =
+        comes-pulled l.way w.far v.far u.far v.near b.far_noise z.far_sent z.far z.near.value z.near.more z.near.comes clean (port_of w.near.at) (port_of v.near.at) z.near_sent.received y.far_comes
+
+    pub ready-then : Ready u
+    ready-then =
+        let few = near-lost in let few_far = far-lost in let low = y.near_low in let far_is_low = y.far_low in
+        record {
+          pair = pair-then l fit.some fit.call.near.0 fit.call.far.0 opposite size fit.t200 a d w p b talk near_clear far_clear;
+          near_low = let f0 = few.0 in let f1 = few.1 in let f2 = few.2 in omega (arith, f0, f1, f2, low);
+          far_low = let f0 = few_far.0 in let f1 = few_far.1 in let f2 = few_far.2 in omega (arith, f0, f1, f2, far_is_low);
+          near_comes = comes-heard l.way w.near v.near u.near v.far b.near_noise z.near_sent z.near z.far.value z.far.more z.far.comes clean (port_of w.far.at) (port_of v.far.at) z.far_sent.received (port_of u.far.at)
+              (ap (λ (p : Port). p.received) z.far.port ∙ ap (λ o. (port_of v.far.at).received ++ unwrap_or o z.far.value ∷ []) is_clean.1) near_coming;
+          far_comes = comes-heard l.way w.far v.far u.far v.near b.far_noise z.far_sent z.far z.near.value z.near.more z.near.comes clean (port_of w.near.at) (port_of v.near.at) z.near_sent.received (port_of u.near.at)
+              (ap (λ (p : Port). p.received) z.near.port ∙ ap (λ o. (port_of v.near.at).received ++ unwrap_or o z.near.value ∷ []) is_clean.0) far_coming;
+        }
+
+    given-now : (length (port_of v.near.at).given ≡ w.beats + 1) × (length (port_of v.far.at).given ≡ w.beats + 1)
+    given-now =
+        let n = ap length z.near_sent.given ∙ length-append (port_of w.near.at).given (z.near_sent.value ∷ []) in
+        let f = ap length z.far_sent.given ∙ length-append (port_of w.far.at).given (z.far_sent.value ∷ []) in
+        let nn = p.near_counts.given in let ff = p.far_counts.given in (omega (arith, n, nn), omega (arith, f, ff))
+
+    way-now : (length (z.far.value ∷ z.far.more) ≡ l.way + 1) × (length (z.near.value ∷ z.near.more) ≡ l.way + 1)
+    way-now =
+        let n = sym (ap length z.far.comes) ∙ ap length z.near_sent.way ∙ length-append w.near.at.way (z.near_sent.value ∷ []) in
+        let f = sym (ap length z.near.comes) ∙ ap length z.far_sent.way ∙ length-append w.far.at.way (z.far_sent.value ∷ []) in
+        let nn = p.near_counts.way in let ff = p.far_counts.way in (omega (arith, n, nn), omega (arith, f, ff))
+
+    -- the states after the beat
+    near-state : (n : ℕ) → state_at l u.near ≡ Some n → state_number near_mv.ends.its.state ≡ n
+    near-state n is =
+        same-some (state_number near_mv.ends.its.state) n
+        (sym (state-here l.near l.service l.tei 0 fit.call.near.0 l.lengths l.rate near_then.at near_mv.ends) ∙ ap (state_at l) (sym near-is) ∙ is)
+
+    far-state : (n : ℕ) → state_at l u.far ≡ Some n → state_number far_mv.ends.its.state ≡ n
+    far-state n is =
+        same-some (state_number far_mv.ends.its.state) n
+        (sym (state-here l.far l.service l.tei 0 fit.call.far.0 l.lengths l.rate far_then.at far_mv.ends) ∙ ap (state_at l) (sym far-is) ∙ is)
+
+    module _ (is_waiting : state_at l u.near ≡ Some n) (is_up : n ≡ 8 → (state_at l u.far ≡ Some 7) ⊎ (state_at l u.far ≡ Some 8)) (near_few : lost u.near.at ≤ base) (far_few : lost u.far.at ≤ other_base)
+        (late : start ≤ w.beats) where
+      abbrev NearAfterPull : Type 0
+      NearAfterPull = DueAt l.near l.service l.tei 0 fit.call.near.0 x.asking start asked_by l.way w.beats v.near.at near2
+
+      far-up : n ≡ 8 → is_multiple_frame far_mv.ends.its.state ≡ true
+      far-up is = up-is (terms l.far l.service l.tei) far_mv.ends.its.state (elim (is_up is) [ inl e ↦ inl (far-state 7 e) | inr e ↦ inr (far-state 8 e) ])
+
+      -- The command is heard: the answer is put.
+      command-now : IsNow (is_of x.asking l.near) start asked_by l.way w.beats (port_of v.near.at) → w.beats ≤ asked_by + l.way → FarDue (w.beats + 1) u.far.at
+      command-now now soon_heard =
+          let g = given-now in let c = way-now in
+          let h = now.0 in
+          let it = heard-here l.near.n201 (is_of x.asking l.near) start asked_by l.way w.beats clean (port_of v.near.at) (port_of v.far.at) z.far.value z.far.more
+          (fine l.near l.service l.tei 0 fit.call.near.0 v.near.at near2) near_coming now.0 now.1 soon_clean
+          (count-of l.way clean (port_of v.near.at) (port_of v.far.at) (z.far.value ∷ z.far.more) near_coming w.beats g.0 c.0) in
+          let own = one-among (IsOwn l.near l.service l.tei 0 fit.call.near.0) (port_of v.near.at).items h.front h.o h.more h.items near2.frames in
+          let text = text-low l.far l.service l.tei 0 fit.call.far.0 v.far.at far2 in
+          let given = g.1 in
+          let low = y.far_low in let f0 = far-lost.0 in let f1 = far-lost.1 in
+          subst (λ (e : TimedEndpoint). FarDue (w.beats + 1) e.at) (sym far-is)
+          (to-here l.far l.service l.tei fit.call.far.0 x.answering start answered_by l.way (w.beats + 1) far_then.at far_mv.ends
+          (command-heard l.far l.service l.tei fit.call.far.0 l.near fit.call.near.0 l.near.n201 (sym size) refl (sym (sides-turned l.near l.far opposite)) v.far.at far2 z.far.value h.o own it n x far_mv.ends h.its
+          far-up (let few : lost (circuit.happens (port.octet z.far.value) v.far.at) ≤ other_base = subst (λ (e : TimedEndpoint). lost e.at ≤ other_base) far-is far_few in omega (arith, few, low, f0, f1)) start answered_by l.way (w.beats + 1)
+          (omega (arith, text, given, late)) (omega (arith, given, soon_heard))))
+
+      near-after : NearAfterPull → Stage u
+      near-after due = go (due-heard (is_of x.asking l.near) start asked_by l.way w.beats (port_of v.near.at) (ring l.near l.service l.tei 0 fit.call.near.0 near2.its) due)
+        where
+          go : IsNow (is_of x.asking l.near) start asked_by l.way w.beats (port_of v.near.at) ⊎ DueAt l.near l.service l.tei 0 fit.call.near.0 x.asking start asked_by l.way (w.beats + 1) v.near.at near2 → Stage u
+          go (inl now) =
+              let text = text-low l.near l.service l.tei 0 fit.call.near.0 v.near.at near2 in
+              let given = given-now.0 in
+              inr (command-now now (due-soon (is_of x.asking l.near) start asked_by l.way w.beats (port_of v.near.at) (ring l.near l.service l.tei 0 fit.call.near.0 near2.its) (omega (arith, text, given)) due))
+          go (inr later) =
+              inl (subst (λ (e : TimedEndpoint). NearDue (w.beats + 1) e.at) (sym near-is)
+              (to-here l.near l.service l.tei fit.call.near.0 x.asking start asked_by l.way (w.beats + 1) near_then.at near_mv.ends
+              (due-moved l.near l.service l.tei 0 fit.call.near.0 x.asking start asked_by l.way (w.beats + 1) v.near.at (circuit.happens (port.octet z.near.value) v.near.at) near2
+              (λ e. (f : Parts) × (e ≡ link.received (link.frame f))) near_mv (λ e is. plain l.near l.service l.tei fit.call.near.0 l.far fit.call.far.0 l.near.n201 refl (sym size) (sym opposite) e (near_mv.by e is)) later)))
+
+      abbrev FarAfterPull : Type 0
+      FarAfterPull = DueAt l.far l.service l.tei 0 fit.call.far.0 x.answering start answered_by l.way w.beats v.far.at far2
+
+      -- The answer is heard: the end waits no more.
+      answer-now : x.Still near2.its.state → IsNow (is_of x.answering l.far) start answered_by l.way w.beats (port_of v.far.at) → ⊥
+      answer-now still now =
+          let g = given-now in let c = way-now in
+          let h = now.0 in
+          let it = heard-here l.far.n201 (is_of x.answering l.far) start answered_by l.way w.beats clean (port_of v.far.at) (port_of v.near.at) z.near.value z.near.more
+          (fine l.far l.service l.tei 0 fit.call.far.0 v.far.at far2) far_coming now.0 now.1 soon_clean
+          (count-of l.way clean (port_of v.far.at) (port_of v.near.at) (z.near.value ∷ z.near.more) far_coming w.beats g.1 c.1) in
+          let own = one-among (IsOwn l.far l.service l.tei 0 fit.call.far.0) (port_of v.far.at).items h.front h.o h.more h.items far2.frames in
+          answer-heard l.near l.service l.tei fit.call.near.0 l.far fit.call.far.0 l.near.n201 refl (sym size) (sym opposite) v.near.at near2 z.near.value h.o own
+          (ap (λ n. gained n (port_of v.near.at).received z.near.value) size ∙ it) n x near_mv.ends h.its still (near-state n is_waiting)
+
+      far-after : x.Still near2.its.state → FarAfterPull → Stage u
+      far-after still due = go (due-heard (is_of x.answering l.far) start answered_by l.way w.beats (port_of v.far.at) (ring l.far l.service l.tei 0 fit.call.far.0 far2.its) due)
+        where
+          go : IsNow (is_of x.answering l.far) start answered_by l.way w.beats (port_of v.far.at) ⊎ DueAt l.far l.service l.tei 0 fit.call.far.0 x.answering start answered_by l.way (w.beats + 1) v.far.at far2 → Stage u
+          go (inl now) = absurd (answer-now still now)
+          go (inr later) =
+              inr (subst (λ (e : TimedEndpoint). FarDue (w.beats + 1) e.at) (sym far-is)
+              (to-here l.far l.service l.tei fit.call.far.0 x.answering start answered_by l.way (w.beats + 1) far_then.at far_mv.ends
+              (due-moved l.far l.service l.tei 0 fit.call.far.0 x.answering start answered_by l.way (w.beats + 1) v.far.at (circuit.happens (port.octet z.far.value) v.far.at) far2
+              (λ e. (f : Parts) × (e ≡ link.received (link.frame f))) far_mv
+              (λ e is. plain l.far l.service l.tei fit.call.far.0 l.near fit.call.near.0 l.near.n201 (sym size) refl (sym (sides-turned l.near l.far opposite)) e (far_mv.by e is)) later)))
+
+      near-given : length (port_of n1.at).given ≡ w.beats
+      near-given = ap (λ (p : Port). length p.given) (near-come l fit w y.pair b talk).port ∙ p.near_counts.given
+
+      far-given : length (port_of f1.at).given ≡ w.beats
+      far-given = ap (λ (p : Port). length p.given) (far-come l fit w y.pair b talk).port ∙ p.far_counts.given
+
+      few-before : (lost n1.at ≤ base) × (lost f1.at ≤ other_base)
+      few-before =
+          let n1 = near-lost.1 in let n2 = near-lost.2 in let f1 = far-lost.1 in let f2 = far-lost.2 in
+          (omega (arith, n1, n2, near_few), omega (arith, f1, f2, far_few))
+
+      -- A pull leaves the state.
+      pull-state : near2.its.state ≡ near1.its.state
+      pull-state = elim (near-pulls l fit w y.pair b talk).its_is [
+        | inl same ↦ ap (λ (l : Link). l.state) same
+        | inr same ↦ ap (λ (l : Link). l.state) same ∙ offer-stays (terms l.near l.service l.tei) near1.its
+      ]
+
+      -- Any beat,
+      pub stage-then : state_at l w.near ≡ Some n → Stage w → Stage u
+      stage-then was (inl due) =
+          let given = near-given in
+          let kept = near-walk (λ p y. Due (is_of x.asking l.near) start asked_by l.way w.beats p (ring l.near l.service l.tei 0 fit.call.near.0 y)) base
+          (due-kept l.near l.service l.tei fit.call.near.0 l.lengths l.rate x.asking start asked_by l.way w.beats) y.near_low
+          (λ few. from-here l.near l.service l.tei fit.call.near.0 x.asking start asked_by l.way w.beats w.near.at p.near_ok.but.ends due) in
+          near-after (due-pull l.near l.service l.tei 0 fit.call.near.0 x.asking start asked_by l.way w.beats n1.at near1 (near-pulls l fit w y.pair b talk) (omega (arith, given)) (kept.1 few-before.0))
+      stage-then was (inr due) =
+          let given = far-given in
+          let number = same-some (state_number p.near_ok.but.ends.its.state) n (sym (state-here l.near l.service l.tei 0 fit.call.near.0 l.lengths l.rate w.near.at p.near_ok.but.ends) ∙ was) in
+          let still = near-walk (λ p y. x.Still y.state) base (still-kept l.near l.service l.tei fit.call.near.0 l.lengths l.rate n x start asked_by l.way) y.near_low
+          (λ few. x.still_in p.near_ok.but.ends.its.state number) in
+          let kept = far-walk (λ p y. Due (is_of x.answering l.far) start answered_by l.way w.beats p (ring l.far l.service l.tei 0 fit.call.far.0 y)) other_base
+          (due-kept l.far l.service l.tei fit.call.far.0 l.lengths l.rate x.answering start answered_by l.way w.beats) y.far_low
+          (λ few. from-here l.far l.service l.tei fit.call.far.0 x.answering start answered_by l.way w.beats w.far.at p.far_ok.but.ends due) in
+          far-after (subst x.Still (sym pull-state) (still.1 few-before.0))
+          (due-pull l.far l.service l.tei 0 fit.call.far.0 x.answering start answered_by l.way w.beats f1.at far1 (far-pulls l fit w y.pair b talk) (omega (arith, given)) (kept.1 few-before.1))
+
+      -- and the first: the command is put before the pull, or as a frame is heard.
+      pub stage-first : w.beats ≡ start → (state_at l w.near ≡ Some n → ⊥) → Stage u
+      stage-first now other = go (cases_eq (state_number near2.its.state) n)
+        where
+          given : length (port_of n1.at).given ≡ w.beats
+          given = near-given
+
+          not-yet : state_number p.near_ok.but.ends.its.state ≡ n → ⊥
+          not-yet is = other (state-here l.near l.service l.tei 0 fit.call.near.0 l.lengths l.rate w.near.at p.near_ok.but.ends ∙ ap (λ n. Some n) is)
+
+          before : Kept l.near l.service l.tei fit.call.near.0 l.lengths l.rate (λ p y. (length p.given ≡ start) × (state_number y.state ≡ n → Due (is_of x.asking l.near) start asked_by l.way start p (ring l.near l.service l.tei 0 fit.call.near.0 y))) base n1.at near1
+          before =
+              let counted = p.near_counts.given in
+              near-walk (λ p y. (length p.given ≡ start) × (state_number y.state ≡ n → Due (is_of x.asking l.near) start asked_by l.way start p (ring l.near l.service l.tei 0 fit.call.near.0 y))) base
+              (asks-kept l.near l.service l.tei fit.call.near.0 l.lengths l.rate n x start asked_by l.way start (omega arith) (omega arith)) y.near_low
+              (λ few. (counted ∙ now, λ is. absurd (not-yet is)))
+
+          go : (state_number near2.its.state ≡ n) ⊎ (state_number near2.its.state ≡ n → ⊥) → Stage u
+          go (inl was) =
+              let so_many = given in
+              near-after (subst (λ n. DueAt l.near l.service l.tei 0 fit.call.near.0 x.asking start asked_by l.way n v.near.at near2) (sym now)
+              (due-pull l.near l.service l.tei 0 fit.call.near.0 x.asking start asked_by l.way start n1.at near1 (near-pulls l fit w y.pair b talk) (omega (arith, so_many, now))
+              ((before.1 few-before.0).1 (ap state_number (sym pull-state) ∙ was))))
+          go (inr none) =
+              inl (subst (λ (e : TimedEndpoint). NearDue (w.beats + 1) e.at) (sym near-is)
+              (to-here l.near l.service l.tei fit.call.near.0 x.asking start asked_by l.way (w.beats + 1) near_then.at near_mv.ends
+              ((asks-moved l.near l.service l.tei fit.call.near.0 l.lengths l.rate n x start asked_by l.way (w.beats + 1) by-now (omega (arith, now)) v.near.at (circuit.happens (port.octet z.near.value) v.near.at) near2
+              (λ e. (f : Parts) × (e ≡ link.received (link.frame f))) near_mv (λ e is. plain l.near l.service l.tei fit.call.near.0 l.far fit.call.far.0 l.near.n201 refl (sym size) (sym opposite) e (near_mv.by e is)) none-lost
+              (given-now.0, λ is. absurd (none is))).1 (near-state n is_waiting))))
+            where
+              none-lost : (e : LinkEvent) → near_mv.event ≡ Some e → (links.told (terms l.near l.service l.tei) e near2.its).lost ≡ 0
+              none-lost e is =
+                  let all = near_hears.1 e is in
+                  let few : lost (circuit.happens (port.octet z.near.value) v.near.at) ≤ base = subst (λ (e : TimedEndpoint). lost e.at ≤ base) near-is near_few in
+                  let low = y.near_low in let n0 = near-lost.0 in let n1 = near-lost.1 in omega (arith, all, few, low, n0, n1)
+
+              by-frame : (v : Option LinkEvent) → near_mv.event ≡ v → x.late ≡ 1
+              by-frame None e = absurd (none (ap (λ (l : Link). state_number l.state) (sym (near_mv.link_is ∙ ap (λ v. option_map_or (λ e. links.after (terms l.near l.service l.tei) e near2.its) v near2.its) e)) ∙ near-state n is_waiting))
+              by-frame (Some e) is =
+                  let f = near_mv.by e is in
+                  elim (x.by_frame (terms l.near l.service l.tei) f.0 near2.its
+                  (ap (λ e. state_number (links.after (terms l.near l.service l.tei) e near2.its).state) (sym f.1)
+                  ∙ ap (λ (l : Link). state_number l.state) (sym (near_mv.link_is ∙ ap (λ v. option_map_or (λ e. links.after (terms l.near l.service l.tei) e near2.its) v near2.its) is)) ∙ near-state n is_waiting)) [
+                    | inl was ↦ absurd (none was)
+                    | inr late ↦ late
+                  ]
+
+              by-now : w.beats + 1 + half l.near l.service l.tei 0 fit.call.near.0 ≤ asked_by
+              by-now = let late = by-frame near_mv.event refl in omega (arith, late, now)

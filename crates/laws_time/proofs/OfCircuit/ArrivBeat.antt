@@ -1,0 +1,354 @@
+-- A beat of the clocked circuit is done on a wire of frames, and T200 is long enough there.
+use Rattle.std.proofs.Common.{arith, ◌≡◌, ℕ, ◌+◌, ◌*◌, ◌/◌, ◌≤◌, ◌<◌, Bool, true, false, cond, List, [], ◌∷◌, ◌++◌, length, drop, Option, Some, None, refl, sym, ap, ◌∙◌, subst, All}
+use Rattle.std.specs.Prelude.{fold}
+use Rattle.std.specs.Option.{unwrap_or}
+use Rattle.lapd_frame.specs.declared.services.Service.{Service}
+use Rattle.model_bits.specs.Stream as stream
+use Rattle.model_link.specs.TwoEnds.{Endpoint as LinkEndpoint}
+use Rattle.model_line.specs.Event as line
+use Rattle.model_line.specs.Event.{LineTold}
+use Rattle.model_line.specs.Heard.{heard_side}
+use Rattle.model_line.specs.Request.{Request}
+use Rattle.model_line.specs.Sound.{IsInRange}
+use Rattle.model_line.specs.Taken.{own_side}
+use Rattle.model_line.specs.declared.config.Config.{Config}
+use Rattle.model_card.specs.ports.Port as port
+use Rattle.model_card.specs.ports.Port.{Port, gained, is_due}
+use Rattle.model_timed.specs.Octets.{TimedOctetCard}
+use Rattle.laws_link.specs.two.Timely.{HasNo}
+use Rattle.laws_wire.specs.Timely.{is_final}
+use Rattle.laws_wire.specs.Wire as wire
+use Rattle.laws_wire.specs.Wire.{Endpoint as FrameEndpoint, Wire, sends, turned}
+use Rattle.laws_wire.proofs.Standing.{StationStands}
+use Rattle.laws_order.specs.circuit.Circuit.{Endpoint as OctetEndpoint, port_of}
+use Rattle.laws_order.specs.circuit.Circuit as circuit
+use Rattle.laws_order.proofs.OfCircuit.AsFrames.{as_station, if_meant}
+use Rattle.laws_order.proofs.OfCircuit.Projected.{port-after, heard-way}
+use Rattle.laws_order.proofs.OfCircuit.Ran.{Ran, within-ports}
+use Rattle.laws_time.specs.circuit.Clocked.{TimedEndpoint, Clocked, Beat, happens, asks, hears, without_first_octet, comes_to, gone, beat, fall_due}
+use Rattle.laws_time.specs.circuit.LongEnough.{Line, IsTalk, IsClearAt, IsFrame, answered_in}
+use Rattle.laws_time.proofs.OfCircuit.ArrivAs.{station, heard_of, due-becomes, undue-becomes}
+use Rattle.laws_time.proofs.OfCircuit.ArrivFair.{IsFair}
+use Rattle.laws_time.proofs.OfCircuit.ArrivHeard.{Hears, hears-so}
+use Rattle.laws_time.proofs.OfCircuit.ArrivOpen.{parts, are-own, stands, has-none}
+use Rattle.laws_time.proofs.OfCircuit.ArrivPath.{Path, path-none, path-both, path-one, path-turned}
+use Rattle.laws_time.proofs.OfCircuit.ArrivSide.{Stood, After, IsBoth, all-comes, fair-happens}
+use Rattle.laws_time.proofs.OfCircuit.ArrivWay.{Going, going-with, before-long, pulled-way}
+use Rattle.laws_time.proofs.OfCircuit.Beats.{at-moment, Gone}
+use Rattle.laws_time.proofs.OfCircuit.Ends.{at_time}
+use Rattle.laws_time.proofs.OfCircuit.LongEnough.{Pair, by_now, long-ago, near-in-all, far-in-all, in-all, near-low, near-high, far-low, far-high, soon, near-gone, far-gone}
+use Rattle.laws_time.proofs.OfCircuit.Standing.{Ends, bare}
+use Rattle.laws_time.proofs.OfCircuit.Under.{EndOk}
+
+-- A pull, at an end and at its station.
+module _ (service : Service) (tei : ℕ) (c : Config) (ranged : IsInRange c) (a : TimedEndpoint) (ran : Ran c a.at) (there : List (List ℕ)) (goes : Going c.n201 (port_of a.at) a.at.way there)
+    (ts : List LineTold) (heard : heard_of ts ≡ heard_of a.at.told) (y : FrameEndpoint) where
+  pub record PulledTo : Type 0 where
+    pub there' : List (List ℕ)
+    pub goes' : Going c.n201 (port_of (happens port.pull a).at) (happens port.pull a).at.way there'
+    pub ts' : List LineTold
+    pub heard' : heard_of ts' ≡ heard_of (happens port.pull a).at.told
+    pub path : Path service tei (record { near = station there ts a.at; far = y }) (record { near = station there' ts' (happens port.pull a).at; far = y })
+
+  pub pulls-to : PulledTo
+  pulls-to = go (is_due (port_of a.at)) refl
+    where
+      with : FrameEndpoint → Wire
+      with x = record { near = x; far = y }
+
+      go : (b : Bool) → is_due (port_of a.at) ≡ b → PulledTo
+      go true due =
+          let b = due-becomes there a.at ts heard due in
+          record {
+            there' = (wire.happens line.next (as_station there a.at)).way;
+            goes' = pulled-way c ranged a.at ran there true due goes;
+            ts' = b.ts;
+            heard' = b.heard;
+            path = path-one service tei sends tt (record { near = station there ts a.at; far = y })
+                (record { near = station (wire.happens line.next (as_station there a.at)).way b.ts (happens port.pull a).at; far = y }) tt (λ i. record { near = b.is i; far = y });
+          }
+      go false due =
+          let b = undue-becomes there a.at ts heard due in
+          record {
+            there' = there;
+            goes' = pulled-way c ranged a.at ran there false due goes;
+            ts' = b.ts;
+            heard' = b.heard;
+            path = path-none service tei (record { near = station there ts a.at; far = y }) (record { near = station there b.ts (happens port.pull a).at; far = y }) (λ i. record { near = b.is i; far = y });
+          }
+
+-- What is heard leaves what was put on the line.
+pub heard-port : (c : Config) (ranged : IsInRange c) (a : TimedEndpoint) (ran : Ran c a.at) (noise : Option ℕ) (way : List ℕ)
+    → ((port_of (hears noise way a).at).items ≡ (port_of a.at).items) × ((port_of (hears noise way a).at).given ≡ (port_of a.at).given) × ((hears noise way a).at.way ≡ a.at.way)
+heard-port c ranged a ran noise [] = (refl, refl, refl)
+heard-port c ranged a ran noise (value ∷ more) =
+    let same = port-after a.at (port.octet (unwrap_or noise value)) (within-ports c ranged a.at ran) in
+    (ap (λ (p : Port). p.items) same, ap (λ (p : Port). p.given) same, heard-way (unwrap_or noise value) a.at)
+
+module _ (l : Line) (some : 1 ≤ l.rate) (near : IsInRange l.near) (far : IsInRange l.far) (opposite : own_side l.far ≡ heard_side l.near) (size : l.near.n201 ≡ l.far.n201)
+    (t200 : answered_in l.near l.far l.way + l.rate ≤ l.lengths.t200 * l.rate) (t u : TimedOctetCard) where
+  abbrev pub PairNow : Clocked → Type 0
+  PairNow w = Pair l some near far opposite size t200 t u w
+
+  -- The circuit as a wire.
+  pub record Same (w : Clocked) (f : Wire) : Type 0 where
+    pub there : List (List ℕ)
+    pub back : List (List ℕ)
+    pub goes : Going l.near.n201 (port_of w.near.at) w.near.at.way there
+    pub comes : Going l.far.n201 (port_of w.far.at) w.far.at.way back
+    pub ts : List LineTold
+    pub us : List LineTold
+    pub near_is : f.near ≡ station there ts w.near.at
+    pub far_is : f.far ≡ station back us w.far.at
+    pub near_heard : heard_of ts ≡ heard_of w.near.at.told
+    pub far_heard : heard_of us ≡ heard_of w.far.at.told
+
+  -- A beat leads there.
+  pub record Led (w : Clocked) (b : Beat) (x y : FrameEndpoint) : Type 0 where
+    pub f : Wire
+    pub path : Path l.service l.tei (record { near = x; far = y }) f
+    pub same : Same (beat l.rate w b) f
+
+  abbrev its_by_now : ℕ → ℕ
+  its_by_now S = by_now l some near far opposite size t200 t u S
+
+  abbrev NearOk : ℕ → ℕ → TimedEndpoint → Type 0
+  NearOk S M a = EndOk l.near l.service l.tei 0 near l.lengths l.rate S M a
+
+  abbrev FarOk : ℕ → ℕ → TimedEndpoint → Type 0
+  FarOk S M a = EndOk l.far l.service l.tei 0 far l.lengths l.rate S M a
+
+  module _ (w : Clocked) (p : PairNow w) (b : Beat) (talk : IsTalk l b) where
+    abbrev n : ℕ
+    n = w.beats
+
+    abbrev moment : ℕ
+    moment = w.beats / l.rate
+
+    its-soon : w.beats + 1 ≤ (w.beats / l.rate + 1) * l.rate
+    its-soon = soon l some near far opposite size t200 t u w p b talk
+
+    pub ago : (S m : ℕ) → S + l.lengths.t200 * l.rate ≤ (m + 1) * l.rate → m ≤ w.beats / l.rate → S + answered_in l.near l.far l.way ≤ w.beats
+    ago S m started low = long-ago l some near far opposite size t200 t u S w.beats m started low
+
+    -- The far end at first.
+    module _ (back : List (List ℕ)) (comes : Going l.far.n201 (port_of w.far.at) w.far.at.way back) (us : List LineTold) (far_heard : heard_of us ≡ heard_of w.far.at.told) where
+      abbrev pub far_end : LinkEndpoint
+      far_end = record (bare l.far l.service l.tei 0 far p.far_ok.but.ends.its) { way = parts l.far l.service l.tei far back (are-own l.far l.service l.tei far w.far.at p.far_ok.but.ends w.far.at.way back comes) }
+
+      pub far-stands : StationStands l.far l.service l.tei 0 (station back us w.far.at) far_end
+      far-stands = stands l.far l.service l.tei far w.far.at p.far_ok.but.ends w.far.at.way back comes us
+
+      pub far-finals : (S : ℕ) → p.S ≤ S → S + answered_in l.near l.far l.way ≤ w.beats → HasNo is_final far_end
+      far-finals S later due_ago =
+          let heard_long = before-long l.far.n201 (port_of w.far.at) w.far.at.way back comes w.beats l.way p.far_counts.given p.far_counts.way in
+          let all = in-all l some near far opposite size t200 t u p.S in
+          has-none l.far l.service l.tei far w.far.at p.far_ok.but.ends w.far.at.way back comes is_final (its_by_now p.S) p.far_ok.but.finals (omega (arith, later, due_ago, heard_long, all))
+
+      abbrev pub NearStood : ℕ → TimedEndpoint → FrameEndpoint → Type 0
+      NearStood S a x =
+          Stood l.service l.tei l.near near l.far l.lengths l.rate l.way (answered_in l.near l.far l.way) w.beats (w.beats / l.rate) ago (near-in-all l some near far opposite size t200 t u)
+          p.S (its_by_now p.S2) (station back us w.far.at) far_end far-stands far-finals S a x
+
+      abbrev NearAfter : FrameEndpoint → TimedEndpoint → Type 0
+      NearAfter x v =
+          After l.service l.tei l.near near l.far l.lengths l.rate l.way (answered_in l.near l.far l.way) w.beats (w.beats / l.rate) ago (near-in-all l some near far opposite size t200 t u)
+          p.S (its_by_now p.S2) (station back us w.far.at) far_end far-stands far-finals x v
+
+      -- The near end as its moment comes.
+      pub near-stood : (there : List (List ℕ)) → Going l.near.n201 (port_of w.near.at) w.near.at.way there → (ts : List LineTold) → heard_of ts ≡ heard_of w.near.at.told
+          → NearStood p.S (at_time (w.beats / l.rate) w.near) (station there ts w.near.at)
+      near-stood there goes ts heard = record {
+        ok = at-moment l.service l.tei l.way l.lengths l.rate l.near near (w.beats / l.rate) w.beats p.S (its_by_now p.S2) b.near_asks w.near p.near_ok p.both.near
+            (near-low l some near far opposite size t200 t u w p b talk) (near-high l some near far opposite size t200 t u w p b talk) p.near_counts its-soon talk.0;
+        later = omega arith;
+        given = p.near_counts.given;
+        way = p.near_counts.way;
+        now = refl;
+        soon = let so_soon = its-soon in let given = p.near_counts.given in omega (arith, so_soon, given);
+        there = there;
+        goes = goes;
+        ts = ts;
+        is = refl;
+        heard = heard;
+      }
+
+      module _ (S : ℕ) (a : TimedEndpoint) (x : FrameEndpoint) (stood : NearStood S a x) (rs : List Request)
+          (is : comes_to (w.beats / l.rate) b.near_asks w.near ≡ fall_due (length (fold asks a rs).clock.running) (fold asks a rs))
+          (both : All (λ r. Rattle.laws_time.specs.circuit.LongEnough.IsOfLink l.service l.tei r × Rattle.laws_wire.specs.Answering.IsAsked l.service l.tei r) rs)
+          (far_both : All (λ r. Rattle.laws_time.specs.circuit.LongEnough.IsOfLink l.service l.tei r × Rattle.laws_wire.specs.Answering.IsAsked l.service l.tei r) b.far_asks)
+          (fair : IsFair (gone l.rate b w).near.at.told) (far_fair : IsFair (gone l.rate b w).far.at.told) where
+        near_came : TimedEndpoint
+        near_came = comes_to (w.beats / l.rate) b.near_asks w.near
+
+        g : NearAfter x (comes_to (w.beats / l.rate) b.near_asks w.near)
+        g =
+            subst (NearAfter x) (sym is)
+            (all-comes l.service l.tei l.near near l.far l.lengths l.rate l.way (answered_in l.near l.far l.way) w.beats (w.beats / l.rate) ago (near-in-all l some near far opposite size t200 t u)
+            p.S (its_by_now p.S2) (station back us w.far.at) far_end far-stands far-finals rs (length (fold asks a rs).clock.running) S a x stood both
+            (subst (λ (v : TimedEndpoint). IsFair v.at.told) is (fair-happens port.pull (comes_to (w.beats / l.rate) b.near_asks w.near) fair)))
+
+        -- The near end, to which the far end comes.
+        abbrev near_end : LinkEndpoint
+        near_end = record (bare l.near l.service l.tei 0 near g.stood.ok.but.ends.its) {
+          way = parts l.near l.service l.tei near g.stood.there
+              (are-own l.near l.service l.tei near (comes_to (w.beats / l.rate) b.near_asks w.near).at g.stood.ok.but.ends (comes_to (w.beats / l.rate) b.near_asks w.near).at.way g.stood.there g.stood.goes);
+        }
+
+        abbrev near_now : FrameEndpoint
+        near_now = station g.stood.there g.stood.ts (comes_to (w.beats / l.rate) b.near_asks w.near).at
+
+        near-stands : StationStands l.near l.service l.tei 0 near_now near_end
+        near-stands =
+            stands l.near l.service l.tei near (comes_to (w.beats / l.rate) b.near_asks w.near).at g.stood.ok.but.ends (comes_to (w.beats / l.rate) b.near_asks w.near).at.way g.stood.there g.stood.goes g.stood.ts
+
+        near-finals : (S : ℕ) → p.S2 ≤ S → S + answered_in l.near l.far l.way ≤ w.beats → HasNo is_final near_end
+        near-finals S later due_ago =
+            let v = (comes_to (w.beats / l.rate) b.near_asks w.near).at in
+            let heard_long = before-long l.near.n201 (port_of v) v.way g.stood.there g.stood.goes w.beats l.way g.stood.given g.stood.way in
+            let all = in-all l some near far opposite size t200 t u p.S2 in
+            has-none l.near l.service l.tei near v g.stood.ok.but.ends v.way g.stood.there g.stood.goes is_final (its_by_now p.S2) g.stood.ok.but.finals (omega (arith, later, due_ago, heard_long, all))
+
+        abbrev FarStood : ℕ → TimedEndpoint → FrameEndpoint → Type 0
+        FarStood S a x =
+            Stood l.service l.tei l.far far l.near l.lengths l.rate l.way (answered_in l.near l.far l.way) w.beats (w.beats / l.rate) ago (far-in-all l some near far opposite size t200 t u)
+            p.S2 (its_by_now p.S) near_now near_end near-stands near-finals S a x
+
+        abbrev FarAfter : FrameEndpoint → TimedEndpoint → Type 0
+        FarAfter x v =
+            After l.service l.tei l.far far l.near l.lengths l.rate l.way (answered_in l.near l.far l.way) w.beats (w.beats / l.rate) ago (far-in-all l some near far opposite size t200 t u)
+            p.S2 (its_by_now p.S) near_now near_end near-stands near-finals x v
+
+        far-stood : FarStood p.S2 (at_time (w.beats / l.rate) w.far) (station back us w.far.at)
+        far-stood = record {
+          ok = at-moment l.service l.tei l.way l.lengths l.rate l.far far (w.beats / l.rate) w.beats p.S2 (its_by_now p.S) b.far_asks w.far p.far_ok p.both.far
+              (far-low l some near far opposite size t200 t u w p b talk) (far-high l some near far opposite size t200 t u w p b talk) p.far_counts its-soon talk.1;
+          later = omega arith;
+          given = p.far_counts.given;
+          way = p.far_counts.way;
+          now = refl;
+          soon = let so_soon = its-soon in let given = p.far_counts.given in omega (arith, so_soon, given);
+          there = back;
+          goes = comes;
+          ts = us;
+          is = refl;
+          heard = far_heard;
+        }
+
+        abbrev far_asked : TimedEndpoint
+        far_asked = fold asks (at_time (w.beats / l.rate) w.far) b.far_asks
+
+        k : FarAfter (station back us w.far.at) (comes_to (w.beats / l.rate) b.far_asks w.far)
+        k =
+            all-comes l.service l.tei l.far far l.near l.lengths l.rate l.way (answered_in l.near l.far l.way) w.beats (w.beats / l.rate) ago (far-in-all l some near far opposite size t200 t u)
+            p.S2 (its_by_now p.S) near_now near_end near-stands near-finals b.far_asks (length far_asked.clock.running) p.S2 (at_time (w.beats / l.rate) w.far) (station back us w.far.at) far-stood far_both
+            (fair-happens port.pull (comes_to (w.beats / l.rate) b.far_asks w.far) far_fair)
+
+        -- Both are pulled.
+        abbrev near_gone : TimedEndpoint
+        near_gone = comes_to (w.beats / l.rate) b.near_asks w.near
+
+        abbrev far_gone : TimedEndpoint
+        far_gone = comes_to (w.beats / l.rate) b.far_asks w.far
+
+        abbrev far_now : FrameEndpoint
+        far_now = station k.stood.there k.stood.ts (comes_to (w.beats / l.rate) b.far_asks w.far).at
+
+        np : PulledTo l.service l.tei l.near near near_gone g.stood.ok.but.ends.ran g.stood.there g.stood.goes g.stood.ts g.stood.heard far_now
+        np = pulls-to l.service l.tei l.near near near_gone g.stood.ok.but.ends.ran g.stood.there g.stood.goes g.stood.ts g.stood.heard far_now
+
+        abbrev near_pulled : FrameEndpoint
+        near_pulled = station np.there' np.ts' (happens port.pull near_gone).at
+
+        kp : PulledTo l.service l.tei l.far far far_gone k.stood.ok.but.ends.ran k.stood.there k.stood.goes k.stood.ts k.stood.heard near_pulled
+        kp = pulls-to l.service l.tei l.far far far_gone k.stood.ok.but.ends.ran k.stood.there k.stood.goes k.stood.ts k.stood.heard near_pulled
+
+        abbrev far_pulled : FrameEndpoint
+        far_pulled = station kp.there' kp.ts' (happens port.pull far_gone).at
+
+        abbrev both_now : FrameEndpoint → FrameEndpoint → Wire
+        both_now x y = record { near = x; far = y }
+
+        to-pulled : Path l.service l.tei (both_now x (station back us w.far.at)) (both_now near_pulled far_pulled)
+        to-pulled =
+            path-both l.service l.tei (both_now x (station back us w.far.at)) (both_now near_now (station back us w.far.at)) (both_now near_pulled far_pulled)
+            (path-both l.service l.tei (both_now x (station back us w.far.at)) (both_now g.x' (station back us w.far.at)) (both_now near_now (station back us w.far.at)) g.path
+            (path-none l.service l.tei (both_now g.x' (station back us w.far.at)) (both_now near_now (station back us w.far.at)) (ap (λ z. both_now z (station back us w.far.at)) g.stood.is)))
+            (path-both l.service l.tei (both_now near_now (station back us w.far.at)) (both_now near_now far_now) (both_now near_pulled far_pulled)
+            (path-turned l.service l.tei (both_now (station back us w.far.at) near_now) (both_now far_now near_now)
+            (path-both l.service l.tei (both_now (station back us w.far.at) near_now) (both_now k.x' near_now) (both_now far_now near_now) k.path
+            (path-none l.service l.tei (both_now k.x' near_now) (both_now far_now near_now) (ap (λ z. both_now z near_now) k.stood.is))))
+            (path-both l.service l.tei (both_now near_now far_now) (both_now near_pulled far_now) (both_now near_pulled far_pulled) np.path
+            (path-turned l.service l.tei (both_now far_now near_pulled) (both_now far_pulled near_pulled) kp.path)))
+
+        -- Both hear.
+        module _ (clear_near : IsClearAt l.near.n201 b.near_noise (gone l.rate b w).near (gone l.rate b w).far) (clear_far : IsClearAt l.near.n201 b.far_noise (gone l.rate b w).far (gone l.rate b w).near) where
+          abbrev vn : TimedEndpoint
+          vn = (gone l.rate b w).near
+
+          abbrev vf : TimedEndpoint
+          vf = (gone l.rate b w).far
+
+          near_has : Gone l.service l.tei l.way l.lengths l.rate l.near near (w.beats / l.rate) w.beats p.S (its_by_now p.S2) (gone l.rate b w).near
+          near_has = near-gone l some near far opposite size t200 t u w p b talk clear_near clear_far
+
+          far_has : Gone l.service l.tei l.way l.lengths l.rate l.far far (w.beats / l.rate) w.beats p.S2 (its_by_now p.S) (gone l.rate b w).far
+          far_has = far-gone l some near far opposite size t200 t u w p b talk clear_near clear_far
+
+          nh : Hears l.service l.tei l.near l.far far (sym size) vn near_has.ok.but.ends.stands.config np.there' np.ts' np.heard' vf.at far_has.ok.but.ends.ran far_pulled kp.there' b.near_noise vf.at.way
+          nh =
+              hears-so l.service l.tei l.near l.far far (sym size) vn near_has.ok.but.ends.stands.config np.there' np.ts' np.heard' vf.at far_has.ok.but.ends.ran far_pulled kp.there' b.near_noise vf.at.way l.way far_has.way
+              (subst (λ n. Going n (port_of vf.at) vf.at.way kp.there') (sym size) kp.goes') clear_near
+
+          abbrev near_heard : TimedEndpoint
+          near_heard = hears b.near_noise vf.at.way vn
+
+          abbrev near_told : FrameEndpoint
+          near_told = station np.there' nh.ts' near_heard.at
+
+          fh : Hears l.service l.tei l.far l.near near size vf far_has.ok.but.ends.stands.config nh.left kp.ts' kp.heard' vn.at near_has.ok.but.ends.ran near_told np.there' b.far_noise vn.at.way
+          fh =
+              hears-so l.service l.tei l.far l.near near size vf far_has.ok.but.ends.stands.config nh.left kp.ts' kp.heard' vn.at near_has.ok.but.ends.ran near_told np.there' b.far_noise vn.at.way l.way near_has.way
+              (subst (λ n. Going n (port_of vn.at) vn.at.way np.there') size np.goes') (subst (λ n. IsClearAt n b.far_noise vf vn) size clear_far)
+
+          abbrev far_heard_now : TimedEndpoint
+          far_heard_now = hears b.far_noise vn.at.way vf
+
+          abbrev last : Wire
+          last = both_now (station fh.left nh.ts' near_heard.at) (station nh.left fh.ts' far_heard_now.at)
+
+          abbrev SamePort : TimedEndpoint → TimedEndpoint → Type 0
+          SamePort v heard = ((port_of heard.at).items ≡ (port_of v.at).items) × ((port_of heard.at).given ≡ (port_of v.at).given) × (heard.at.way ≡ v.at.way)
+
+          near-port : SamePort vn near_heard
+          near-port = heard-port l.near near vn near_has.ok.but.ends.ran b.near_noise vf.at.way
+
+          far-port : SamePort vf far_heard_now
+          far-port = heard-port l.far far vf far_has.ok.but.ends.ran b.far_noise vn.at.way
+
+          beat-path : Path l.service l.tei (both_now x (station back us w.far.at)) last
+          beat-path =
+              path-both l.service l.tei (both_now x (station back us w.far.at)) (both_now near_pulled far_pulled) last to-pulled
+              (path-both l.service l.tei (both_now near_pulled far_pulled) (both_now near_told (station nh.left kp.ts' vf.at)) last nh.path
+              (path-turned l.service l.tei (both_now (station nh.left kp.ts' vf.at) near_told) (both_now (station nh.left fh.ts' far_heard_now.at) (station fh.left nh.ts' near_heard.at)) fh.path))
+
+          beat-same : Same (beat l.rate w b) last
+          beat-same = record {
+            there = fh.left;
+            back = nh.left;
+            goes =
+                going-with l.near.n201 (port_of vn.at) (port_of near_heard.at) (drop 1 vn.at.way) (drop 1 near_heard.at.way) fh.left near-port.0 near-port.1 (ap (drop 1) near-port.2)
+                (subst (λ n. Going n (port_of vn.at) (drop 1 vn.at.way) fh.left) (sym size) fh.goes);
+            comes =
+                going-with l.far.n201 (port_of vf.at) (port_of far_heard_now.at) (drop 1 vf.at.way) (drop 1 far_heard_now.at.way) nh.left far-port.0 far-port.1 (ap (drop 1) far-port.2)
+                (subst (λ n. Going n (port_of vf.at) (drop 1 vf.at.way) nh.left) size nh.goes);
+            ts = nh.ts';
+            us = fh.ts';
+            near_is = refl;
+            far_is = refl;
+            near_heard = nh.heard';
+            far_heard = fh.heard';
+          }
+
+          pub beat-on : Led w b x (station back us w.far.at)
+          beat-on = record { f = last; path = beat-path; same = beat-same }

@@ -1,0 +1,371 @@
+-- What is told in a call with losses on a wire: which errors, and all data whose sender keeps nothing any more.
+use Rattle.std.proofs.Common.{arith, ◌≡◌, ℕ, ◌+◌, ◌-◌, ◌≤◌, ◌==◌, Bool, true, false, cond, List, [], ◌∷◌, ◌++◌, length, map, take, drop, Option, Some, None, Ok, Err, refl, sym, ap, ◌∙◌, subst, All, ◌⊎◌, inl, inr, append-nil, append_assoc}
+use Rattle.std.specs.Prelude.{flat_map, option_to_list, Result}
+use Rattle.std.proofs.lemmas.Bool.{true≢false}
+use Rattle.std.proofs.lemmas.Grind.{flat_map-append}
+use Rattle.std.proofs.lemmas.List.{length-drop, take_all}
+use Rattle.std.proofs.lemmas.List.Elements.{All-nil, All-cons, All-append, All-head, All-tail}
+use Rattle.lapd_frame.specs.declared.notes.ErrorCode.{ErrorCode}
+use Rattle.lapd_frame.specs.declared.notes.ErrorCode.TheVariants.{F}
+use Rattle.lapd_frame.specs.declared.refusals.Refusal.{Refusal}
+use Rattle.lapd_frame.specs.declared.services.Service.{Service}
+use Rattle.model_link.proofs.Direction.{line_of}
+use Rattle.model_link.proofs.Lines.{rising-low}
+use Rattle.model_link.specs.Link.{Link, queue_of}
+use Rattle.model_link.specs.Room.{room_of}
+use Rattle.model_link.specs.TwoEnds.{Endpoint as LinkEndpoint}
+use Rattle.model_link.specs.declared.rooms.Room.{Room}
+use Rattle.model_link.specs.declared.terms.Terms.{Terms}
+use Rattle.model_line.specs.Event.{LineTold}
+use Rattle.model_line.specs.Line.{terms, link_of}
+use Rattle.model_line.specs.Refusal.{first_that_holds, bad_tei, no_link}
+use Rattle.model_line.specs.Room.{unless}
+use Rattle.model_line.specs.declared.config.Config.{Config}
+use Rattle.model_card.specs.Card.{line_at}
+use Rattle.model_card.specs.Room.{room, free as free_slots}
+use Rattle.laws_line.proofs.OfCard.Meanwhile.{all-left}
+use Rattle.laws_wire.specs.Answering.{IsFullTalk, Called, uncalled, told_of_sabme, with_sabme, takes_sabme, seeing, error_f, renewed, all_kept, ToldSo}
+unfoldable use Rattle.laws_wire.specs.Answering.{StayPatient, seen}
+use Rattle.laws_wire.specs.Call.{CanCall, calling, confirmed, indicated, data_told, IsBeginningOf}
+use Rattle.laws_wire.specs.Losing.{for_layer_3, heard_in}
+use Rattle.laws_wire.specs.Wire.{Endpoint, Wire, Step, requests, expires, sends, receives, loses, StepAt, at_near, at_far, doing}
+unfoldable use Rattle.laws_wire.specs.Wire.{doing_all}
+use Rattle.laws_wire.proofs.Awaited.{link-is}
+use Rattle.laws_wire.proofs.Calling.{end, ua}
+use Rattle.laws_wire.proofs.Held.{Held}
+use Rattle.laws_wire.proofs.LossyRun.{setting}
+use Rattle.laws_wire.proofs.Ringing.{answered}
+use Rattle.laws_wire.proofs.Standing.{StationStands, link-ranges, link-sound}
+use Rattle.laws_wire.proofs.Talking.{Face}
+use Rattle.laws_wire.proofs.UaBefore.{with_before}
+use Rattle.laws_wire.proofs.UaLost.{behind, not-told}
+use Rattle.laws_wire.proofs.UaLostRun as run
+use Rattle.laws_wire.proofs.UaPhases.{comes-none}
+use Rattle.laws_wire.proofs.UaTold.{lossy-calls-come-through, patient-goes}
+use Rattle.model_link.specs.Sound.{IsInRange}
+use Rattle.laws_time.proofs.OfCircuit.ArrivFair.{codes, codes-append}
+
+-- ---- codes and contents of what is told
+
+abbrev pub contents_of : List LineTold → List (List ℕ)
+contents_of ts = flat_map (λ (t : LineTold). option_to_list t.contents) ts
+
+contents-append : (ts us : List LineTold) → contents_of (ts ++ us) ≡ contents_of ts ++ contents_of us
+contents-append ts us = flat_map-append (λ (t : LineTold). option_to_list t.contents) ts us
+
+codes-one : (t : LineTold) → codes (for_layer_3 t) ≡ codes (t ∷ [])
+codes-one t = by t.notes refl
+  where
+    by : (ns : _) → t.notes ≡ ns → codes (for_layer_3 t) ≡ codes (t ∷ [])
+    by [] e = grind (arith, e)
+    by (n ∷ ns) e = grind (arith, e)
+
+pub codes-heard : (ts : List LineTold) → codes (flat_map for_layer_3 ts) ≡ codes ts
+codes-heard [] = refl
+codes-heard (t ∷ ts) =
+    codes-append (for_layer_3 t) (flat_map for_layer_3 ts) ∙ ap (λ cs. cs ++ codes (flat_map for_layer_3 ts)) (codes-one t)
+    ∙ ap (λ cs. codes (t ∷ []) ++ cs) (codes-heard ts) ∙ sym (codes-append (t ∷ []) ts)
+
+contents-one : (t : LineTold) → contents_of (for_layer_3 t) ≡ contents_of (t ∷ [])
+contents-one t = by t.contents refl
+  where
+    by : (o : Option (List ℕ)) → t.contents ≡ o → contents_of (for_layer_3 t) ≡ contents_of (t ∷ [])
+    by None e = grind (arith, e)
+    by (Some octets) e = grind (arith, e)
+
+pub contents-heard : (ts : List LineTold) → contents_of (flat_map for_layer_3 ts) ≡ contents_of ts
+contents-heard [] = refl
+contents-heard (t ∷ ts) =
+    contents-append (for_layer_3 t) (flat_map for_layer_3 ts) ∙ ap (λ cs. cs ++ contents_of (flat_map for_layer_3 ts)) (contents-one t)
+    ∙ ap (λ cs. contents_of (t ∷ []) ++ cs) (contents-heard ts) ∙ sym (contents-append (t ∷ []) ts)
+
+codes-data : (service : Service) (tei : ℕ) (xs : List (List ℕ)) → codes (map (data_told service tei) xs) ≡ []
+codes-data service tei [] = refl
+codes-data service tei (x ∷ xs) = codes-data service tei xs
+
+contents-data : (service : Service) (tei : ℕ) (xs : List (List ℕ)) → contents_of (map (data_told service tei) xs) ≡ xs
+contents-data service tei [] = refl
+contents-data service tei (x ∷ xs) = ap (λ ys. x ∷ ys) (contents-data service tei xs)
+
+front-nil : (a b : List ErrorCode) → a ++ b ≡ [] → a ≡ []
+front-nil [] b e = refl
+front-nil (x ∷ a) b e = absurd (cc e)
+
+abbrev IsF : ErrorCode → Type 0
+IsF code = code ≡ F
+
+-- ---- what the end that is called is told of SABME
+
+-- Errors are F; and if there is none, nothing is given up, and it was told of one SABME at most.
+pub record Known (service : Service) (tei : ℕ) (told : List LineTold) (given_up : ℕ) : Type 0 where
+  pub all_f : All IsF (codes told)
+  pub kinds : ((told ≡ []) × (given_up ≡ 0)) ⊎ (((told ≡ indicated service tei ∷ []) × (given_up ≡ 0)) ⊎ (codes told ≡ [] → ⊥))
+
+module _ (service : Service) (tei : ℕ) where
+  abbrev news : List LineTold → Bool → LineTold
+  news told sent = cond (length told == 0) (indicated service tei) (cond sent (renewed service tei) (error_f service tei))
+
+  some-f : (b sent : Bool) → All IsF (codes (cond b (indicated service tei) (cond sent (renewed service tei) (error_f service tei)) ∷ []))
+  some-f true sent = All-nil IsF
+  some-f false true = All-cons IsF F [] refl (All-nil IsF)
+  some-f false false = All-cons IsF F [] refl (All-nil IsF)
+
+  one-more : (told : List LineTold) (sent : Bool) (g granted : ℕ) → Known service tei told g → (told ≡ [] → sent ≡ false) → Known service tei (told ++ news told sent ∷ []) (cond sent granted g)
+  one-more told sent g granted k quiet = record {
+    all_f = subst (All IsF) (sym (codes-append told (news told sent ∷ []))) (All-append IsF (codes told) (codes (news told sent ∷ [])) k.all_f (some-f (length told == 0) sent));
+    kinds = go k.kinds;
+  }
+    where
+      never : (sent : Bool) → codes (indicated service tei ∷ cond sent (renewed service tei) (error_f service tei) ∷ []) ≡ [] → ⊥
+      never true e = cc e
+      never false e = cc e
+
+      go : ((told ≡ []) × (g ≡ 0)) ⊎ (((told ≡ indicated service tei ∷ []) × (g ≡ 0)) ⊎ (codes told ≡ [] → ⊥))
+          → ((told ++ news told sent ∷ [] ≡ []) × (cond sent granted g ≡ 0)) ⊎ (((told ++ news told sent ∷ [] ≡ indicated service tei ∷ []) × (cond sent granted g ≡ 0)) ⊎ (codes (told ++ news told sent ∷ []) ≡ [] → ⊥))
+      go (inl (e, z)) = inr (inl (ap (λ ts. ts ++ news ts sent ∷ []) e, ap (λ b. cond b granted g) (quiet e) ∙ z))
+      go (inr (inl (e, z))) = inr (inr (λ none. never sent (sym (ap (λ ts. codes (ts ++ news ts sent ∷ [])) e) ∙ none)))
+      go (inr (inr some)) = inr (inr (λ none. some (front-nil (codes told) (codes (news told sent ∷ [])) (sym (codes-append told (news told sent ∷ [])) ∙ none))))
+
+module _ (service : Service) (tei : ℕ) (c d : Config) (p q : ℕ) (face : Face c d) (back : Face d c) (rt : IsInRange (terms c service tei)) (ru : IsInRange (terms d service tei)) where
+  abbrev GoesSo : Called → Wire → Type 0
+  GoesSo x w = run.Goes service tei c d p q face back rt ru x w
+
+  abbrev KnownOf : Called → Type 0
+  KnownOf x = Known service tei x.told x.given_up
+
+  no-length : (ts : List LineTold) → ts ≡ [] → (length ts == 0) ≡ false → ⊥
+  no-length ts e some = true≢false (sym (ap (λ ts. length ts == 0) e) ∙ some)
+
+  unsent : (x : Called) (w : Wire) → GoesSo x w → x.told ≡ [] → x.sent ≡ false
+  unsent x w h none = go h.phase
+    where
+      go : run.Phase service tei c d p q face back rt ru x h.v → x.sent ≡ false
+      go (inl (told, sent, down)) = sent
+      go (inr (some, called)) = absurd (no-length x.told none some)
+
+  known-step : (x : Called) (k : StepAt) (w : Wire) → GoesSo x w → KnownOf x → KnownOf (seeing service tei k w x)
+  known-step x (at_near act) w h known = known
+  known-step x (at_far (requests r)) w h known = known
+  known-step x (at_far (expires timer)) w h known = known
+  known-step x (at_far sends) w h known = record { all_f = known.all_f; kinds = known.kinds }
+  known-step x (at_far receives) w h known = go (takes_sabme w)
+    where
+      go : (b : Bool) → KnownOf (cond b (with_sabme service tei (length w.far.granted) x) x)
+      go true = one-more service tei x.told x.sent x.given_up (length w.far.granted) known (unsent x w h)
+      go false = known
+  known-step x (at_far loses) w h known = known
+
+  all-known : (ds : List StepAt) → All (IsFullTalk service tei) ds → (w : Wire) → StayPatient ds w → (x : Called) → GoesSo x w → KnownOf x → KnownOf (seen service tei ds w x)
+  unfolding doing_all StayPatient seen
+  all-known [] all w patient x h known = known
+  all-known (k ∷ ds) all w patient x h known =
+      all-known ds (All-tail (IsFullTalk service tei) k ds all) (doing k w) patient.1 (seeing service tei k w x)
+      (run.step service tei c d p q face back rt ru x k (All-head (IsFullTalk service tei) k ds all) w patient.0 h) (known-step x k w h known)
+
+  -- Where it was told of no SABME it was told nothing.
+  untold : (x : Called) (w : Wire) → GoesSo x w → x.told ≡ [] → heard_in w.far ≡ []
+  untold x w h none = ap (λ (w : Wire). heard_in w.far) h.is ∙ go h.phase
+    where
+      go : run.Phase service tei c d p q face back rt ru x h.v → heard_in h.v.far ≡ []
+      go (inl (told, sent, inl h)) = h.far.heard
+      go (inl (told, sent, inr (inl h))) = h.far.heard
+      go (inl (told, sent, inr (inr h))) = h.far.heard
+      go (inr (some, called)) = absurd (no-length x.told none some)
+
+  -- ---- an end whose queue has each of its places
+
+  module _ (k : Config) (place : ℕ) (s : Endpoint) (n : LinkEndpoint) (stands : StationStands k service tei place s n) (left : Room) (has : room s.line service tei s.card ≡ Ok left)
+      (free : left.queue ≡ s.card.config.queue) where
+    its-room : (o : Option Refusal) (r l : Room) → unless o r ≡ Ok l → r ≡ l
+    its-room None r l is = cc is
+    its-room (Some why) r l is = absurd (cc is)
+
+    none-left : (xs : List (List ℕ)) → length xs ≡ 0 → xs ≡ []
+    none-left [] e = refl
+    none-left (x ∷ xs) e = absurd (omega (arith, e))
+
+    own : StationStands s.card.config service tei place s n
+    own = subst (λ k. StationStands k service tei place s n) (sym stands.config) stands
+
+    pub keeps-none : queue_of n.link ≡ []
+    keeps-none =
+        let ranges = subst IsInRange stands.terms (link-ranges service tei place s n own) in
+        let config = stands.config in
+        let l = line_at s.line s.card in
+        let same = ap (λ (r : Room). r.queue)
+        (its-room (first_that_holds (bad_tei tei ∷ no_link tei l ∷ [])) (room_of (terms s.card.config service tei) (free_slots s.card) (link_of service tei l)) left has) in
+        let link = ap (λ (l : Link). length (queue_of l)) (link-is service tei k place s n stands) in
+        let few = (link-sound service tei place s n own).queue in
+        let terms_are = ap (λ (t : Terms). t.queue) stands.terms in
+        let queue_is = ap (λ (k : Config). k.queue) config in
+        let low = ranges.k_low in let queue_low = ranges.queue_low in
+        none-left (queue_of n.link) (omega (arith, same, link, few, terms_are, queue_is, low, queue_low, free))
+
+  from-first : (xs : List (List ℕ)) (a : ℕ) → a ≡ 0 → drop a xs ≡ [] → xs ≡ []
+  from-first xs a zero none = sym (ap (λ a. drop a xs) zero) ∙ none
+
+  all-taken : (r a : ℕ) (xs : List (List ℕ)) → drop a xs ≡ [] → a ≤ r → take r xs ≡ xs
+  all-taken r a xs none low = take_all r xs (let less = length-drop a xs in let zero = ap length none in omega (arith, less, zero, low))
+
+  -- ---- so all that it was granted was told
+
+  abbrev pub IsFree : Endpoint → Type 0
+  IsFree s = (left : Room) × (room s.line service tei s.card ≡ Ok left) × (left.queue ≡ s.card.config.queue)
+
+  abbrev all_data : List (List ℕ) → List LineTold
+  all_data xs = map (data_told service tei) xs
+
+  same-data : (past heard : List LineTold) (xs granted : List (List ℕ)) → heard ≡ past ++ all_data xs → xs ≡ [] → granted ≡ [] → heard ≡ past ++ all_data granted
+  same-data past heard xs granted is none empty = is ∙ ap (λ xs. past ++ all_data xs) (none ∙ sym empty)
+
+  module _ (past : List LineTold) (v : Wire) where
+    abbrev FarHas : Type 0
+    FarHas = heard_in v.far ≡ past ++ all_data v.near.granted
+
+    abbrev Away : Bool → Endpoint → Type 0
+    Away b s = run.Away service tei c d p q face back rt ru past b s
+
+    away-far : (b : Bool) → run.Rs service tei c d p q face back rt ru (Away b) v → FarHas
+    away-far b (inl h) = same-data past (heard_in v.far) h.far.M.delivered v.near.granted h.far.held.heard h.far.delivered h.near.granted
+    away-far b (inr (inl h)) = same-data past (heard_in v.far) h.far.M.delivered v.near.granted h.far.held.heard h.far.delivered h.near.granted
+    away-far b (inr (inr h)) = same-data past (heard_in v.far) h.far.M.delivered v.near.granted h.far.held.heard h.far.delivered h.near.granted
+
+    called-far : (b : Bool) → IsFree v.near → run.IsCalled service tei c d p q face back rt ru past b v → FarHas
+    called-far b free (inl h) = away-far b h
+    called-far b free (inr (inl h)) = same-data past (heard_in v.far) h.far.M.delivered v.near.granted h.far.held.heard h.far.delivered h.near.granted
+    called-far b free (inr (inr (inl h))) =
+        same-data past (heard_in v.far) h.m.delivered v.near.granted h.far.heard (comes-none service tei c d p q face back rt ru past b v h) h.near.granted
+    called-far b (left, has, is) (inr (inr (inr h))) =
+        let none = keeps-none c p v.near h.n h.near.stands left has is in
+        h.far.heard ∙ ap (λ xs. past ++ all_data xs)
+        (h.loose.joined.there.delivered ∙ all-taken h.m.link.r h.n.link.a h.n.link.contents none (rising-low h.n.link.a h.m.link.r (line_of h.m) h.loose.joined.there.rising) ∙ sym h.near.granted)
+
+    abbrev NearHas : Type 0
+    NearHas = contents_of (heard_in v.near) ≡ v.far.granted
+
+    no-contents : heard_in v.near ≡ [] → v.far.granted ≡ [] → NearHas
+    no-contents none empty = ap contents_of none ∙ sym empty
+
+    its-none : (M : LinkEndpoint) → Held d service tei q past v.far M → M.link.a ≡ 0 → IsFree v.far → v.far.granted ≡ []
+    its-none M held zero (left, has, is) = held.granted ∙ from-first M.link.contents M.link.a zero (keeps-none d q v.far M held.stands left has is)
+
+    away-near : (b : Bool) → IsFree v.far → run.Rs service tei c d p q face back rt ru (Away b) v → v.far.granted ≡ []
+    away-near b free (inl h) = its-none h.far.M h.far.held h.far.a free
+    away-near b free (inr (inl h)) = its-none h.far.M h.far.held h.far.a free
+    away-near b free (inr (inr h)) = its-none h.far.M h.far.held h.far.a free
+
+    called-near : (b : Bool) → IsFree v.far → run.IsCalled service tei c d p q face back rt ru past b v → NearHas
+    called-near b free (inl h) = no-contents (not-told service tei c d p q face back rt ru (Away b) v h) (away-near b free h)
+    called-near b free (inr (inl h)) = no-contents h.near.heard (its-none h.far.M h.far.held h.far.poised.a free)
+    called-near b free (inr (inr (inl h))) =
+        no-contents h.near.heard (its-none (behind (h.stale ++ ua (terms d service tei) ∷ []) h.m) h.far
+        (let n = end (terms c service tei) (answered h.repeats []) [] in let low = rising-low h.m.link.a n.link.r (line_of n) h.loose.joined.back.rising in omega (arith, low)) free)
+    called-near b (left, has, is) (inr (inr (inr h))) =
+        let none = keeps-none d q v.far h.m h.far.stands left has is in
+        ap contents_of h.near.heard
+        ∙ contents-data service tei h.n.delivered
+        ∙ h.loose.joined.back.delivered ∙ all-taken h.n.link.r h.m.link.a h.m.link.contents none (rising-low h.m.link.a h.n.link.r (line_of h.n) h.loose.joined.back.rising) ∙ sym h.far.granted
+
+  module _ (v : Wire) (down : run.Rs service tei c d p q face back rt ru (run.Down service tei c d p q face back rt ru) v) where
+    down-far : (heard_in v.far ≡ []) × (v.near.granted ≡ []) × (v.far.granted ≡ []) × (heard_in v.near ≡ [])
+    down-far = go down
+      where
+        go : run.Rs service tei c d p q face back rt ru (run.Down service tei c d p q face back rt ru) v → (heard_in v.far ≡ []) × (v.near.granted ≡ []) × (v.far.granted ≡ []) × (heard_in v.near ≡ [])
+        go (inl h) = (h.far.heard, h.near.granted, h.far.granted, h.near.heard)
+        go (inr (inl h)) = (h.far.heard, h.near.granted, h.far.granted, h.near.heard)
+        go (inr (inr h)) = (h.far.heard, h.near.granted, h.far.granted, h.near.heard)
+
+  phase-far : (x : Called) (v : Wire) → run.Phase service tei c d p q face back rt ru x v → IsFree v.near → heard_in v.far ≡ x.told ++ all_data v.near.granted
+  phase-far x v (inl (told, sent, down)) free =
+      let n = down-far v down in n.0 ∙ sym (ap (λ ts. ts ++ all_data v.near.granted) told ∙ ap all_data n.1)
+  phase-far x v (inr (some, h)) free = called-far x.told v x.sent free h
+
+  phase-near : (x : Called) (v : Wire) → run.Phase service tei c d p q face back rt ru x v → IsFree v.far → contents_of (heard_in v.near) ≡ v.far.granted
+  phase-near x v (inl (told, sent, down)) free = let n = down-far v down in ap contents_of n.3 ∙ sym n.2
+  phase-near x v (inr (some, h)) free = called-near x.told v x.sent free h
+
+  -- ---- all of it
+
+  pub record Concluded (w : Wire) : Type 0 where
+    pub near_codes : codes (heard_in w.near) ≡ []
+    pub far_codes : All IsF (codes (heard_in w.far))
+    pub near_order : codes (heard_in w.far) ≡ [] → IsBeginningOf (confirmed service tei ∷ map (data_told service tei) w.far.granted) (heard_in w.near)
+    pub far_order : codes (heard_in w.far) ≡ [] → IsBeginningOf (indicated service tei ∷ map (data_told service tei) w.near.granted) (heard_in w.far)
+    pub near_all : codes (heard_in w.far) ≡ [] → IsFree w.far → contents_of (heard_in w.near) ≡ w.far.granted
+    pub far_all : codes (heard_in w.far) ≡ [] → IsFree w.near → contents_of (heard_in w.far) ≡ w.near.granted
+
+  module _ (x : Called) (w : Wire) (h : GoesSo x w) (known : KnownOf x) (t : ToldSo service tei x w) where
+    none-of : (xs : List (List ℕ)) → length xs ≡ 0 → xs ≡ []
+    none-of [] e = refl
+    none-of (x ∷ xs) e = absurd (omega (arith, e))
+
+    -- no error was told there
+    few : codes (heard_in w.far) ≡ [] → ((x.told ≡ []) × (x.given_up ≡ 0)) ⊎ ((x.told ≡ indicated service tei ∷ []) × (x.given_up ≡ 0))
+    few none = go known.kinds
+      where
+        quiet : codes x.told ≡ []
+        quiet = front-nil (codes x.told) (codes t.far_at_once.0) (sym (codes-append x.told t.far_at_once.0) ∙ ap codes t.far_at_once.1 ∙ none)
+
+        go : ((x.told ≡ []) × (x.given_up ≡ 0)) ⊎ (((x.told ≡ indicated service tei ∷ []) × (x.given_up ≡ 0)) ⊎ (codes x.told ≡ [] → ⊥))
+            → ((x.told ≡ []) × (x.given_up ≡ 0)) ⊎ ((x.told ≡ indicated service tei ∷ []) × (x.given_up ≡ 0))
+        go (inl y) = inl y
+        go (inr (inl y)) = inr y
+        go (inr (inr some)) = absurd (some quiet)
+
+    none-given : codes (heard_in w.far) ≡ [] → x.given_up ≡ 0
+    none-given none = go (few none)
+      where
+        go : ((x.told ≡ []) × (x.given_up ≡ 0)) ⊎ ((x.told ≡ indicated service tei ∷ []) × (x.given_up ≡ 0)) → x.given_up ≡ 0
+        go (inl y) = y.1
+        go (inr y) = y.1
+
+    no-earlier : codes (heard_in w.far) ≡ [] → w ≡ h.v
+    no-earlier none =
+        h.is ∙ ap (λ g. with_before g h.v) (none-of h.earlier (sym h.given_up ∙ none-given none))
+
+    told-contents : codes (heard_in w.far) ≡ [] → contents_of x.told ≡ []
+    told-contents none = go (few none)
+      where
+        go : ((x.told ≡ []) × (x.given_up ≡ 0)) ⊎ ((x.told ≡ indicated service tei ∷ []) × (x.given_up ≡ 0)) → contents_of x.told ≡ []
+        go (inl y) = ap contents_of y.0
+        go (inr y) = ap contents_of y.0
+
+    far-begins : codes (heard_in w.far) ≡ [] → IsBeginningOf (indicated service tei ∷ map (data_told service tei) w.near.granted) (heard_in w.far)
+    far-begins none = go (few none)
+      where
+        go : ((x.told ≡ []) × (x.given_up ≡ 0)) ⊎ ((x.told ≡ indicated service tei ∷ []) × (x.given_up ≡ 0)) → IsBeginningOf (indicated service tei ∷ map (data_told service tei) w.near.granted) (heard_in w.far)
+        go (inl y) = (indicated service tei ∷ map (data_told service tei) w.near.granted, ap (λ ts. ts ++ (indicated service tei ∷ map (data_told service tei) w.near.granted)) (untold x w h y.0))
+        go (inr y) = subst (λ ts. IsBeginningOf (ts ++ map (data_told service tei) w.near.granted) (heard_in w.far)) y.0 t.far.0
+
+    pub concluded : Concluded w
+    concluded = record {
+      near_codes = front-nil (codes (heard_in w.near)) (codes t.near.0.0)
+          (sym (codes-append (heard_in w.near) t.near.0.0) ∙ ap codes t.near.0.1 ∙ codes-data service tei (drop x.given_up w.far.granted));
+      far_codes = all-left IsF (codes (heard_in w.far)) (codes t.far.0.0)
+          (subst (All IsF)
+          (sym (sym (codes-append (heard_in w.far) t.far.0.0) ∙ ap codes t.far.0.1 ∙ codes-append x.told (map (data_told service tei) w.near.granted)
+          ∙ ap (λ cs. codes x.told ++ cs) (codes-data service tei w.near.granted) ∙ append-nil (codes x.told)))
+          known.all_f);
+      near_order = λ none. subst (λ n. IsBeginningOf (confirmed service tei ∷ map (data_told service tei) (drop n w.far.granted)) (heard_in w.near)) (none-given none) t.near.0;
+      far_order = far-begins;
+      near_all = λ none free. subst (λ w. IsFree w.far → contents_of (heard_in w.near) ≡ w.far.granted) (sym (no-earlier none)) (phase-near x h.v h.phase) free;
+      far_all = λ none free.
+          ap contents_of (subst (λ w. IsFree w.near → heard_in w.far ≡ x.told ++ all_data w.near.granted) (sym (no-earlier none)) (phase-far x h.v h.phase) free)
+          ∙ contents-append x.told (all_data w.near.granted) ∙ ap (λ cs. cs ++ contents_of (all_data w.near.granted)) (told-contents none) ∙ contents-data service tei w.near.granted;
+    }
+
+starts : (service : Service) (c d : Config) (line other tei : ℕ) (can : CanCall c line d other tei) → let s = setting service c d line other tei can in
+    run.Goes service tei c d 0 0 s.face s.back s.near s.far uncalled (calling service tei c line d other)
+unfolding doing_all seen StayPatient
+starts service c d line other tei can = patient-goes service c d line other tei [] can (All-nil (IsFullTalk service tei)) tt
+
+-- Of a call in which T200 is long enough.
+pub call-concludes : (service : Service) (c d : Config) (line other tei : ℕ) (ds : List StepAt) (can : CanCall c line d other tei) → All (IsFullTalk service tei) ds
+    → let s = setting service c d line other tei can in let begun = calling service tei c line d other in StayPatient ds begun → Concluded service tei c d 0 0 s.face s.back s.near s.far (doing_all ds begun)
+call-concludes service c d line other tei ds can talk patient =
+    let s = setting service c d line other tei can in
+    let begun = calling service tei c line d other in
+    let none : Known service tei [] 0 = record { all_f = All-nil IsF; kinds = inl (refl, refl) } in
+    concluded service tei c d 0 0 s.face s.back s.near s.far (seen service tei ds begun uncalled) (doing_all ds begun) (patient-goes service c d line other tei ds can talk patient)
+    (all-known service tei c d 0 0 s.face s.back s.near s.far ds talk begun patient uncalled (starts service c d line other tei can) none)
+    (lossy-calls-come-through service c d line other tei ds can talk patient)

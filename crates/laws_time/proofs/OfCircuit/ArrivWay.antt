@@ -1,0 +1,214 @@
+-- One direction of the clocked circuit: the frames on the way of an end, where what comes at the other may be noise.
+use Rattle.std.proofs.Common.{arith, ◌≡◌, ℕ, ◌+◌, ◌≤◌, ◌<◌, Bool, true, false, cond, List, [], ◌∷◌, ◌++◌, length, drop, Option, Some, None, option_map, refl, sym, ap, ◌∙◌, subst, All, ◌⊎◌, inl, inr, append-nil, append_assoc, length-append}
+use Rattle.std.specs.Option.{unwrap_or}
+use Rattle.std.proofs.lemmas.List.{append_cancel_right}
+use Rattle.std.proofs.lemmas.List.Elements.{All-nil, All-cons}
+use Rattle.model_bits.specs.Sent.{Item, idle, frame}
+use Rattle.model_bits.specs.StuffingLaws.{AreOctets}
+use Rattle.model_bits.specs.Stream as stream
+use Rattle.model_line.specs.Came.{came}
+use Rattle.model_line.specs.Event as line
+use Rattle.model_line.specs.Event.{NextFrame, given_in}
+unfoldable use Rattle.model_line.specs.Machine.{answer as line_answer, takes_slot}
+use Rattle.model_line.specs.Sound.{IsInRange}
+use Rattle.model_line.specs.declared.config.Config.{Config}
+use Rattle.model_card.specs.Event as frames
+use Rattle.model_card.specs.Machine as machine
+unfoldable use Rattle.model_card.specs.ports.Card.{answer, meant}
+use Rattle.model_card.specs.ports.Card.{answer_to}
+use Rattle.model_card.specs.ports.Codec.{frames_among}
+use Rattle.model_card.specs.ports.Port as port
+use Rattle.model_card.specs.ports.Port.{Port, gained, is_due, item_of, next_octet, with_item, with_octet}
+use Rattle.model_card.specs.ports.Sound.{IsSoundPort}
+use Rattle.laws_wire.specs.Wire as wire
+use Rattle.laws_order.specs.circuit.Circuit.{Endpoint as OctetEndpoint, port_of, happens}
+use Rattle.laws_order.proofs.OfCircuit.AsFrames.{as_station, if_meant}
+use Rattle.laws_order.proofs.OfCircuit.OneWay.{Carries, one-given, one-put, none-heard, one-heard, OneHeard}
+use Rattle.laws_order.proofs.OfCircuit.Projected.{port-after}
+use Rattle.laws_order.proofs.OfCircuit.Ran.{Ran, within-ports, sound-port, on-line, gives-octets}
+use Rattle.laws_time.specs.circuit.LongEnough.{IsFrame}
+
+-- The first octets in transit are flags that no pull gave; behind them is what was given, and not heard yet.
+pub record Going (n201 : ℕ) (p : Port) (way : List ℕ) (there : List (List ℕ)) : Type 0 where
+  pub flags : List ℕ
+  pub rest : List ℕ
+  pub before : List ℕ
+  pub carries : Carries n201 p rest before there
+  pub way_is : way ≡ flags ++ rest
+  pub first : 1 ≤ length flags → before ≡ []
+
+-- What does not change the port and the way leaves it.
+pub going-with : (n201 : ℕ) (p q : Port) (way way' : List ℕ) (there : List (List ℕ)) → q.items ≡ p.items → q.given ≡ p.given → way' ≡ way → Going n201 p way there → Going n201 q way' there
+going-with n201 p q way way' there items given same h = record {
+  flags = h.flags;
+  rest = h.rest;
+  before = h.before;
+  carries = grind (arith, Carries);
+  way_is = same ∙ h.way_is;
+  first = h.first;
+}
+
+-- ---- a pull
+
+frame-put : (g : Option NextFrame) → frames_among (item_of g ∷ []) ≡ wire.frames_by (line.gave g)
+frame-put g = grind arith
+
+octets-put : (g : Option NextFrame) → ((f : NextFrame) → g ≡ Some f → AreOctets f.octets) → All AreOctets (frames_among (item_of g ∷ []))
+octets-put g h = grind arith
+
+module _ (c : Config) (ranged : IsInRange c) (s : OctetEndpoint) (ran : Ran c s) (there : List (List ℕ)) where
+  pulled-goes : (rest before : List ℕ) → Carries c.n201 (port_of s) rest before there → (due : Bool) → let o : Option line.Event = cond due (Some line.next) None in
+      let q = with_item (option_map (answer_to s.card.card) (option_map (frames.at s.line) o)) (port_of s) in
+      Carries c.n201 (with_octet q) (rest ++ next_octet q ∷ []) before (if_meant o (as_station there s)).way
+  unfolding line_answer takes_slot
+  pulled-goes rest before carries true =
+      let g = given_in (machine.answer (frames.at s.line line.next) s.card.card) in
+      let q : Port = record (port_of s) { items = (port_of s).items ++ item_of g ∷ [] } in
+      subst (λ frames. Carries c.n201 (with_octet q) (rest ++ next_octet q ∷ []) before (there ++ frames)) (frame-put g)
+      (one-given c.n201 q rest before (there ++ frames_among (item_of g ∷ []))
+      (one-put c.n201 (port_of s) rest before there carries (item_of g)
+      (octets-put g (λ f is. gives-octets c ranged s ran f (ap line.gave is))))
+      (next_octet q))
+  pulled-goes rest before carries false = one-given c.n201 (port_of s) rest before there carries (next_octet (port_of s))
+
+  pub pulled-way : (due : Bool) → is_due (port_of s) ≡ due → Going c.n201 (port_of s) s.way there
+      → Going c.n201 (port_of (happens port.pull s)) (happens port.pull s).way (if_meant (cond due (Some line.next) None) (as_station there s)).way
+  unfolding answer meant
+  pulled-way due is h =
+      let o : Option line.Event = cond (is_due (port_of s)) (Some line.next) None in
+      let q = with_item (option_map (answer_to s.card.card) (option_map (frames.at s.line) o)) (port_of s) in
+      let frames_now = (if_meant (cond (is_due (port_of s)) (Some line.next) None) (as_station there s)).way in
+      subst (λ b. Going c.n201 (port_of (happens port.pull s)) (happens port.pull s).way (if_meant (cond b (Some line.next) None) (as_station there s)).way) is
+      (record {
+        flags = h.flags;
+        rest = h.rest ++ next_octet q ∷ [];
+        before = h.before;
+        carries = subst (λ p. Carries c.n201 p (h.rest ++ next_octet q ∷ []) h.before frames_now) (sym (port-after s port.pull (within-ports c ranged s ran)))
+            (pulled-goes h.rest h.before h.carries (is_due (port_of s)));
+        way_is = ap (λ w. w ++ next_octet q ∷ []) h.way_is ∙ append_assoc h.flags h.rest (next_octet q ∷ []);
+        first = h.first;
+      })
+
+-- ---- an octet goes off the way, and the other end gains something, or nothing
+
+-- no frame is gained; it may be that one is lost
+abbrev pub IsNoFrame : Option stream.Event → Type 0
+IsNoFrame None = Unit {0}
+IsNoFrame (Some (stream.dropped cause)) = Unit {0}
+IsNoFrame (Some other) = ⊥
+
+module _ (n201 : ℕ) (c : Config) (ranged : IsInRange c) (size : c.n201 ≡ n201) (s : OctetEndpoint) (ran : Ran c s) (there : List (List ℕ)) (value : ℕ) (more : List ℕ)
+    (h : Going n201 (port_of s) (value ∷ more) there) (o : Option stream.Event)
+    (clear : (e : stream.Event) → o ≡ Some e → IsFrame e → (before : List ℕ) × ((port_of s).given ≡ before ++ value ∷ more) × (gained n201 before value ≡ Some e)) where
+  pub record Passes : Type 0 where
+    pub none : IsNoFrame o
+    pub goes : Going n201 (port_of s) more there
+
+  pub record Loses : Type 0 where
+    pub none : IsNoFrame o
+    pub lost : List ℕ
+    pub left : List (List ℕ)
+    pub are : there ≡ lost ∷ left
+    pub goes : Going n201 (port_of s) more left
+
+  pub record Arrives : Type 0 where
+    pub frame_is : List ℕ
+    pub left : List (List ℕ)
+    pub are : there ≡ frame_is ∷ left
+    pub gains : o ≡ Some (stream.frame frame_is)
+    pub whole : came n201 frame_is ≡ stream.frame frame_is
+    pub goes : Going n201 (port_of s) more left
+
+  abbrev pub Comes : Type 0
+  Comes = Passes ⊎ Loses ⊎ Arrives
+
+  sound : IsSoundPort n201 (port_of s)
+  sound = subst (λ n. IsSoundPort n (port_of s)) size (sound-port c ranged s ran)
+
+  -- flags come first
+  not-given : (flag : ℕ) (flags : List ℕ) → h.flags ≡ flag ∷ flags → (before : List ℕ) → (port_of s).given ≡ before ++ value ∷ more → ⊥
+  not-given flag flags is before given =
+      let none = h.first (subst (λ fs. 1 ≤ length fs) (sym is) (omega arith)) in
+      let all = ap length (h.carries.given ∙ ap (λ b. b ++ h.rest) none) in
+      let way = ap length (h.way_is ∙ ap (λ fs. fs ++ h.rest) is) in
+      let so = ap length given ∙ length-append before (value ∷ more) in
+      let long = length-append (flag ∷ flags) h.rest in
+      omega (arith, all, way, so, long)
+
+  none-of : (o' : Option stream.Event) → o ≡ o' → ((e : stream.Event) → o ≡ Some e → IsFrame e → ⊥) → IsNoFrame o'
+  none-of None is nay = tt
+  none-of (Some (stream.dropped cause)) is nay = tt
+  none-of (Some (stream.frame octets)) is nay = nay (stream.frame octets) is tt
+  none-of (Some (stream.overlong head)) is nay = nay (stream.overlong head) is tt
+
+  shorter : (a b w : List ℕ) → a ++ w ≡ b ++ w → a ≡ b
+  shorter a b w is = append_cancel_right a b w is
+
+  pub comes : Comes
+  comes = go h.flags refl
+    where
+      go : (fs : List ℕ) → h.flags ≡ fs → Comes
+      go (f ∷ fs) is =
+          let way = h.way_is ∙ ap (λ fs. fs ++ h.rest) is in
+          inl (record {
+            none = none-of o refl (λ e gains its. let x = clear e gains its in not-given f fs is x.0 x.1);
+            goes = record {
+              flags = fs;
+              rest = h.rest;
+              before = h.before;
+              carries = h.carries;
+              way_is = ap (drop 1) way;
+              first = λ some. h.first (subst (λ fs. 1 ≤ length fs) (sym is) (omega arith));
+            };
+          })
+      go [] is = by (gained n201 h.before value) refl
+        where
+          rest_is : h.rest ≡ value ∷ more
+          rest_is = sym (h.way_is ∙ ap (λ fs. fs ++ h.rest) is)
+
+          given_is : (port_of s).given ≡ h.before ++ value ∷ more
+          given_is = h.carries.given ∙ ap (λ w. h.before ++ w) rest_is
+
+          same-before : (before : List ℕ) → (port_of s).given ≡ before ++ value ∷ more → before ≡ h.before
+          same-before before given = shorter before h.before (value ∷ more) (sym given ∙ given_is)
+
+          then : (left : List (List ℕ)) → Carries n201 (port_of s) more (h.before ++ value ∷ []) left → Going n201 (port_of s) more left
+          then left carries = record { flags = []; rest = more; before = h.before ++ value ∷ []; carries = carries; way_is = refl; first = λ some. absurd (omega (arith, some)) }
+
+          none-now : gained n201 h.before value ≡ None → (e : stream.Event) → o ≡ Some e → IsFrame e → ⊥
+          none-now none e gains its =
+              let x = clear e gains its in
+              none-some e (sym none ∙ ap (λ b. gained n201 b value) (sym (same-before x.0 x.1)) ∙ x.2)
+            where
+              none-some : (e : stream.Event) → None ≡ Some e → ⊥
+              none-some e is = cc is
+
+          by : (g : Option stream.Event) → gained n201 h.before value ≡ g → Comes
+          by None none = inl (record { none = none-of o refl (none-now none); goes = then there (none-heard n201 (port_of s) h.rest h.before there h.carries value more rest_is none) })
+          by (Some e) some =
+              let x = one-heard n201 (port_of s) h.rest h.before there h.carries sound (on-line c ranged s ran) value more e rest_is some in
+              by-gain x o refl
+            where
+              same-event : (e f : stream.Event) → Some e ≡ Some f → e ≡ f
+              same-event e f is = cc is
+
+              its : OneHeard n201 (port_of s) h.rest h.before there h.carries sound (on-line c ranged s ran) value more e → (f : stream.Event) → o ≡ Some f → IsFrame f → f ≡ e
+              its x f gains so = let y = clear f gains so in same-event f e (sym y.2 ∙ ap (λ b. gained n201 b value) (same-before y.0 y.1) ∙ some)
+
+              by-gain : OneHeard n201 (port_of s) h.rest h.before there h.carries sound (on-line c ranged s ran) value more e → (g : Option stream.Event) → o ≡ g → Comes
+              by-gain x None is = inr (inl (record { none = subst IsNoFrame (sym is) tt; lost = x.first; left = x.rest; are = x.frames_are; goes = then x.rest x.carries }))
+              by-gain x (Some (stream.dropped cause)) is =
+                  inr (inl (record { none = subst IsNoFrame (sym is) tt; lost = x.first; left = x.rest; are = x.frames_are; goes = then x.rest x.carries }))
+              by-gain x (Some (stream.frame octets)) is =
+                  inr (inr (record { frame_is = x.first; left = x.rest; are = x.frames_are; gains = is ∙ ap (λ e. Some e) (its x (stream.frame octets) is tt ∙ x.event); whole = x.whole; goes = then x.rest x.carries }))
+              by-gain x (Some (stream.overlong head)) is = absurd (other head (its x (stream.overlong head) is tt ∙ x.event))
+                where
+                  other : (head : List ℕ) → stream.overlong head ≡ stream.frame x.first → ⊥
+                  other head e = cc e
+
+-- So much of what was given has been heard by the other end, or had to be.
+pub before-long : (n201 : ℕ) (p : Port) (way : List ℕ) (there : List (List ℕ)) (g : Going n201 p way there) (n transit : ℕ) → length p.given ≡ n → length way ≡ transit → n ≤ length g.before + transit
+before-long n201 p way there g n transit given long =
+    let all = ap length g.carries.given ∙ length-append g.before g.rest in
+    let whole = ap length g.way_is ∙ length-append g.flags g.rest in
+    omega (arith, all, whole, given, long)

@@ -1,0 +1,135 @@
+-- Why unit data, and what management asks for, is refused: the law.
+use Rattle.laws_trace.proofs.Vocabulary.{◌≡◌, ℕ, ◌==◌, ◌&&◌, ◌<◌, Bool, not, cond, nat_le, nat_lt, List, length, Option, Some, None, IfSome, is_some, option_map, refl, sym, ap, ◌∙◌, subst, Config, Effect, Line, has_tei, unless_refused_told, Card, line_at}
+use Rattle.laws_trace.proofs.Vocabulary.{is_full, answer_is, refusal, fresh, after_all, AreAtLines, IsInRange, units_of, of_request, config-stays, length-map, unit_frame, Side, User, Network, Refusal}
+use Rattle.laws_trace.proofs.Vocabulary.{Service, Answer, IsSound, last_unit_tei, used, manages, has_management, refused, Managed, managed_after, managing_is_on as is_on, CardEvent as Event, card_answer as answer, at, free_place}
+use Rattle.lapd_frame.specs.declared.refusals.Refusal.TheVariants.{BadTei, NoLink, TooLong, QueueFull, PoolFull, WrongSide, TeiTaken, TableFull, CheckRunning, ControlFull}
+use Rattle.lapd_tei.specs.declared.check.Check as check
+use Rattle.model_line.specs.Event as line_event
+use Rattle.model_line.specs.Request.{Request, Establish, Release, Data, Unit, Assign, Remove, Check, Disown, SetBusy, ClearBusy, Deactivate, Down}
+use Rattle.laws_trace.specs.NoSlotIsLost.{slots_taken}
+use Rattle.laws_trace.specs.RefusalsAreTold.{why_not, RefusalsAreTold}
+use Rattle.laws_trace.proofs.Follows.{Follows, seen_check, fewer-on, all-on}
+use Rattle.laws_trace.proofs.LineAtEnd.{line-at-end}
+use Rattle.laws_trace.proofs.ManagingTables.{used-same}
+use Rattle.laws_trace.proofs.SlotsTaken.{taken-is}
+use Rattle.laws_trace.proofs.TeisAreManaged.{follows-now}
+use Rattle.laws_trace.proofs.UnitsGoOut.{waiting-is}
+
+told-so : (o : Option Refusal) (outcome : Effect) → IfSome o (λ why. unless_refused_told o outcome ≡ refused why)
+told-so None outcome = tt
+told-so (Some why) outcome = refl
+
+last-is : (side : Side) → last_unit_tei side ≡ cond (manages side) 127 126
+last-is Network = refl
+last-is User = refl
+
+side-is : (side : Side) → has_management side ≡ manages side
+side-is Network = refl
+side-is User = refl
+
+mapped : (o : Option check.Check) → is_some o ≡ is_some (option_map seen_check o)
+mapped None = refl
+mapped (Some x) = refl
+
+-- Where each test is another one, the first reason is the same.
+abbrev if_so : Bool → Refusal → Option Refusal → Option Refusal
+if_so b why others = cond b (Some why) others
+
+if-same : (a b : Bool) (why : Refusal) (x y : Option Refusal) → a ≡ b → x ≡ y → if_so a why x ≡ if_so b why y
+if-same a b why x y tests others = ap (λ b. if_so b why x) tests ∙ ap (if_so b why) others
+
+module _ (c : Config) (events : List Event) (number : ℕ) (ranged : IsInRange c) (all : AreAtLines (fresh c) events) (within : number < c.lines) where
+  abbrev card : Card
+  card = after_all (fresh c) events
+
+  abbrev l : Line
+  l = line_at number card
+
+  abbrev w : Managed
+  w = managed_after c number events
+
+  follows : Follows w l.management
+  follows = follows-now c events number ranged all within
+
+  on-line : (tei : ℕ) → has_tei tei l ≡ is_on tei w
+  on-line tei = sym (follows.on.same tei)
+
+  owed-is : l.management.waiting ≡ w.owed
+  owed-is = sym (ap (λ (v : Managed). v.owed) follows.is)
+
+  checks : is_some l.management.check ≡ is_some w.check
+  checks = mapped l.management.check ∙ sym (ap (λ (v : Managed). is_some v.check) follows.is)
+
+  full-is : nat_le 4 (length l.management.waiting) ≡ nat_le 4 (length w.owed)
+  full-is = ap (λ ms. nat_le 4 (length ms)) owed-is
+
+  same : card.config ≡ c
+  same = config-stays (fresh c) events
+
+  units-are : length l.units ≡ length (units_of c events number)
+  units-are = sym (ap length (waiting-is c events number ranged all within) ∙ length-map l.units (unit_frame c))
+
+  slots-are : is_full card ≡ nat_le c.slots (slots_taken c events)
+  slots-are = ap (λ (d : Config). nat_le d.slots (used card)) same ∙ ap (nat_le c.slots) (sym (taken-is c events ranged all))
+
+  places-are : is_some (free_place l.management.places) ≡ nat_lt (length w.on) c.terminals
+  places-are = go (line-at-end c events number ranged all within) (free_place l.management.places) refl
+    where
+      go : IsSound c l → (o : Option ℕ) → free_place l.management.places ≡ o → is_some o ≡ nat_lt (length w.on) c.terminals
+      go s None free = sym (all-on w.on l.management follows.on follows.order s.management c s.places free)
+      go s (Some place) free = sym (fewer-on w.on l.management follows.on follows.order s.management c s.places place free)
+
+  abbrev Told : Request → Option Refusal → Type 0
+  Told r o = IfSome o (λ why. answer (at number (line_event.request r)) card ≡ refused why)
+
+  told : (r : Request) → Told r (refusal c (is_full card) r l)
+  told r =
+      let o = refusal card.config (is_full card) r l in
+      subst (λ (d : Config). Told r (refusal d (is_full card) r l)) same
+      (subst (λ (a : Answer). IfSome o (λ why. a ≡ refused why)) (sym (answer_is card number r)) (told-so o (of_request card.config r l)))
+
+  wrong-side : not (has_management c.side) ≡ not (manages c.side)
+  wrong-side = ap not (side-is c.side)
+
+  abbrev Same : Request → Type 0
+  Same r = refusal c (is_full card) r l ≡ why_not c events number w r
+
+  unit-same : (service : Service) (tei : ℕ) (contents : List ℕ) → Same (Unit service tei contents)
+  unit-same service tei contents =
+      if-same _ _ BadTei _ _ (ap (λ n. nat_lt n tei) (last-is c.side))
+      (if-same _ _ NoLink _ _ (ap (λ b. not (tei == 127) && not b) (on-line tei))
+      (if-same _ _ TooLong _ _ refl (if-same _ _ QueueFull _ _ (ap (nat_le c.unit_queue) units-are) (if-same _ _ PoolFull _ _ slots-are refl))))
+
+  assign-same : (tei : ℕ) → Same (Assign tei)
+  assign-same tei = if-same _ _ BadTei _ _ refl (if-same _ _ TeiTaken _ _ (on-line tei) (if-same _ _ TableFull _ _ (ap not places-are) refl))
+
+  remove-same : (tei : ℕ) → Same (Remove tei)
+  remove-same tei =
+      if-same _ _ WrongSide _ _ wrong-side
+      (if-same _ _ BadTei _ _ refl (if-same _ _ NoLink _ _ (ap not (on-line tei)) (if-same _ _ ControlFull _ _ full-is refl)))
+
+  check-same : (tei : ℕ) → Same (Check tei)
+  check-same tei =
+      if-same _ _ WrongSide _ _ wrong-side
+      (if-same _ _ BadTei _ _ refl
+      (if-same _ _ NoLink _ _ (ap not (on-line tei)) (if-same _ _ CheckRunning _ _ checks (if-same _ _ ControlFull _ _ full-is refl))))
+
+  disown-same : (tei : ℕ) → Same (Disown tei)
+  disown-same tei =
+      if-same _ _ WrongSide _ _ wrong-side
+      (if-same _ _ BadTei _ _ refl
+      (if-same _ _ TeiTaken _ _ (sym (used-same w.on l.management.places follows.on tei)) (if-same _ _ ControlFull _ _ full-is refl)))
+
+  pub refusals-are-told : RefusalsAreTold c events number
+  refusals-are-told (Unit service tei contents) = subst (Told (Unit service tei contents)) (unit-same service tei contents) (told (Unit service tei contents))
+  refusals-are-told (Assign tei) = subst (Told (Assign tei)) (assign-same tei) (told (Assign tei))
+  refusals-are-told (Remove tei) = subst (Told (Remove tei)) (remove-same tei) (told (Remove tei))
+  refusals-are-told (Check tei) = subst (Told (Check tei)) (check-same tei) (told (Check tei))
+  refusals-are-told (Disown tei) = subst (Told (Disown tei)) (disown-same tei) (told (Disown tei))
+  refusals-are-told (Establish service tei) = tt
+  refusals-are-told (Release service tei) = tt
+  refusals-are-told (Data service tei contents) = tt
+  refusals-are-told (SetBusy service tei) = tt
+  refusals-are-told (ClearBusy service tei) = tt
+  refusals-are-told (Deactivate service tei) = tt
+  refusals-are-told Down = tt

@@ -39,6 +39,7 @@ pub mod Units
 pub mod UnitsGoOut
 pub mod Spelled
 pub mod SmallMessages
+pub mod SmallOwn
 pub mod SmallMessagesWait
 pub mod OctetsBegin
 pub mod Drained

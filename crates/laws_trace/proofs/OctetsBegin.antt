@@ -10,7 +10,8 @@ use Rattle.laws_trace.proofs.OneLink.{Goes, event-goes}
 use Rattle.laws_trace.proofs.Runs.{run-shows}
 use Rattle.lapd_tei.specs.Events as teis
 use Rattle.lapd_terminal.specs.Events as terminals
-use Rattle.lapd_terminal.specs.Messages.{Message as OwnMessage, action_of as own_action_of, frame_of as own_frame_of}
+use Rattle.lapd_terminal.specs.Messages.{action_of as own_action_of, frame_of as own_frame_of}
+use Rattle.lapd_terminal.specs.declared.messages.Message.{Message as OwnMessage}
 use Rattle.lapd_terminal.proofs.SoundWords.{low_front}
 use Rattle.model_line.specs.Line.{is_terminal, terminal_in}
 use Rattle.model_line.specs.Sound.{IsOfSide}
@@ -18,7 +19,7 @@ use Rattle.model_line.specs.Taken.{message_taken, unit_taken, with_own_message}
 use Rattle.model_line.proofs.TakenWalk.{either}
 use Rattle.laws_trace.proofs.SmallMessages.{IsSmall}
 use Rattle.laws_trace.proofs.SmallMessagesWait.{MessagesAreSmall, fresh-small, messages-after}
-use Rattle.laws_trace.proofs.SmallOwn as own
+use Rattle.laws_trace.proofs.SmallOwn.{IsSmall as IsOwnSmall}
 use Rattle.laws_trace.proofs.Units.{none-told, none-requested, given-frames}
 use Rattle.laws_trace.proofs.Spelled.{Anything}
 use Rattle.laws_trace.proofs.LineAtEnd.{link-at-end}
@@ -65,7 +66,7 @@ module _ (c : Config) (ranged : IsInRange c) (l : Line) (s : IsSound c l) (k : A
   message-exact : (m : Message) → IsSmall m → action_of m ≤ 127 → AreOctets (message_frame c.side m)
   message-exact m small low = grind (arith, whole-octets)
 
-  own-exact : (m : OwnMessage) → own.IsSmall m → own_action_of m < 128 → AreOctets (own_frame_of m)
+  own-exact : (m : OwnMessage) → IsOwnSmall m → own_action_of m < 128 → AreOctets (own_frame_of m)
   own-exact m small low = grind (arith, whole-octets)
 
   unit-exact : (u : UnitData) → u.tei ≤ 127 → IsUnit u → AreOctets (unit_frame c u)
@@ -99,10 +100,10 @@ module _ (c : Config) (ranged : IsInRange c) (l : Line) (s : IsSound c l) (k : A
   of-message [] small low = tt
   of-message (m ∷ ms) small low = message-exact m (All-head IsSmall m ms small) (All-head (λ m. action_of m ≤ 127) m ms low)
 
-  of-own : (ms : List OwnMessage) → All own.IsSmall ms → ((m : OwnMessage) → slice_get ms 0 ≡ Some m → own_action_of m < 128)
+  of-own : (ms : List OwnMessage) → All IsOwnSmall ms → ((m : OwnMessage) → slice_get ms 0 ≡ Some m → own_action_of m < 128)
       → IfSome (option_map (with_own_message l) (option_map own_frame_of (slice_get ms 0))) IsExact
   of-own [] small low = tt
-  of-own (m ∷ ms) small low = own-exact m (All-head own.IsSmall m ms small) (low m refl)
+  of-own (m ∷ ms) small low = own-exact m (All-head IsOwnSmall m ms small) (low m refl)
 
   by-message : (b : Bool) → is_terminal c ≡ b → IfSome (cond b (option_map (with_own_message l) (terminals.offered (terminal_in l))) (option_map (with_message l) (teis.offered c.side l.management))) IsExact
   by-message true is =

@@ -1,7 +1,7 @@
 -- What is due of TEI management by one event of a line is what its answer shows, and the observer follows it.
 use Rattle.laws_trace.proofs.Vocabulary.{◌≡◌, ℕ, ◌==◌, Bool, true, false, cond, List, [], ◌∷◌, map, take, drop, slice_get, filter, Option, Some, None, IfSome, option_map, refl, sym, ap, ◌∙◌, subst, append-nil, true≢false, ◌⊎◌, inl, inr, arith, option_map_or, none-some, filter-append, Ui, Service, Timer, Parts, reading, Result, ReadFault, sapi_of, reading-again, Management, Message, Config, Aim}
 use Rattle.laws_trace.proofs.Vocabulary.{at_none, at_link, at_management, of_aim, hears, expiry, next, Answer, LineTold, gave, orders_in, Line, link_at, terms, service_at, aim_of, aim_of_heard, management_sapi, Taken, taken, next_of, line_of, at_requested, at_deactivated, heard_aims, lost_in, IsOwed, IsIdle, contents_of_link, IsOne, taken-one, served, unwrap_or, TimerT200 as T200}
-use Rattle.laws_trace.proofs.Vocabulary.{message_frame as frame_of, information_of, Event, told, line_after as after, answer, IsSound, result_ok, Managed, by_message, managing_by_event as by_event, is_of_teis, is_of_t201, IsAsDue, trace_frame_in as frame_in, offer, LinkEvent, LinkRequest, received, StreamEvent, link_told, tei_message, TeiEvent, tei_refusal, tei_course, own_side}
+use Rattle.laws_trace.proofs.Vocabulary.{message_frame as frame_of, information_of, Event, told, line_after as after, answer, IsSound, result_ok, Managed, by_message, managing_by_event as by_event, is_of_teis, is_of_line, IsAsDue, trace_frame_in as frame_in, offer, LinkEvent, LinkRequest, received, StreamEvent, link_told, tei_message, TeiEvent, tei_refusal, tei_course, own_side}
 use Rattle.laws_trace.proofs.Follows.{Follows, Leads, InOrder, as_seen, serve-leads, expire-leads}
 use Rattle.laws_trace.proofs.ManagingTables.{AreOn}
 use Rattle.laws_trace.proofs.ManagingNotes.{none-of-teis, link-others, told-orders, Cases, is_management, message_in, message-is-read, heard-cases}
@@ -30,11 +30,11 @@ module _ (c : Config) (l : Line) where
   pub record IsUnmanaged (aim : Aim) : Type 0 where
     pub stays : (of_aim c aim l).line.management ≡ l.management
     pub others : filter is_of_teis (of_aim c aim l).told.notes ≡ []
-    pub orders : filter is_of_t201 (of_aim c aim l).told.orders ≡ []
+    pub orders : filter is_of_line (of_aim c aim l).told.orders ≡ []
     pub none : is_management aim ≡ false
 
   none-aims : (t : LineTold) → filter is_of_teis t.notes ≡ [] → t.orders ≡ [] → IsUnmanaged (at_none t)
-  none-aims t notes orders = record { stays = refl; others = notes; orders = ap (filter is_of_t201) orders; none = refl }
+  none-aims t notes orders = record { stays = refl; others = notes; orders = ap (filter is_of_line) orders; none = refl }
 
   link-aims : (service : Service) (tei place : ℕ) (event : LinkEvent) → IsUnmanaged (at_link service tei place event)
   link-aims service tei place event = grind (arith, none-of-teis, link_told, link-others, told-orders)
@@ -110,13 +110,13 @@ module _ (c : Config) (l : Line) (s : IsSound c l) (on : List ℕ) (h : AreOn on
   expiry-shows timer = grind (arith, none-aims, link-aims, unmanaged-shows, managed-shows, expire-leads)
 
   -- A call for the next frame.
-  next-orders : (o : Option Taken) → IfSome o (IsOne c l) → filter is_of_t201 (orders_in (gave (option_map next_of o))) ≡ []
+  next-orders : (o : Option Taken) → IfSome o (IsOne c l) → filter is_of_line (orders_in (gave (option_map next_of o))) ≡ []
   next-orders None x = refl
-  next-orders (Some t) (inl x) = ap (λ (t : Taken). filter is_of_t201 t.orders) x.1
-  next-orders (Some t) (inr (inl x)) = ap (λ (t : Taken). filter is_of_t201 t.orders) x.1
+  next-orders (Some t) (inl x) = ap (λ (t : Taken). filter is_of_line t.orders) x.1
+  next-orders (Some t) (inr (inl x)) = ap (λ (t : Taken). filter is_of_line t.orders) x.1
   next-orders (Some t) (inr (inr x)) =
       let t = terms c (service_at x.number) x.tei in
-      ap (λ (t : Taken). filter is_of_t201 t.orders) x.is ∙ ap (filter is_of_t201) (given-orders c l s (service_at x.number) x.tei t (link_at x.number l) x.what x.given)
+      ap (λ (t : Taken). filter is_of_line t.orders) x.is ∙ ap (filter is_of_line) (given-orders c l s (service_at x.number) x.tei t (link_at x.number l) x.what x.given)
       ∙ told-orders t offer (link_at x.number l)
 
   message-is : (message : Message) → is_message c (frame_of c.side message) ≡ true

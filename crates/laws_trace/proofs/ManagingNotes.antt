@@ -1,6 +1,6 @@
 -- Which aims of a line are none of TEI management, and that what a line tells behind what TEI management tells changes nothing.
 use Rattle.laws_trace.proofs.Vocabulary.{arith, ◌≡◌, ℕ, ◌==◌, ◌&&◌, Bool, true, false, cond, List, [], ◌∷◌, ◌++◌, Option, Some, None, refl, sym, ap, ◌∙◌, append-nil, append_assoc, option_map_or, ◌⊎◌, All, filter, Result, Ok, All-nil, All-cons, All-head, All-tail, All-append, filter-append, ReadFault, Note, Call, Packet, Parts, TeiTold, Change, Left, Link, Terms, notes-own, Config, Aim}
-use Rattle.laws_trace.proofs.Vocabulary.{at_management, told_of_management, of_change, Line, link_in, terms, management_sapi, group_tei, aim_of_reading, aim_of_heard, manages, line_of_link as of_link, result_ok, frame_of, Managed, by_message, is_of_teis, is_of_t201, is_ui, link_told as told, LinkEvent, cleared, StreamEvent, tei_message}
+use Rattle.laws_trace.proofs.Vocabulary.{at_management, told_of_management, of_change, Line, link_in, terms, management_sapi, group_tei, aim_of_reading, aim_of_heard, manages, line_of_link as of_link, result_ok, frame_of, Managed, by_message, is_of_teis, is_of_line, is_ui, link_told as told, LinkEvent, cleared, StreamEvent, tei_message}
 use Rattle.model_link.proofs.OwnNotes.{IsOwn}
 use Rattle.laws_trace.specs.Managing.{by_frame}
 
@@ -20,7 +20,7 @@ none-of-teis [] h = refl
 none-of-teis (n ∷ ns) h = ap (λ b. cond b (n ∷ filter is_of_teis ns) (filter is_of_teis ns)) (All-head IsOther n ns h) ∙ none-of-teis ns (All-tail IsOther n ns h)
 
 -- The orders of a link are none of T201.
-pub told-orders : (t : Terms) (e : LinkEvent) (l : Link) → filter is_of_t201 (told t e l).orders ≡ []
+pub told-orders : (t : Terms) (e : LinkEvent) (l : Link) → filter is_of_line (told t e l).orders ≡ []
 told-orders t e l = grind (arith, filter-append)
 
 -- What TEI management tells, and what its links tell behind.
@@ -29,7 +29,7 @@ module _ (c : Config) (t : TeiTold) (l : Line) where
     pub others : List Note
     pub are : All IsOther others
     pub notes : (of_change c o (told_of_management t) l).told.notes ≡ t.notes ++ others
-    pub orders : filter is_of_t201 (of_change c o (told_of_management t) l).told.orders ≡ filter is_of_t201 t.orders
+    pub orders : filter is_of_line (of_change c o (told_of_management t) l).told.orders ≡ filter is_of_line t.orders
     pub lost : (of_change c o (told_of_management t) l).told.lost ≡ t.lost
     pub stays : (of_change c o (told_of_management t) l).line.management ≡ l.management
 
@@ -44,9 +44,9 @@ module _ (c : Config) (t : TeiTold) (l : Line) where
             (link-others (terms c Packet tei) cleared (link_in call.line Packet place));
         notes = append_assoc t.notes call.told.notes packet.told.notes;
         orders =
-            filter-append is_of_t201 (call.told.orders ++ packet.told.orders) t.orders ∙ ap (λ xs. xs ++ filter is_of_t201 t.orders)
-            (filter-append is_of_t201 call.told.orders packet.told.orders
-            ∙ ap (λ xs. xs ++ filter is_of_t201 packet.told.orders) (told-orders (terms c Call tei) cleared (link_in l Call place))
+            filter-append is_of_line (call.told.orders ++ packet.told.orders) t.orders ∙ ap (λ xs. xs ++ filter is_of_line t.orders)
+            (filter-append is_of_line call.told.orders packet.told.orders
+            ∙ ap (λ xs. xs ++ filter is_of_line packet.told.orders) (told-orders (terms c Call tei) cleared (link_in l Call place))
             ∙ told-orders (terms c Packet tei) cleared (link_in call.line Packet place));
         lost = refl;
         stays = refl;

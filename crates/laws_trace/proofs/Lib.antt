@@ -114,6 +114,8 @@ pub mod RequestsTakeEffect
 pub mod RefusalsAreTold
 pub mod AnswersAreGiven
 pub mod AnswersSuit
+pub mod Known
+pub mod ServedByTerminal
 pub mod CausesAreTold
 pub mod CountersCount
 pub mod SeenAs

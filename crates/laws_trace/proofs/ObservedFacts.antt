@@ -39,6 +39,9 @@ module _ (st : Option ℕ) (k : Known) (asked owed : Bool) (n : ℕ) (o : Observ
   pub down-is : Facts st k asked owed n o → nat_le o.state 4 ≡ (unwrap_or st 4 == 4)
   down-is o = grind (arith, nat_le)
 
+  pub up-is : Facts st k asked owed n o → (o.state == 7) ≡ (unwrap_or st 4 == 7)
+  up-is o = grind arith
+
   pub seen-is : Facts st k asked owed n o → o.state ≡ unwrap_or st 1
   seen-is o = grind arith
 

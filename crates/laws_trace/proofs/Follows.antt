@@ -24,7 +24,7 @@ abbrev pub InOrder : Check → Type 0
 InOrder check = is_second check.period ≡ false → check.second ≡ 0
 
 abbrev pub as_seen : List ℕ → Management → Managed
-as_seen on m = record { on = on; held = m.remembered; check = option_map seen_check m.check; owed = m.waiting; notes = []; orders = []; lost = 0; begins = []; granted = None }
+as_seen on m = record { on = on; held = m.remembered; check = option_map seen_check m.check; owed = m.waiting; own = None; notes = []; orders = []; lost = 0; begins = []; granted = None }
 
 pub record Follows (w : Managed) (m : Management) : Type 0 where
   pub is : nothing_due w ≡ as_seen w.on m

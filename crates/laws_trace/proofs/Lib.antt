@@ -69,6 +69,8 @@ pub mod ControlsSeen
 pub mod ControlsAtLine
 pub mod ControlFrames
 pub mod ManagingTables
+pub mod TerminalTables
+pub mod FollowsTerminal
 pub mod ManagingNotes
 pub mod Follows
 pub mod FollowsLine

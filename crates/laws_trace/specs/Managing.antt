@@ -167,16 +167,18 @@ by_event c next w = record w { owed = drop 1 w.owed; begins = map octets_of (tak
 by_event c other w = w
 
 -- The same of a terminal's line, all of whose TEIs are at its places.
-abbrev pub of_terminal : OfTerminal → Managed → Managed
-of_terminal t w =
+abbrev pub of_terminal : Managed → OfTerminal → Managed
+of_terminal w t =
     record w { on = teis_of t.places; own = Some t; notes = t.notes; orders = t.orders; begins = map terminal.octets_of t.begins; granted = t.granted }
 
 abbrev pub own_of : Config → Managed → OfTerminal
-own_of c w = unwrap_or w.own (own_on c)
+own_of c w = terminal.none_due (unwrap_or w.own (own_on c))
+
+abbrev pub at_terminal : Config → Event → Managed → Managed
+at_terminal c e w = option_map_or (of_terminal w) (terminal.by_event c e (own_of c w)) w
 
 abbrev pub due : Config → Event → Managed → Managed
-due c e w =
-    if is_terminal c then of_terminal (terminal.by_event c e (terminal.none_due (own_of c w))) (nothing_due w) else by_event c e (nothing_due w)
+due c e w = if is_terminal c then at_terminal c e (nothing_due w) else by_event c e (nothing_due w)
 
 -- What is known of a line of a card behind an event, and behind a list of them.
 abbrev pub led : Config → ℕ → Managed → card.Event → Managed

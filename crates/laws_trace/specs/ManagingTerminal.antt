@@ -2,7 +2,7 @@
 -- what the network says, what management asks for, and T202.
 use Rattle.std.specs.Prelude.{ℕ, ◌==◌, ◌&&◌, ◌||◌, not, nat_lt, nat_le, Bool, true, false, List, [], ◌∷◌, ◌++◌, ◌+◌, ◌*◌, ◌/◌, ◌%◌, map, replicate, take, drop, filter, fold, Option, Some, None, is_some, if◌then◌else◌}
 use Rattle.std.specs.List.{list_any, filter_map}
-use Rattle.std.specs.Option.{option_map_or, unwrap_or}
+use Rattle.std.specs.Option.{option_and_then, option_map_or, unwrap_or}
 use Rattle.lapd_frame.specs.declared.notes.Note.{Note}
 use Rattle.lapd_frame.specs.declared.notes.Note.TheVariants.{Assigned, Removed, Denied, Unassigned, RemoveAll}
 use Rattle.lapd_frame.specs.declared.timers.Order.{Order}
@@ -169,8 +169,8 @@ by_message other t = None
 abbrev pub is_message : Parts → Bool
 is_message f = (f.address.sapi == 63 && f.address.tei == 127) && is_ui f.control
 
-abbrev pub by_frame : OfTerminal → Parts → OfTerminal
-by_frame t f = if is_message f && f.address.command then unwrap_or (by_message f.info t) t else t
+abbrev pub by_frame : OfTerminal → Parts → Option OfTerminal
+by_frame t f = if is_message f && f.address.command then by_message f.info t else None
 
 -- T202 runs out (clauses 5.3.2.1 and 5.3.5). A TEI is asked for three times (N202, clause 5.9.4; constant by profile), and verified
 -- twice; and then it is not assigned, or it leaves.
@@ -181,25 +181,26 @@ ran_out (Some (Verifying tei attempts)) t = if nat_lt attempts 2 then verifies t
 
 -- What management asks for, and whether it is granted (clauses 4.1.1.5, 5.3.2, 5.3.4 and 5.3.5). If the line is down, no message is
 -- owed any more, and a procedure is over without a result (annex B, persistent deactivation).
-abbrev pub grants : Bool → OfTerminal → OfTerminal → OfTerminal
-grants so after t = record (if so then after else t) { granted = Some so }
+abbrev pub grants : Bool → OfTerminal → OfTerminal → Option OfTerminal
+grants so after t = Some (record (if so then after else t) { granted = Some so })
 
-abbrev pub by_request : Request → OfTerminal → OfTerminal
+abbrev pub by_request : Request → OfTerminal → Option OfTerminal
 by_request AskTei t = grants (list_any is_free t.places && not (is_some t.procedure)) (asks 1 t) t
 by_request (VerifyTei tei) t = grants (is_on tei t && not (is_some t.procedure)) (verifies tei 1 t) t
 by_request (Assign tei) t = grants (nat_le tei 126 && not (is_on tei t) && list_any is_free t.places) (record t { places = with_tei tei t.places }) t
 by_request (Remove tei) t = grants (is_on tei t) (leaves tei t) t
 by_request (Check tei) t = grants false t t
 by_request (Disown tei) t = grants false t t
-by_request Down t = record t { procedure = None; owed = []; orders = if is_some t.procedure then Stop T202 ∷ [] else []; granted = Some true }
-by_request other t = t
+by_request Down t = Some (record t { procedure = None; owed = []; orders = if is_some t.procedure then Stop T202 ∷ [] else []; granted = Some true })
+by_request other t = None
 
-abbrev pub by_event : Config → Event → OfTerminal → OfTerminal
-by_event c (hears e) t = option_map_or (by_frame t) (frame_of c e) t
-by_event c (expiry T202) t = ran_out t.procedure t
+-- What is due by an event of the line, and known after it. None is an event at which nothing is due, and all stays.
+abbrev pub by_event : Config → Event → OfTerminal → Option OfTerminal
+by_event c (hears e) t = option_and_then (by_frame t) (frame_of c e)
+by_event c (expiry T202) t = Some (ran_out t.procedure t)
 by_event c (request r) t = by_request r t
-by_event c next t = record t { owed = drop 1 t.owed; begins = take 1 t.owed }
-by_event c other t = t
+by_event c next t = Some (record t { owed = drop 1 t.owed; begins = take 1 t.owed })
+by_event c other t = None
 
 -- A message in octets: 0F, Ri with its high octet first, the type, and Ai with 1 as its extension bit; a request has Ai 127, and a
 -- verify Ri 0 (clause 5.3.1, its figure and table 8).

@@ -35,6 +35,8 @@ use Rattle.laws_trace.proofs.Known.{Knows, knows-now}
 use Rattle.laws_trace.proofs.ManagingTables.{AreOn}
 use Rattle.laws_trace.proofs.ObservedLaws.{moved-so}
 use Rattle.laws_trace.proofs.ObservedRun.{is-told}
+use Rattle.laws_trace.proofs.LineAtEnd.{line-at-end}
+use Rattle.laws_trace.proofs.TerminalTables.{IsOnce}
 use Rattle.laws_trace.proofs.ServedByTerminal.{own-serves, others-served, is_message as is_own_message}
 
 -- What a link serves of what it receives.
@@ -364,15 +366,18 @@ full-names states w c e l takes = grind arith
 message-same : (w : Managed) (info : List ℕ) → serves_message (nothing_due w) info ≡ serves_message w info
 message-same w info = grind arith
 
-serves-known : (c : Config) (l : Line) (w : Managed) → Knows c w l → Serves c l w
+serves-known : (c : Config) (l : Line) (w : Managed) → IsSoundLine c l → Knows c w l → Serves c l w
 unfolding tei_course tei_refusal
-serves-known c l w knows info =
+serves-known c l w s knows info =
     managed-named c (tei_message info) l ∙ unserved-named (serves_information c w info) (unserved_by c (tei_message info) l) (go (is_terminal c) refl)
   where
+    once : (tei : ℕ) → IsOnce tei l.management.places
+    once tei i j at there = s.management.table.once i j tei at there
+
     go : (b : Bool) → is_terminal c ≡ b
         → cond b (terminal_told (terminals.message info) (terminal_in l)).unserved (tei_told (tei_message info) l.management).unserved
-        ≡ not (cond b (is_some (seen.by_message info (own_of c w))) (serves_message w info))
-    go true is = own-serves (own_of c w) (terminal_in l) (knows.places is) (knows.procedure is) info
+        ≡ not (cond b (is_some (seen.by_message info (seen.none_due (own_of c w)))) (serves_message w info))
+    go true is = own-serves (terminal_in l) once info ∙ ap (λ t. not (is_some (seen.by_message info t))) (sym (knows.terminal is))
     go false net =
         message-serves w.on l.management knows.on info
         ∙ ap not (ap (λ (u : Managed). serves_message u info) (sym (knows.network net)) ∙ message-same w info)
@@ -404,4 +409,4 @@ causes-are-told c events number ranged all within what =
     (λ service tei.
     its-state (state_of service tei l) (is_on tei (view_of c service tei number events).teis) (is_on tei w) (states service tei)
     (moved-so c events number ranged all within service tei) (knows.on.same tei ∙ is-told service tei l))
-    (subst (λ (d : Config). Serves d l w) (sym kept) (serves-known c l w knows)))
+    (subst (λ (d : Config). Serves d l w) (sym kept) (serves-known c l w (line-at-end c events number ranged all within) knows)))

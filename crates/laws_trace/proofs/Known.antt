@@ -1,16 +1,16 @@
 -- What an observer knows of TEI management, of whatever side.
 use Rattle.laws_trace.proofs.Vocabulary.{◌≡◌, ℕ, ◌<◌, true, false, List, Config, CardEvent as Event, AreAtLines, IsInRange, Line, Managed, managed_after, nothing_due, fresh, after_all, line_at}
-use Rattle.model_line.specs.Line.{is_terminal}
+use Rattle.model_line.specs.Line.{is_terminal, terminal_in}
 use Rattle.laws_trace.specs.Managing.{own_of}
+use Rattle.laws_trace.specs.ManagingTerminal.{none_due}
 use Rattle.laws_trace.proofs.Follows.{as_seen}
+use Rattle.laws_trace.proofs.FollowsTerminal.{known}
 use Rattle.laws_trace.proofs.ManagingTables.{AreOn}
 
 pub record Knows (c : Config) (w : Managed) (l : Line) : Type 0 where
   pub network : is_terminal c ≡ false → nothing_due w ≡ as_seen w.on l.management
   pub on : AreOn w.on l.management.places
-  pub places : is_terminal c ≡ true → (own_of c w).places ≡ l.management.places
-  pub procedure : is_terminal c ≡ true → (own_of c w).procedure ≡ l.own.procedure
-  pub owed : is_terminal c ≡ true → (own_of c w).owed ≡ l.own.waiting
+  pub terminal : is_terminal c ≡ true → none_due (own_of c w) ≡ known (terminal_in l)
 
 pub knows-now : (c : Config) (events : List Event) (number : ℕ) → IsInRange c → AreAtLines (fresh c) events → number < c.lines
     → Knows c (managed_after c number events) (line_at number (after_all (fresh c) events))

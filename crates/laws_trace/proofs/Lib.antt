@@ -71,6 +71,7 @@ pub mod ControlFrames
 pub mod ManagingTables
 pub mod TerminalTables
 pub mod FollowsTerminal
+pub mod Tracked
 pub mod ManagingNotes
 pub mod Follows
 pub mod FollowsLine

@@ -376,7 +376,7 @@ serves-known c l w s knows info =
 
     go : (b : Bool) → is_terminal c ≡ b
         → cond b (terminal_told (terminals.message info) (terminal_in l)).unserved (tei_told (tei_message info) l.management).unserved
-        ≡ not (cond b (is_some (seen.by_message info (seen.none_due (own_of c w)))) (serves_message w info))
+        ≡ not (cond b (is_some (seen.by_message info (own_of c w))) (serves_message w info))
     go true is = own-serves (terminal_in l) once info ∙ ap (λ t. not (is_some (seen.by_message info t))) (sym (knows.terminal is))
     go false net =
         message-serves w.on l.management knows.on info

@@ -42,11 +42,11 @@ module _ (c : Config) (events : List Event) (number : ℕ) (ranged : IsInRange c
   abbrev v : View
   v = view_of c service tei number events
 
-  pub holds : Holds service tei k was_asked w.outstanding n its_line v
+  pub holds : Holds c service tei k was_asked w.outstanding n its_line v
   holds = holds-now c events number ranged all within service tei
 
   pub known-now : Facts (state_of service tei its_line) k was_asked w.outstanding n v.link
-  known-now = facts service tei k was_asked w.outstanding n its_line v holds
+  known-now = facts c service tei k was_asked w.outstanding n its_line v holds
 
   pub on-line-now : is_on tei v.teis ≡ is_some (state_of service tei its_line)
   on-line-now = holds.follows.on.same tei ∙ is-told service tei its_line
@@ -81,7 +81,7 @@ module _ (c : Config) (events : List Event) (number : ℕ) (ranged : IsInRange c
     u = view_behind c service tei number events what
 
     pub known-then : Facts (state_of service tei next_line) l then_asked x.outstanding r u.link
-    known-then = facts service tei l then_asked x.outstanding r next_line u (holds-behind c events number ranged all within service tei what)
+    known-then = facts c service tei l then_asked x.outstanding r next_line u (holds-behind c events number ranged all within service tei what)
 
 pub links-move-so : Always LinksMove
 links-move-so c events number ranged all within service tei =

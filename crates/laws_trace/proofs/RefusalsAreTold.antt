@@ -1,5 +1,5 @@
 -- Why unit data, and what management asks for, is refused: the law.
-use Rattle.laws_trace.proofs.Vocabulary.{◌≡◌, ℕ, ◌==◌, ◌&&◌, ◌||◌, ◌<◌, Bool, true, false, true≢false, ltb-true, ltb-false, arith, not, cond, nat_le, nat_lt, List, length, Option, Some, None, IfSome, is_some, option_map, refl, sym, ap, ◌∙◌, subst, Config, Effect, Line, has_tei, unless_refused_told, Card, line_at}
+use Rattle.laws_trace.proofs.Vocabulary.{◌≡◌, ℕ, ◌==◌, ◌&&◌, ◌||◌, ◌<◌, Bool, true, false, true≢false, lt-ltb, le-ltb, arith, not, cond, nat_le, nat_lt, List, length, Option, Some, None, IfSome, is_some, option_map, refl, sym, ap, ◌∙◌, subst, Config, Effect, Line, has_tei, unless_refused_told, Card, line_at}
 use Rattle.laws_trace.proofs.Vocabulary.{is_full, answer_is, refusal, fresh, after_all, AreAtLines, IsInRange, units_of, of_request, config-stays, length-map, unit_frame, Side, User, Network, Refusal}
 use Rattle.laws_trace.proofs.Vocabulary.{Service, Answer, IsSound, last_unit_tei, used, manages, has_management, refused, Managed, managed_after, managing_is_on as is_on, CardEvent as Event, card_answer as answer, at, free_place}
 use Rattle.lapd_frame.specs.declared.refusals.Refusal.TheVariants.{BadTei, NoLink, TooLong, QueueFull, PoolFull, WrongSide, TeiTaken, TableFull, CheckRunning, ControlFull}
@@ -112,8 +112,8 @@ module _ (c : Config) (events : List Event) (number : ℕ) (ranged : IsInRange c
   places-are = go (free_place l.management.places) refl
     where
       go : (o : Option ℕ) → free_place l.management.places ≡ o → is_some o ≡ nat_lt (length w.on) c.terminals
-      go None free = sym (ltb-false (length w.on) c.terminals (let whole = none-free l.management.places free in omega (arith, knows.on.size, whole, sound.places)))
-      go (Some place) free = sym (ltb-true (length w.on) c.terminals (let few = free-fewer l.management.places place free in omega (arith, knows.on.size, few, sound.places)))
+      go None free = sym (le-ltb (length w.on) c.terminals (let whole = none-free l.management.places free in omega (arith, knows.on.size, whole, sound.places)))
+      go (Some place) free = sym (lt-ltb (length w.on) c.terminals (let few = free-fewer l.management.places place free in omega (arith, knows.on.size, few, sound.places)))
 
   abbrev Told : Request → Option Refusal → Type 0
   Told r o = IfSome o (λ why. answer (at number (line_event.request r)) card ≡ refused why)

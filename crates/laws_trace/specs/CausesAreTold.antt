@@ -24,7 +24,7 @@ use Rattle.model_line.specs.Line.{is_terminal}
 use Rattle.model_card.specs.Event.{Event}
 use Rattle.laws_trace.specs.Deliveries.{is_unit_taken}
 use Rattle.laws_trace.specs.Managing.{Checked, Managed, is_on, may_check, managed_after, manages, own_of}
-use Rattle.laws_trace.specs.ManagingTerminal.{by_message, none_due}
+use Rattle.laws_trace.specs.ManagingTerminal.{by_message}
 use Rattle.laws_trace.specs.Observer.{view_of, moment_of}
 use Rattle.laws_trace.specs.Trace.{is_up}
 use Rattle.laws_trace.specs.Units.{is_ui}
@@ -51,7 +51,7 @@ serves_message w other = false
 -- Of a terminal it serves the messages of the network by which something comes to happen to it (`by_message` of a terminal), and no
 -- others (profile).
 abbrev pub serves_information : Config → Managed → List ℕ → Bool
-serves_information c w info = if is_terminal c then is_some (by_message info (none_due (own_of c w))) else serves_message w info
+serves_information c w info = if is_terminal c then is_some (by_message info (own_of c w)) else serves_message w info
 
 -- They come in UI frames, and at a terminal in commands. A trunk's end serves none (clause 5.3.1 and profile).
 abbrev pub hears_messages : Config → Parts → Bool

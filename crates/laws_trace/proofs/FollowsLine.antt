@@ -6,14 +6,11 @@ use Rattle.lapd_frame.specs.declared.timers.Timer.TheVariants.{T202}
 use Rattle.lapd_tei.specs.declared.messages.Message.TheVariants.{IdentityAssigned, IdentityDenied, IdentityCheckRequest, IdentityRemove}
 use Rattle.lapd_terminal.specs.Events as terminals
 use Rattle.model_line.specs.Effect.{Effect, at_a_terminal, at_terminal, of_network, of_terminal, of_terminal_if, told_of_terminal}
-use Rattle.model_line.specs.Expiry.{at_timer}
 use Rattle.model_line.specs.Sound.{IsOfSide}
-use Rattle.model_link.specs.declared.timers.LinkTimer.{LinkTimer}
 use Rattle.model_link.specs.declared.timers.LinkTimer.TheVariants as link_timer
 use Rattle.lapd_terminal.specs.Words.{Course}
 use Rattle.laws_trace.proofs.Vocabulary.{aim_of, of_change}
 use Rattle.lapd_tei.specs.Events.{expiry as tei_expiry}
-use Rattle.model_link.specs.Events.{expired}
 use Rattle.model_line.specs.Line.{is_terminal, Own, with_terminal}
 use Rattle.model_line.proofs.Managed.{idle_course}
 use Rattle.laws_trace.specs.Managing.{octets_of}
@@ -22,7 +19,7 @@ use Rattle.laws_trace.proofs.Follows.{Follows, Leads, InOrder, as_seen, serve-le
 use Rattle.laws_trace.proofs.ManagingTables.{AreOn}
 use Rattle.laws_trace.proofs.ManagingNotes.{none-of-teis, Cases, is_management, message_in, message-is-read, heard-cases, Behind, behind}
 use Rattle.laws_trace.proofs.ReadAgain.{message-text}
-use Rattle.laws_trace.proofs.Tracked.{OfSide, Tracks, Shows, IsQuiet, IsUnmanaged, none-granted, none-aims, link-aims, unmanaged-shows, is_managed, managed_of, one-or-none, first-goes, message-is, unit-is, link-is, next-shows}
+use Rattle.laws_trace.proofs.Tracked.{OfSide, Tracks, Shows, IsQuiet, IsUnmanaged, none-granted, none-aims, link-aims, unmanaged-shows, timer-shows, is_managed, managed_of, one-or-none, first-goes, message-is, unit-is, link-is, next-shows}
 
 -- A message goes in the octets that are due.
 same-octets : (m : Message) → information_of m ≡ octets_of m
@@ -44,10 +41,10 @@ module _ (c : Config) (l : Line) (s : IsSound c l) (net : is_terminal c ≡ fals
   pub tracked : (d : Managed) (m : Management) (own : Own) → Follows d m → Tracks c d m own
   tracked d m own f = record { on = f.on; side = subst (λ b. OfSide c b d m own) (sym net) f }
 
-  here : Tracks c w m l.own
+  pub here : Tracks c w m l.own
   here = tracked w m l.own (record { is = refl; on = h; order = order })
 
-  none-due : IsQuiet w
+  pub none-due : IsQuiet w
   none-due = record { notes = refl; orders = refl; lost = refl; begins = refl; granted = refl }
 
   -- An event of TEI management.
@@ -73,7 +70,7 @@ module _ (c : Config) (l : Line) (s : IsSound c l) (net : is_terminal c ≡ fals
   managed-shows e d me leads =
       subst (λ b. let y = cond b (of_terminal_if c (at_a_terminal me) l) (of_network c me l) in Shows c l e d (told y.told) y.line) (sym net) (network-shows e d me leads)
 
-  pub others-show : (e : Event) (aim : Aim) → is_management (aim_of c e l) ≡ false → IsUnmanaged c l aim → let y = of_aim c aim l in Shows c l e w (told y.told) y.line
+  others-show : (e : Event) (aim : Aim) → is_management (aim_of c e l) ≡ false → IsUnmanaged c l aim → let y = of_aim c aim l in Shows c l e w (told y.told) y.line
   others-show e aim none x = unmanaged-shows c l e w aim none-due here none x
 
   -- What is heard.
@@ -100,14 +97,6 @@ module _ (c : Config) (l : Line) (s : IsSound c l) (net : is_terminal c ≡ fals
       subst (λ d. Shows c l (hears e) d (told y.told) y.line) (sym (message-is-read c w e net)) (by-cases e (heard-cases c l e))
 
   -- An expiry. T202 does not run.
-  timer-shows : (timer : Timer) (service : Service) (tei : ℕ) (its : LinkTimer) → aim_of c (expiry timer) l ≡ at_timer service tei its (place_in l tei)
-      → let y = of_aim c (at_timer service tei its (place_in l tei)) l in Shows c l (expiry timer) w (told y.told) y.line
-  timer-shows timer service tei its is = go (place_in l tei) is
-    where
-      go : (o : Option ℕ) → aim_of c (expiry timer) l ≡ at_timer service tei its o → let y = of_aim c (at_timer service tei its o) l in Shows c l (expiry timer) w (told y.told) y.line
-      go None is = others-show (expiry timer) _ (ap is_management is) (none-aims c l _ refl refl)
-      go (Some place) is = others-show (expiry timer) _ (ap is_management is) (link-aims c l service tei place (expired its))
-
   abbrev effect_of : Course → Effect
   effect_of x = of_change c x.told.change (told_of_terminal x.told) (with_terminal x.now l)
 
@@ -119,8 +108,8 @@ module _ (c : Config) (l : Line) (s : IsSound c l) (net : is_terminal c ≡ fals
 
   pub expiry-shows : (timer : Timer) → Shows c l (expiry timer) (by_event c (expiry timer) w) (answer c (expiry timer) l) (after c (expiry timer) l)
   unfolding after answer tei_course tei_refusal
-  expiry-shows (T200 service tei) = timer-shows (T200 service tei) service tei link_timer.T200 refl
-  expiry-shows (T203 service tei) = timer-shows (T203 service tei) service tei link_timer.T203 refl
+  expiry-shows (T200 service tei) = timer-shows c l w none-due here (T200 service tei) service tei link_timer.T200 refl
+  expiry-shows (T203 service tei) = timer-shows c l w none-due here (T203 service tei) service tei link_timer.T203 refl
   expiry-shows T201 = managed-shows (expiry T201) (by_event c (expiry T201) w) tei_expiry (expire-leads on m h order s.management)
   expiry-shows T202 = t202-shows
 

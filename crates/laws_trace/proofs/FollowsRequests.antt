@@ -18,8 +18,9 @@ use Rattle.model_line.specs.Sides.{has_management, is_network}
 use Rattle.laws_trace.proofs.Follows.{Follows, Leads, InOrder, seen_check, as_seen, plain, assign-leads, remove-leads, begins-check, fewer-on, all-on}
 use Rattle.laws_trace.proofs.ManagingTables.{AreOn, used-same}
 use Rattle.laws_trace.proofs.ManagingNotes.{is_management}
-use Rattle.laws_trace.proofs.FollowsLine.{tracked, managed-shows, others-show, hears-shows, expiry-shows, next-shown}
-use Rattle.laws_trace.proofs.Tracked.{OfSide, Tracks, Shows, IsUnmanaged, none-granted, asked-aims, deactivated-aims}
+use Rattle.laws_trace.proofs.FollowsLine.{tracked, managed-shows, here, none-due, hears-shows, expiry-shows, next-shown}
+use Rattle.laws_trace.proofs.Tracked.{OfSide, Tracks, Shows}
+use Rattle.laws_trace.proofs.TrackedRequests.{asked-shows, deactivated-shows, units-shows}
 
 network-is : (side : Side) → is_network side ≡ manages side
 network-is Network = refl
@@ -165,17 +166,6 @@ module _ (c : Config) (l : Line) (s : IsSound c l) (net : is_terminal c ≡ fals
       by-grant (VerifyTei tei) w false (grind (arith, not-here))
       (λ none. absurd (true≢false (sym (not-here (is_terminal c) net) ∙ (passed (not_terminal c) (bad_tei tei ∷ no_link tei l ∷ procedure_running l ∷ []) none).0)))
 
-  link-shows : (r : Request) → is_management (aim_of_request r l) ≡ false → IsUnmanaged c l (aim_of_request r l) → Answers r w (refusal c false r l)
-  link-shows r other x = go (refusal c false r l) refl
-    where
-      go : (o : Option Refusal) → refusal c false r l ≡ o → Answers r w o
-      go None is = others-show c l s net on h order (request r) (aim_of_request r l) (ap (λ o. is_management (unless_refused o (aim_of_request r l))) is ∙ other) x
-      go (Some why) is = record {
-        as_due = record { notes = refl; orders = refl; begins = refl; granted = none-granted w refl false };
-        lost = inl refl;
-        follows = tracked c l s net on h order w m l.own (record { is = refl; on = h; order = order });
-      }
-
   -- That the line is down.
   stopped : (o : Option Check) → filter is_of_line (stop_of o) ≡ cond (is_some (option_map seen_check o)) (Stop T201 ∷ []) []
   stopped o = grind arith
@@ -204,33 +194,15 @@ module _ (c : Config) (l : Line) (s : IsSound c l) (net : is_terminal c ≡ fals
   abbrev Requested : Request → Type 0
   Requested r = Shows c l (request r) (by_event c (request r) w) (answer c (request r) l) (after c (request r) l)
 
-  asked-shows : (r : Request) (service : Service) (tei : ℕ) (asked : LinkRequest) → aim_of_request r l ≡ at_requested service tei asked (place_in l tei) → Answers r w (refusal c false r l)
-  asked-shows r service tei asked is =
-      link-shows r (ap is_management is ∙ no-management (place_in l tei)) (subst (IsUnmanaged c l) (sym is) (asked-aims c l service tei asked (place_in l tei)))
-    where
-      no-management : (o : Option ℕ) → is_management (at_requested service tei asked o) ≡ false
-      no-management None = refl
-      no-management (Some place) = refl
-
-  deactivated-shows : (service : Service) (tei : ℕ) → Answers (Deactivate service tei) w (refusal c false (Deactivate service tei) l)
-  deactivated-shows service tei = link-shows (Deactivate service tei) (no-management (place_in l tei)) (deactivated-aims c l service tei (place_in l tei))
-    where
-      no-management : (o : Option ℕ) → is_management (at_deactivated service tei o) ≡ false
-      no-management None = refl
-      no-management (Some place) = refl
-
-  units-shows : (service : Service) (tei : ℕ) (contents : List ℕ) → Answers (Unit service tei contents) w (refusal c false (Unit service tei contents) l)
-  units-shows service tei contents = link-shows (Unit service tei contents) refl (record { stays = refl; own = refl; others = refl; orders = refl })
-
   request-shows : (r : Request) → Requested r
   unfolding after answer
-  request-shows (Establish service tei) = asked-shows (Establish service tei) service tei LinkEstablish refl
-  request-shows (Release service tei) = asked-shows (Release service tei) service tei LinkRelease refl
-  request-shows (Data service tei contents) = asked-shows (Data service tei contents) service tei (LinkData contents) refl
-  request-shows (Unit service tei contents) = units-shows service tei contents
-  request-shows (SetBusy service tei) = asked-shows (SetBusy service tei) service tei LinkSetBusy refl
-  request-shows (ClearBusy service tei) = asked-shows (ClearBusy service tei) service tei LinkClearBusy refl
-  request-shows (Deactivate service tei) = deactivated-shows service tei
+  request-shows (Establish service tei) = asked-shows c l w (none-due c l s net on h order) (here c l s net on h order) (Establish service tei) service tei LinkEstablish refl
+  request-shows (Release service tei) = asked-shows c l w (none-due c l s net on h order) (here c l s net on h order) (Release service tei) service tei LinkRelease refl
+  request-shows (Data service tei contents) = asked-shows c l w (none-due c l s net on h order) (here c l s net on h order) (Data service tei contents) service tei (LinkData contents) refl
+  request-shows (Unit service tei contents) = units-shows c l w (none-due c l s net on h order) (here c l s net on h order) service tei contents
+  request-shows (SetBusy service tei) = asked-shows c l w (none-due c l s net on h order) (here c l s net on h order) (SetBusy service tei) service tei LinkSetBusy refl
+  request-shows (ClearBusy service tei) = asked-shows c l w (none-due c l s net on h order) (here c l s net on h order) (ClearBusy service tei) service tei LinkClearBusy refl
+  request-shows (Deactivate service tei) = deactivated-shows c l w (none-due c l s net on h order) (here c l s net on h order) service tei
   request-shows (Assign tei) = assign-shows tei
   request-shows (Remove tei) = remove-shows tei
   request-shows (Checking tei) = check-shows tei

@@ -72,6 +72,8 @@ pub mod ManagingTables
 pub mod TerminalTables
 pub mod FollowsTerminal
 pub mod Tracked
+pub mod TrackedRequests
+pub mod FollowsTerminalLine
 pub mod ManagingNotes
 pub mod Follows
 pub mod FollowsLine

@@ -1,7 +1,12 @@
 -- What an observer of a line knows of its TEI management, of whatever side, and what an answer shows of it.
 use Rattle.laws_trace.proofs.Vocabulary.{◌≡◌, ℕ, ◌==◌, Bool, true, false, cond, List, [], ◌∷◌, ◌++◌, map, take, slice_get, filter, Option, Some, None, IfSome, option_map, refl, sym, ap, ◌∙◌, subst, append-nil, ◌⊎◌, inl, inr, arith, option_map_or, none-some, filter-append, Ui, Service, Parts, reading, Result, ReadFault, sapi_of, Management, Config, Aim, and-false}
 use Rattle.laws_trace.proofs.Vocabulary.{at_none, at_link, of_aim, next, Answer, LineTold, gave, orders_in, Line, link_at, terms, service_at, aim_of, management_sapi, Taken, taken, next_of, line_of, at_requested, at_deactivated, lost_in, IsOne, taken-one, unwrap_or, Event, told, line_after as after, answer, IsSound, result_ok, Managed, is_of_teis, is_of_line, IsAsDue, trace_frame_in as frame_in, offer, LinkEvent, LinkRequest, link_told, own_side, reading-again}
+use Rattle.laws_trace.proofs.Vocabulary.{Timer, expiry, place_in}
+use Rattle.model_line.specs.Event.{nothing}
+use Rattle.model_line.specs.Expiry.{at_timer}
 use Rattle.model_line.specs.Line.{Own, UnitData, is_terminal, terminal_with}
+use Rattle.model_link.specs.Events.{expired}
+use Rattle.model_link.specs.declared.timers.LinkTimer.{LinkTimer}
 use Rattle.lapd_frame.specs.Senders.{spelling}
 use Rattle.laws_trace.specs.Managing.{own_of}
 use Rattle.laws_trace.specs.ManagingTerminal.{teis_of}
@@ -83,6 +88,15 @@ module _ (c : Config) (l : Line) where
         lost = inr (quiet.lost, none);
         follows = subst (λ m. Tracks c d m y.line.own) (sym x.stays) (subst (Tracks c d l.management) (sym x.own) tracks);
       }
+
+  -- An expiry of a link's timer.
+  pub timer-shows : (d : Managed) → IsQuiet d → Tracks c d l.management l.own → (timer : Timer) (service : Service) (tei : ℕ) (its : LinkTimer)
+      → aim_of c (expiry timer) l ≡ at_timer service tei its (place_in l tei) → let y = of_aim c (at_timer service tei its (place_in l tei)) l in Shows c l (expiry timer) d (told y.told) y.line
+  timer-shows d quiet tracks timer service tei its is = go (place_in l tei) is
+    where
+      go : (o : Option ℕ) → aim_of c (expiry timer) l ≡ at_timer service tei its o → let y = of_aim c (at_timer service tei its o) l in Shows c l (expiry timer) d (told y.told) y.line
+      go None is = unmanaged-shows (expiry timer) d (at_none nothing) quiet tracks (ap is_management is) (none-aims nothing refl refl)
+      go (Some place) is = unmanaged-shows (expiry timer) d (at_link service tei place (expired its)) quiet tracks (ap is_management is) (link-aims service tei place (expired its))
 
 -- Frames with SAPI 63.
 abbrev of_management : Result Parts ReadFault → Bool

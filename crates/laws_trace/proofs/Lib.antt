@@ -73,6 +73,7 @@ pub mod FollowsTerminal
 pub mod Tracked
 pub mod TrackedRequests
 pub mod FollowsTerminalLine
+pub mod FollowsTerminalRequests
 pub mod ManagingNotes
 pub mod Follows
 pub mod FollowsLine

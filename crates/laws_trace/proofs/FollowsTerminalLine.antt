@@ -161,7 +161,7 @@ module _ (c : Config) (l : Line) (s : IsSound c l) (is : is_terminal c ≡ true)
   by-cases e (inr x) =
       subst (Heard e (aim_of_heard c l e)) (sym x.said_is) (unmanaged-shows c l (hears e) v (aim_of_heard c l e) quiet here x.aim_is (plain-aim e x.aim_is))
 
-  abbrev due_by : Event → Managed
+  abbrev pub due_by : Event → Managed
   due_by e = option_map_or (seen_there v) (seen.by_event c e k) v
 
   pub hears-shows : (e : StreamEvent) → Shows c l (hears e) (due_by (hears e)) (answer c (hears e) l) (after c (hears e) l)

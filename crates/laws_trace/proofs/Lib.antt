@@ -74,6 +74,7 @@ pub mod FollowsTerminal
 pub mod Tracked
 pub mod TrackedRequests
 pub mod FollowsTerminalLine
+pub mod FollowsTerminalRequests
 pub mod ManagingNotes
 pub mod Follows
 pub mod FollowsLine

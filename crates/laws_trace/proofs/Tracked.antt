@@ -33,6 +33,9 @@ pub record Tracks (c : Config) (w : Managed) (m : Management) (own : Own) : Type
   pub on : AreOn w.on m.places
   pub side : OfSide c (is_terminal c) w m own
 
+abbrev pub TracksLine : Config → Managed → Line → Type 0
+TracksLine c w l = Tracks c w l.management l.own
+
 -- What an answer shows, and what is known behind it. What is lost is so many messages, or is none of them, if the event is
 -- one of a link.
 pub record Shows (c : Config) (l : Line) (e : Event) (d : Managed) (a : Answer) (new : Line) : Type 0 where

@@ -91,3 +91,4 @@ pub mod ArrivingMet
 pub mod AnsweringMet
 pub mod EndingMet
 pub mod SettlingMet
+pub mod TerminalLines

@@ -13,6 +13,7 @@
 //!   end;
 //! - `Counted`: how often T200 may expire. `Resting`: how many turns there are at most;
 //! - `Facing`: two cards that face each other by links in state 7;
+//! - `Terminals`: a terminal that asks the network for a TEI, and a call after that;
 //! - `Worked..`: worked values that compute.
 //!
 //! What a card does at an event is the machine of `model_card`, of frames. The laws of two links are those of
@@ -33,6 +34,7 @@ mod arriving;
 mod laws;
 mod resting;
 mod settling;
+mod terminals;
 
 pub use answering::{a_call_ends, a_call_with_losses_comes_through};
 pub use arriving::it_arrives_under_traffic;
@@ -42,3 +44,4 @@ pub use laws::{
 };
 pub use resting::{rounds_come_to_rest, turns_come_to_an_end};
 pub use settling::a_call_with_losses_comes_to_rest;
+pub use terminals::a_terminal_comes_through;

@@ -92,3 +92,4 @@ pub mod AnsweringMet
 pub mod EndingMet
 pub mod SettlingMet
 pub mod TerminalLines
+pub mod TerminalTurns

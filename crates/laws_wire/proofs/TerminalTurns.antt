@@ -135,6 +135,13 @@ module _ (c : Config) (ranged : IsInRange c) (line : ℕ) (within : line < c.lin
       told = ap told_by its_answer;
     }
 
+-- what goes, or is in transit, is a frame
+no-frame : (octets : List ℕ) → gave (Some (record { octets = octets; orders = [] })) ≡ gave None → ⊥
+no-frame octets e = cc e
+
+no-way : (octets : List ℕ) → octets ∷ [] ≡ [] → ⊥
+no-way octets e = cc e
+
 -- ---- where the wire is
 
 -- The request waits; it is in transit; the answer waits; it is in transit; and both ends have the TEI.
@@ -317,3 +324,58 @@ module _ (c d : Config) where
           near = subst (λ way. IsSo c (lines.has_it c) [] (note ∷ []) (with_first_of way w.near)) (sym h.far.way) near;
           far = lost d (lines.gave_it ri d) (answer_frame ∷ []) (note ∷ []) w.far h.far;
         })
+
+    -- ---- all steps
+
+    near-sends : (p : Phase) (w : Wire) → IsAt p w → Led p (acting sends w) (if is_turn_of sends w then 1 else 0)
+    near-sends wanted w h = request-goes w h
+    near-sends requested w h = quiet-near requested (lines.none-waits c) w h
+    near-sends granted w h = quiet-near granted (lines.none-waits c) w h
+    near-sends answering w h = quiet-near answering (lines.none-waits c) w h
+    near-sends done w h = quiet-near done (lines.none-has c) w h
+
+    far-sends : (p : Phase) (w : Wire) → IsAt p w → Led p (turned (acting sends (turned w))) (if is_turn_of sends (turned w) then 1 else 0)
+    far-sends wanted w h = quiet-far wanted (lines.none-first d) w h
+    far-sends requested w h = quiet-far requested (lines.none-first d) w h
+    far-sends granted w h = answer-goes w h
+    far-sends answering w h = quiet-far answering (lines.none-gave (seed_of c) d) w h
+    far-sends done w h = quiet-far done (lines.none-gave (seed_of c) d) w h
+
+    near-receives : (p : Phase) (w : Wire) → IsAt p w → Led p (acting receives w) (if is_turn_of receives w then 1 else 0)
+    near-receives wanted w h = deaf-near wanted refl w h
+    near-receives requested w h = deaf-near requested refl w h
+    near-receives granted w h = deaf-near granted refl w h
+    near-receives answering w h = answer-comes w h
+    near-receives done w h = deaf-near done refl w h
+
+    far-receives : (p : Phase) (w : Wire) → IsAt p w → Led p (turned (acting receives (turned w))) (if is_turn_of receives (turned w) then 1 else 0)
+    far-receives wanted w h = deaf-far wanted refl w h
+    far-receives requested w h = request-comes w h
+    far-receives granted w h = deaf-far granted refl w h
+    far-receives answering w h = deaf-far answering refl w h
+    far-receives done w h = deaf-far done refl w h
+
+    step : (x : StepAt) → SendsOrReceives x → (p : Phase) (w : Wire) → IsAt p w → Led p (doing x w) (if is_turn x w then 1 else 0)
+    step (at_near sends) is p w h = near-sends p w h
+    step (at_near receives) is p w h = near-receives p w h
+    step (at_near other) is p w h = absurd is
+    step (at_far sends) is p w h = far-sends p w h
+    step (at_far receives) is p w h = far-receives p w h
+    step (at_far other) is p w h = absurd is
+
+    pub runs : (ds : List StepAt) → All SendsOrReceives ds → (p : Phase) (w : Wire) → IsAt p w → Led p (doing_all ds w) (turns ds w)
+    unfolding doing_all turns
+    runs [] all p w h = record { phase = p; at = h; price = omega arith }
+    runs (x ∷ ds) all p w h =
+        let x1 = step x (All-head SendsOrReceives x ds all) p w h in
+        let rest = runs ds (All-tail SendsOrReceives x ds all) x1.phase (doing x w) x1.at in
+        record { phase = rest.phase; at = rest.at; price = omega (arith, x1.price, rest.price) }
+
+    -- ---- where no turn is left both have it
+
+    some-waits : (p : Phase) (w : Wire) → IsAt p w → IsStill w → p ≡ done
+    some-waits wanted w h still = absurd (no-frame request_frame (sym (gives-answer c (lines.asked c) [] [] w.near h.near ∙ lines.goes-answer c own ranged) ∙ still.near))
+    some-waits requested w h still = absurd (no-way request_frame (sym h.near.way ∙ still.near_way))
+    some-waits granted w h still = absurd (no-frame answer_frame (sym (gives-answer d (lines.assigning (seed_of c) d) [] (note ∷ []) w.far h.far ∙ lines.gives-answer d side (seed_of c)) ∙ still.far))
+    some-waits answering w h still = absurd (no-way answer_frame (sym h.far.way ∙ still.far_way))
+    some-waits done w h still = refl

@@ -93,3 +93,4 @@ pub mod EndingMet
 pub mod SettlingMet
 pub mod TerminalLines
 pub mod TerminalTurns
+pub mod TerminalCalls

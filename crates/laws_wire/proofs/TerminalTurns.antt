@@ -373,9 +373,9 @@ module _ (c d : Config) where
 
     -- ---- where no turn is left both have it
 
-    some-waits : (p : Phase) (w : Wire) → IsAt p w → IsStill w → p ≡ done
-    some-waits wanted w h still = absurd (no-frame request_frame (sym (gives-answer c (lines.asked c) [] [] w.near h.near ∙ lines.goes-answer c own ranged) ∙ still.near))
-    some-waits requested w h still = absurd (no-way request_frame (sym h.near.way ∙ still.near_way))
-    some-waits granted w h still = absurd (no-frame answer_frame (sym (gives-answer d (lines.assigning (seed_of c) d) [] (note ∷ []) w.far h.far ∙ lines.gives-answer d side (seed_of c)) ∙ still.far))
-    some-waits answering w h still = absurd (no-way answer_frame (sym h.far.way ∙ still.far_way))
-    some-waits done w h still = refl
+    pub still-done : (p : Phase) (w : Wire) → IsAt p w → IsStill w → p ≡ done
+    still-done wanted w h still = absurd (no-frame request_frame (sym (gives-answer c (lines.asked c) [] [] w.near h.near ∙ lines.goes-answer c own ranged) ∙ still.near))
+    still-done requested w h still = absurd (no-way request_frame (sym h.near.way ∙ still.near_way))
+    still-done granted w h still = absurd (no-frame answer_frame (sym (gives-answer d (lines.assigning (seed_of c) d) [] (note ∷ []) w.far h.far ∙ lines.gives-answer d side (seed_of c)) ∙ still.far))
+    still-done answering w h still = absurd (no-way answer_frame (sym h.far.way ∙ still.far_way))
+    still-done done w h still = refl

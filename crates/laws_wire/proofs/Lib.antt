@@ -93,4 +93,5 @@ pub mod EndingMet
 pub mod SettlingMet
 pub mod TerminalLines
 pub mod TerminalTurns
+pub mod ToldBefore
 pub mod TerminalCalls

@@ -161,7 +161,7 @@ left answering = 1
 left done = 0
 
 abbrev note : LineTold
-note = assigned_told 64
+note = assigned_told
 
 module _ (c d : Config) where
   abbrev near_line : Phase → Line

@@ -95,3 +95,4 @@ pub mod TerminalLines
 pub mod TerminalTurns
 pub mod ToldBefore
 pub mod TerminalCalls
+pub mod TerminalsMet

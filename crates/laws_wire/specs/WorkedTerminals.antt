@@ -13,7 +13,7 @@ use Rattle.model_line.specs.Request.{Establish, Data}
 use Rattle.laws_wire.specs.Wire.{Wire, requests, sends, receives, StepAt, at_near, at_far, acting, turned, doing_all, turns, IsStill}
 use Rattle.laws_wire.specs.Call.{both_call, confirmed, indicated, data_told}
 use Rattle.laws_wire.specs.Worked.{network, user}
-use Rattle.laws_wire.specs.Terminals.{asking, assigned_told, untold}
+use Rattle.laws_wire.specs.Terminals.{asking, assigned_told}
 
 abbrev pub terminal : Config
 terminal = record user { seed = Some 4660 }
@@ -32,11 +32,11 @@ request_goes : (doing_all (at_near sends ∷ []) asks).near.way ≡ (0xFC ∷ 0x
 unfolding lines.after lines.answer lines.takes_slot exchanged read_by reading header_of control_of unnumbered_of supervisory_of teis.course teis.refusal terminals.course doing_all
 request_goes = refl
 
-pub near_has : has_tei.near.told ≡ assigned_told 64 ∷ []
+pub near_has : has_tei.near.told ≡ assigned_told ∷ []
 unfolding lines.after lines.answer lines.takes_slot exchanged read_by reading header_of control_of unnumbered_of supervisory_of teis.course teis.refusal terminals.course doing_all
 near_has = refl
 
-pub far_has : has_tei.far.told ≡ assigned_told 64 ∷ []
+pub far_has : has_tei.far.told ≡ assigned_told ∷ []
 unfolding lines.after lines.answer lines.takes_slot exchanged read_by reading header_of control_of unnumbered_of supervisory_of teis.course teis.refusal terminals.course doing_all
 far_has = refl
 
@@ -46,22 +46,26 @@ turns_of_asking = refl
 
 -- Then the network calls, and the terminal sends.
 abbrev pub called : Wire
-called = acting (requests (Establish Call 64)) (untold (turned has_tei))
+called = acting (requests (Establish Call 64)) (turned has_tei)
 
 abbrev pub talks : List StepAt
 talks =
     at_near sends ∷ at_far receives ∷ at_far (requests (Data Call 64 (0xAB ∷ []))) ∷ at_far sends ∷ at_far sends ∷ at_near receives ∷ at_near receives
     ∷ at_near sends ∷ at_far receives ∷ []
 
-told_network : (doing_all talks called).near.told ≡ confirmed Call 64 ∷ data_told Call 64 (0xAB ∷ []) ∷ []
+told_network : (doing_all talks called).near.told ≡ assigned_told ∷ confirmed Call 64 ∷ data_told Call 64 (0xAB ∷ []) ∷ []
 unfolding lines.after lines.answer lines.takes_slot exchanged read_by reading header_of control_of unnumbered_of supervisory_of teis.course teis.refusal terminals.course seq distance_of named doing_all
 told_network = refl
 
-told_terminal : (doing_all talks called).far.told ≡ indicated Call 64 ∷ []
+told_terminal : (doing_all talks called).far.told ≡ assigned_told ∷ indicated Call 64 ∷ []
 unfolding lines.after lines.answer lines.takes_slot exchanged read_by reading header_of control_of unnumbered_of supervisory_of teis.course teis.refusal terminals.course seq distance_of named doing_all
 told_terminal = refl
 
--- Eight turns, which is the bound: four, and four for the request.
+pub one_calls : both_call talks called ≡ false
+unfolding lines.after lines.answer lines.takes_slot exchanged read_by reading header_of control_of unnumbered_of supervisory_of teis.course teis.refusal terminals.course seq distance_of named doing_all both_call
+one_calls = refl
+
+-- Eight turns, and the four of the asking: as many as the law allows.
 turns_of_talk : turns talks called ≡ 8
 unfolding lines.after lines.answer lines.takes_slot exchanged read_by reading header_of control_of unnumbered_of supervisory_of teis.course teis.refusal terminals.course seq distance_of named doing_all turns
 turns_of_talk = refl

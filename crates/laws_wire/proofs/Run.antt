@@ -1,5 +1,5 @@
 -- A whole call: how many turns there are, what layer 3 was told so far, and what it was told where no turn is left.
-use Rattle.laws_wire.proofs.Vocabulary.{◌≡◌, ℕ, ◌+◌, ◌*◌, ◌≤◌, Bool, true, false, ◌||◌, List, [], ◌∷◌, map, take, None, refl, sym, ap, subst, ◌∙◌, inl, inr, arith, All, if◌then◌else◌, All-head, All-tail, Service, spelling, other_side, fresh, given, IsInRange, LinkEndpoint, Config, LineTold, next, gave, terms, terms_in_range, Pair, all-there, nothing-given, Endpoint, Wire, StepAt, turned, doing}
+use Rattle.laws_wire.proofs.Vocabulary.{◌≡◌, ℕ, ◌+◌, ◌*◌, ◌≤◌, Bool, true, false, ◌||◌, List, [], ◌∷◌, map, take, None, refl, sym, ap, subst, ◌∙◌, inl, inr, arith, All, if◌then◌else◌, All-head, All-tail, Service, spelling, fresh, given, IsInRange, LinkEndpoint, Config, LineTold, next, gave, terms, terms_in_range, Pair, all-there, nothing-given, Endpoint, Wire, StepAt, turned, doing}
 use Rattle.laws_wire.proofs.Vocabulary.{IsStill, answered, calling, IsCall, calls_back, confirmed, data_told, told_first, IsBeginningOf, AreOpposite, CanCall, ComesThrough, CallsComeThrough, own_side}
 use Rattle.laws_link.specs.two.Rounds.{HasArrived}
 unfoldable use Rattle.laws_wire.specs.Wire.{doing_all, turns}

@@ -1,5 +1,6 @@
 -- A terminal that has its TEI calls, or is called.
-use Rattle.laws_wire.proofs.Vocabulary.{◌≡◌, ℕ, ◌+◌, ◌*◌, ◌≤◌, Bool, true, false, if◌then◌else◌, granted_of, all_told, confirmed, told_first, List, [], ◌∷◌, ◌++◌, append-nil, Sender, other_side, replicate, length, None, Some, refl, sym, ap, subst, ◌∙◌, arith, All, All-nil, get_or-set_same, length-replicate, has-place, table-put, table-empty, Service, fresh, given, terms, terms_at, terms_in_range, fresh_gives_nothing, Config, Line, LineTold, Establish, Endpoint, Wire, StepAt, EndStep, requests, acting, turned, AreOpposite, CanCall, IsStill, ranges_of, own_side}
+use Rattle.laws_wire.proofs.Vocabulary.{◌≡◌, ℕ, ◌+◌, ◌*◌, ◌≤◌, Bool, true, false, if◌then◌else◌, granted_of, all_told, confirmed, told_first, List, [], ◌∷◌, ◌++◌, append-nil, Sender, other_side, length, None, Some, refl, sym, ap, subst, ◌∙◌, arith, All, All-nil, get_or-set_same, length-replicate, has-place, table-put, table-empty, Service, fresh, given, terms, terms_at, terms_in_range}
+use Rattle.laws_wire.proofs.Vocabulary.{fresh_gives_nothing, Config, Line, LineTold, Establish, Endpoint, Wire, StepAt, EndStep, requests, acting, turned, AreOpposite, CanCall, IsStill, ranges_of}
 use Rattle.laws_wire.proofs.Vocabulary.{IsCall, ComesThrough, ToldInOrder, IsBeginningOf}
 use Rattle.lapd_frame.specs.declared.addresses.Side.TheVariants.{Network}
 use Rattle.model_line.specs.Line.{is_terminal, seed_of}
@@ -20,7 +21,7 @@ use Rattle.laws_wire.proofs.Talking.{unheard, Holds}
 use Rattle.laws_wire.proofs.ToldBefore.{with_past, acts-after, all-after, turns-after, both-after}
 use Rattle.laws_wire.proofs.TerminalLines as lines
 use Rattle.laws_wire.proofs.TerminalLines.{HasNone}
-use Rattle.laws_wire.proofs.TerminalTurns.{IsSo, IsAt, Phase, wanted, requested, granted, answering, done, begins, asks, runs, still-done, near_told, far_told}
+use Rattle.laws_wire.proofs.TerminalTurns.{IsSo, IsAt, Phase, wanted, requested, granted, answering, done, begins, asks, runs, still-done}
 
 -- ---- a line that has the TEI at its first place, and on which nothing waits
 
@@ -199,21 +200,19 @@ module _ (c d : Config) (line other : ℕ) (can : CanCall c line d other 64) (ow
   comes ds all =
       let w = doing_all ds w0 in
       let x = runs c d own side can.opposite.0 can.opposite.1 can.near.0 can.far.0 ds all wanted w0 first-phase in
-      let few : turns ds w0 ≤ 4 = omega (arith, x.price) in
-      (
+      let few : turns ds w0 ≤ 4 = omega (arith, x.price) in (
         record {
           turns = few;
           near = (near-so_far x.phase w x.at, λ still. (still-told x.phase w x.at still).near.told);
           far = (far-so_far x.phase w x.at, λ still. (still-told x.phase w x.at still).far.told);
         },
         λ told.
-        let h = subst (λ p. IsAt c d p w) (told-done x.phase w x.at told) x.at in
-        let has = both-have w h in
-        (
-          calls-then c d can.near.0 can.far.0 can.opposite w told h.far.told has (turns ds w0) few,
-          calls-then d c can.far.0 can.near.0 (sides-turned c d can.opposite.0, sym can.opposite.1) (turned w) h.far.told told
-              (λ service. turned-both service 64 c d 0 0 unheard unheard (untold w) _ _ (has service)) (turns ds w0) few,
-        ),
+            let h = subst (λ p. IsAt c d p w) (told-done x.phase w x.at told) x.at in
+            let has = both-have w h in (
+              calls-then c d can.near.0 can.far.0 can.opposite w told h.far.told has (turns ds w0) few,
+              calls-then d c can.far.0 can.near.0 (sides-turned c d can.opposite.0, sym can.opposite.1) (turned w) h.far.told told
+                  (λ service. turned-both service 64 c d 0 0 unheard unheard (untold w) _ _ (has service)) (turns ds w0) few,
+            ),
       )
 
 pub terminals-come-through : TerminalsComeThrough

@@ -1,6 +1,7 @@
 -- The lines of a terminal and of the network while a TEI is asked for, as values, and what each event leaves and tells there.
-use Rattle.laws_wire.proofs.Vocabulary.{◌≡◌, ℕ, ◌+◌, ◌*◌, ◌%◌, ◌≤◌, ◌&&◌, ◌==◌, Bool, true, false, cond, not, List, [], ◌∷◌, length, set, slice_get, Option, Some, None, is_some, option_map, option_map_or, option_or, refl, sym, ap, ◌∙◌, arith, eq-eqb, false≢true, Ok, TableFull, Parts, Sender, Side, reading, spelling, own_side, heard_side, empty, Places, free_place, Link, fresh, Config, Line, fresh_line, link_at, link_count, link_number}
-use Rattle.laws_wire.proofs.Vocabulary.{Effect, of_aim, of_change, told_of_management, Event, LineTold, hears, next, request, told, gave, nothing, came, Call, Packet, line_after, line_answer, tei_course, tei_refusal, given, terms_at, with_given_frame, first_taken, taken, next_of, ranges_of, fresh_gives_nothing, of_heard, aim_of_reading, Taken}
+use Rattle.laws_wire.proofs.Vocabulary.{◌≡◌, ℕ, ◌+◌, ◌*◌, ◌%◌, ◌≤◌, ◌&&◌, ◌==◌, true, false, cond, not, List, [], ◌∷◌, set, slice_get, Option, Some, None, is_some, option_map, option_map_or, option_or, refl, sym, ap, ◌∙◌, arith, eq-eqb, false≢true, Ok, TableFull, Parts, Sender, Side, reading, spelling, own_side, heard_side, empty, Places, free_place, fresh, Config, Line, fresh_line, link_at}
+use Rattle.laws_wire.proofs.Vocabulary.{link_count, link_number}
+use Rattle.laws_wire.proofs.Vocabulary.{Effect, of_aim, of_change, told_of_management, hears, next, request, told, gave, nothing, came, Call, Packet, line_after, line_answer, tei_course, tei_refusal, given, terms_at, with_given_frame, first_taken, taken, next_of, ranges_of, of_heard, aim_of_reading}
 use Rattle.std.specs.List.{find}
 use Rattle.std.specs.Prelude.{◌/◌, drop}
 use Rattle.model_bits.specs.Stream.{frame}
@@ -12,7 +13,6 @@ use Rattle.lapd_frame.specs.declared.timers.Timer.TheVariants.{T202}
 use Rattle.lapd_frame.specs.Grammar as grammar
 use Rattle.lapd_frame.proofs.Naming.{management-spelled}
 use Rattle.lapd_tei.specs.Events as teis
-use Rattle.lapd_tei.specs.Machine.{Management}
 use Rattle.lapd_tei.specs.declared.messages.Message.TheVariants as sent
 use Rattle.lapd_tei.specs.declared.outcome.Change.TheVariants.{Gained}
 use Rattle.lapd_tei.specs.Messages as messages

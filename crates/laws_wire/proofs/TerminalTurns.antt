@@ -1,9 +1,8 @@
 -- A terminal asks for a TEI: the turns of the wire until both ends are told of it.
-use Rattle.laws_wire.proofs.Vocabulary.{◌≡◌, ℕ, ◌+◌, ◌<◌, ◌≤◌, Bool, true, false, List, [], ◌∷◌, ◌++◌, length, drop, set, Some, None, refl, sym, ap, subst, ◌∙◌, append-nil, arith, get_or-set_same, length-replicate, All, All-head, All-tail, Ok, spelling, reading, own_side, heard_side, came, Config, Line, fresh_line, Event, LineTold, hears, next, request, gave, nothing, line_after, line_answer, line_takes_slot, ranges_of, has_lines}
-use Rattle.laws_wire.proofs.Vocabulary.{Card, line_at, after_is_sound, fresh_is_sound, Endpoint, Wire, StepAt, EndStep, answered, happens, frame_comes, told_by, frames_by, is_any, if◌then◌else◌, endpoint, with_first_of, sends, receives, at_near, at_far, acting, turned, doing, is_turn, is_turn_of, IsStill}
-use Rattle.model_bits.specs.Stream.{frame}
+use Rattle.laws_wire.proofs.Vocabulary.{◌≡◌, ℕ, ◌+◌, ◌<◌, ◌≤◌, Bool, true, false, List, [], ◌∷◌, ◌++◌, drop, set, Some, None, refl, sym, ap, subst, ◌∙◌, append-nil, arith, get_or-set_same, All, All-head, All-tail, Ok, spelling, reading, own_side, heard_side, came, Config, Line, fresh_line, Event, LineTold, hears, next, request, gave, nothing, line_after, line_answer, line_takes_slot, ranges_of}
+use Rattle.laws_wire.proofs.Vocabulary.{has_lines}
+use Rattle.laws_wire.proofs.Vocabulary.{line_at, after_is_sound, fresh_is_sound, Endpoint, Wire, StepAt, answered, happens, frame_comes, told_by, frames_by, is_any, if◌then◌else◌, endpoint, with_first_of, sends, receives, at_near, at_far, acting, turned, doing, is_turn, is_turn_of, IsStill}
 use Rattle.lapd_frame.specs.declared.addresses.Side.TheVariants.{Network}
-use Rattle.lapd_frame.specs.Grammar.{other_side}
 use Rattle.lapd_frame.specs.declared.timers.Order.TheVariants as orders
 use Rattle.lapd_frame.specs.declared.timers.Timer.TheVariants.{T202}
 use Rattle.model_line.specs.Event as answers
@@ -12,11 +11,9 @@ use Rattle.model_line.specs.Request.{AskTei}
 use Rattle.model_line.specs.Sound.{IsInRange}
 use Rattle.model_card.specs.Card as cards
 use Rattle.model_card.specs.Event.{at as event_at}
-use Rattle.model_card.specs.Machine.{after}
 use Rattle.model_card.specs.Sound as card_sound
-use Rattle.laws_wire.specs.Arriving.{SendsOrReceives, GivesOrTakesOf}
-use Rattle.laws_wire.specs.Call.{CanCall}
-use Rattle.laws_wire.specs.Terminals.{asking, assigned_told}
+use Rattle.laws_wire.specs.Arriving.{SendsOrReceives}
+use Rattle.laws_wire.specs.Terminals.{assigned_told}
 unfoldable use Rattle.laws_wire.specs.Wire.{doing_all, turns}
 use Rattle.laws_wire.proofs.Answered.{same-granted, takes-none}
 use Rattle.laws_wire.proofs.Beginning.{all-fresh_lines}
@@ -68,7 +65,9 @@ module _ (c : Config) (l : Line) (out : List (List ℕ)) (said : List LineTold) 
     idles =
         let x = gives in
         record {
-          config = x.config; sound = x.sound; within = x.within;
+          config = x.config;
+          sound = x.sound;
+          within = x.within;
           line = x.line ∙ lines.idle-after c l none;
           way = x.way ∙ ap (λ a. out ++ frames_by a) (lines.idle-answer c l none) ∙ append-nil out;
           granted = x.granted;
@@ -259,7 +258,10 @@ module _ (c d : Config) where
         let x = gives c (lines.asked c) [] [] w.near h.near in
         one wanted requested (acting sends w) (is_turn_of sends w) refl (record {
           near = record {
-            config = x.config; sound = x.sound; within = x.within; granted = x.granted;
+            config = x.config;
+            sound = x.sound;
+            within = x.within;
+            granted = x.granted;
             line = x.line ∙ lines.goes-after c own ranged;
             way = x.way ∙ ap frames_by (lines.goes-answer c own ranged);
             told = x.told ∙ ap told_by (lines.goes-answer c own ranged);
@@ -274,7 +276,10 @@ module _ (c d : Config) where
         one granted answering (turned (acting sends (turned w))) (is_turn_of sends (turned w)) refl (record {
           near = h.near;
           far = record {
-            config = x.config; sound = x.sound; within = x.within; granted = x.granted;
+            config = x.config;
+            sound = x.sound;
+            within = x.within;
+            granted = x.granted;
             line = x.line ∙ lines.gives-after d side ri;
             way = x.way ∙ ap frames_by (lines.gives-answer d side ri);
             told = x.told ∙ ap (λ a. (note ∷ []) ++ told_by a) (lines.gives-answer d side ri);
@@ -296,7 +301,10 @@ module _ (c d : Config) where
         let after-is = lines.assigns-after d side some ri request_frame from-near.whole read in
         let answer-is = lines.assigns-answer d side some ri request_frame from-near.whole read in
         let far : IsSo d (lines.assigning ri d) [] (note ∷ []) (frame_comes request_frame w.far) = record {
-          config = x.config; sound = x.sound; within = x.within; granted = x.granted;
+          config = x.config;
+          sound = x.sound;
+          within = x.within;
+          granted = x.granted;
           line = x.line ∙ after-is;
           way = x.way ∙ ap frames_by answer-is;
           told = x.told ∙ ap told_by answer-is;
@@ -315,7 +323,10 @@ module _ (c d : Config) where
         let after-is = lines.gets-after c own some answer_frame from-far.whole read in
         let answer-is = lines.gets-answer c own some answer_frame from-far.whole read in
         let near : IsSo c (lines.has_it c) [] (note ∷ []) (frame_comes answer_frame w.near) = record {
-          config = x.config; sound = x.sound; within = x.within; granted = x.granted;
+          config = x.config;
+          sound = x.sound;
+          within = x.within;
+          granted = x.granted;
           line = x.line ∙ after-is;
           way = x.way ∙ ap frames_by answer-is;
           told = x.told ∙ ap told_by answer-is;

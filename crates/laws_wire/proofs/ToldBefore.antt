@@ -1,5 +1,5 @@
 -- What the ends of a wire were told before changes nothing that is done, and no turn.
-use Rattle.laws_wire.proofs.Vocabulary.{◌≡◌, ℕ, ◌+◌, List, [], ◌∷◌, ◌++◌, refl, sym, ap, ◌∙◌, append_assoc, arith, if◌then◌else◌, came, hears, expiry, request, next, Event, LineTold, Endpoint, Wire, StepAt, EndStep, answered, happens, told_by, frame_comes, with_first_of, requests, expires, sends, receives, loses, at_near, at_far, acting, turned, doing, is_turn, calls_back, ◌||◌}
+use Rattle.laws_wire.proofs.Vocabulary.{◌≡◌, ℕ, ◌+◌, List, [], ◌∷◌, ◌++◌, refl, ap, ◌∙◌, append_assoc, arith, if◌then◌else◌, came, hears, expiry, request, next, Event, LineTold, Endpoint, Wire, StepAt, EndStep, answered, happens, told_by, with_first_of, requests, expires, sends, receives, loses, at_near, at_far, acting, turned, doing, is_turn, calls_back, ◌||◌}
 unfoldable use Rattle.laws_wire.specs.Wire.{doing_all, turns}
 unfoldable use Rattle.laws_wire.specs.Call.{both_call}
 

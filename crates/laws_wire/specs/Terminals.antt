@@ -8,32 +8,32 @@ use Rattle.model_line.specs.Line.{is_terminal}
 use Rattle.model_line.specs.Request.{Establish, AskTei}
 use Rattle.laws_wire.specs.Wire.{Wire, happens, requests, StepAt, acting, turned, doing_all, turns, IsStill}
 use Rattle.laws_wire.specs.Call.{endpoint, CanCall, IsCall, both_call, confirmed, told_first, all_told, ToldInOrder}
-use Rattle.laws_wire.specs.Facing.{granted_of}
 use Rattle.laws_wire.specs.Arriving.{SendsOrReceives}
 
--- Two cards that have just begun, of which the near one, a terminal's, is asked to have a TEI assigned.
+-- Two cards that have just begun. The near one is a terminal's, and is asked to have a TEI assigned.
 abbrev pub asking : Config → ℕ → Config → ℕ → Wire
 asking c line d other = record { near = happens (request AskTei) (endpoint c line); far = endpoint d other }
 
--- Each is told that a TEI is the terminal's: 64, the lowest that the network assigns (Q.921 clause 3.3.4.2).
+-- Each end is told of its TEI. It is 64, the lowest that the network assigns (Q.921 clause 3.3.4.2).
 abbrev pub assigned_told : LineTold
 assigned_told = record nothing { notes = notes.Assigned 64 ∷ [] }
 
--- How many turns there are at most, and what the ends are told, all of it where no turn is left.
+-- There are at most so many turns. At any time each end is told a beginning of this, and all of it where no turn is left.
 pub record IsTold (taken most : ℕ) (to_near to_far : List LineTold) (w : Wire) : Type 0 where
   pub turns : taken ≤ most
   pub near : ToldInOrder (IsStill w) to_near w.near.told
   pub far : ToldInOrder (IsStill w) to_far w.far.told
 
--- Then the near end is asked to establish a link of this TEI, and a call comes through: with four turns more than in `Call`.
+-- The near end is asked to establish a link of this TEI, after so many turns. A call comes through as in `Call`, which has at most
+-- four turns fewer. What is told of it comes after the TEI.
 abbrev pub CallsComeThroughThen : ℕ → Wire → Type 0
 CallsComeThroughThen before w =
     (service : Service) (ds : List StepAt) → All (IsCall service 64) ds →
     let v = acting (requests (Establish service 64)) w in let both = both_call ds v in let last = doing_all ds v in
-    IsTold (before + turns ds v) ((if both then 12 else 8) + 4 * granted_of last)
+    IsTold (before + turns ds v) ((if both then 12 else 8) + 4 * (length last.near.granted + length last.far.granted))
     (assigned_told ∷ all_told service 64 (confirmed service 64) last.far) (assigned_told ∷ all_told service 64 (told_first service 64 both) last.near) last
 
--- Once the terminal's end is told of its TEI, whichever end calls.
+-- Each end is told of its TEI, once. As soon as the terminal's is, either end may call: the near one, or that of the wire turned round.
 abbrev pub TerminalsComeThrough : Type 0
 TerminalsComeThrough =
     (c d : Config) (line other : ℕ) (ds : List StepAt) → CanCall c line d other 64 → is_terminal c ≡ true → All SendsOrReceives ds →

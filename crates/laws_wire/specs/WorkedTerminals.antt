@@ -1,5 +1,5 @@
 -- Worked values: a terminal asks for a TEI and calls, or is called. Each computes.
-use Rattle.std.specs.Prelude.{◌≡◌, true, false, List, [], ◌∷◌, refl, Some}
+use Rattle.std.specs.Prelude.{◌≡◌, false, List, [], ◌∷◌, refl, Some}
 use Rattle.lapd_frame.specs.declared.services.Service.TheVariants.{Call}
 use Rattle.lapd_frame.specs.Reading.{reading, header_of, control_of, unnumbered_of, supervisory_of}
 use Rattle.lapd_frame.specs.Senders.{exchanged, reading as read_by}
@@ -10,7 +10,7 @@ use Rattle.lapd_terminal.specs.Events as terminals
 use Rattle.model_line.specs.declared.config.Config.{Config}
 use Rattle.model_line.specs.Machine as lines
 use Rattle.model_line.specs.Request.{Establish, Data}
-use Rattle.laws_wire.specs.Wire.{Wire, requests, sends, receives, StepAt, at_near, at_far, acting, turned, doing_all, turns, IsStill}
+use Rattle.laws_wire.specs.Wire.{Wire, requests, sends, receives, StepAt, at_near, at_far, acting, turned, doing_all, turns}
 use Rattle.laws_wire.specs.Call.{both_call, confirmed, indicated, data_told}
 use Rattle.laws_wire.specs.Worked.{network, user}
 use Rattle.laws_wire.specs.Terminals.{asking, assigned_told}

@@ -24,8 +24,8 @@ pub record IsTold (taken most : ℕ) (to_near to_far : List LineTold) (w : Wire)
   pub near : ToldInOrder (IsStill w) to_near w.near.told
   pub far : ToldInOrder (IsStill w) to_far w.far.told
 
--- The near end is asked to establish a link of this TEI, after so many turns. A call comes through as in `Call`, which has at most
--- four turns fewer. What is told of it comes after the TEI.
+-- After so many turns the near end is asked to establish a link of this TEI. Then a call comes through as in `Call`, with at most four
+-- turns more in all. What is told of it comes after the TEI.
 abbrev pub CallsComeThroughThen : ℕ → Wire → Type 0
 CallsComeThroughThen before w =
     (service : Service) (ds : List StepAt) → All (IsCall service 64) ds →
@@ -33,7 +33,8 @@ CallsComeThroughThen before w =
     IsTold (before + turns ds v) ((if both then 12 else 8) + 4 * (length last.near.granted + length last.far.granted))
     (assigned_told ∷ all_told service 64 (confirmed service 64) last.far) (assigned_told ∷ all_told service 64 (told_first service 64 both) last.near) last
 
--- Each end is told of its TEI, once. As soon as the terminal's is, either end may call: the near one, or that of the wire turned round.
+-- Each end is told of its TEI, once. As soon as the terminal's is told, either end may call: the near one of this wire, or of the wire
+-- turned round.
 abbrev pub TerminalsComeThrough : Type 0
 TerminalsComeThrough =
     (c d : Config) (line other : ℕ) (ds : List StepAt) → CanCall c line d other 64 → is_terminal c ≡ true → All SendsOrReceives ds →

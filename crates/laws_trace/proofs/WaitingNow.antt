@@ -20,7 +20,7 @@ use Rattle.laws_trace.proofs.StandingOfLink.{calm}
 use Rattle.laws_trace.proofs.TimersWatched.{nothing_yet as known_first, watch}
 use Rattle.laws_trace.proofs.Outgoing.{comes, its, behind_of, here-at, has-now}
 use Rattle.laws_trace.proofs.LinkLed.{on-line}
-use Rattle.laws_trace.proofs.ObservedRun.{holds-now, known-is}
+use Rattle.laws_trace.proofs.ObservedRun.{holds-here, known-is}
 use Rattle.laws_trace.proofs.TimersAreTimely.{config-now, sound-now, timely-now}
 use Rattle.laws_trace.proofs.Facts.{not-one, some-of}
 use Rattle.model_link.specs.Sound as link_sound
@@ -149,7 +149,7 @@ module _ (c : Config) (number : ℕ) (ranged : IsInRange c) (within : number < c
       ≡ last_of (due_by d v.link (views d service tei number v m).link m) m) (config-now c before number ranged all within service tei)
       (due-same service tei number card (sound-now c before number ranged all within service tei) (timely-now c before number ranged all within service tei) (at number what) (here-at c number ranged within service tei before all)
       (fold (watch c service tei number) known_first ms) (fold (asked service tei number) false ms) (fold (owing c service tei number) none_owed ms)
-      (known-is c before number ranged all within service tei ms known_first none_owed refl) (fold (repeated service tei number) 0 ms) v (holds-now c before number ranged all within service tei)
+      (known-is c before number ranged all within service tei ms known_first none_owed refl) (fold (repeated service tei number) 0 ms) v (holds-here c before number ranged all within service tei)
       w.told.count w.busy w.rejected (x.1, x.2) (agrees-now c before number ranged all within service tei))
 
   -- as it is by what is seen,

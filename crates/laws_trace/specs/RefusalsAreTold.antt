@@ -25,7 +25,8 @@ why_no_unit c events number w tei contents =
 
 -- What management asks for is of a terminal's TEI. A trunk's end removes none; the network's side alone checks and disowns one, and a
 -- terminal alone asks for one, or has it verified. The TEI is on the line, or to be assigned or disowned it is not; a place is left
--- for it; no check runs, and no procedure of a terminal; and fewer than four messages are owed to terminals.
+-- for it; no check runs, and no procedure of a terminal; and the network's side owes fewer than four messages. A terminal refuses
+-- nothing for want of room for a message.
 abbrev pub why_not : Config → List Event → ℕ → Managed → Request → Option Refusal
 why_not c events number w (Unit service tei contents) = why_no_unit c events number w tei contents
 why_not c events number w (Assign tei) =
@@ -37,7 +38,7 @@ why_not c events number w (Remove tei) =
     if not (manages c.side || is_terminal c) then Some WrongSide
     else if nat_lt 126 tei then Some BadTei
     else if not (is_on tei w) then Some NoLink
-    else if is_full w then Some ControlFull
+    else if not (is_terminal c) && is_full w then Some ControlFull
     else None
 why_not c events number w (Check tei) =
     if not (manages c.side) then Some WrongSide

@@ -1,6 +1,7 @@
 -- What answers a poll, SABME or DISC is given within a number of calls: the law.
 use Rattle.laws_trace.proofs.Vocabulary.{◌≡◌, ℕ, ◌+◌, ◌-◌, ◌<◌, ◌==◌, ◌&&◌, Bool, true, false, cond, All, List, [], ◌∷◌, ◌++◌, map, length, take, drop, filter, Some, refl, sym, ap, ◌∙◌, subst, arith, append_assoc, option_map_or, All-head, All-cons, All-nil, Service, ControlFrame, Config, Line, IsInRange, control_text, deactivates, place_in, tei_at, link_at, link_in, link_number, link_count}
-use Rattle.laws_trace.proofs.Vocabulary.{place_of-is, place_at-number, service_at-number, number_within, at-within, unit_frame, line_at, at, moments, fresh, fresh_link, fresh_is_sound, always_sound, config-stays, all-left, all-right, CardEvent as Event, after, Card, after_all, IsAtLine, AreAtLines, after_all-append, Always, not, and_parts, eq-eqb, Answer, Managed, managed_after, managing_is_on as is_on}
+use Rattle.laws_trace.proofs.Vocabulary.{place_of-is, place_at-number, service_at-number, number_within, at-within, unit_frame, line_at, at, moments, fresh, fresh_link, fresh_is_sound, always_sound, config-stays, all-left, all-right, CardEvent as Event, after, Card, after_all, IsAtLine, AreAtLines, after_all-append, Always, not, and_parts, eq-eqb, Answer, Managed, managed_after}
+use Rattle.laws_trace.proofs.Vocabulary.{managing_is_on as is_on}
 use Rattle.laws_trace.proofs.Vocabulary.{has_tei, View, Outgoing, outgoing_of, lost_in, take-length, length-map, is_take, takes_of, frames_given, waiting-taken, most_frames_before, changed, command_of, put_in, is_frame_of, Observed, by_event, enters, in_state, moment_of, view_of, views, outgoing_waits as waits, trace_frame_in as frame_in, Moment, units_of, text}
 use Rattle.model_line.specs.Event as line_event
 use Rattle.model_line.specs.Line.{is_terminal}
@@ -9,7 +10,7 @@ use Rattle.laws_line.specs.card.Among.{AreAmong}
 unfoldable use Rattle.laws_line.specs.card.PromisesOfTakes.{StaysAt, come_first_at}
 use Rattle.laws_line.specs.card.PromisesOfTakes.{IsNotDeactivated, is_deactivated_at}
 use Rattle.laws_trace.specs.NoLossInVain.{puts_by}
-use Rattle.laws_trace.specs.AnswersAreGiven.{texts, queue, priority_waiting, sent_during, QueueIsSent, AnswersAreSent}
+use Rattle.laws_trace.specs.AnswersAreGiven.{texts, priority_waiting, sent_during, QueueIsSent, AnswersAreSent}
 unfoldable use Rattle.laws_trace.specs.AnswersAreGiven.{Stays, priority_added}
 use Rattle.laws_line.specs.Among as at_line
 use Rattle.laws_trace.proofs.Addressed.{at-some-place}

@@ -1,8 +1,11 @@
 -- The cause of each drop is told, and no other: the law.
 use Rattle.laws_trace.proofs.Vocabulary.{◌≡◌, ℕ, ◌+◌, ◌*◌, ◌/◌, ◌%◌, ◌<◌, ◌==◌, ◌&&◌, ◌||◌, Bool, true, false, cond, cond_both, List, [], ◌∷◌, Option, Some, None, Ok, Err, Result, refl, sym, ap, ◌∙◌, subst, arith, leb-true, eqb-true, and_parts, nat_le, length, is_some, option_map_or, PoolFull, ReadFault, BadExtension, Address, Side, Network, User, Service, Long, Parts, reading, service_of}
-use Rattle.laws_trace.proofs.Vocabulary.{Terms, Link, state_number, State, Received, received, frame, undefined, wrong_size, overlong, LinkEvent, link_told, begun, Config, hears, expiry, request, next, Answer, refused, Line, state_of, state_in, place_in, terms, link_in, at_link, at_management, at_no_link, at_none, of_aim, LinkRequest, requested, expired, cleared, at_requested, at_deactivated, at_timer, aim_of_expiry, aim_of_request}
-use Rattle.laws_trace.proofs.Vocabulary.{unless_refused, unless_refused_told, refusal, Refusal, Request, Timer, TimerT200, TimerT203, T201, LinkTimer, T200, T203, Aim, addressed, aim_of_reading, aim_of_long, heard_side, message_of, at_side, IsToGroup, group-read, IsSound as IsSoundLine, Card, line_at, is_full, at, always_sound, fresh_is_sound, has_lines, by_room, config-stays, fresh, CardEvent as Event, card_answer}
-use Rattle.laws_trace.proofs.Vocabulary.{after_all, IsAtLine, CardIsSound as IsSound, line_sound as sound-at, nothing_due, stream_frame, Managed, managed_after, view_of, is_unit_taken, IfSome, Always, is_ui, is_up, Management, Change, of_change, told_of_management, TeiTold, tei_after, not, tei_begun, tei_told, tei_message, tei_assign, tei_remove, tei_check, tei_disown, TeiEvent, heard_in, heard_of_type, Check, Checked, may_check}
+use Rattle.laws_trace.proofs.Vocabulary.{Terms, Link, state_number, State, Received, received, frame, undefined, wrong_size, overlong, LinkEvent, link_told, begun, Config, hears, expiry, request, next, Answer, refused, Line, state_of, state_in, place_in, terms, link_in, at_link, at_management, at_no_link, at_none, of_aim, LinkRequest, requested, expired, cleared, at_requested}
+use Rattle.laws_trace.proofs.Vocabulary.{at_deactivated, at_timer, aim_of_expiry, aim_of_request}
+use Rattle.laws_trace.proofs.Vocabulary.{unless_refused, unless_refused_told, refusal, Refusal, Request, Timer, TimerT200, TimerT203, T201, LinkTimer, T200, T203, Aim, addressed, aim_of_reading, aim_of_long, heard_side, message_of, at_side, IsToGroup, group-read, IsSound as IsSoundLine, Card, line_at, is_full, at, always_sound, fresh_is_sound, has_lines, by_room, config-stays, fresh}
+use Rattle.laws_trace.proofs.Vocabulary.{CardEvent as Event, card_answer}
+use Rattle.laws_trace.proofs.Vocabulary.{after_all, IsAtLine, CardIsSound as IsSound, line_sound as sound-at, nothing_due, stream_frame, Managed, managed_after, view_of, is_unit_taken, IfSome, Always, is_ui, is_up, Management, Change, of_change, told_of_management, TeiTold, tei_after, not, tei_begun, tei_told, tei_message, tei_assign, tei_remove, tei_check, tei_disown, TeiEvent}
+use Rattle.laws_trace.proofs.Vocabulary.{heard_in, heard_of_type, Check, Checked, may_check}
 use Rattle.laws_trace.proofs.Vocabulary.{tei_course, tei_refusal, no_room, lose_one, free_place, told, dropped, none-some, Assign, Checking, ClearBusy, Data, Deactivate, Disown, Down, Establish, Release, Remove, SetBusy, LinkClearBusy, LinkData, LinkEstablish, LinkRelease, LinkSetBusy}
 use Rattle.lapd_frame.specs.Senders.{long_reading}
 use Rattle.lapd_frame.specs.declared.timers.Timer.TheVariants.{T202}

@@ -1,5 +1,6 @@
 -- What the observer of a line knows of its TEIs is what TEI management has, and what is due by an event is what that tells.
-use Rattle.laws_trace.proofs.Vocabulary.{◌≡◌, ℕ, ◌+◌, ◌*◌, ◌/◌, ◌%◌, ◌==◌, ◌&&◌, Bool, true, false, cond, not, List, [], ◌∷◌, length, drop, ◌++◌, length-append, Option, Some, None, IfSome, option_map, option_map_or, refl, sym, ap, ◌∙◌, subst, arith, eq-eqb, filter, is_some, nat_lt, find, range_with_len, leb-true, leb-false, Management, Remembered, Period, First, Second, Message, IdentityAssigned}
+use Rattle.laws_trace.proofs.Vocabulary.{◌≡◌, ℕ, ◌+◌, ◌*◌, ◌/◌, ◌%◌, ◌==◌, ◌&&◌, Bool, true, false, cond, not, List, [], ◌∷◌, length, drop, ◌++◌, length-append, Option, Some, None, IfSome, option_map, option_map_or, refl, sym, ap, ◌∙◌, subst, arith, eq-eqb, filter, is_some, nat_lt, find, range_with_len, leb-true, leb-false, Management, Remembered, Period, First, Second, Message}
+use Rattle.laws_trace.proofs.Vocabulary.{IdentityAssigned}
 use Rattle.laws_trace.proofs.Vocabulary.{IdentityDenied, IdentityRemove, heard_of_type, heard_in, IsSoundCheck, free_place, free_tei-is, Config, eqb-true, ltb-true, ltb-false, Removed, Doubled, Check, TeiCourse as Course, tei_begun as begun, by_message, Checked, Managed, nothing_due, owes, gives, asked, leaves, over, checks, may_check, responded, ran_out, managing_is_on as is_on, is_of_teis}
 use Rattle.laws_trace.proofs.Vocabulary.{is_of_line, begin_check, end_check, leave, lose_one, no_room, send, unserved, tei_with_message as with_message, false_from_ne_true}
 use Rattle.lapd_tei.specs.Rows as rows

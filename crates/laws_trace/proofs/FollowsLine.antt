@@ -1,11 +1,12 @@
 -- What is due of TEI management by one event of a line of the network's side, or of a trunk's end, is what its answer shows, and
 -- the observer follows it.
-use Rattle.laws_trace.proofs.Vocabulary.{◌≡◌, ℕ, Bool, true, false, cond, List, [], ◌∷◌, ◌++◌, map, take, drop, slice_get, filter, Option, Some, None, IfSome, option_map, refl, sym, ap, ◌∙◌, subst, append-nil, true≢false, inl, inr, option_map_or, filter-append, Service, Timer, Management, Message, Config, Aim, at_management, of_aim, hears, expiry, next, LineTold, Line}
-use Rattle.laws_trace.proofs.Vocabulary.{aim_of_heard, Taken, taken, next_of, line_of, heard_aims, IsOwed, IsIdle, contents_of_link, served, TimerT200 as T200, TimerT203 as T203, T201, message_frame as frame_of, information_of, Event, told, line_after as after, answer, IsSound, Managed, by_message, managing_by_event as by_event, is_of_teis, received, StreamEvent, tei_message, TeiEvent, tei_refusal, tei_course, tei_told, tei_after, told_of_management, place_in}
+use Rattle.laws_trace.proofs.Vocabulary.{◌≡◌, ℕ, true, false, cond, List, [], ◌∷◌, ◌++◌, map, take, drop, filter, Option, Some, None, IfSome, refl, sym, ap, ◌∙◌, subst, append-nil, true≢false, inl, inr, option_map_or, filter-append, Timer, Management, Message, Config, Aim, at_management, of_aim, hears, expiry, next, Line}
+use Rattle.laws_trace.proofs.Vocabulary.{aim_of_heard, Taken, taken, line_of, heard_aims, IsOwed, IsIdle, contents_of_link, served, TimerT200 as T200, TimerT203 as T203, T201, message_frame as frame_of, information_of, Event, told, line_after as after, answer, IsSound, Managed, by_message, managing_by_event as by_event, is_of_teis, received, StreamEvent, tei_message, TeiEvent}
+use Rattle.laws_trace.proofs.Vocabulary.{tei_refusal, tei_course, tei_told, tei_after, told_of_management}
 use Rattle.lapd_frame.specs.declared.timers.Timer.TheVariants.{T202}
 use Rattle.lapd_tei.specs.declared.messages.Message.TheVariants.{IdentityAssigned, IdentityDenied, IdentityCheckRequest, IdentityRemove}
 use Rattle.lapd_terminal.specs.Events as terminals
-use Rattle.model_line.specs.Effect.{Effect, at_a_terminal, at_terminal, of_network, of_terminal, of_terminal_if, told_of_terminal}
+use Rattle.model_line.specs.Effect.{Effect, at_a_terminal, of_network, of_terminal, of_terminal_if, told_of_terminal}
 use Rattle.model_line.specs.Sound.{IsOfSide}
 use Rattle.model_link.specs.declared.timers.LinkTimer.TheVariants as link_timer
 use Rattle.lapd_terminal.specs.Words.{Course}
@@ -135,7 +136,7 @@ module _ (c : Config) (l : Line) (s : IsSound c l) (net : is_terminal c ≡ fals
   goes new None x = (none-goes x.nothing.messages.management, stays new (ap (λ (l : Line). l.management) x.line) x.nothing.messages.management)
   goes new (Some t) (inl x) = (
     one-or-none c t true (ap (is_managed c) x.spelled ∙ ap (is_managed c) (same-text c x.message) ∙ message-is c (octets_of x.message))
-    ∙ ap (λ f. f ∷ []) (x.spelled ∙ same-text c x.message) ∙ sym (ap (λ ms. map (message_text c) (map octets_of ms)) (first-goes m.waiting x.message x.oldest)),
+        ∙ ap (λ f. f ∷ []) (x.spelled ∙ same-text c x.message) ∙ sym (ap (λ ms. map (message_text c) (map octets_of ms)) (first-goes m.waiting x.message x.oldest)),
     subst (λ (l : Line). Tracks c later l.management l.own) (sym x.line) (tracked later (record m { waiting = drop 1 m.waiting }) l.own (record { is = refl; on = h; order = order })),
   )
   goes new (Some t) (inr (inl x)) = absurd (true≢false (sym x.terminal ∙ net))

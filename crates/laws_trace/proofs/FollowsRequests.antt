@@ -1,23 +1,21 @@
 -- What is due of TEI management by a request, and by any event of a line of the network's side or of a trunk's end, is what its
 -- answer shows.
-use Rattle.laws_trace.proofs.Vocabulary.{IdentityRemove, ◌≡◌, ℕ, ◌==◌, ◌&&◌, ◌||◌, Bool, true, false, cond, not, List, [], ◌∷◌, ◌∙◌, length, Option, Some, None, IfSome, is_some, refl, sym, ap, subst, inl, arith, leb-true, leb-false, nat_le, nat_lt, list_any, Refusal, Management, free_place, on-range, Config, at_management, of_aim, hears, expiry, request, next, Line, place_in, has_tei, unless_refused}
+use Rattle.laws_trace.proofs.Vocabulary.{IdentityRemove, ◌≡◌, ℕ, ◌==◌, ◌&&◌, ◌||◌, Bool, true, false, cond, not, List, [], ◌∷◌, ◌∙◌, length, Option, Some, None, IfSome, is_some, refl, sym, ap, subst, inl, arith, leb-true, leb-false, nat_le, nat_lt, list_any, Refusal, Management, free_place, on-range, Config, at_management, of_aim, hears, expiry, request, next, Line, has_tei, unless_refused}
 use Rattle.laws_trace.proofs.Vocabulary.{unless_refused_told, bad_tei, no_link, tei_taken, bad_tei_or_all, tei_in_use, table_full, check_running, control_full, Assign, Remove, Disown, tei_disown, Deactivate, aim_of_request, passed, Down, at_no_link, filter, option_map, Stop, T201, ltb-true, ltb-false, tei_begun as begun, Event, told, line_after as after, answer, Establish, Release, true≢false}
-use Rattle.laws_trace.proofs.Vocabulary.{refusal, Request, Checking, SetBusy, ClearBusy, IsSound, Managed, owes, leaves, checks, may_check, grants, manages, managing_by_event as by_event, due, is_of_line, by-down, stop_of, Check, false_from_ne_true, LinkSetBusy, LinkClearBusy, tei_check, tei_unless_refused, tei_course, tei_remove, tei_refusal_if, TeiEvent, tei_refusal, tei_assign, tei_step}
+use Rattle.laws_trace.proofs.Vocabulary.{refusal, Request, Checking, SetBusy, ClearBusy, IsSound, Managed, owes, leaves, checks, may_check, grants, manages, managing_by_event as by_event, is_of_line, by-down, stop_of, Check, false_from_ne_true, LinkSetBusy, LinkClearBusy, tei_check, tei_unless_refused, tei_course, tei_remove, tei_refusal_if, TeiEvent, tei_refusal, tei_assign, tei_step}
 use Rattle.lapd_frame.specs.declared.addresses.Side.{Side}
 use Rattle.lapd_frame.specs.declared.addresses.Side.TheVariants.{User, Network}
 use Rattle.model_line.specs.Line.{is_terminal}
 use Rattle.model_line.specs.Line.{Own}
 use Rattle.model_line.specs.Refusal.{wrong_side, not_network, not_terminal, procedure_running}
-use Rattle.model_line.specs.Requested.{at_requested, at_deactivated}
 use Rattle.model_line.specs.Sound.{IsOfSide}
 use Rattle.model_line.proofs.Downs.{stop_202}
 use Rattle.model_link.specs.Events.{Establish as LinkEstablish, Release as LinkRelease, Data as LinkData}
-use Rattle.laws_trace.proofs.Vocabulary.{◌++◌, append-nil, nothing_due, LinkRequest, Service}
+use Rattle.laws_trace.proofs.Vocabulary.{◌++◌, append-nil, nothing_due}
 use Rattle.model_line.specs.Request.{AskTei, VerifyTei, Data, Unit}
 use Rattle.model_line.specs.Sides.{has_management, is_network}
 use Rattle.laws_trace.proofs.Follows.{Follows, Leads, InOrder, seen_check, as_seen, plain, assign-leads, remove-leads, begins-check, fewer-on, all-on}
 use Rattle.laws_trace.proofs.ManagingTables.{AreOn, used-same}
-use Rattle.laws_trace.proofs.ManagingNotes.{is_management}
 use Rattle.laws_trace.proofs.FollowsLine.{tracked, managed-shows, here, none-due, hears-shows, expiry-shows, next-shown}
 use Rattle.laws_trace.proofs.Tracked.{OfSide, Tracks, Shows}
 use Rattle.laws_trace.proofs.TrackedRequests.{asked-shows, deactivated-shows, units-shows}

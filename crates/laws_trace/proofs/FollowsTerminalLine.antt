@@ -1,12 +1,9 @@
 -- What is due of TEI management by one event of a terminal's line is what its answer shows, and the observer follows it.
-use Rattle.laws_trace.proofs.Vocabulary.{◌≡◌, ℕ, ◌==◌, Bool, true, false, cond, not, List, [], ◌∷◌, ◌++◌, map, take, drop, slice_get, filter, Option, Some, None, IfSome, option_map, refl, sym, ap, ◌∙◌, subst, append-nil, true≢false, inl, inr, arith, option_map_or, none-some, filter-append, Service, Timer, Management, Config, Aim, at_none, at_management, of_aim, aim_of, of_change, hears, expiry, next, Line, place_in}
-use Rattle.laws_trace.proofs.Vocabulary.{aim_of_heard, Taken, taken, line_of, heard_aims, IsOwed, IsIdle, contents_of_link, served, TimerT200 as T200, TimerT203 as T203, T201, Event, told, line_after as after, answer, IsSound, Managed, nothing_due, due, is_of_teis, is_of_line, received, StreamEvent, tei_message, Change}
+use Rattle.laws_trace.proofs.Vocabulary.{◌≡◌, ℕ, Bool, true, false, cond, List, [], ◌∷◌, ◌++◌, map, take, drop, slice_get, filter, Option, Some, None, option_map, refl, sym, ap, ◌∙◌, subst, append-nil, true≢false, inl, inr, option_map_or, none-some, filter-append, Timer, Management, Config, Aim, at_management, of_aim, of_change, hears, expiry, next, Line}
+use Rattle.laws_trace.proofs.Vocabulary.{aim_of_heard, Taken, taken, line_of, heard_aims, IsOwed, IsIdle, contents_of_link, served, TimerT200 as T200, TimerT203 as T203, T201, Event, told, line_after as after, answer, IsSound, Managed, is_of_teis, is_of_line, received, StreamEvent, tei_message}
 use Rattle.std.specs.Prelude.{option_to_list}
-use Rattle.std.specs.Option.{option_and_then, unwrap_or}
-use Rattle.std.proofs.lemmas.Bool.{false≢true}
+use Rattle.std.specs.Option.{option_and_then}
 use Rattle.lapd_frame.specs.declared.timers.Timer.TheVariants.{T202}
-use Rattle.lapd_frame.specs.declared.notes.Note.{Note}
-use Rattle.lapd_frame.specs.declared.timers.Order.{Order}
 use Rattle.lapd_tei.specs.Events as teis
 use Rattle.lapd_terminal.specs.declared.messages.Message.{Message}
 use Rattle.lapd_terminal.specs.declared.messages.Message.TheVariants.{IdentityRequest, IdentityCheckResponse, IdentityVerify}
@@ -20,21 +17,18 @@ use Rattle.lapd_terminal.specs.Laws as terminal_laws
 use Rattle.lapd_terminal.specs.Machine.{Terminal, TerminalTold}
 use Rattle.lapd_terminal.specs.Messages as messages
 use Rattle.lapd_terminal.specs.Sound as terminal
-use Rattle.lapd_terminal.specs.Words.{Course, begun}
+use Rattle.lapd_terminal.specs.Words.{Course}
 use Rattle.lapd_terminal.proofs.Served.{leads}
 use Rattle.lapd_terminal.proofs.Told.{unserved_changes_nothing}
-use Rattle.model_line.specs.Effect.{Effect, at_a_terminal, at_terminal, note_of, order_of, of_network, of_terminal, of_terminal_if, told_of_terminal}
-use Rattle.model_line.specs.Expiry.{at_timer}
+use Rattle.model_line.specs.Effect.{Effect, at_a_terminal, note_of, order_of, of_network, of_terminal, of_terminal_if, told_of_terminal}
 use Rattle.model_line.specs.Line.{is_terminal, Own, terminal_in, with_terminal}
 use Rattle.model_line.specs.Sound.{IsOfSide, IsUnused}
-use Rattle.model_link.specs.Events.{expired}
-use Rattle.model_link.specs.declared.timers.LinkTimer.{LinkTimer}
 use Rattle.model_link.specs.declared.timers.LinkTimer.TheVariants as link_timer
-use Rattle.laws_trace.specs.Managing.{at_terminal as due_there, of_terminal as seen_there, own_of}
+use Rattle.laws_trace.specs.Managing.{of_terminal as seen_there}
 use Rattle.laws_trace.specs.ManagingTerminal as seen
 use Rattle.laws_trace.specs.ManagingTerminal.{OfTerminal, octets_of}
 use Rattle.laws_trace.specs.TeisAreManaged.{message_text}
-use Rattle.laws_trace.proofs.FollowsTerminal.{known, shown, as_known, message-is, expiry-is}
+use Rattle.laws_trace.proofs.FollowsTerminal.{known, shown, message-is, expiry-is}
 use Rattle.laws_trace.proofs.ManagingNotes.{none-of-teis, Cases, is_management, message_in, message-is-read-there, heard-cases, Behind, behind}
 use Rattle.laws_trace.proofs.ReadAgain.{own-text}
 use Rattle.laws_trace.proofs.TerminalTables.{IsOnce, teis-are-on}
@@ -224,7 +218,7 @@ module _ (c : Config) (l : Line) (s : IsSound c l) (is : is_terminal c ≡ true)
   goes new (Some t) (inl x) = absurd (no-message l.management.waiting x.message both.1.waiting x.oldest)
   goes new (Some t) (inr (inl x)) = (
     one-or-none c t true (ap (is_managed c) x.spelled ∙ ap (is_managed c) (own-texts c x.message is) ∙ text-is c (octets_of x.message))
-    ∙ ap (λ f. f ∷ []) (x.spelled ∙ own-texts c x.message is) ∙ sym (ap (λ ms. map (message_text c) (map octets_of ms)) (first-goes waiting x.message x.oldest)),
+        ∙ ap (λ f. f ∷ []) (x.spelled ∙ own-texts c x.message is) ∙ sym (ap (λ ms. map (message_text c) (map octets_of ms)) (first-goes waiting x.message x.oldest)),
     subst (λ (l : Line). Tracks c later l.management l.own) (sym x.line) went,
   )
   goes new (Some t) (inr (inr (inl x))) = (

@@ -1,6 +1,8 @@
 -- What is due of TEI management by a request, and by any event of a terminal's line, is what its answer shows.
-use Rattle.laws_trace.proofs.Vocabulary.{◌≡◌, ℕ, ◌+◌, ◌≤◌, ◌==◌, ◌&&◌, ◌||◌, Bool, true, false, cond, not, List, [], ◌∷◌, ◌++◌, ◌∙◌, length, filter, Option, Some, None, is_some, refl, sym, ap, subst, inl, arith, leb-true, leb-false, ltb-true, ltb-false, nat_le, nat_lt, list_any, none-some, true≢false, false_from_ne_true, Refusal, Management, free_place, on-range, Config, at_management, of_aim, hears, expiry, request, next, Line, has_tei, unless_refused}
-use Rattle.laws_trace.proofs.Vocabulary.{unless_refused_told, bad_tei, no_link, tei_taken, bad_tei_or_all, tei_in_use, table_full, check_running, control_full, Assign, Remove, Disown, Deactivate, aim_of_request, passed, Down, at_no_link, Stop, Event, told, line_after as after, answer, Establish, Release, refusal, Request, Checking, SetBusy, ClearBusy, IsSound, Managed, by-down, stop_of, Check, is_of_line, LinkSetBusy, LinkClearBusy, tei_assign, tei_remove, TeiEvent}
+use Rattle.laws_trace.proofs.Vocabulary.{◌≡◌, ℕ, ◌≤◌, ◌&&◌, ◌||◌, Bool, true, false, cond, not, [], ◌∷◌, ◌++◌, ◌∙◌, length, filter, Option, Some, None, is_some, refl, sym, ap, subst, inl, arith, leb-true, leb-false, ltb-true, ltb-false, nat_le, nat_lt, list_any, true≢false, false_from_ne_true, Refusal, free_place, on-range, Config, at_management, of_aim, hears, expiry, request, next}
+use Rattle.laws_trace.proofs.Vocabulary.{Line, has_tei, unless_refused}
+use Rattle.laws_trace.proofs.Vocabulary.{unless_refused_told, bad_tei, no_link, tei_taken, bad_tei_or_all, tei_in_use, table_full, check_running, control_full, Assign, Remove, Disown, Deactivate, aim_of_request, passed, Down, at_no_link, Stop, Event, told, line_after as after, answer, Establish, Release, refusal, Request, Checking, SetBusy, ClearBusy, IsSound, Managed, by-down, stop_of}
+use Rattle.laws_trace.proofs.Vocabulary.{is_of_line, LinkSetBusy, LinkClearBusy, tei_assign, tei_remove, TeiEvent}
 use Rattle.lapd_frame.specs.declared.addresses.Side.{Side}
 use Rattle.lapd_frame.specs.declared.addresses.Side.TheVariants.{User, Network}
 use Rattle.lapd_frame.specs.declared.refusals.Refusal.TheVariants.{BadTei, NoLink, TeiTaken, TableFull, CheckRunning, WrongSide}
@@ -11,10 +13,10 @@ use Rattle.lapd_terminal.specs.Events as terminals
 use Rattle.lapd_terminal.specs.Events.{Event as TerminalEvent}
 use Rattle.lapd_terminal.specs.Laws as terminal_laws
 use Rattle.lapd_terminal.specs.Machine.{Terminal}
-use Rattle.lapd_terminal.specs.Words.{Course, begun, ask as ask_first, verify as verify_first, join}
+use Rattle.lapd_terminal.specs.Words.{begun, ask as ask_first, verify as verify_first}
 use Rattle.lapd_terminal.specs.Rows as rows
 use Rattle.model_line.specs.Effect.{at_a_terminal, of_network, of_terminal, of_terminal_if}
-use Rattle.model_line.specs.Line.{is_at, is_terminal, Own, terminal_in}
+use Rattle.model_line.specs.Line.{is_at, is_terminal, terminal_in}
 use Rattle.model_line.specs.Refusal.{first_that_holds, wrong_side, not_network, not_terminal, procedure_running}
 use Rattle.model_line.specs.Request.{AskTei, VerifyTei, Data, Unit}
 use Rattle.model_line.specs.Sides.{is_network}

@@ -1,5 +1,5 @@
 -- What an observer knows of TEI management, by the side.
-use Rattle.laws_trace.proofs.Vocabulary.{◌≡◌, ℕ, ◌<◌, Bool, true, false, List, [], subst, Config, CardEvent as Event, AreAtLines, IsInRange, Line, Managed, managed_after, nothing_due, fresh, after_all, line_at}
+use Rattle.laws_trace.proofs.Vocabulary.{◌≡◌, ℕ, ◌<◌, true, false, List, [], subst, Config, CardEvent as Event, AreAtLines, IsInRange, Line, Managed, managed_after, nothing_due, fresh, after_all, line_at}
 use Rattle.model_line.specs.Line.{is_terminal, terminal_in}
 use Rattle.laws_trace.specs.Managing.{own_of}
 use Rattle.laws_trace.proofs.Follows.{as_seen}

@@ -1,6 +1,6 @@
 -- Which aims of a line are none of TEI management, and that what a line tells behind what TEI management tells changes nothing.
-use Rattle.laws_trace.proofs.Vocabulary.{arith, ◌≡◌, ℕ, ◌==◌, ◌&&◌, Bool, true, false, cond, List, [], ◌∷◌, ◌++◌, Option, Some, None, refl, sym, ap, ◌∙◌, append-nil, append_assoc, option_map_or, ◌⊎◌, All, filter, Result, Ok, All-nil, All-cons, All-head, All-tail, All-append, filter-append, ReadFault, Note, Call, Packet, Parts, TeiTold, Change, Left, Link, Terms, notes-own, Config, Aim}
-use Rattle.laws_trace.proofs.Vocabulary.{at_management, told_of_management, of_change, Line, link_in, terms, management_sapi, group_tei, aim_of_reading, aim_of_heard, manages, line_of_link as of_link, result_ok, frame_of, Managed, by_message, is_of_teis, is_of_line, is_ui, link_told as told, LinkEvent, cleared, StreamEvent, tei_message}
+use Rattle.laws_trace.proofs.Vocabulary.{arith, ◌≡◌, ℕ, ◌&&◌, Bool, true, false, cond, List, [], ◌∷◌, ◌++◌, Option, Some, None, refl, sym, ap, ◌∙◌, append-nil, append_assoc, option_map_or, ◌⊎◌, All, filter, Result, Ok, All-nil, All-cons, All-head, All-tail, All-append, filter-append, ReadFault, Note, Call, Packet, Parts, Change, Left, Link, Terms, notes-own, Config, Aim}
+use Rattle.laws_trace.proofs.Vocabulary.{at_management, of_change, Line, link_in, terms, aim_of_reading, aim_of_heard, manages, line_of_link as of_link, result_ok, frame_of, Managed, by_message, is_of_teis, is_of_line, link_told as told, LinkEvent, cleared, StreamEvent, tei_message}
 use Rattle.model_link.proofs.OwnNotes.{IsOwn}
 use Rattle.std.specs.Option.{option_and_then}
 use Rattle.laws_trace.specs.ManagingTerminal as seen

@@ -1,5 +1,6 @@
 -- The control frames of a link that are due by what the observer knows are those that are due by how the link stands.
-use Rattle.laws_trace.proofs.Vocabulary.{arith, ◌≡◌, ℕ, ◌&&◌, not, Bool, true, false, cond, length, List, [], ◌++◌, Some, None, is_some, refl, ap, nat_lt, Result, Ok, Err, option_map_or, seq, Reject, ReadFault, Service, Timer, Parts, reading, Config, request, Answer, heard_side, as_response, is_granted, Request, SetBusy, ClearBusy, result_ok, brought, frame_of, its_frame, is_for, Managed, due, nothing_due}
+use Rattle.laws_trace.proofs.Vocabulary.{arith, ◌≡◌, ℕ, ◌&&◌, not, Bool, true, false, cond, length, List, [], ◌++◌, Some, None, is_some, refl, ap, nat_lt, Result, Ok, Err, option_map_or, seq, Reject, ReadFault, Service, Timer, Parts, reading, Config, request, Answer, heard_side, as_response, is_granted, Request, SetBusy, ClearBusy, result_ok, brought, frame_of, its_frame, is_for}
+use Rattle.laws_trace.proofs.Vocabulary.{Managed, due, nothing_due}
 use Rattle.laws_trace.proofs.Vocabulary.{Observed, observer_by_expiry as by_expiry, observer_by_request as by_request, by_event, is_up, heard, seen_told, seen_granted, T201, cond_both, stream_frame, StreamEvent}
 use Rattle.model_line.specs.Event as line_event
 use Rattle.model_line.specs.Line.{is_terminal}

@@ -1,6 +1,8 @@
 -- The messages of TEI management that wait stay small: what it hears are octets.
-use Rattle.laws_trace.proofs.Vocabulary.{arith, ◌≡◌, ℕ, ◌<◌, ◌%◌, Bool, true, false, cond, List, [], ◌∷◌, ◌++◌, length, drop, slice_get, Option, Some, None, IfSome, refl, sym, subst, Ok, All, option_map, option_map_or, option_or, unwrap_or, cond_both, All-nil, All-drop, All-head, AreOctets, Parts, reading, reading-found, Config, Aim, at_link, at_management, at_no_link, at_none, at_units, of_aim, of_change, hears, expiry, request, next, Answer, Line}
-use Rattle.laws_trace.proofs.Vocabulary.{fresh_line, aim_of_heard, aim_of_expiry, aim_of_request, heard_side, Taken, taken, line_of, side_aims, head_of, Event, line_after as after, IsSound, LineTold, UnitData, first_taken, round, round_below, OfLink, of-links, terms, service_at, with_given_frame, with_message, with_unit, TeiEvent, tei_after, tei_told, told_of_management, Change, Gained, Left, Management, Refusal, Request, Timer, refusal, unless_refused}
+use Rattle.laws_trace.proofs.Vocabulary.{arith, ◌≡◌, ℕ, ◌<◌, ◌%◌, Bool, true, false, cond, List, [], ◌∷◌, ◌++◌, length, drop, slice_get, Option, Some, None, IfSome, refl, sym, subst, Ok, All, option_map, option_map_or, option_or, unwrap_or, cond_both, All-nil, All-drop, All-head, AreOctets, Parts, reading, reading-found, Config, Aim, at_link, at_management, at_no_link, at_none, at_units}
+use Rattle.laws_trace.proofs.Vocabulary.{of_aim, of_change, hears, expiry, request, next, Answer, Line}
+use Rattle.laws_trace.proofs.Vocabulary.{fresh_line, aim_of_heard, aim_of_expiry, aim_of_request, heard_side, Taken, taken, line_of, side_aims, head_of, Event, line_after as after, IsSound, LineTold, UnitData, first_taken, round, round_below, OfLink, of-links, terms, service_at, with_given_frame, with_message, with_unit, TeiEvent, tei_after, tei_told, told_of_management, Change, Gained}
+use Rattle.laws_trace.proofs.Vocabulary.{Left, Management, Refusal, Request, Timer, refusal, unless_refused}
 use Rattle.laws_trace.proofs.Vocabulary.{HasOctets, GivesOctets, seen, heard, seen_told, StreamEvent, other_side, renamed}
 use Rattle.std.proofs.Math.Nat.{mod-lt}
 use Rattle.lapd_tei.specs.Events as teis

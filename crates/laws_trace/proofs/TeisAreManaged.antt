@@ -1,5 +1,6 @@
 -- TEIs are managed as the procedures say: runs of a card, and the law.
-use Rattle.laws_trace.proofs.Vocabulary.{◌≡◌, ℕ, zero, suc, ◌%◌, ◌<◌, ◌==◌, Bool, true, false, cond, List, [], ◌∷◌, get_or, replicate, Option, None, refl, sym, ap, ◌∙◌, subst, inl, arith, eq-eqb, true≢false, fold, and_parts, option_map_or, get_or-replicate, get_or-set_same, All-head, All-tail, PoolFull, Config, Answer, refused, Line, Management, fresh_line, IsInRange, Card, line_at, is_full, at, after_is_sound, fresh_is_sound, has_lines, by_room, config-stays, eqb-true}
+use Rattle.laws_trace.proofs.Vocabulary.{◌≡◌, ℕ, zero, suc, ◌%◌, ◌<◌, ◌==◌, Bool, true, false, cond, List, [], ◌∷◌, get_or, replicate, None, refl, sym, ap, ◌∙◌, subst, inl, arith, eq-eqb, true≢false, fold, and_parts, option_map_or, get_or-replicate, get_or-set_same, All-head, All-tail, PoolFull, Config, Answer, refused, Line, Management, fresh_line, IsInRange, Card, line_at, is_full, at}
+use Rattle.laws_trace.proofs.Vocabulary.{after_is_sound, fresh_is_sound, has_lines, by_room, config-stays, eqb-true}
 use Rattle.laws_trace.proofs.Vocabulary.{fresh, CardEvent as Event, after, card_answer as answer, after_all, IsAtLine, AreAtLines, always_sound, line_sound as sound-at, Managed, none_on, nothing_due, due, led, managed_after, managing_by_event as by_event, TeisAreManaged, Always, CardIsSound as IsSound, IsSound as IsSoundLine, Request}
 use Rattle.std.specs.Option.{unwrap_or}
 use Rattle.model_line.specs.Event as line_event

@@ -1,6 +1,6 @@
 -- The lists of a terminal, as an observer has them and as they are: its TEIs at their places, and its messages.
-use Rattle.laws_trace.proofs.Vocabulary.{◌≡◌, ℕ, zero, suc, ◌+◌, ◌<◌, ◌≤◌, ◌==◌, ◌||◌, Bool, true, false, cond, not, List, [], ◌∷◌, ◌++◌, length, set, Option, Some, None, refl, sym, ap, ◌∙◌, subst, arith, eqb-true, eq-eqb, true≢false, filter, list_any, is_some, nat_lt, none-some, option_map, IsAt, IsSoundTable, Places, is_free, has, free_place, place_of, freed}
-use Rattle.std.specs.List.{position, filter_map}
+use Rattle.laws_trace.proofs.Vocabulary.{◌≡◌, ℕ, suc, ◌+◌, ◌≤◌, ◌==◌, ◌||◌, Bool, true, false, cond, List, [], ◌∷◌, ◌++◌, length, set, Option, Some, None, refl, sym, ap, ◌∙◌, arith, eqb-true, true≢false, filter, list_any, is_some, nat_lt, option_map, IsAt, IsSoundTable, Places, is_free, has, free_place, place_of, freed}
+use Rattle.std.specs.List.{position}
 use Rattle.lapd_terminal.specs.declared.messages.Message.{Message}
 use Rattle.lapd_terminal.specs.declared.messages.Message.TheVariants.{IdentityRequest, IdentityCheckResponse, IdentityVerify}
 use Rattle.lapd_terminal.specs.declared.procedure.Procedure.{Procedure}

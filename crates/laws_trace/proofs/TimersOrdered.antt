@@ -1,5 +1,6 @@
 -- What is ordered of the timers of a link is what is due: the law.
-use Rattle.laws_trace.proofs.Vocabulary.{arith, ◌≡◌, ℕ, ◌+◌, ◌<◌, ◌==◌, ◌&&◌, ◌||◌, not, Bool, true, false, cond, List, [], ◌∷◌, ◌++◌, refl, sym, ap, ◌∙◌, subst, ⊎_elim, eq-eqb, true≢false, and_parts, is_some, fold, fold-append, nat_lt, All-nil, All-cons, All-append, Service, Order, Timer, LinkTimer, obeyed, Config, hears, expiry, request, next, orders_in, IsInRange, timer_of, is_needed, left_by}
+use Rattle.laws_trace.proofs.Vocabulary.{arith, ◌≡◌, ℕ, ◌+◌, ◌<◌, ◌==◌, ◌&&◌, ◌||◌, not, Bool, true, false, cond, List, [], ◌∷◌, ◌++◌, refl, sym, ap, ◌∙◌, subst, ⊎_elim, eq-eqb, true≢false, and_parts, is_some, fold, fold-append, nat_lt, All-nil, All-cons, All-append, Service, Order, Timer, LinkTimer, obeyed, Config, hears, expiry, request, next, orders_in, IsInRange, timer_of, is_needed}
+use Rattle.laws_trace.proofs.Vocabulary.{left_by}
 use Rattle.laws_trace.proofs.Vocabulary.{Card, line_at, at, moments, runs_at_callers, eqb-true, T200, T203, fresh, CardEvent as Event, after, Moment, after_all, IsAtLine, AreAtLines, runs_then, one_more, Managed, managing_is_on as is_on, due, brings, Observed, View, in_state, anew, awaits, enquires, enters, by_t200, by_event, view_of, moment_of, view_behind, TimersAreTimely, is_own, Always}
 use Rattle.laws_trace.proofs.Vocabulary.{list_any, or-false, T201, TimerT203, TimerT200, after_all-append}
 use Rattle.lapd_frame.specs.declared.timers.Timer.TheVariants.{T202}

@@ -1,13 +1,13 @@
 -- What an observer of a line knows of its TEI management, of whatever side, and what an answer shows of it.
-use Rattle.laws_trace.proofs.Vocabulary.{◌≡◌, ℕ, ◌==◌, Bool, true, false, cond, List, [], ◌∷◌, ◌++◌, map, take, slice_get, filter, Option, Some, None, IfSome, option_map, refl, sym, ap, ◌∙◌, subst, append-nil, ◌⊎◌, inl, inr, arith, option_map_or, none-some, filter-append, Ui, Service, Parts, reading, Result, ReadFault, sapi_of, Management, Config, Aim, and-false}
-use Rattle.laws_trace.proofs.Vocabulary.{at_none, at_link, of_aim, next, Answer, LineTold, gave, orders_in, Line, link_at, terms, service_at, aim_of, management_sapi, Taken, taken, next_of, line_of, at_requested, at_deactivated, lost_in, IsOne, taken-one, unwrap_or, Event, told, line_after as after, answer, IsSound, result_ok, Managed, is_of_teis, is_of_line, IsAsDue, trace_frame_in as frame_in, offer, LinkEvent, LinkRequest, link_told, own_side, reading-again}
+use Rattle.laws_trace.proofs.Vocabulary.{◌≡◌, ℕ, ◌==◌, Bool, true, false, cond, List, [], ◌∷◌, map, take, slice_get, filter, Option, Some, None, IfSome, option_map, refl, sym, ap, ◌∙◌, subst, ◌⊎◌, inl, inr, arith, option_map_or, none-some, Ui, Service, Parts, reading, Result, ReadFault, sapi_of, Management, Config, Aim}
+use Rattle.laws_trace.proofs.Vocabulary.{at_none, at_link, of_aim, next, Answer, LineTold, gave, orders_in, Line, link_at, terms, service_at, aim_of, management_sapi, Taken, taken, next_of, line_of, at_requested, at_deactivated, lost_in, IsOne, taken-one, unwrap_or, Event, told, line_after as after, answer, IsSound, result_ok, Managed, is_of_teis, is_of_line, IsAsDue}
+use Rattle.laws_trace.proofs.Vocabulary.{trace_frame_in as frame_in, offer, LinkEvent, LinkRequest, link_told, own_side, reading-again}
 use Rattle.laws_trace.proofs.Vocabulary.{Timer, expiry, place_in}
 use Rattle.model_line.specs.Event.{nothing}
 use Rattle.model_line.specs.Expiry.{at_timer}
-use Rattle.model_line.specs.Line.{Own, UnitData, is_terminal, terminal_with}
+use Rattle.model_line.specs.Line.{Own, is_terminal, terminal_with}
 use Rattle.model_link.specs.Events.{expired}
 use Rattle.model_link.specs.declared.timers.LinkTimer.{LinkTimer}
-use Rattle.lapd_frame.specs.Senders.{spelling}
 use Rattle.laws_trace.specs.Managing.{own_of}
 use Rattle.laws_trace.specs.ManagingTerminal.{teis_of}
 use Rattle.laws_trace.specs.TeisAreManaged.{message_text}

@@ -1,5 +1,5 @@
 -- What is due of TEI management by a request of a link, or of unit data, is nothing, and its answer shows so.
-use Rattle.laws_trace.proofs.Vocabulary.{◌≡◌, ℕ, true, false, List, Option, Some, None, refl, sym, ap, ◌∙◌, subst, inl, Refusal, Service, Config, of_aim, map, request, Line, place_in, unless_refused, unless_refused_told, Deactivate, aim_of_request, told, refusal, Request, LinkRequest, Managed}
+use Rattle.laws_trace.proofs.Vocabulary.{◌≡◌, ℕ, false, List, Option, Some, None, refl, sym, ap, ◌∙◌, subst, inl, Refusal, Service, Config, of_aim, map, request, Line, place_in, unless_refused, unless_refused_told, Deactivate, aim_of_request, refusal, Request, LinkRequest, Managed}
 use Rattle.model_line.specs.Request.{Unit}
 use Rattle.model_line.specs.Requested.{at_requested, at_deactivated}
 use Rattle.laws_trace.specs.TeisAreManaged.{message_text}

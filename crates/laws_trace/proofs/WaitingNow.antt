@@ -1,5 +1,6 @@
 -- The control frames of a link that wait are those that an observer has.
-use Rattle.laws_trace.proofs.Vocabulary.{arith, ◌≡◌, ℕ, ◌<◌, ◌-◌, ◌==◌, ◌&&◌, false, cond, not, List, [], ◌++◌, drop, take, length, Some, refl, sym, ap, ◌∙◌, subst, eq-eqb, fold, Service, ControlFrame, Link, Config, Line, link_of, place_in, lost_in, IsInRange, at, moments, deactivates, fresh, CardEvent as Event, Moment, after_all, AreAtLines, Observed, View, views, view_of, moment_of, view_behind}
+use Rattle.laws_trace.proofs.Vocabulary.{arith, ◌≡◌, ℕ, ◌<◌, ◌-◌, ◌==◌, ◌&&◌, false, cond, not, List, [], ◌++◌, drop, take, length, Some, refl, sym, ap, ◌∙◌, subst, eq-eqb, fold, Service, ControlFrame, Link, Config, Line, link_of, place_in, lost_in, IsInRange, at, moments, deactivates, fresh, CardEvent as Event, Moment, after_all, AreAtLines, Observed, View, views, view_of, moment_of}
+use Rattle.laws_trace.proofs.Vocabulary.{view_behind}
 use Rattle.laws_trace.proofs.Vocabulary.{put_in, outgoing_of, seen, seen_in, trace_of, true, Bool, All, ◌∷◌, map, flat_map, filter, Option, None, option_to_list, inl, inr, append-nil, place_of-is, given-in-order, IsInOrder, All-head, Refusal, Terms, Given, IsGiven, given_is_frame, Effect, next, Answer, unless_refused_told, is_information, terms, terms_in_range, PoolFull, and_parts, line_at}
 use Rattle.laws_trace.proofs.Vocabulary.{is_full, by_room, Control, IsSound, line_frame_of as frame_of, Card, card_answer as answer, is_frame_of, trace_frame_in as frame_in, is_ui, drop-nil, offer, link_after as after, given, outgoing_waits}
 use Rattle.model_line.specs.Event as line_event

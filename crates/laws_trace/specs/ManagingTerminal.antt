@@ -1,6 +1,6 @@
 -- What an observer of a terminal's line knows of its TEIs, by the procedures of Q.921 clause 5.3, and what is due by them: by
 -- what the network says, what management asks for, and T202.
-use Rattle.std.specs.Prelude.{ℕ, ◌==◌, ◌&&◌, ◌||◌, not, nat_lt, nat_le, Bool, true, false, List, [], ◌∷◌, ◌++◌, ◌+◌, ◌*◌, ◌/◌, ◌%◌, map, replicate, take, drop, filter, fold, Option, Some, None, is_some, if◌then◌else◌}
+use Rattle.std.specs.Prelude.{ℕ, ◌==◌, ◌&&◌, not, nat_lt, nat_le, Bool, true, false, List, [], ◌∷◌, ◌++◌, ◌+◌, ◌*◌, ◌/◌, ◌%◌, map, replicate, take, drop, filter, fold, Option, Some, None, is_some, if◌then◌else◌}
 use Rattle.std.specs.List.{list_any, filter_map}
 use Rattle.std.specs.Option.{option_and_then, option_map_or, unwrap_or}
 use Rattle.lapd_frame.specs.declared.notes.Note.{Note}

@@ -1,5 +1,5 @@
 -- TEIs are managed as the procedures of Q.921 clause 5.3 say: what an answer shows of it is what is due.
-use Rattle.std.specs.Prelude.{◌≡◌, ℕ, ◌==◌, Bool, true, false, List, [], ◌∷◌, filter, map, Some}
+use Rattle.std.specs.Prelude.{◌≡◌, ℕ, ◌==◌, Bool, true, false, List, filter, map, Some}
 use Rattle.lapd_frame.specs.declared.notes.Note.{Note}
 use Rattle.lapd_frame.specs.declared.notes.Note.TheVariants.{Assigned, Removed, Doubled, Denied, Unassigned, RemoveAll}
 use Rattle.lapd_frame.specs.declared.timers.Order.{Order}

@@ -1,10 +1,10 @@
 -- What is read of words that stand in references, and of lines with too many.
-use Rattle.lapd_script.proofs.Vocabulary.{◌≡◌, ℕ, Bool, true, false, cond, List, [], ◌∷◌, length, take, drop, get_or, Some, None, Ok, Err, Result, Option, refl, sym, ap, ◌∙◌, Bor, arith, IsErr, IsErrAnd, false≢true, Network, FaultKind, BadNumberOfWords, Config, Word, Ask, texts, word_named, carries_octets, read_words, read_after, read_as, card_numbers, nine_numbers, three_numbers, ten_numbers, not, for_terminal}
-use Rattle.lapd_script.proofs.Vocabulary.{side_numbers, for_sapi, names_sapi}
+use Rattle.lapd_script.proofs.Vocabulary.{◌≡◌, ℕ, Bool, true, false, cond, List, [], ◌∷◌, length, take, drop, get_or, Some, None, Ok, Err, Result, Option, refl, sym, ap, ◌∙◌, Bor, arith, IsErr, IsErrAnd, false≢true, Network, FaultKind, BadNumberOfWords, Config, Word, Ask, texts, word_named, carries_octets, read_words, read_after, read_as, card_numbers, nine_numbers, three_numbers}
+use Rattle.lapd_script.proofs.Vocabulary.{side_numbers, for_sapi, more_numbers, names_sapi}
 use Rattle.std.specs.Prelude.{◌-◌, ◌&&◌, nat_le, bytes_eq, codes, zero, suc}
 use Rattle.lapd_script.specs.declared.word.Word.TheVariants.{Card}
 use Rattle.lapd_script.specs.Meaning.{card}
-use Rattle.lapd_script.proofs.Vocabulary.{for_user, is_user, ◌>>=◌}
+use Rattle.lapd_script.proofs.Vocabulary.{◌>>=◌}
 
 abbrev pub nowhere : Bor (List ℕ)
 nowhere = record { ref_ptr = (0, 0); now = [] }
@@ -59,22 +59,19 @@ pub nine_grouped : (words : List (Bor (List ℕ))) (ra rb rc : Result (ℕ × �
     → grouped ra rb rc ≡ nine_numbers (texts words)
 nine_grouped words ra rb rc n ea eb ec = grind (arith, nine_given)
 
--- ten words: the last is a tenth number, or says that the card is the user's side;
+-- ten, eleven and twelve words: nine, and what stands after them;
 pub with_tenth : (words : List (Bor (List ℕ))) → length words ≡ 10
-    → side_numbers (texts words) ≡ cond (is_user (at words 9)) (for_user (nine_numbers (texts (take 9 words)))) (ten_numbers (texts (take 9 words)) (at words 9))
+    → more_numbers (texts (take 9 words)) (at words 9 ∷ []) ≡ side_numbers (texts words)
 with_tenth (a ∷ b ∷ c ∷ d ∷ e ∷ f ∷ g ∷ h ∷ i ∷ j ∷ []) n = refl
 with_tenth _ n = absurd (omega (arith, n))
 
--- eleven words: the last says that, or the last but one says that it is a terminal;
 pub with_eleventh : (words : List (Bor (List ℕ))) → length words ≡ 11
-    → side_numbers (texts words) ≡ cond (is_user (at words 10)) (for_user (ten_numbers (texts (take 9 words)) (at words 9)))
-    (cond (is_user (at words 9)) (for_terminal (nine_numbers (texts (take 9 words))) (at words 10)) (Err BadNumberOfWords))
+    → more_numbers (texts (take 9 words)) (at words 9 ∷ at words 10 ∷ []) ≡ side_numbers (texts words)
 with_eleventh (a ∷ b ∷ c ∷ d ∷ e ∷ f ∷ g ∷ h ∷ i ∷ j ∷ k ∷ []) n = refl
 with_eleventh _ n = absurd (omega (arith, n))
 
--- twelve words: the last but one says that;
 pub with_twelfth : (words : List (Bor (List ℕ))) → length words ≡ 12
-    → side_numbers (texts words) ≡ cond (is_user (at words 10) && not (is_user (at words 11))) (for_terminal (ten_numbers (texts (take 9 words)) (at words 9)) (at words 11)) (Err BadNumberOfWords)
+    → more_numbers (texts (take 9 words)) (at words 9 ∷ at words 10 ∷ at words 11 ∷ []) ≡ side_numbers (texts words)
 with_twelfth (a ∷ b ∷ c ∷ d ∷ e ∷ f ∷ g ∷ h ∷ i ∷ j ∷ k ∷ l ∷ []) n = refl
 with_twelfth _ n = absurd (omega (arith, n))
 

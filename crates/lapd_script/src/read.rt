@@ -1,7 +1,7 @@
 //! Reads a line of a script.
 
-ghost use Rattle.std.specs.Prelude.{◌≡◌, ◌*◌, ◌/◌, ◌≤◌, ℕ, List, take, drop, length, codes, bytes_eq, All, Ok, Err, IfOk, MatchResult};
-ghost use Rattle.lapd_script.specs.{texts, rx, into, meant_by, IsCounted, read, read_words, read_as, four_lengths, length_of, lengths, card_numbers, for_sapi, for_terminal, for_user, is_user, nine_numbers, side_numbers, ten_numbers, three_numbers, Rx, In, Failed, Pull, Ask};
+ghost use Rattle.std.specs.Prelude.{◌≡◌, ◌*◌, ◌/◌, ◌≤◌, ℕ, List, [], ◌∷◌, take, drop, length, codes, bytes_eq, All, Ok, Err, IfOk, MatchResult};
+ghost use Rattle.lapd_script.specs.{texts, rx, into, meant_by, IsCounted, read, read_words, read_as, four_lengths, length_of, lengths, card_numbers, for_sapi, for_terminal, for_user, is_user, more_numbers, nine_numbers, side_numbers, ten_numbers, three_numbers, Rx, In, Failed, Pull, Ask};
 
 use crate::command::{Asked, Command};
 use crate::kind::FaultKind;
@@ -223,15 +223,45 @@ fn side_numbers(words: &[&[u8]]) -> Result<Config, FaultKind>
     ensures read { result ≡ side_numbers (texts words.now) }
 {
     match words.len() {
-        10 if is_user(words[9]) => for_user(nine_numbers(&words[..9])),
-        10 => ten_numbers(&words[..9], words[9]),
-        11 if is_user(words[10]) => for_user(ten_numbers(&words[..9], words[9])),
-        11 if is_user(words[9]) => for_terminal(nine_numbers(&words[..9]), words[10]),
-        12 if is_user(words[10]) && !is_user(words[11]) => {
-            for_terminal(ten_numbers(&words[..9], words[9]), words[11])
-        }
-        11 | 12 => Err(FaultKind::BadNumberOfWords),
+        10 => ten_words(&words[..9], words[9]),
+        11 => eleven_words(&words[..9], words[9], words[10]),
+        12 => twelve_words(&words[..9], words[9], words[10], words[11]),
         _ => nine_numbers(words),
+    }
+}
+
+/// Nine numbers and a word: the window of packet links, or `user`.
+fn ten_words(nine: &[&[u8]], last: &[u8]) -> Result<Config, FaultKind>
+    ensures { result ≡ more_numbers (texts nine.now) (last.now ∷ []) }
+{
+    if is_user(last) {
+        for_user(nine_numbers(nine))
+    } else {
+        ten_numbers(nine, last)
+    }
+}
+
+/// Nine numbers and two words: the window of packet links and `user`, or `user` and the seed of a terminal.
+fn eleven_words(nine: &[&[u8]], word: &[u8], last: &[u8]) -> Result<Config, FaultKind>
+    ensures { result ≡ more_numbers (texts nine.now) (word.now ∷ last.now ∷ []) }
+{
+    if is_user(last) {
+        for_user(ten_numbers(nine, word))
+    } else if is_user(word) {
+        for_terminal(nine_numbers(nine), last)
+    } else {
+        Err(FaultKind::BadNumberOfWords)
+    }
+}
+
+/// Nine numbers and three words: the window of packet links, `user`, and the seed of a terminal.
+fn twelve_words(nine: &[&[u8]], k16: &[u8], word: &[u8], last: &[u8]) -> Result<Config, FaultKind>
+    ensures { result ≡ more_numbers (texts nine.now) (k16.now ∷ word.now ∷ last.now ∷ []) }
+{
+    if is_user(word) && !is_user(last) {
+        for_terminal(ten_numbers(nine, k16), last)
+    } else {
+        Err(FaultKind::BadNumberOfWords)
     }
 }
 

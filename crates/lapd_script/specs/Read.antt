@@ -50,6 +50,9 @@ with_k16 k16 numbers = record numbers { k16 = k16 }
 abbrev pub of_user : Config → Config
 of_user numbers = record numbers { side = User }
 
+abbrev pub with_seed : ℕ → Config → Config
+with_seed seed numbers = record numbers { seed = Some seed }
+
 abbrev pub ten_numbers : List (List ℕ) → List ℕ → Result Config FaultKind
 ten_numbers nine k16 = do
   numbers ← nine_numbers nine
@@ -61,14 +64,11 @@ for_user read = do
   numbers ← read
   Ok (of_user numbers)
 
-abbrev pub of_terminal : ℕ → Config → Config
-of_terminal seed numbers = record numbers { side = User; seed = Some seed }
-
 abbrev pub for_terminal : Result Config FaultKind → List ℕ → Result Config FaultKind
 for_terminal read seed = do
-  numbers ← read
+  numbers ← for_user read
   seed ← number 0 65535 seed
-  Ok (of_terminal seed numbers)
+  Ok (with_seed seed numbers)
 
 abbrev pub is_user : List ℕ → Bool
 is_user word = bytes_eq word (codes "user")

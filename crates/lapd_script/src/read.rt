@@ -284,8 +284,7 @@ fn for_user(numbers: Result<Config, FaultKind>) -> Result<Config, FaultKind>
 fn for_terminal(numbers: Result<Config, FaultKind>, seed: &[u8]) -> Result<Config, FaultKind>
     ensures { result ≡ for_terminal numbers seed.now }
 {
-    let mut numbers = numbers?;
-    numbers.side = Side::User;
+    let mut numbers = for_user(numbers)?;
     numbers.seed = Some(short(seed)?);
     Ok(numbers)
 }

@@ -150,10 +150,13 @@ enum class note_kind : uint8_t {
     assigned = LAPD_ASSIGNED,
     removed = LAPD_REMOVED,
     doubled = LAPD_DOUBLED,
-    xid_indication = LAPD_XID_INDICATION
+    xid_indication = LAPD_XID_INDICATION,
+    denied = LAPD_DENIED,
+    unassigned = LAPD_UNASSIGNED,
+    remove_all = LAPD_REMOVE_ALL
 };
 
-enum class timer_kind : uint8_t { t200 = LAPD_T200, t203 = LAPD_T203, t201 = LAPD_T201 };
+enum class timer_kind : uint8_t { t200 = LAPD_T200, t203 = LAPD_T203, t201 = LAPD_T201, t202 = LAPD_T202 };
 
 enum class order_kind : uint8_t { start = LAPD_START, stop = LAPD_STOP };
 
@@ -305,6 +308,9 @@ public:
     status remove(uint32_t line, uint8_t tei, report &to) { return of(lapd_remove(&card_, line, tei, to.raw())); }
     status check(uint32_t line, uint8_t tei, report &to) { return of(lapd_check(&card_, line, tei, to.raw())); }
     status disown(uint32_t line, uint8_t tei, report &to) { return of(lapd_disown(&card_, line, tei, to.raw())); }
+    /// Of a terminal: it asks the network for a TEI, or to check one of its own; at another status::refused_wrong_side.
+    status ask_tei(uint32_t line, report &to) { return of(lapd_ask_tei(&card_, line, to.raw())); }
+    status verify_tei(uint32_t line, uint8_t tei, report &to) { return of(lapd_verify_tei(&card_, line, tei, to.raw())); }
     status busy(uint32_t line, service by, uint8_t tei, report &to) {
         return of(lapd_busy(&card_, line, number(by), tei, to.raw()));
     }
@@ -417,6 +423,8 @@ public:
     status set_lengths(uint32_t t200, uint32_t t203, uint32_t t201) {
         return of(lapd_clock_set_lengths(&clock_, t200, t203, t201));
     }
+    /// With T202, a terminal's.
+    status set_lengths(const lapd_lengths &lengths) { return of(lapd_clock_set_all_lengths(&clock_, &lengths)); }
     status apply(uint32_t line, const order &one, uint64_t now) {
         const lapd_order raw = one.raw();
         return of(lapd_clock_apply(&clock_, line, &raw, now));

@@ -222,6 +222,13 @@ LAPD_INLINE_STATUS lapd_checked_clock_set_lengths(lapd_clock *clock, uint32_t t2
 }
 #define lapd_clock_set_lengths lapd_checked_clock_set_lengths
 
+LAPD_INLINE_STATUS lapd_checked_clock_set_all_lengths(lapd_clock *clock, const lapd_lengths *lengths) {
+    if (clock == LAPD_NULL || lengths == LAPD_NULL)
+        return LAPD_WRONG_POINTER;
+    return lapd_clock_set_all_lengths(clock, lengths);
+}
+#define lapd_clock_set_all_lengths lapd_checked_clock_set_all_lengths
+
 LAPD_INLINE_STATUS lapd_checked_clock_free(lapd_clock *clock) {
     if (clock == LAPD_NULL)
         return LAPD_WRONG_POINTER;

@@ -348,9 +348,8 @@ LAPD_STATUS lapd_card_start(lapd_card *card, const lapd_config *config);
 /* Starts a card of frames in the same way. It takes less memory, as no line of it has room for a frame on its way. */
 LAPD_STATUS lapd_card_start_frames(lapd_card *card, const lapd_config *config);
 
-/* How long timers run, in milliseconds, 1 to 3,600,000 each: T200 and T203 of each link, T201 of each line, and T202 of each
- * line of a terminal (clauses 5.9.1, 5.9.8, 5.9.6 and 5.9.7; by default 1,000, 10,000, 1,000 and 2,000). T202 alone may be
- * 0, as in a program that gives three numbers: it is 2,000 then. */
+/* How long timers run, in milliseconds, 1 to 3,600,000 each, at each side: T200 and T203 of each link, T201 of each line, and
+ * T202 of each line of a terminal (clauses 5.9.1, 5.9.8, 5.9.6 and 5.9.7; by default 1,000, 10,000, 1,000 and 2,000). */
 typedef struct lapd_lengths {
     uint32_t t200;
     uint32_t t203;
@@ -621,8 +620,8 @@ LAPD_STATUS lapd_lines(lapd_card *card, uint32_t *lines);
 /* ---- A frame in words ------------------------------------------------------------------------------------------- */
 
 /*
- * What octets say, without a check, as a side sent them (LAPD_NETWORK, or LAPD_USER also of a terminal), for a log: in
- * front of `text`, which ends with a 0, the first line that `lapdsim frame` prints of them. What is no frame has the line
+ * What octets say, without a check, as a side sent them (LAPD_NETWORK, LAPD_USER or, the same, LAPD_TERMINAL), for a log:
+ * in front of `text`, which ends with a 0, the first line that `lapdsim frame` prints of them. What is no frame has the line
  * that tells why.
  *
  *     sapi 0 tei 64 command i ns 1 nr 2 p 0 info 0801          an I-frame of the user's side
@@ -630,7 +629,7 @@ LAPD_STATUS lapd_lines(lapd_card *card, uint32_t *lines);
  *     frame: bad extension                                     and so: short, undefined, wrong size
  *
  * LAPD_WRONG_LENGTH: `length` is over 1,028, or `room` is too small; 64 and twice the length are enough, so LAPD_MOST_TEXT
- * for each frame that a card takes or gives. LAPD_BAD_SIDE: it is neither side. Nothing is written then. It is of no card, takes
+ * for each frame that a card takes or gives. LAPD_BAD_SIDE: it is no side. Nothing is written then. It is of no card, takes
  * no memory, and may be called at any time; of lapd.c it takes 24 KB of stack.
  */
 LAPD_STATUS lapd_frame_text(const uint8_t *octets, size_t length, uint16_t side, char *text, size_t room);
@@ -659,13 +658,10 @@ typedef struct lapd_due {
  * LAPD_SECOND_START, the first bad field or LAPD_NO_MEMORY: there is no other clock than before. */
 LAPD_STATUS lapd_clock_start(lapd_clock *clock, const lapd_config *config);
 
-/* How long timers run that are started from now on, in milliseconds, 1 to 3,600,000 each: T200 and T203 of each link, and
- * T201 of each line. T202 runs 2,000. Those that run keep their moments. A clock begins with 1,000, 10,000, 1,000 and 2,000
- * (clauses 5.9.1, 5.9.8, 5.9.6 and 5.9.7). LAPD_WRONG_TIME: one is out of range, and nothing has changed. */
-LAPD_STATUS lapd_clock_set_lengths(lapd_clock *clock, uint32_t t200, uint32_t t203, uint32_t t201);
-
-/* The same with all four lengths, as a start of a card with timers takes them: that of T202 is a terminal's. */
-LAPD_STATUS lapd_clock_set_all_lengths(lapd_clock *clock, const lapd_lengths *lengths);
+/* How long timers run that are started from now on, in milliseconds, 1 to 3,600,000 each: T200 and T203 of each link, T201 of
+ * each line, and T202 of each line of a terminal. Those that run keep their moments. A clock begins with 1,000, 10,000, 1,000
+ * and 2,000 (clauses 5.9.1, 5.9.8, 5.9.6 and 5.9.7). LAPD_WRONG_TIME: one is out of range, and nothing has changed. */
+LAPD_STATUS lapd_clock_set_lengths(lapd_clock *clock, uint32_t t200, uint32_t t203, uint32_t t201, uint32_t t202);
 
 /* Ends a clock and gives back all memory that its start took. LAPD_NO_CLOCK: nothing happens. */
 LAPD_STATUS lapd_clock_free(lapd_clock *clock);

@@ -185,8 +185,8 @@ enum class state : uint8_t {
 inline const char *text(status of) { return lapd_status_text(static_cast<uint32_t>(of)); }
 inline const char *text(cause of) { return lapd_cause_text(static_cast<uint8_t>(of)); }
 
-/// What octets say, without a check, as a side sent them (LAPD_NETWORK or LAPD_USER): the first line that `lapdsim frame` prints
-/// of them, in front of the room, with a 0 at its end. LAPD_MOST_TEXT is room for each frame of a card.
+/// What octets say, without a check, as a side sent them (LAPD_NETWORK, LAPD_USER or LAPD_TERMINAL): the first line that
+/// `lapdsim frame` prints of them, in front of the room, with a 0 at its end. LAPD_MOST_TEXT is room for each frame of a card.
 inline status frame_text(octets of, uint16_t side, span<char> to) {
     return static_cast<status>(lapd_frame_text(at(of), of.size(), side, at(to), to.size()));
 }
@@ -420,11 +420,9 @@ public:
 
     status start(const lapd_config &config) { return of(lapd_clock_start(&clock_, &config)); }
     status end() { return of(lapd_clock_free(&clock_)); }
-    status set_lengths(uint32_t t200, uint32_t t203, uint32_t t201) {
-        return of(lapd_clock_set_lengths(&clock_, t200, t203, t201));
+    status set_lengths(uint32_t t200, uint32_t t203, uint32_t t201, uint32_t t202 = 2000) {
+        return of(lapd_clock_set_lengths(&clock_, t200, t203, t201, t202));
     }
-    /// With T202, a terminal's.
-    status set_lengths(const lapd_lengths &lengths) { return of(lapd_clock_set_all_lengths(&clock_, &lengths)); }
     status apply(uint32_t line, const order &one, uint64_t now) {
         const lapd_order raw = one.raw();
         return of(lapd_clock_apply(&clock_, line, &raw, now));

@@ -256,8 +256,7 @@ _TAKES: Dict[str, List[Any]] = {
     "lapd_state": [_AT, _U32, _U8, _U8, _AT], "lapd_next_link": [_AT, _U32, _AT, _AT],
     "lapd_room": [_AT, _U32, _U8, _U8, _AT], "lapd_begun": [_AT, _U32, _AT], "lapd_heard": [_AT, _U32, _AT],
     "lapd_counters": [_AT, _U32, _AT], "lapd_stored": [_AT, _AT], "lapd_limit": [_AT, _AT], "lapd_lines": [_AT, _AT],
-    "lapd_clock_start": [_AT, _AT], "lapd_clock_set_lengths": [_AT, _U32, _U32, _U32], "lapd_clock_free": [_AT],
-    "lapd_clock_set_all_lengths": [_AT, _AT],
+    "lapd_clock_start": [_AT, _AT], "lapd_clock_set_lengths": [_AT, _U32, _U32, _U32, _U32], "lapd_clock_free": [_AT],
     "lapd_clock_apply_report": [_AT, _U32, _AT, _U64], "lapd_clock_due": [_AT, _U64, _AT], "lapd_clock_next": [_AT, _AT],
     "lapd_status_text": [_U32], "lapd_note_text": [_AT], "lapd_cause_text": [_U8], "lapd_counter_text": [_U32],
     "lapd_turned": [_U8], "lapd_frame_text": [_AT, _SIZE, ctypes.c_uint16, _AT, _SIZE],
@@ -728,8 +727,7 @@ class Clock(_Owner):
     _start, _free = "lapd_clock_start", "lapd_clock_free"
 
     def set_lengths(self, t200: int, t203: int, t201: int, t202: int = 2000) -> None:
-        lengths = _Lengths(*(_whole(_U32, it) for it in (t200, t203, t201, t202)))
-        _call("lapd_clock_set_all_lengths", self._at, ctypes.byref(lengths))
+        _call("lapd_clock_set_lengths", self._at, t200, t203, t201, t202)
 
     def apply(self, line: int, report: Report, now: int) -> None:
         """Carries out the orders of a report, in order."""

@@ -62,7 +62,8 @@ static u32 called(machine *instance, const start_call *call) {
 /* Whether a length of a timer is out of range. */
 static bool is_out_of_range(const lapd_lengths *it) {
     enum { HOUR = 3600000 };
-    return it != NULL && (it->t200 - 1 >= HOUR || it->t203 - 1 >= HOUR || it->t201 - 1 >= HOUR || it->t202 > HOUR);
+    return it != NULL && (it->t200 - 1 >= HOUR || it->t203 - 1 >= HOUR || it->t201 - 1 >= HOUR ||
+                          it->t202 - 1 >= HOUR);
 }
 
 /* Starts a card or a clock in a machine of its own. */

@@ -12,7 +12,7 @@ namespace {
 using lapd::service;
 using lapd::status;
 
-const lapd_config config = {2, 8, 7, 7, 8, 4, 4, 64, 260, 3, LAPD_NETWORK, 0};
+const lapd_config config = {2, 8, 7, 7, 8, 4, 4, 64, 260, 3, LAPD_NETWORK, 0, 0};
 const uint8_t sabme[] = {0x00, 0x81, 0x7F};
 bool is_good = true;
 
@@ -103,7 +103,7 @@ void asks_timers(lapd::any_card &card) {
 }
 
 void asks_timed(lapd::card &octets, lapd::frame_card &frames) {
-    const lapd_lengths lengths = {1000, 10000, 1000}, wrong = {1000, 10000, 0};
+    const lapd_lengths lengths = {1000, 10000, 1000, 2000}, wrong = {1000, 10000, 0, 2000};
     lapd::report report;
     uint64_t moment = 7;
     wants(octets.start(config, wrong) == status::wrong_time && frames.start(config, wrong) == status::wrong_time, "wrong lengths");

@@ -74,7 +74,7 @@ static void layer_3(const lapd_report *of) {
         printf("%u dropped %s\n", of->line, lapd_cause_text(of->cause));
 }
 
-static const lapd_lengths lengths = {.t200 = 1000, .t203 = 10000, .t201 = 1000};   /* milliseconds */
+static const lapd_lengths lengths = {.t200 = 1000, .t203 = 10000, .t201 = 1000, .t202 = 2000};   /* milliseconds */
 static lapd_card card = LAPD_CARD_NONE;
 static lapd_report report;
 

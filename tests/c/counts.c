@@ -82,7 +82,7 @@ static size_t message(uint8_t *octets) {
     bool is_terminal = config.side == LAPD_TERMINAL, is_answer = is_terminal && below(2);
     const uint8_t of[] = {(uint8_t)((below(4) != 0) == is_terminal ? 0xFE : 0xFC), (uint8_t)(below(8) ? 0xFF : 0xFD),
                           below(8) ? 0x03 : 0x13, (uint8_t)(below(8) ? 0x0F : 0x0E), is_answer ? asked[0] : (uint8_t)below(3),
-                          is_answer ? asked[1] : (uint8_t)below(4), (uint8_t)(below(3) ? 5 - is_terminal : below(2) ? 1 : below(10)), 0xFF};
+                          is_answer ? asked[1] : (uint8_t)below(4), (uint8_t)(below(3) ? 5u - is_terminal : below(2) ? 1 : below(10)), 0xFF};
     memcpy(octets, of, sizeof of);
     if (is_answer)
         octets[6] = (uint8_t)(below(4) ? 2 : 3);

@@ -725,7 +725,7 @@ LAPD_INLINE uint64_t lapd_card_octets(const lapd_config *config) {
 
 /* The same of a card that keeps its own timers: one of frames, one of octets. */
 LAPD_INLINE uint64_t lapd_card_octets_frames_timed(const lapd_config *config) {
-    uint64_t places = config->lines * (4u * config->terminals + 1u);
+    uint64_t places = config->lines * (4u * config->terminals + 2u);
     return lapd_card_octets_frames(config) + lapd_block_octets(24 * places) + lapd_block_octets(96);
 }
 

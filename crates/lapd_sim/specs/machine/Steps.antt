@@ -144,6 +144,7 @@ request_for asked.Assign tei octets = asking.Assign tei
 request_for asked.Remove tei octets = asking.Remove tei
 request_for asked.Check tei octets = asking.Check tei
 request_for asked.Disown tei octets = asking.Disown tei
+request_for asked.Verify tei octets = asking.VerifyTei tei
 request_for (asked.Establish service) tei octets = asking.Establish service tei
 request_for (asked.Release service) tei octets = asking.Release service tei
 request_for (asked.SetBusy service) tei octets = asking.SetBusy service tei
@@ -154,6 +155,10 @@ request_for (asked.Unit service) tei octets = asking.Unit service tei octets
 
 abbrev pub after_request : ℕ → ℕ → Asked → List ℕ → Scene → Scene
 after_request line tei what octets s = with_event s (at line (request (request_for what tei octets)))
+
+-- `ask`: a terminal asks for a TEI.
+abbrev pub after_asking : ℕ → Scene → Scene
+after_asking line s = with_event s (at line (request asking.AskTei))
 
 -- `down`: the line is down. Each link of the TEIs that are on it is given up, by TEI, that of call control first; and then
 -- what waits and is of no link.
@@ -229,9 +234,10 @@ with_card (line.into number octets) s = if nat_lt number s.setup.board.config.li
 with_card (line.failed number fault) s = for_frames s.setup.board.kind (at_line number s (after_failed number fault s))
 with_card (line.next number) s = for_frames s.setup.board.kind (at_line number s (after_next number s))
 with_card (line.down number) s = at_line number s (after_down number s)
+with_card (line.ask_tei number) s = at_line number s (after_asking number s)
 with_card (line.pull number count) s = for_octets s.setup.board.kind (at_line number s (after_pull number count s))
 with_card (line.wait milliseconds) s = in_time milliseconds s
-with_card (line.timers t200 t203 t201) s = with_timers (record { t200 = t200; t203 = t203; t201 = t201; t202 = 2000 }) s
+with_card (line.timers t200 t203 t201 t202) s = with_timers (record { t200 = t200; t203 = t203; t201 = t201; t202 = t202 }) s
 with_card line.stored s = Ok (after_stored s)
 with_card (line.counters number group) s = at_line number s (after_counters group number s)
 with_card (line.ask number tei what octets) s = at_line number s (after_request number tei what octets s)

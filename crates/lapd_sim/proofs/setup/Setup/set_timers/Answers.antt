@@ -9,7 +9,7 @@ use Rattle.lapd_sim.proofs.setup.Setup.set_timers.Goals as goal
 
 pub returns : goal.returns
 returns c = λ before m h.
-    let lengths : Lengths = record { t200 = c.args.t200; t203 = c.args.t203; t201 = c.args.t201; t202 = 2000 } in
+    let lengths : Lengths = record { t200 = c.args.t200; t203 = c.args.t203; t201 = c.args.t201; t202 = c.args.t202 } in
     obeyed (Ok tt) (Ok tt) refl before before (SetupStands _) _ (after_timers lengths (scene m)) (timers_set lengths (scene m) c.in-Ok.ensures.in_range) (
       puts_nothing before,
       record {

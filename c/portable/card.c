@@ -31,7 +31,7 @@ static u32 fault_of(const lapd_config *config) {
         {config->queue, least, 127, LAPD_BAD_QUEUE},      {config->unit_queue, 1, 16, LAPD_BAD_UNIT_QUEUE},
         {config->control, 2, 16, LAPD_BAD_CONTROL},       {config->slots, 1, 8192, LAPD_BAD_SLOTS},
         {config->n201, 8, LAPD_MOST_OCTETS, LAPD_BAD_N201}, {config->n200, 0, 10, LAPD_BAD_N200},
-        {config->sapi, 0, 62, LAPD_BAD_SAPI},             {config->side, 0, 1, LAPD_BAD_SIDE},
+        {config->sapi, 0, 62, LAPD_BAD_SAPI},             {config->side, 0, LAPD_TERMINAL, LAPD_BAD_SIDE},
     };
     for (size_t i = 0; i < sizeof fields / sizeof *fields; i++)
         if (fields[i].value < fields[i].least || fields[i].value > fields[i].most)
@@ -62,7 +62,8 @@ static u32 called(machine *instance, const start_call *call) {
 /* Whether a length of a timer is out of range. */
 static bool is_out_of_range(const lapd_lengths *it) {
     enum { HOUR = 3600000 };
-    return it != NULL && (it->t200 - 1 >= HOUR || it->t203 - 1 >= HOUR || it->t201 - 1 >= HOUR);
+    return it != NULL && (it->t200 - 1 >= HOUR || it->t203 - 1 >= HOUR || it->t201 - 1 >= HOUR ||
+                          it->t202 - 1 >= HOUR);
 }
 
 /* Starts a card or a clock in a machine of its own. */

@@ -1,4 +1,4 @@
-/* linecard.c: what exchange.c and hardware.c do alike. See linecard.h. */
+/* linecard.c: what exchange.c, hardware.c and terminal.c do alike. See linecard.h. */
 #define _POSIX_C_SOURCE 200809L
 
 #include "linecard.h"
@@ -10,7 +10,7 @@
 /* Basic access: windows of 1 for call control and 3 for packet mode (Q.921, 5.9.5). */
 const lapd_config linecard_config = {.lines = 1, .terminals = 8, .k = 1, .k16 = 3, .queue = 8, .unit_queue = 4,
                                      .control = 4, .slots = 64, .n201 = 260, .n200 = 3};
-const lapd_lengths linecard_lengths = {.t200 = 1000, .t203 = 10000, .t201 = 1000};
+const lapd_lengths linecard_lengths = {.t200 = 1000, .t203 = 10000, .t201 = 1000, .t202 = 2000};
 
 bool linecard_is_ok(const linecard *own, uint32_t status, const char *call) {
     if (status != LAPD_OK)
@@ -26,6 +26,10 @@ void put_octets(FILE *to, const uint8_t *octets, size_t length) {
 
 /* ---- Layer 3 ------------------------------------------------------------------------------------------------------ */
 
+static bool is_of_contents(const lapd_note *note) {
+    return note->note == LAPD_DATA_INDICATION || note->note == LAPD_UNIT_INDICATION;
+}
+
 /* A link came up or went down, a TEI came or left, or there was an error. */
 static void link_changed(const lapd_note *note) {
     fprintf(stderr, "0 %s %u", lapd_note_text(note), note->tei);
@@ -38,6 +42,25 @@ static void contents_came(const lapd_note *note, const lapd_report *report) {
     put_octets(stderr, report->contents, report->length);
 }
 
+/* A request was made: what it led to, or that it is refused. */
+static bool asked(linecard *own, uint32_t status, const char *name, const lapd_report *report) {
+    if ((LAPD_REFUSED_BAD_TEI <= status && status <= LAPD_REFUSED_CONTROL_FULL) || status == LAPD_REFUSED_WRONG_SIDE) {
+        fprintf(stderr, "0 refused %s\n", lapd_status_text(status));
+        return true;
+    }
+    return linecard_is_ok(own, status, name) && linecard_tell(own, report);
+}
+
+bool linecard_ask(linecard *own, const char *name, uint8_t request, uint8_t tei) {
+    lapd_report report; /* layer 3 may ask while it reads another */
+    if (own->record != NULL && request == LAPD_ASK_TEI)
+        fprintf(own->record, "%s 0\n", name);
+    else if (own->record != NULL)
+        fprintf(own->record, "%s 0 %u\n", name, tei);
+    uint32_t status = lapd_request_with(&own->card, 0, request, LAPD_CALL, tei, NULL, 0, &report);
+    return asked(own, status, name, &report);
+}
+
 bool linecard_send(linecard *own, const lapd_note *note, const uint8_t *octets, size_t length) {
     static lapd_report report;
     if (own->record != NULL) {
@@ -45,11 +68,7 @@ bool linecard_send(linecard *own, const lapd_note *note, const uint8_t *octets, 
         put_octets(own->record, octets, length);
     }
     uint32_t status = lapd_data(&own->card, 0, note->service, note->tei, octets, length, &report);
-    if ((LAPD_REFUSED_BAD_TEI <= status && status <= LAPD_REFUSED_CONTROL_FULL) || status == LAPD_REFUSED_WRONG_SIDE) {
-        fprintf(stderr, "0 refused %s\n", lapd_status_text(status));
-        return true;
-    }
-    return linecard_is_ok(own, status, "data") && linecard_tell(own, &report);
+    return asked(own, status, "data", &report);
 }
 
 bool linecard_traces(linecard *own, int *words, char ***word) {
@@ -68,7 +87,7 @@ bool linecard_tell(linecard *own, const lapd_report *report) {
         trace_report(own->log, own->now, &own->card, report);
     const lapd_note *data = NULL;
     for (const lapd_note *note = report->notes; note < report->notes + report->note_count; note++)
-        if (note->note == LAPD_DATA_INDICATION || note->note == LAPD_UNIT_INDICATION) {
+        if (is_of_contents(note)) {
             contents_came(note, report);
             data = note->note == LAPD_DATA_INDICATION ? note : data;
         } else {
@@ -78,6 +97,9 @@ bool linecard_tell(linecard *own, const lapd_report *report) {
         fprintf(stderr, "0 dropped %s\n", lapd_cause_text(report->cause));
     if (report->lost != 0)
         fprintf(stderr, "0 lost %u\n", report->lost);
+    for (unsigned i = 0; own->changed != NULL && i < report->note_count; i++)
+        if (!is_of_contents(&report->notes[i]) && !own->changed(own, &report->notes[i]))
+            return false;
     return data == NULL || own->message_came(own, data, report->contents, report->length);
 }
 

@@ -1,6 +1,6 @@
 /*
- * linecard.h: what exchange.c and hardware.c do alike. A card with one line, which keeps its own timers: notes go to layer 3,
- * and each timer expires at its moment. What layer 3 does with a message is each program's own.
+ * linecard.h: what exchange.c, hardware.c and terminal.c do alike. A card with one line, which keeps its own timers: notes go
+ * to layer 3, and each timer expires at its moment. What layer 3 does with a message is each program's own.
  */
 #ifndef LINECARD_H
 #define LINECARD_H
@@ -18,6 +18,7 @@ typedef struct linecard linecard;
 struct linecard {
     const char *program; /* its name, for what it says of faults */
     bool (*message_came)(linecard *own, const lapd_note *note, const uint8_t *contents, size_t length);
+    bool (*changed)(linecard *own, const lapd_note *note); /* a note of no contents came, where layer 3 does something; or NULL */
     FILE *record; /* where all that happens is written as a script of docs/FORMAT.md, or NULL */
     trace *log;   /* or NULL */
     lapd_card card;
@@ -37,6 +38,10 @@ bool linecard_traces(linecard *own, int *words, char ***word);
 
 /* Hands the notes of a report to layer 3. */
 bool linecard_tell(linecard *own, const lapd_report *report);
+
+/* Layer 3 asks for something by a request without contents, which the record calls so; a refusal is told. Of a terminal that
+ * asks for a TEI, the TEI is LAPD_GROUP_TEI. */
+bool linecard_ask(linecard *own, const char *name, uint8_t request, uint8_t tei);
 
 /* Layer 3 sends a message on the link of this note. */
 bool linecard_send(linecard *own, const lapd_note *note, const uint8_t *octets, size_t length);

@@ -34,10 +34,10 @@ static void trace_note(const trace *log, const lapd_note *note, const lapd_repor
 }
 
 static void trace_order(const trace *log, const lapd_order *order) {
-    static const char *const timers[] = {"", "t200", "t203", "t201"};
+    static const char *const timers[] = {"", "t200", "t203", "t201", "t202"};
     const lapd_timer *timer = &order->timer;
-    fprintf(log->to, "%s %s", order->order == LAPD_START ? "start" : "stop", timers[timer->timer & 3]);
-    if (timer->timer != LAPD_T201)
+    fprintf(log->to, "%s %s", order->order == LAPD_START ? "start" : "stop", timers[timer->timer % 5]);
+    if (timer->timer == LAPD_T200 || timer->timer == LAPD_T203)
         fprintf(log->to, "%s %u", timer->service == LAPD_PACKET ? "-16" : "", timer->tei);
     fputc('\n', log->to);
 }

@@ -1,5 +1,5 @@
 // asked.cpp: what lapd.hpp can be asked for and no script asks: states, links, rooms, a line that goes down, frames in words,
-// begun frames, timers of a card's own, ends and second starts; and that one that fails leaves its answer as it was. Status 0
+// begun frames, timers of a card's own, a terminal, ends and second starts; and that one that fails leaves its answer as it was. Status 0
 // where all is as it should be. For tests alone.
 #include <cstdio>
 #include <cstring>
@@ -12,7 +12,7 @@ namespace {
 using lapd::service;
 using lapd::status;
 
-const lapd_config config = {2, 8, 7, 7, 8, 4, 4, 64, 260, 3, LAPD_NETWORK, 0};
+const lapd_config config = {2, 8, 7, 7, 8, 4, 4, 64, 260, 3, LAPD_NETWORK, 0, 0};
 const uint8_t sabme[] = {0x00, 0x81, 0x7F};
 bool is_good = true;
 
@@ -103,7 +103,7 @@ void asks_timers(lapd::any_card &card) {
 }
 
 void asks_timed(lapd::card &octets, lapd::frame_card &frames) {
-    const lapd_lengths lengths = {1000, 10000, 1000}, wrong = {1000, 10000, 0};
+    const lapd_lengths lengths = {1000, 10000, 1000, 2000}, wrong = {1000, 10000, 0, 2000};
     lapd::report report;
     uint64_t moment = 7;
     wants(octets.start(config, wrong) == status::wrong_time && frames.start(config, wrong) == status::wrong_time, "wrong lengths");
@@ -113,6 +113,34 @@ void asks_timed(lapd::card &octets, lapd::frame_card &frames) {
     asks_timers(frames);
     wants(frames.start(config) == status::ok && frames.fall_due(0, report) == status::wrong_card && frames.next_moment(moment) == status::wrong_card, "no timers of its own");
     wants(frames.end() == status::ok, "an end without timers");
+}
+
+// A terminal asks for its TEI, gets it, verifies it and loses it; T202 is told by its own name.
+void asks_terminal() {
+    lapd_config of = config;
+    of.side = LAPD_TERMINAL;
+    of.seed = 0x1234;
+    lapd::frame_card card;
+    lapd::clock clock;
+    lapd::report report;
+    lapd::due due;
+    uint8_t room[LAPD_MOST_FRAME];
+    lapd::octets goes;
+    uint8_t assigned[] = {0xFE, 0xFF, 0x03, 0x0F, 0x29, 0x5D, 0x02, 0x81};
+    wants(card.start(of) == status::ok && clock.start(of) == status::ok && clock.set_lengths(1, 2, 3, 4) == status::ok, "a terminal");
+    wants(clock.set_lengths(1, 2, 3, 0) == status::wrong_time, "no T202");
+    wants(card.ask_tei(0, report) == status::ok && clock.apply(0, report, 0) == status::ok && clock.take_due(4, due) == status::ok, "it asks");
+    wants(due.timer.kind == lapd::timer_kind::t202 && card.expire(0, due.timer, report) == status::ok, "T202");
+    wants(card.ask_tei(0, report) == status::refused_check_running && card.check(0, 64, report) == status::refused_wrong_side, "refusals");
+    wants(card.next_frame(0, room, goes, report) == status::ok && goes.size() == 8 && goes[4] == 0x29 && goes[6] == 1, "its request");
+    assigned[6] = 3, assigned[7] = 0xFF;
+    wants(card.frame(0, assigned, report) == status::ok && report.notes()[0].kind == lapd::note_kind::denied && report.notes()[0].tei == 127, "denied");
+    assigned[6] = 2, assigned[7] = 0x81;
+    wants(card.frame(0, assigned, report) == status::ok && report.notes()[0].kind == lapd::note_kind::assigned && report.notes()[0].tei == 64, "its TEI");
+    wants(card.verify_tei(0, 65, report) == status::refused_no_link && card.verify_tei(0, 64, report) == status::ok, "it verifies");
+    assigned[6] = 6;
+    wants(card.frame(0, assigned, report) == status::ok && std::strcmp(report.notes()[0].text(), "removed") == 0, "it is removed");
+    wants(report.orders().size() == 1 && report.orders()[0].timer.kind == lapd::timer_kind::t202, "T202 stops");
 }
 
 } // namespace
@@ -127,6 +155,7 @@ int main() {
     wants(frames.start(config) == status::ok && frames.start(config) == status::second_start, "a start for frames");
     wants(octets.assign(1, 64, report) == status::ok && frames.assign(1, 64, report) == status::ok, "a TEI");
     asks_words();
+    asks_terminal();
     asks_frames(frames, report);
     asks_octets(octets, report);
     for (lapd::any_card *card : {static_cast<lapd::any_card *>(&octets), static_cast<lapd::any_card *>(&frames)}) {

@@ -13,8 +13,8 @@
 
 enum { PLACES = 254, LINES = 2 };
 
-static const lapd_config config = {LINES, 8, 7, 7, 8, 4, 4, 8, 260, 3, LAPD_NETWORK, 0};
-static const lapd_lengths lengths_of = {.t200 = 1000, .t203 = 10000, .t201 = 1000};
+static const lapd_config config = {LINES, 8, 7, 7, 8, 4, 4, 8, 260, 3, LAPD_NETWORK, 0, 0};
+static const lapd_lengths lengths_of = {.t200 = 1000, .t203 = 10000, .t201 = 1000, .t202 = 2000};
 static lapd_card card;
 static lapd_report report;
 static int failed;
@@ -211,13 +211,15 @@ static void lengths(void) {
     lapd_clock clock = LAPD_CLOCK_NONE;
     const lapd_order start = {LAPD_START, {LAPD_T200, LAPD_CALL, 64}};
     uint64_t moment = 0;
-    wants(lapd_clock_set_lengths(&clock, 1, 1, 1) == LAPD_NO_CLOCK, "lengths of no clock");
+    wants(lapd_clock_set_lengths(&clock, 1, 1, 1, 1) == LAPD_NO_CLOCK, "lengths of no clock");
     wants(lapd_clock_start(&clock, &config) == LAPD_OK, "no clock");
-    wants(lapd_clock_set_lengths(&clock, 3600000, 3600000, 3600000) == LAPD_OK, "an hour is refused");
-    wants(lapd_clock_set_lengths(&clock, 1, 2, 3) == LAPD_OK, "a millisecond is refused");
-    wants(lapd_clock_set_lengths(&clock, 0, 5, 5) == LAPD_WRONG_TIME, "T200 of nothing");
-    wants(lapd_clock_set_lengths(&clock, 5, 3600001, 5) == LAPD_WRONG_TIME, "T203 of more than an hour");
-    wants(lapd_clock_set_lengths(&clock, 5, 5, UINT32_MAX) == LAPD_WRONG_TIME, "T201 of more than an hour");
+    wants(lapd_clock_set_lengths(&clock, 3600000, 3600000, 3600000, 3600000) == LAPD_OK, "an hour is refused");
+    wants(lapd_clock_set_lengths(&clock, 1, 2, 3, 4) == LAPD_OK, "a millisecond is refused");
+    wants(lapd_clock_set_lengths(&clock, 0, 5, 5, 5) == LAPD_WRONG_TIME, "T200 of nothing");
+    wants(lapd_clock_set_lengths(&clock, 5, 3600001, 5, 5) == LAPD_WRONG_TIME, "T203 of more than an hour");
+    wants(lapd_clock_set_lengths(&clock, 5, 5, UINT32_MAX, 5) == LAPD_WRONG_TIME, "T201 of more than an hour");
+    wants(lapd_clock_set_lengths(&clock, 5, 5, 5, 3600001) == LAPD_WRONG_TIME, "T202 of more than an hour");
+    wants(lapd_clock_set_lengths(&clock, 5, 5, 5, 0) == LAPD_WRONG_TIME, "T202 of nothing");
     wants(lapd_clock_apply(&clock, 0, &start, 100) == LAPD_OK, "no T200");
     wants(lapd_clock_next(&clock, &moment) == LAPD_OK && moment == 101, "a wrong call has changed the lengths");
     wants(lapd_clock_free(&clock) == LAPD_OK, "a clock stays");

@@ -62,7 +62,7 @@ static uint32_t with_clock(lapd_card *card, const lapd_config *config, const lap
     must(it != NULL, "too many cards");
     uint32_t status = lapd_clock_start(&it->timers, config);
     if (status == LAPD_OK)
-        status = lapd_clock_set_lengths(&it->timers, lengths->t200, lengths->t203, lengths->t201);
+        status = lapd_clock_set_lengths(&it->timers, lengths->t200, lengths->t203, lengths->t201, lengths->t202);
     it->now = 0;
     if (status == LAPD_OK) {
         it->card = card;

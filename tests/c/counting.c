@@ -58,7 +58,7 @@ void count_given(counting *to, const uint8_t *octets, size_t length) {
 void count_told(counting *to, const lapd_report *report) {
     static const uint8_t places[] = {0, LAPD_TOLD_ESTABLISH_INDICATION, LAPD_TOLD_ESTABLISH_CONFIRM,
         LAPD_TOLD_RELEASE_INDICATION, LAPD_TOLD_RELEASE_CONFIRM, LAPD_TOLD_DATA, LAPD_TOLD_UNIT, 0, LAPD_TOLD_ASSIGNED,
-        LAPD_TOLD_REMOVED, LAPD_TOLD_DOUBLED, LAPD_TOLD_XID};
+        LAPD_TOLD_REMOVED, LAPD_TOLD_DOUBLED, LAPD_TOLD_XID, LAPD_TOLD_DENIED, LAPD_TOLD_UNASSIGNED, LAPD_TOLD_REMOVE_ALL};
     static const char letters[] = "ABCDEFGHIJKLNO";
     for (unsigned i = 0; i < report->note_count; i++) {
         const lapd_note *note = &report->notes[i];

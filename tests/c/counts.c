@@ -17,11 +17,12 @@
 
 enum { LINES = 3, N201 = 16, TURNS = 4000, MOST_PULLS = 4000 };
 
-static lapd_config config = {LINES, 8, 7, 7, 8, 4, 2, 40, N201, 3, LAPD_NETWORK, 0};
+static lapd_config config = {LINES, 8, 7, 7, 8, 4, 2, 40, N201, 3, LAPD_NETWORK, 0, 0};
 static lapd_card card;
 static bool for_frames;
 static lapd_report report;
 static hdlc_sender senders[LINES];
+static uint8_t asked[2]; /* the reference number of the latest message that went */
 static hdlc_listener listeners[LINES];
 static counting counted[LINES];
 static uint32_t seed;
@@ -38,8 +39,11 @@ static void pull(uint32_t line) {
     count_told(&counted[line], &report);
     if (report.begun && lapd_begun(&card, line, &head) == LAPD_OK)
         count_head(&counted[line], true, head.octets, head.length);
-    if (hdlc_hear(&listeners[line], octet))
-        count_message(&counted[line], true, listeners[line].frame, listeners[line].length);
+    if (!hdlc_hear(&listeners[line], octet))
+        return;
+    count_message(&counted[line], true, listeners[line].frame, listeners[line].length);
+    if (listeners[line].frame[0] >> 2 == 63)
+        memcpy(asked, listeners[line].frame + 4, sizeof asked);
 }
 
 /* At a card of frames. */
@@ -50,6 +54,8 @@ static void take_next(uint32_t line) {
         return;
     count_told(&counted[line], &report);
     count_given(&counted[line], octets, length);
+    if (octets[0] >> 2 == 63)
+        memcpy(asked, octets + 4, sizeof asked);
 }
 
 static void octet_comes(uint32_t line, uint8_t octet) {
@@ -71,19 +77,26 @@ static size_t any_frame(uint8_t *octets) {
     return below(30) == 0 ? 1 + below(3) : below(2) ? 3u + (octets[2] % 4 != 3) : 4 + below(26);
 }
 
+/* One of TEI management: mostly what the other side sends. */
+static size_t message(uint8_t *octets) {
+    bool is_terminal = config.side == LAPD_TERMINAL, is_answer = is_terminal && below(2);
+    const uint8_t of[] = {(uint8_t)((below(4) != 0) == is_terminal ? 0xFE : 0xFC), (uint8_t)(below(8) ? 0xFF : 0xFD),
+                          below(8) ? 0x03 : 0x13, (uint8_t)(below(8) ? 0x0F : 0x0E), is_answer ? asked[0] : (uint8_t)below(3),
+                          is_answer ? asked[1] : (uint8_t)below(4), (uint8_t)(below(3) ? 5u - is_terminal : below(2) ? 1 : below(10)), 0xFF};
+    memcpy(octets, of, sizeof of);
+    if (is_answer)
+        octets[6] = (uint8_t)(below(4) ? 2 : 3);
+    if (octets[6] == 5 || octets[6] == 6 || (is_terminal && octets[6] != 3 && below(4)))
+        octets[7] = (uint8_t)(2 * (64 + below(4)) + 1);
+    return sizeof of;
+}
+
 /* One that is likely to be served: of TEI management, or for a link that has a TEI. */
 static size_t likely_frame(uint8_t *octets) {
     static const uint8_t controls[] = {0x7F, 0x7F, 0x73, 0x73, 0x01, 0x01, 0x01, 0x01, 0x09, 0x05};
     unsigned what = below(16);
-    if (what == 0) {
-        const uint8_t message[] = {(uint8_t)(below(4) ? 0xFC : 0xFE), (uint8_t)(below(8) ? 0xFF : 0xFD), below(8) ? 0x03 : 0x13,
-                                   (uint8_t)(below(8) ? 0x0F : 0x0E), (uint8_t)below(3), (uint8_t)below(4),
-                                   (uint8_t)(below(3) ? 5 : below(2) ? 1 : below(10)), 0xFF};
-        memcpy(octets, message, sizeof message);
-        if (octets[6] == 5)
-            octets[7] = (uint8_t)(2 * (64 + below(3)) + 1);
-        return sizeof message;
-    }
+    if (what == 0 || (what < 4 && config.side == LAPD_TERMINAL))
+        return message(octets);
     octets[0] = below(4) ? 0 : 64;
     octets[1] = (uint8_t)(2 * (64 + below(3)) + 1);
     octets[2] = (uint8_t)(what < 6 ? 2 * below(3) : controls[what - 6]);
@@ -92,7 +105,7 @@ static size_t likely_frame(uint8_t *octets) {
         return 4 + below(8);
     if (octets[2] == 0x73 || (octets[2] % 4 == 1 && below(2)))
         octets[0] |= 2;
-    if (config.side == LAPD_USER)
+    if (config.side != LAPD_NETWORK)
         octets[0] ^= 2;
     return octets[2] % 4 == 3 ? 3 : 4;
 }
@@ -133,7 +146,7 @@ static void frame_comes(uint32_t line) {
 
 static void asks(uint32_t line) {
     static const uint8_t requests[] = {LAPD_ESTABLISH, LAPD_RELEASE, LAPD_DATA, LAPD_DATA, LAPD_DATA, LAPD_UNIT,
-        LAPD_ASSIGN, LAPD_REMOVE, LAPD_CHECK, LAPD_DISOWN, LAPD_BUSY, LAPD_READY, LAPD_READY, LAPD_DEACTIVATE, LAPD_DOWN};
+        LAPD_ASSIGN, LAPD_REMOVE, LAPD_CHECK, LAPD_DISOWN, LAPD_BUSY, LAPD_READY, LAPD_READY, LAPD_DEACTIVATE, LAPD_DOWN, LAPD_ASK_TEI, LAPD_VERIFY_TEI};
     uint8_t request = requests[below(sizeof requests)], contents[N201 + 4] = {1, 2, 3};
     size_t length = request == LAPD_DATA || request == LAPD_UNIT ? below(sizeof contents) : 0;
     uint8_t service = below(2) ? LAPD_CALL : LAPD_PACKET;
@@ -143,7 +156,7 @@ static void asks(uint32_t line) {
 }
 
 static void expires(uint32_t line) {
-    lapd_timer timer = {(uint8_t)(LAPD_T200 + below(3)), below(2) ? LAPD_CALL : LAPD_PACKET, (uint8_t)(64 + below(4))};
+    lapd_timer timer = {(uint8_t)(LAPD_T200 + below(4)), below(2) ? LAPD_CALL : LAPD_PACKET, (uint8_t)(64 + below(4))};
     (void)!lapd_expire(&card, line, &timer, &report);
     count_told(&counted[line], &report);
 }
@@ -179,7 +192,7 @@ int main(int count, char **words) {
     seed = (uint32_t)strtoul(words[1], NULL, 10);
     for_frames = strcmp(words[2], "frames") == 0;
     if (count > 3)
-        config.side = LAPD_USER;
+        config.side = strcmp(words[3], "terminal") == 0 ? LAPD_TERMINAL : LAPD_USER;
     if ((for_frames ? lapd_card_start_frames(&card, &config) : lapd_card_start(&card, &config)) != LAPD_OK)
         return 1;
     for (uint32_t line = 0; line < LINES; line++) {

@@ -22,7 +22,7 @@ COMMANDS = ("cc -O2 -o lapdsim dist/lapdsim.c && ./lapdsim run < crates/lapdsim/
             "cc -O2 -I dist -o first examples/c/first.c dist/lapd.c && ./first")
 SOON = 45
 # Programs of examples/c with their files; first.c and wire.c are played, as they ask for nothing.
-EXAMPLES = {"first": (), "wire": (), "terminal": (), "clock": ("trace",), "exchange": ("linecard", "pcap", "trace"),
+EXAMPLES = {"first": (), "wire": (), "terminal": ("linecard", "trace"), "clock": ("trace",), "exchange": ("linecard", "pcap", "trace"),
             "hardware": ("linecard", "pcap", "trace")}
 # Parts of examples/c that are no programs.
 PARTS_OF_EXAMPLES = {"linecard", "pcap", "trace", "gateway"}

@@ -12,9 +12,9 @@
 
 enum { LINES = 2, ROUNDS = 40000 };
 
-static const lapd_config config = {LINES, 8, 7, 7, 8, 4, 4, 8, 260, 3, LAPD_NETWORK, 0};
-static const lapd_config narrow = {1, 1, 1, 1, 1, 1, 2, 1, 8, 0, LAPD_NETWORK, 0};
-static const lapd_config primary = {1, 1, 7, 7, 8, 4, 4, 20, 260, 3, LAPD_NETWORK, 0};
+static const lapd_config config = {LINES, 8, 7, 7, 8, 4, 4, 8, 260, 3, LAPD_NETWORK, 0, 0};
+static const lapd_config narrow = {1, 1, 1, 1, 1, 1, 2, 1, 8, 0, LAPD_NETWORK, 0, 0};
+static const lapd_config primary = {1, 1, 7, 7, 8, 4, 4, 20, 260, 3, LAPD_NETWORK, 0, 0};
 static const uint8_t sabme[] = {0x00, 0x81, 0x7F}, ua[] = {0x00, 0x81, 0x73}, from_terminal[] = {0x02, 0x81, 0x73};
 static int failed;
 
@@ -440,7 +440,7 @@ static void first_trunk(void) {
     lapd_card card = LAPD_CARD_NONE;
     uint8_t frame[LAPD_MOST_FRAME + 1] = {0};
     lay_paint();
-    static const lapd_lengths lengths = {.t200 = 1000, .t203 = 10000, .t201 = 1000};
+    static const lapd_lengths lengths = {.t200 = 1000, .t203 = 10000, .t201 = 1000, .t202 = 2000};
     lapd_config trunk = primary;
     trunk.side = LAPD_USER;
     static const uint8_t ua_of_network[] = {0x00, 0x01, 0x73};

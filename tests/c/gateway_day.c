@@ -31,7 +31,7 @@ enum { CALLS_EACH = 900000, TALKS = 180000, UP_FOR = 7200000, DOWN_FOR = 40000 }
 
 static const lapd_config config = {.lines = LINES, .terminals = 1, .k = 1, .k16 = 3, .queue = 8, .unit_queue = 4,
                                    .control = 4, .slots = 128, .n201 = 260, .n200 = 3, .side = LAPD_NETWORK};
-static const lapd_lengths lengths = {.t200 = 1000, .t203 = 10000, .t201 = 1000};
+static const lapd_lengths lengths = {.t200 = 1000, .t203 = 10000, .t201 = 1000, .t202 = 2000};
 
 /* A frame on a line, or none, of length 0. */
 typedef struct {

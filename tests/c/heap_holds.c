@@ -16,11 +16,13 @@
 #endif
 
 static const lapd_config configs[] = {
-    {1, 1, 1, 1, 1, 1, 2, 1, 8, 0, LAPD_NETWORK, 0},
-    {1, 8, 7, 7, 8, 4, 4, 64, 260, 3, LAPD_NETWORK, 0},
-    {4, 4, 7, 3, 16, 8, 8, 300, 128, 3, LAPD_USER, 0},
-    {64, 8, 7, 7, 8, 4, 4, 1024, 260, 3, LAPD_NETWORK, 0},
-    {64, 1, 1, 1, 1, 1, 2, 1, 8, 0, LAPD_NETWORK, 0},
+    {1, 1, 1, 1, 1, 1, 2, 1, 8, 0, LAPD_NETWORK, 0, 0},
+    {1, 8, 7, 7, 8, 4, 4, 64, 260, 3, LAPD_NETWORK, 0, 0},
+    {4, 4, 7, 3, 16, 8, 8, 300, 128, 3, LAPD_USER, 0, 0},
+    {64, 1, 1, 1, 1, 1, 2, 1, 8, 0, LAPD_TERMINAL, 0, 0},
+    {64, 8, 7, 7, 8, 4, 4, 1024, 260, 3, LAPD_TERMINAL, 0, 0},
+    {64, 8, 7, 7, 8, 4, 4, 1024, 260, 3, LAPD_NETWORK, 0, 0},
+    {64, 1, 1, 1, 1, 1, 2, 1, 8, 0, LAPD_NETWORK, 0, 0},
 };
 
 /* So many octets that lie together are free; each is written and read. */
@@ -45,7 +47,7 @@ typedef struct {
     uint64_t (*octets)(const lapd_config *config);
 } kind;
 
-static const lapd_lengths lengths = {.t200 = 1000, .t203 = 10000, .t201 = 1000};
+static const lapd_lengths lengths = {.t200 = 1000, .t203 = 10000, .t201 = 1000, .t202 = 2000};
 
 static uint32_t start_timed(lapd_card *card, const lapd_config *config) {
     return lapd_card_start_timed(card, config, &lengths);

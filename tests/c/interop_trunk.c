@@ -196,7 +196,7 @@ static void start(void) {
     if (socketpair(AF_UNIX, SOCK_SEQPACKET, 0, ends) != 0)
         fail("there is no socket");
     if (lapd_card_start_frames(&card, &config) != LAPD_OK || lapd_clock_start(&timers, &config) != LAPD_OK
-        || lapd_clock_set_lengths(&timers, T200_MS, 10000, 1000) != LAPD_OK)
+        || lapd_clock_set_lengths(&timers, T200_MS, 10000, 1000, 2000) != LAPD_OK)
         fail("the card does not start");
     now = monotonic();
     ask(LAPD_ASSIGN, (const uint8_t *)"", 0); /* TEI 0, that of a line from point to point */

@@ -9,12 +9,13 @@
 #define AT(type, field, place) _Static_assert(offsetof(type, field) == (place), #type "." #field)
 #define OCTETS(type, size) _Static_assert(sizeof(type) == (size), #type)
 
-OCTETS(lapd_config, 24);
+OCTETS(lapd_config, 26);
 AT(lapd_config, k16, 6);
 AT(lapd_config, slots, 14);
 AT(lapd_config, n200, 18);
 AT(lapd_config, side, 20);
-AT(lapd_config, sapi, 22);
+AT(lapd_config, seed, 22);
+AT(lapd_config, sapi, 24);
 OCTETS(lapd_note, 4);
 AT(lapd_note, error, 3);
 OCTETS(lapd_timer, 3);
@@ -35,13 +36,14 @@ AT(lapd_report, reopened, 301);
 AT(lapd_report, reopened_service, 302);
 AT(lapd_report, reopened_tei, 303);
 AT(lapd_report, line, 304);
-OCTETS(lapd_lengths, 12);
+OCTETS(lapd_lengths, 16);
 AT(lapd_lengths, t201, 8);
+AT(lapd_lengths, t202, 12);
 OCTETS(lapd_link, 3);
 AT(lapd_link, state, 2);
 OCTETS(lapd_head, 6);
 AT(lapd_head, octets, 2);
-OCTETS(struct lapd_counters, 608);
+OCTETS(struct lapd_counters, 632);
 OCTETS(struct lapd_room, 8);
 AT(struct lapd_room, queue, 4);
 AT(struct lapd_room, va, 5);

@@ -1,6 +1,7 @@
 /*
- * libpri_terminal.h: libpri as the terminal of a basic access line, point to multipoint, for interop.c,
- * interop_frames.c and gateway_day.c, and as the network of a primary rate access, point to point, for interop_trunk.c.
+ * libpri_terminal.h: libpri as the terminal of a basic access line, point to multipoint, for interop.c, interop_frames.c and
+ * gateway_day.c; as the network of a primary rate access, point to point, for interop_trunk.c, and of a basic access line,
+ * point to multipoint, for interop_terminals.c.
  * Its frames go by two functions of the test's; what it says is shown where VERBOSE is set.
  */
 #ifndef LIBPRI_TERMINAL_H
@@ -14,6 +15,9 @@ struct pri *libpri_terminal(int file, pri_io_cb take, pri_io_cb give);
 
 /* The network in the same way: it begins to establish the link. */
 struct pri *libpri_network(int file, pri_io_cb take, pri_io_cb give);
+
+/* The network of a basic access line in the same way: it assigns, checks and removes TEIs. */
+struct pri *libpri_access(int file, pri_io_cb take, pri_io_cb give);
 
 /* It calls a subscriber. */
 q931_call *libpri_calls(struct pri *terminal);

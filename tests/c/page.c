@@ -74,7 +74,7 @@ static void layer_3(const lapd_report *of) {
         printf("%u dropped %s\n", of->line, lapd_cause_text(of->cause));
 }
 
-static const lapd_lengths lengths = {.t200 = 1000, .t203 = 10000, .t201 = 1000};   /* milliseconds */
+static const lapd_lengths lengths = {.t200 = 1000, .t203 = 10000, .t201 = 1000, .t202 = 2000};   /* milliseconds */
 static lapd_card card = LAPD_CARD_NONE;
 static lapd_report report;
 
@@ -99,9 +99,9 @@ static bool is_as_said(void) {
     four.lines = 4;
     four.slots = 4 * basic.slots;
     return lapd_card_start_frames_timed(&other, &primary, &lengths) == LAPD_OK && lapd_card_free(&other) == LAPD_OK
-           && lapd_card_octets_timed(&basic) == 42048 && lapd_card_octets_frames_timed(&basic) == 41216
-           && lapd_card_octets_timed(&primary) == 8448 && lapd_card_octets_frames_timed(&primary) == 7616
-           && lapd_card_octets_timed(&four) == 166352 && lapd_card_octets_frames_timed(&four) == 163072;
+           && lapd_card_octets_timed(&basic) == 42064 && lapd_card_octets_frames_timed(&basic) == 41232
+           && lapd_card_octets_timed(&primary) == 8464 && lapd_card_octets_frames_timed(&primary) == 7632
+           && lapd_card_octets_timed(&four) == 166448 && lapd_card_octets_frames_timed(&four) == 163168;
 }
 
 int main(void) {

@@ -78,7 +78,7 @@ static void tell(station *b, uint32_t line, const lapd_report *report) {
 }
 
 static uint32_t start_card(station *b, const lapd_config *config) {
-    static const lapd_lengths lengths = {.t200 = 1000, .t203 = 10000, .t201 = 1000};
+    static const lapd_lengths lengths = {.t200 = 1000, .t203 = 10000, .t201 = 1000, .t202 = 2000};
     if (b->is_timed)
         return b->for_frames ? lapd_card_start_frames_timed(&b->card, config, &lengths)
                              : lapd_card_start_timed(&b->card, config, &lengths);
@@ -91,7 +91,8 @@ static fault start(station *b, const command *c) {
     lapd_config config = {.lines = (uint16_t)n[0], .terminals = (uint16_t)n[1], .k = (uint16_t)n[2],
                           .k16 = (uint16_t)n[9], .queue = (uint16_t)n[3], .unit_queue = (uint16_t)n[4],
                           .control = (uint16_t)n[5], .slots = (uint16_t)n[6], .n201 = (uint16_t)n[7],
-                          .n200 = (uint16_t)n[8], .side = c->user ? LAPD_USER : LAPD_NETWORK,
+                          .n200 = (uint16_t)n[8], .side = c->terminal ? LAPD_TERMINAL : c->user ? LAPD_USER : LAPD_NETWORK,
+                          .seed = (uint16_t)(c->terminal ? c->seed : 0),
                           .sapi = (uint16_t)(c->sapi != 0 ? c->sapi : UINT16_MAX)}; /* 0 would mean 16 */
     b->for_frames = c->for_frames;
     uint32_t status = start_card(b, &config);
@@ -372,7 +373,8 @@ static fault obey(station *b, const command *c) {
     if (c->verb == TIMERS) {
         const uint32_t *lengths = c->numbers;
         want_ok(b->is_timed ? LAPD_WRONG_CARD : LAPD_OK, "lengths after the start");
-        return lapd_clock_set_lengths(&b->clock, lengths[0], lengths[1], lengths[2]) == LAPD_OK ? NO_FAULT : BAD_NUMBER;
+        uint32_t status = lapd_clock_set_lengths(&b->clock, lengths[0], lengths[1], lengths[2], lengths[3]);
+        return status == LAPD_OK ? NO_FAULT : BAD_NUMBER;
     }
     if (c->verb == STORED) {
         show_stored(b);

@@ -83,12 +83,13 @@ fault station::start(const command &line) {
     std::array<uint16_t, 10> n{};
     for (size_t i = 0; i < n.size(); i++)
         n[i] = static_cast<uint16_t>(line.numbers[i]);
-    const uint16_t which = line.user ? LAPD_USER : LAPD_NETWORK;
+    const uint16_t which = line.terminal ? LAPD_TERMINAL : line.user ? LAPD_USER : LAPD_NETWORK;
+    const auto seed = static_cast<uint16_t>(line.terminal ? line.seed : 0);
     const auto sapi = static_cast<uint16_t>(line.sapi != 0 ? line.sapi : UINT16_MAX); // 0 would mean 16
-    const lapd_config config = {n[0], n[1], n[2], n[9], n[3], n[4], n[5], n[6], n[7], n[8], which, sapi};
+    const lapd_config config = {n[0], n[1], n[2], n[9], n[3], n[4], n[5], n[6], n[7], n[8], which, seed, sapi};
     auto octets = std::make_unique<lapd::card>();
     auto frames = std::make_unique<lapd::frame_card>();
-    const lapd_lengths lengths = {1000, 10000, 1000};
+    const lapd_lengths lengths = {1000, 10000, 1000, 2000};
     status is = is_timed_ ? (line.for_frames ? frames->start(config, lengths) : octets->start(config, lengths))
                           : (line.for_frames ? frames->start(config) : octets->start(config));
     if (is == status::ok && !is_timed_)
@@ -255,6 +256,8 @@ status station::asked(uint32_t line, const command &of) {
     case LAPD_REMOVE: return any()->remove(line, tei, report_);
     case LAPD_CHECK: return any()->check(line, tei, report_);
     case LAPD_DISOWN: return any()->disown(line, tei, report_);
+    case LAPD_ASK_TEI: return any()->ask_tei(line, report_);
+    case LAPD_VERIFY_TEI: return any()->verify_tei(line, tei, report_);
     case LAPD_BUSY: return any()->busy(line, service, tei, report_);
     case LAPD_READY: return any()->ready(line, service, tei, report_);
     default: return any()->deactivate(line, service, tei, report_);
@@ -340,7 +343,8 @@ fault station::obey(const command &line) {
     if (line.verb == TIMERS) {
         const uint32_t *lengths = line.numbers;
         want_ok(is_timed_ ? status::wrong_card : status::ok, "lengths after the start");
-        return clock_.set_lengths(lengths[0], lengths[1], lengths[2]) == status::ok ? NO_FAULT : BAD_NUMBER;
+        const status is = clock_.set_lengths(lengths[0], lengths[1], lengths[2], lengths[3]);
+        return is == status::ok ? NO_FAULT : BAD_NUMBER;
     }
     if (line.verb == STORED) {
         show_stored();

@@ -12,7 +12,7 @@ HEAD = """\
 
 #include "lapd.h"
 
-static const lapd_config config = {2, 2, 1, 1, 2, 8, 2, 8, 8, 1, LAPD_NETWORK, 0};
+static const lapd_config config = {2, 2, 1, 1, 2, 8, 2, 8, 8, 1, LAPD_NETWORK, 0, 0};
 static int failed;
 
 static void wants(bool is, const char *what) {

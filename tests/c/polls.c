@@ -21,7 +21,7 @@ enum { HEAD = 4, INFORMATION = 64, FIRST_TEI = 64, T203 = 10240 };
 /* Who keeps the timers. It is a constant in each of the works, so that none pays for another. */
 typedef enum { NO_TIMERS, CLOCK, OWN } keeper;
 
-static const lapd_lengths lengths = {1000, T203, 1000};
+static const lapd_lengths lengths = {1000, T203, 1000, 2000};
 static lapd_card card = LAPD_CARD_NONE;
 static lapd_clock timers = LAPD_CLOCK_NONE;
 static lapd_report report;
@@ -139,10 +139,10 @@ static bool is_up(keeper by, uint32_t line, unsigned link) {
 
 /* All its links are up: one of each line, or sixteen, each since a moment of its own. */
 static bool start(keeper by) {
-    const lapd_config config = {(uint16_t)lines, 8, 7, 7, 8, 4, 4, 8, 260, 3, LAPD_NETWORK, 0};
+    const lapd_config config = {(uint16_t)lines, 8, 7, 7, 8, 4, 4, 8, 260, 3, LAPD_NETWORK, 0, 0};
     bool is_there = by == OWN ? lapd_card_start_frames_timed(&card, &config, &lengths) == LAPD_OK
                               : lapd_card_start_frames(&card, &config) == LAPD_OK && lapd_clock_start(&timers, &config) == LAPD_OK
-                                    && lapd_clock_set_lengths(&timers, lengths.t200, lengths.t203, lengths.t201) == LAPD_OK;
+                                    && lapd_clock_set_lengths(&timers, lengths.t200, lengths.t203, lengths.t201, lengths.t202) == LAPD_OK;
     for (unsigned link = 0; link < (terminals == 1 ? 1 : 2 * terminals); link++)
         for (uint32_t line = 0; is_there && line < lines; line++, now += by == CLOCK && terminals > 1)
             is_there = is_early(by) && is_up(by, line, link);

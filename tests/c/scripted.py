@@ -13,7 +13,7 @@ from vithrynel.bits import Deframer, Frame, Terminal
 MOST_LINE, MOST_NUMBER, MOST_TEI, MOST_WAIT, MOST_PULLS = 4096, 65535, 255, 3_600_000, 4096
 LATEST = (1 << 63) - 1
 # From which place on counters are those of messages.
-MESSAGES = 62
+MESSAGES = 65
 # What the numbers of a card line are, in order; the tenth may be left out.
 FIELDS = ("lines", "terminals", "k", "queue", "unit_queue", "control", "slots", "n201", "n200", "k16")
 OCTETS = re.compile(rb"-|(?:[0-9A-Fa-f]{2})*")
@@ -22,16 +22,21 @@ CAUSES = {b"abort": lapd.Cause.ABORT, b"ragged": lapd.Cause.RAGGED, b"short": la
 NUMBERS: Dict[bytes, Tuple[int, int, int]] = {
     b"rx": (1, 0, MOST_NUMBER), b"in": (1, 0, MOST_NUMBER), b"pull": (2, 1, MOST_PULLS), b"next": (1, 0, MOST_NUMBER),
     b"wait": (1, 0, MOST_WAIT), b"stored": (0, 0, 0), b"counters": (1, 0, MOST_NUMBER),
-    b"messages": (1, 0, MOST_NUMBER), b"down": (1, 0, MOST_NUMBER),
-    **{it: (2, 0, MOST_TEI) for it in (b"assign", b"remove", b"check", b"disown", b"establish", b"release", b"busy",
+    b"messages": (1, 0, MOST_NUMBER), b"down": (1, 0, MOST_NUMBER), b"ask": (1, 0, MOST_NUMBER),
+    **{it: (2, 0, MOST_TEI) for it in (b"assign", b"remove", b"check", b"disown", b"verify", b"establish", b"release", b"busy",
                                        b"ready", b"deactivate", b"data", b"unit", b"establish16", b"release16", b"busy16", b"ready16",
                                        b"deactivate16", b"data16", b"unit16")}}
+SIDES = {b"": lapd.Side.NETWORK, b"user": lapd.Side.USER, b"terminal": lapd.Side.TERMINAL}
 WITH_OCTETS = {b"rx", b"in", b"data", b"unit", b"data16", b"unit16"}
 
 
 # The card of a line's word, and whether it keeps its own timers.
 KINDS: Dict[Tuple[str, bool], Any] = {("card", False): lapd.Card, ("frames", False): lapd.FrameCard,
                                       ("card", True): lapd.TimedCard, ("frames", True): lapd.TimedFrameCard}
+
+
+# Requests that lapd.py calls otherwise.
+REQUESTS = {"ask": "ask_tei", "verify": "verify_tei"}
 
 
 class Faulty(Exception):
@@ -57,15 +62,24 @@ def counted(words: List[bytes], *counts: int) -> List[bytes]:
     return words
 
 
+def side_of(words: List[bytes]) -> Tuple[List[bytes], bytes, bytes]:
+    """The numbers of a card line, the side that stands after them, and a terminal's seed."""
+    if len(words) in (10, 11) and words[-1] == b"user":
+        return words[:-1], b"user", b"0"
+    if len(words) == 11 and words[-2] == b"user" or len(words) == 12 and words[-2] == b"user" != words[-1]:
+        return words[:-2], b"terminal", words[-1]
+    return words, b"", b"0"
+
+
 def read(text: bytes) -> Line:
     """A line of a script, before a card is asked."""
     word, *words = text.split(b" ")
     if word in (b"card", b"frames"):
-        *words, sapi = [*words[:-2], words[-1:]] if words[-2:-1] == [b"sapi"] else [*words, [b"16"]]
-        last = words.pop() if len(words) in (10, 11) and words[-1] == b"user" else b""
-        return Line(word.decode(), [number(it) for it in counted(words, 9, 10) + sapi], last=last)
+        *words, sapi = [*words[:-2], words[-1]] if words[-2:-1] == [b"sapi"] else [*words, b"16"]
+        words, last, seed = side_of(words)
+        return Line(word.decode(), [number(it) for it in [*counted(words, 9, 10), seed, sapi]], last=last)
     if word == b"timers":
-        return Line("timers", [number(it, 1, MOST_WAIT) for it in counted(words, 3)])
+        return Line("timers", [number(it, 1, MOST_WAIT) for it in counted(words, 3, 4)])
     if word == b"failed":
         line = number(counted(words, 2)[0])
         if words[1] not in CAUSES:
@@ -101,9 +115,9 @@ class Station:
     def start(self, line: Line) -> None:
         if self.card:
             raise Faulty("second card")
-        *numbers_read, sapi = line.numbers
+        *numbers_read, seed, sapi = line.numbers
         numbers = dict(zip(FIELDS, numbers_read))
-        config = lapd.Config(**{"k16": numbers["k"], **numbers}, side=lapd.Side.USER if line.last else lapd.Side.NETWORK,
+        config = lapd.Config(**{"k16": numbers["k"], **numbers}, side=SIDES[line.last], seed=seed,
                              sapi=sapi or MOST_NUMBER)  # 0 would mean 16
         try:
             self.card = KINDS[line.word, self.is_timed](config)
@@ -158,8 +172,9 @@ class Station:
         yield f"{line} frame {shown(found[0])}"
 
     def asked(self, word: str, line: int, tei: int, contents: bytes) -> Iterator[str]:
-        request = getattr(self.card, word.rstrip("16"))
+        request = getattr(self.card, REQUESTS.get(word, word.rstrip("16")))
         words = [line, tei] + ([contents] if word.startswith(("data", "unit")) else [])
+        words = words[:1] if word == "ask" else words
         try:
             report = request(*words, service=lapd.Service.PACKET) if word.endswith("16") else request(*words)
         except lapd.Refused as fault:
@@ -238,7 +253,7 @@ class Station:
         elif line.word == "messages":
             yield from self.counted(at, range(MESSAGES, lapd.COUNTERS))
         else:
-            yield from self.asked(line.word, at, line.numbers[1], line.octets)
+            yield from self.asked(line.word, at, line.numbers[-1], line.octets)
 
 
 def play(script: bytes, is_timed: bool = False) -> Tuple[bytes, bytes, int]:

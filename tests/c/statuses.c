@@ -10,7 +10,7 @@
 #include "lapd.h"
 #include "lapd_memory.h"
 
-enum { TURNS = 1000000, MOST_CALLS = 48, MOST_STATUSES = 64, FIELDS = 12 };
+enum { TURNS = 1000000, MOST_CALLS = 56, MOST_STATUSES = 64, FIELDS = 13 };
 
 static struct {
     const char *name;
@@ -68,15 +68,16 @@ static uint8_t tei(void) {
 }
 
 static lapd_timer timer(void) {
-    lapd_timer it = {ONE_OF(0, 1, 2, 3), service(), below(2) ? tei() : (uint8_t)below(127)};
+    lapd_timer it = {ONE_OF(0, 1, 2, 3, 4, 5), service(), below(2) ? tei() : (uint8_t)below(127)};
     return it;
 }
 
 static lapd_config config(void) {
-    lapd_config it = {2, 2, 1, 1, 1, 1, 2, 2, 8, 1, LAPD_NETWORK, 0};
+    lapd_config it = {2, 2, 1, 1, 1, 1, 2, 2, 8, 1, LAPD_NETWORK, 0, 0};
     uint16_t fields[FIELDS];
     memcpy(fields, &it, sizeof fields);
-    fields[FIELDS - 2] = (uint16_t)below(2);
+    fields[FIELDS - 3] = (uint16_t)below(3);
+    fields[FIELDS - 2] = (uint16_t)below(65536);
     if (below(2))
         fields[below(FIELDS)] = 0xFFFF;
     memcpy(&it, fields, sizeof it);
@@ -101,7 +102,7 @@ static void saw(const char *name, uint32_t status) {
 static void starts_and_ends(void) {
     lapd_config of_card = config(), of_clock = config();
     refuses = below(4) == 0;
-    lapd_lengths of_timers = {below(8), 10, 10};
+    lapd_lengths of_timers = {below(8), 10, 10, below(8)};
     switch (below(7)) {
     case 6: CALL(lapd_card_start_timed, &card, &of_card, &of_timers); break;
     case 5: CALL(lapd_card_start_frames_timed, &card, &of_card, &of_timers); break;
@@ -118,9 +119,10 @@ static void starts_and_ends(void) {
 static void line_calls(void) {
     uint8_t address = (uint8_t)(tei() << 1 | 1), octet, out[LAPD_MOST_FRAME];
     const uint8_t frames[][8] = {{0x00, address, 0x7F}, {0x00, address, 0x7F}, {0x00, address, 0x53}, {0x02, address, 0x01, 0x00},
-                                 {0x00, address, 0x73}, {0xFC, 0xFF, 0x03, 0x0F, 0x12, 0x34, 0x01, 0xFF}};
-    const uint8_t *frame = frames[below(6)];
-    size_t length = frame[0] == 0xFC ? 8 : frame[2] == 0x01 ? 4 : 3, steps = below(4);
+                                 {0x00, address, 0x73}, {0xFC, 0xFF, 0x03, 0x0F, 0x12, 0x34, 0x01, 0xFF},
+                                 {0xFE, 0xFF, 0x03, 0x0F, 0x00, 0x00, (uint8_t)below(8), address}};
+    const uint8_t *frame = frames[below(7)];
+    size_t length = frame[0] >= 0xFC ? 8 : frame[2] == 0x01 ? 4 : 3, steps = below(4);
     uint32_t next = 0;
     lapd_timer expired = timer();
     switch (below(10)) {
@@ -137,9 +139,11 @@ static void line_calls(void) {
 
 static void requests(void) {
     static const uint8_t contents[16] = {0};
-    uint8_t request = (uint8_t)below(14), place = below(4) ? 0 : below(4) ? (uint8_t)below(256) : 0xFF;
+    uint8_t request = (uint8_t)below(16), place = below(4) ? 0 : below(4) ? (uint8_t)below(256) : 0xFF;
     size_t length = below(3) ? 0 : below(10);
-    switch (below(15)) {
+    switch (below(17)) {
+    case 16: CALL(lapd_ask_tei, &card, line(), &report); break;
+    case 15: CALL(lapd_verify_tei, &card, line(), tei(), &report); break;
     case 0: CALL(lapd_request, &card, line(), request, service(), tei(), contents, length, &report); break;
     case 1: CALL(lapd_request_with, &card, line(), request, service(), tei(), contents, length, &report); break;
     case 2: CALL(lapd_establish, &card, line(), service(), tei(), &report); break;
@@ -176,7 +180,7 @@ static void questions(void) {
     switch (below(12)) {
     case 11: CALL(lapd_fall_due, &card, at += below(9), &report); break;
     case 10: CALL(lapd_next_moment, &card, &moment); break;
-    case 9: CALL(lapd_frame_text, octets, below(3) ? 3 : below(1030), (uint16_t)below(3), text, below(2) ? sizeof text : 10); break;
+    case 9: CALL(lapd_frame_text, octets, below(3) ? 3 : below(1030), (uint16_t)below(4), text, below(2) ? sizeof text : 10); break;
     case 0: CALL(lapd_state, &card, line(), service(), tei(), &state); break;
     case 1: CALL(lapd_next_link, &card, line(), &place, &link); break;
     case 2: CALL(lapd_room, &card, line(), service(), tei(), &room); break;
@@ -197,7 +201,7 @@ static void clock_calls(void) {
     for (unsigned i = 0; i < LAPD_MOST_ORDERS; i++)
         ordered.orders[i] = below(4) ? (lapd_order){LAPD_START, {LAPD_T200, LAPD_CALL, (uint8_t)below(127)}} : order;
     switch (below(5)) {
-    case 0: CALL(lapd_clock_set_lengths, &timers, below(3), below(3), below(3)); break;
+    case 0: CALL(lapd_clock_set_lengths, &timers, below(4), below(4), below(4), below(4)); break;
     case 1: CALL(lapd_clock_apply, &timers, line(), &order, now); break;
     case 2: CALL(lapd_clock_apply_report, &timers, line(), &ordered, now); break;
     case 3: CALL(lapd_clock_due, &timers, now, &due); break;

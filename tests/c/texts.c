@@ -35,9 +35,11 @@ static void in_little_room(const uint8_t *octets, size_t count, uint16_t side, c
     wants(lapd_frame_text(octets, count, side, text, octets_of_text - 1) == LAPD_WRONG_LENGTH && memcmp(text, was, sizeof text) == 0,
           "an octet too little", line);
     wants(lapd_frame_text(octets, count, side, text, 0) == LAPD_WRONG_LENGTH && memcmp(text, was, sizeof text) == 0, "no room", line);
-    wants(lapd_frame_text(octets, count, 2, text, sizeof text) == LAPD_BAD_SIDE && memcmp(text, was, sizeof text) == 0, "no side", line);
+    wants(lapd_frame_text(octets, count, 3, text, sizeof text) == LAPD_BAD_SIDE && memcmp(text, was, sizeof text) == 0, "no side", line);
     wants(lapd_frame_text(octets, count, side, text, octets_of_text) == LAPD_OK && strcmp(text, whole) == 0
               && memcmp(text + octets_of_text, was, sizeof text - octets_of_text) == 0, "just enough room", line);
+    wants(side != LAPD_USER || (lapd_frame_text(octets, count, LAPD_TERMINAL, text, sizeof text) == LAPD_OK && strcmp(text, whole) == 0),
+          "a terminal says something else", line);
     wants(octets_of_text <= 64 + 2 * count, "64 and twice the length are too little", line);
     wants(count > LAPD_MOST_FRAME || octets_of_text <= LAPD_MOST_TEXT, "LAPD_MOST_TEXT is too little", line);
 }

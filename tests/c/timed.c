@@ -18,14 +18,15 @@
 
 enum { TURNS = 60000, LINES = 3, LOOKS_EACH = 500, MOST_RUN = 40 };
 
-static const lapd_config config = {LINES, 4, 3, 1, 4, 2, 4, 20, 16, 2, LAPD_NETWORK, 0};
-static const lapd_lengths lengths = {100, 1000, 150};
+static lapd_config config = {LINES, 4, 3, 1, 4, 2, 4, 20, 16, 2, LAPD_NETWORK, 0, 0};
+static const lapd_lengths lengths = {100, 1000, 150, 250};
 static lapd_card timed = LAPD_CARD_NONE, plain = LAPD_CARD_NONE;
 static lapd_clock timers = LAPD_CLOCK_NONE;
 static uint64_t now;
 static uint32_t seed;
 static unsigned expired, frames, exchanged;
 static bool for_octets, has_started;
+static uint8_t asked[2]; /* the reference number of the latest frame of TEI management that went */
 static hdlc_sender senders[LINES];
 
 static void fail(const char *what) {
@@ -178,10 +179,14 @@ static void frame_comes(void) {
     uint8_t from[][10] = {{sapi, address, 0x7F}, {sapi, address, 0x7F}, {sapi, address, 0x53}, {sapi | 2, address, 0x73},
                           {sapi, address, (uint8_t)(2 * below(4)), nr, 1, 2}, {sapi | 2, address, 0x01, (uint8_t)(nr | below(2))},
                           {sapi, address, 0x01, nr | 1}, {sapi | 2, address, 0x05, nr}, {sapi | 2, address, 0x1F},
-                          {0xFC, 0xFF, 0x03, 0x0F, 0x12, (uint8_t)below(256), 0x01, 0xFF}, {0xFC, 0xFF, 0x03, 0x0F, 1, 2, 0x05, address}};
-    static const size_t octets[] = {3, 3, 3, 3, 6, 4, 4, 4, 3, 8, 8};
+                          {0xFC, 0xFF, 0x03, 0x0F, 0x12, (uint8_t)below(256), 0x01, 0xFF}, {0xFC, 0xFF, 0x03, 0x0F, 1, 2, 0x05, address},
+                          {0xFE, 0xFF, 0x03, 0x0F, asked[0], asked[1], 0x02, (uint8_t)(2 * (64 + below(8)) + 1)},
+                          {0xFE, 0xFF, 0x03, 0x0F, asked[0], asked[1], (uint8_t)(2 + below(5)), address}};
+    static const size_t octets[] = {3, 3, 3, 3, 6, 4, 4, 4, 3, 8, 8, 8, 8};
     unsigned which = below(sizeof octets / sizeof *octets);
     uint32_t line = below(LINES);
+    if (config.side != LAPD_NETWORK && which < 9)
+        from[which][0] ^= 2;
     if (for_octets) {
         octets_come(line, from[which], octets[which]);
         return;
@@ -211,6 +216,8 @@ static void frames_go(void) {
         uint32_t status = lapd_next_frame(&timed, line, out, sizeof out, &length, &own);
         same(line, status, &own, lapd_next_frame(&plain, line, other, sizeof other, &octets, &told), &told);
         wants(length == octets && memcmp(out, other, length) == 0, "another frame");
+        if (out[0] >> 2 == 63)
+            memcpy(asked, out + 4, sizeof asked);
         frames++;
     }
     uint32_t none;
@@ -219,8 +226,8 @@ static void frames_go(void) {
 
 static void is_asked(void) {
     static const uint8_t contents[17] = {1, 2, 3};
-    uint8_t request = (uint8_t)(1 + below(12)), of = tei(), service = below(4) ? LAPD_CALL : LAPD_PACKET;
-    if (request >= LAPD_DEACTIVATE && below(8) != 0)
+    uint8_t request = (uint8_t)(1 + below(14)), of = tei(), service = below(4) ? LAPD_CALL : LAPD_PACKET;
+    if (request >= LAPD_DEACTIVATE && request <= LAPD_DISOWN && below(8) != 0)
         request = LAPD_DATA;
     size_t length = request == LAPD_DATA || request == LAPD_UNIT ? below(18) : 0;
     uint32_t line = below(LINES);
@@ -258,7 +265,7 @@ static void look(void) {
 /* Calls of a card that keeps its own timers, and of one that does not. */
 static void wrong_calls(void) {
     static const lapd_timer timer = {LAPD_T201, 0, 0};
-    static const lapd_lengths bad[] = {{0, 1, 1}, {1, 3600001, 1}, {1, 1, UINT32_MAX}};
+    static const lapd_lengths bad[] = {{0, 1, 1, 1}, {1, 3600001, 1, 1}, {1, 1, UINT32_MAX, 1}, {1, 1, 1, 0}, {1, 1, 1, 3600001}};
     lapd_card none = LAPD_CARD_NONE;
     lapd_config bad_config = config;
     lapd_report told = {.line = 9};
@@ -279,7 +286,7 @@ static void starts(void) {
     wants(start_timed(&timed, &lengths) == LAPD_OK, "no start");
     wants((for_octets ? lapd_card_start(&plain, &config) : lapd_card_start_frames(&plain, &config)) == LAPD_OK, "no start of the other");
     wants(lapd_clock_start(&timers, &config) == LAPD_OK
-              && lapd_clock_set_lengths(&timers, lengths.t200, lengths.t203, lengths.t201) == LAPD_OK, "no clock");
+              && lapd_clock_set_lengths(&timers, lengths.t200, lengths.t203, lengths.t201, lengths.t202) == LAPD_OK, "no clock");
     for (uint32_t line = 0; line < LINES; line++)
         hdlc_begin(&senders[line]);
     wrong_calls();
@@ -300,6 +307,8 @@ static void ends(void) {
 int main(int words, char **word) {
     seed = words > 1 ? (uint32_t)strtoul(word[1], NULL, 10) : 1;
     for_octets = words > 2 && strcmp(word[2], "octets") == 0;
+    if (words > 3 && strcmp(word[3], "terminal") == 0)
+        config.side = LAPD_TERMINAL;
     starts();
     for (unsigned turn = 0; turn < TURNS; turn++) {
         switch (below(8)) {

@@ -33,6 +33,8 @@ static const meaning meanings[] = {
     {"counters", COUNTERS, 0, 0, 1, false, 0, ANY},
     {"messages", MESSAGES, 0, 0, 1, false, 0, ANY},
     {"down", DOWN, 0, 0, 1, false, 0, ANY},
+    {"ask", REQUEST, LAPD_ASK_TEI, LAPD_CALL, 1, false, 0, ANY},
+    {"verify", REQUEST, LAPD_VERIFY_TEI, LAPD_CALL, 2, false, 0, MOST_TEI},
     {"assign", REQUEST, LAPD_ASSIGN, LAPD_CALL, 2, false, 0, MOST_TEI},
     {"remove", REQUEST, LAPD_REMOVE, LAPD_CALL, 2, false, 0, MOST_TEI},
     {"check", REQUEST, LAPD_CHECK, LAPD_CALL, 2, false, 0, MOST_TEI},
@@ -108,31 +110,44 @@ static bool read_octets(word w, command *read) {
     return true;
 }
 
+/* Where the word user stands, which is the last of so many or the last but one; else it is their number. */
+static size_t user_among(const word *words, size_t count) {
+    if ((count == 10 || count == 11) && is_word(words[count - 1], "user"))
+        return count - 1;
+    return (count == 11 || count == 12) && is_word(words[count - 2], "user") ? count - 2 : count;
+}
+
 /* Nine numbers, or ten; the tenth is the window of packet links, which else is that of call control. The word user may stand
- * after them, and then sapi with a number. */
+ * after them, of a terminal with its seed, and then sapi with a number. */
 static fault read_card(const word *words, size_t count, bool for_frames, command *read) {
     read->verb = CARD;
     read->for_frames = for_frames;
     bool has_sapi = count >= 2 && count < MOST_WORDS && is_word(words[count - 2], "sapi");
     count -= has_sapi ? 2 : 0;
     const word *sapi = &words[count + 1];
-    read->user = (count == 10 || count == 11) && is_word(words[count - 1], "user");
-    count -= read->user ? 1 : 0;
-    if (count != 9 && count != 10)
+    size_t user = user_among(words, count);
+    const word *seed = &words[count - 1];
+    read->user = user < count;
+    read->terminal = user + 2 == count;
+    count = user;
+    if ((count != 9 && count != 10) || (count == 10 && read->terminal && is_word(*seed, "user")))
         return BAD_NUMBER_OF_WORDS;
     for (size_t i = 0; i < count; i++)
         if (!read_number(words[i], 0, ANY, &read->numbers[i]))
             return BAD_NUMBER;
     if (count == 9)
         read->numbers[9] = read->numbers[2];
+    if (read->terminal && !read_number(*seed, 0, ANY, &read->seed))
+        return BAD_NUMBER;
     read->sapi = LAPD_PACKET;
     return has_sapi && !read_number(*sapi, 0, ANY, &read->sapi) ? BAD_NUMBER : NO_FAULT;
 }
 
-/* T200, T203 and T201, each of them a millisecond to an hour. */
+/* T200, T203 and T201, each of them a millisecond to an hour; and T202, which is two seconds if it is left out. */
 static fault read_timers(const word *words, size_t count, command *read) {
     read->verb = TIMERS;
-    if (count != 3)
+    read->numbers[3] = 2000;
+    if (count != 3 && count != 4)
         return BAD_NUMBER_OF_WORDS;
     for (size_t i = 0; i < count; i++)
         if (!read_number(words[i], 1, 3600000, &read->numbers[i]))

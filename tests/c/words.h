@@ -10,7 +10,7 @@
 extern "C" {
 #endif
 
-enum { MOST_LINE = 4096, MOST_WORDS = 14 };
+enum { MOST_LINE = 4096, MOST_WORDS = 16 };
 
 /* What a line can be faulty in, in the order in which it is told. */
 typedef enum {
@@ -42,6 +42,8 @@ typedef struct {
     uint8_t cause;            /* of FAILED, as in a report */
     bool for_frames;          /* of a CARD */
     bool user;                /* of a CARD: it is the user's side of its lines */
+    bool terminal;            /* of a CARD: it is a terminal, whose seed follows */
+    uint32_t seed;
     uint32_t sapi;            /* of a CARD: the SAPI of the second service */
     uint32_t numbers[10];     /* of a card its ten; else the line, then what follows it */
     uint8_t octets[MOST_LINE / 2];

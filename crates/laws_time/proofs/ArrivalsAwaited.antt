@@ -254,6 +254,7 @@ module _ (c : Config) (lengths : Lengths) (late number : ℕ) (ranged : IsInRang
 
     any : (timer : Timer) → x.timer ≡ timer → Own timer
     any timers.T201 same = foreign timers.T201 same refl refl
+    any timers.T202 same = foreign timers.T202 same refl refl
     any (timers.T203 of by) same = foreign (timers.T203 of by) same refl refl
     any (timers.T200 of by) same = go (is_own service tei of by) refl
       where

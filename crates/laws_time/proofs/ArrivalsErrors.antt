@@ -186,3 +186,4 @@ pub expiry-means : (c : Config) (service : Service) (tei : ℕ) (o : Observed) (
 expiry-means c service tei o (timers.T200 of by) waits moves = (grind (arith, eq-eqb), grind (arith, eq-eqb, eqb-true))
 expiry-means c service tei o (timers.T203 of by) waits moves = absurd (grind (arith, eq-eqb, not-7))
 expiry-means c service tei o timers.T201 waits moves = absurd (true≢false (sym (eq-eqb o.state o.state refl) ∙ moves))
+expiry-means c service tei o timers.T202 waits moves = absurd (true≢false (sym (eq-eqb o.state o.state refl) ∙ moves))

@@ -200,6 +200,7 @@ module _ (c : Config) (lengths : Lengths) (late number : ℕ) (ranged : IsInRang
 
     any : (x.line == number) ≡ true → (timer : Timer) → x.timer ≡ timer → Then events u (at number (expiry timer))
     any own_line timers.T201 same = foreign timers.T201 same refl refl
+    any own_line timers.T202 same = foreign timers.T202 same refl refl
     any own_line (timers.T203 of by) same = foreign (timers.T203 of by) same refl refl
     any own_line (timers.T200 of by) same = go (is_own service tei of by) refl
       where

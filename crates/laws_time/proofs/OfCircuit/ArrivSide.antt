@@ -228,6 +228,7 @@ module _ (service : Service) (tei : ℕ) (c : Config) (ranged : IsInRange c) (d 
         subst (λ t. IsFair (falls_so t).at.told → After x (falls_so t)) (λ i. timers.T200 (sym own.0 i) (sym own.1 i)) (t200-fell (same ∙ (λ i. timers.T200 (own.0 i) (own.1 i)))) fair
     by-timer (timers.T203 of by) same ours fair = let own = own-same service tei of by ours in fell-with (timers.T203 of by) same own tt
     by-timer timers.T201 same ours fair = absurd (cc ours)
+    by-timer timers.T202 same ours fair = absurd (cc ours)
 
     pub falls-one : IsFair (falls a e).at.told → After x (falls a e)
     falls-one = by-timer e.timer refl (first-of (RunsOurs service tei) a.clock.running a.clock.now e h.ok.but.ours falls_now)

@@ -1,7 +1,7 @@
 -- A timer that is started anew in its place.
 use Rattle.std.proofs.lemmas.Bool.{and_parts}
-use Rattle.lapd_clock.proofs.Vocabulary.{◌≡◌, ◌==◌, ℕ, ◌<◌, ◌≤◌, true, List, length, get_or, set, sym, ap, ◌∙◌, subst, arith, get_or-map, Timer, Expiry, is_same, never}
-use Rattle.lapd_moments.specs.OfCard.{Holds, HoldsOwn, HoldsT201, IsLayout}
+use Rattle.lapd_clock.proofs.Vocabulary.{◌≡◌, ◌==◌, Bool, ℕ, ◌<◌, ◌≤◌, true, List, length, get_or, set, sym, ap, ◌∙◌, subst, arith, get_or-map, Timer, Expiry, is_same, never}
+use Rattle.lapd_moments.specs.OfCard.{Holds, HoldsOwn, HoldsLine, IsLayout}
 use Rattle.lapd_moments.specs.Places.{expiry_of, expiries_of, nothing, at, with_timer, IsRestarted, RunsAt}
 use Rattle.lapd_moments.specs.declared.place.Place.{Place}
 use Rattle.lapd_moments.proofs.OfCard.{equal, itself, length_set, replaced}
@@ -32,22 +32,22 @@ timer-is : (i line : ℕ) (timer : Timer) (es : List Expiry) → RunsAt i line t
 timer-is i line timer es runs = equal (at i es).timer timer (and_parts ((at i es).line == line) (is_same (at i es).timer timer) runs.its).1
 
 -- it is held as before
-pub holds_restarted : (lines links : ℕ) (slot : ℕ → ℕ → LinkTimer → ℕ) (t201 : ℕ → ℕ) (IsOn : ℕ → ℕ → ℕ → Type 0) (es : List Expiry) → Holds lines links slot t201 IsOn es
-    → (i line : ℕ) (timer : Timer) (moment : ℕ) → RunsAt i line timer es → Holds lines links slot t201 IsOn (with_timer i timer moment es)
-holds_restarted lines links slot t201 IsOn es h i line timer moment runs = record {
-  layout = subst (λ n. IsLayout lines links n slot t201) (sym (length_set es i _)) h.layout;
+pub holds_restarted : (lines links : ℕ) (slot : ℕ → ℕ → LinkTimer → ℕ) (line_slot : Bool → ℕ → ℕ) (IsOn : ℕ → ℕ → ℕ → Type 0) (es : List Expiry) → Holds lines links slot line_slot IsOn es
+    → (i line : ℕ) (timer : Timer) (moment : ℕ) → RunsAt i line timer es → Holds lines links slot line_slot IsOn (with_timer i timer moment es)
+holds_restarted lines links slot line_slot IsOn es h i line timer moment runs = record {
+  layout = subst (λ n. IsLayout lines links n slot line_slot) (sym (length_set es i _)) h.layout;
   at_links = λ line' number k there within. replaced (HoldsOwn IsOn line' number k) es i (slot line' number k) _ runs.within
       (λ same was. record {
         line_is = ap (λ n. (at n es).line) (sym same) ∙ was.line_is;
         its = λ soon. let who = was.its (subst (λ n. (at n es).moment < never) (sym same) runs.runs) in (who.0, (who.1.0, sym its-timer ∙ ap (λ n. (at n es).timer) (sym same) ∙ who.1.1));
       })
       (h.at_links line' number k there within);
-  at_lines = λ line' there. replaced (HoldsT201 line') es i (t201 line') _ runs.within
+  at_lines = λ line' which there. replaced (HoldsLine which line') es i (line_slot which line') _ runs.within
       (λ same was. record {
         line_is = ap (λ n. (at n es).line) (sym same) ∙ was.line_is;
         its = λ soon. sym its-timer ∙ ap (λ n. (at n es).timer) (sym same) ∙ was.its (subst (λ n. (at n es).moment < never) (sym same) runs.runs);
       })
-      (h.at_lines line' there);
+      (h.at_lines line' which there);
 }
   where
     its-timer : (at i es).timer ≡ timer

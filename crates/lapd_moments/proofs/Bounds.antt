@@ -101,19 +101,14 @@ pub its-line-there : (each : ℕ) (bounds : List ℕ) (leads : List Lead) (ps : 
 its-line-there each bounds leads ps place u h within at_it = subst (λ n. n < length bounds) (sym (own-line each bounds leads ps place u h within at_it)) (line-there each place bounds leads ps h within)
 
 -- places at which no timer runs
-<<<<<<< HEAD
-pub idle : (each lines : ℕ) (ps : List Place) → lines ≤ 64 → 1 ≤ each → each ≤ 34 → length ps ≡ lines * each → AreOfLines each ps → AreIdleSoFar ps → AreBounded each (replicate lines never) ps
-idle each lines ps few some few_each count of_lines rest = record {
-=======
 resting : (ps : List Place) (i : ℕ) (d : Place) → i < length ps → AreIdleSoFar ps → (get_or ps i d).moment ≡ never
 resting [] i d within rest = absurd (omega (arith, within))
 resting (p ∷ ps) zero d within rest = rest.0
 resting (p ∷ ps) (suc i) d within rest = resting ps i d (omega (arith, within)) rest.1
 
-pub idle : (each lines : ℕ) (leads : List Lead) (ps : List Place) → lines ≤ 64 → 1 ≤ each → each ≤ 33 → length ps ≡ lines * each → AreOfLines each ps → AreIdleSoFar ps → length leads ≡ lines → AreFirstPlaces each leads
+pub idle : (each lines : ℕ) (leads : List Lead) (ps : List Place) → lines ≤ 64 → 1 ≤ each → each ≤ 34 → length ps ≡ lines * each → AreOfLines each ps → AreIdleSoFar ps → length leads ≡ lines → AreFirstPlaces each leads
     → AreBounded each (replicate lines never) leads ps
 idle each lines leads ps few some few_each count of_lines rest many firsts = record {
->>>>>>> main
   few_lines = omega (arith, few, length-replicate lines never);
   some = some;
   few = few_each;

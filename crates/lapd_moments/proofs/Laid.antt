@@ -1,9 +1,5 @@
 -- The places of a card are laid out line by line.
-<<<<<<< HEAD
-use Rattle.lapd_clock.proofs.Vocabulary.{◌≡◌, Bool, true, false, ℕ, zero, suc, List, [], ◌∷◌, AllByRecursion, never, Expiry, ◌+◌, ◌*◌, ◌/◌, ◌<◌, ◌≤◌, ◌⊎◌, refl, sym, ap, ◌∙◌, subst, arith, inl, inr, cases_lt}
-=======
-use Rattle.lapd_clock.proofs.Vocabulary.{◌≡◌, ℕ, zero, suc, List, [], ◌∷◌, AllByRecursion, never, Expiry, ◌+◌, ◌-◌, ◌*◌, ◌/◌, ◌<◌, ◌≤◌, ◌⊎◌, refl, sym, ap, ◌∙◌, subst, arith, inl, inr, cases_lt}
->>>>>>> main
+use Rattle.lapd_clock.proofs.Vocabulary.{◌≡◌, Bool, true, false, ℕ, zero, suc, List, [], ◌∷◌, AllByRecursion, never, Expiry, ◌+◌, ◌-◌, ◌*◌, ◌/◌, ◌<◌, ◌≤◌, ◌⊎◌, refl, sym, ap, ◌∙◌, subst, arith, inl, inr, cases_lt}
 use Rattle.std.specs.Prelude.{◌%◌}
 use Rattle.std.proofs.lemmas.Nat.{div-add-mod'}
 use Rattle.std.proofs.Math.Nat.{div-lt_iff_lt-mul, mod-lt, mul-le-mul_right, suc-mul}
@@ -26,56 +22,34 @@ in_line i d some = mod-lt i some
 place : (terminals lines line w i : ℕ) → i ≡ line * (4 * terminals + 2) + w → line < lines → w < 4 * terminals + 2
     → OfLink lines (2 * terminals) (slot_of terminals) i ⊎ OfLine lines (line_slot_of terminals) i
 place terminals lines line w i is there within =
-<<<<<<< HEAD
-    elim (cases_lt w (4 * terminals)) [
-      | inr last ↦ elim (cases_lt w (4 * terminals + 1)) [
-        | inl first ↦ inr (record { line = line; which = false; line_there = there; is = is ∙ ap (λ n. line * (4 * terminals + 2) + n) (omega (arith, last, first)) })
-        | inr second ↦ inr (record { line = line; which = true; line_there = there; is = is ∙ ap (λ n. line * (4 * terminals + 2) + n) (omega (arith, second, within)) })
+    elim (cases_lt w 2) [
+      | inl own ↦ elim (cases_lt w 1) [
+        | inl first ↦ inr (record { line = line; which = false; line_there = there; is = is ∙ ap (λ n. line * (4 * terminals + 2) + n) (omega (arith, first)) })
+        | inr second ↦ inr (record { line = line; which = true; line_there = there; is = is ∙ ap (λ n. line * (4 * terminals + 2) + n) (omega (arith, own, second)) })
       ]
-      | inl before ↦ elim (cases_lt (w % 2) 1) [
-=======
-    elim (cases_lt w 1) [
-      | inl first ↦ inr (record { line = line; line_there = there; is = omega (arith, is, first) })
-      | inr after ↦ elim (cases_lt ((w - 1) % 2) 1) [
->>>>>>> main
+      | inr after ↦ elim (cases_lt (w % 2) 1) [
         | inl even ↦ inl (record {
           line = line;
-          number = (w - 1) / 2;
+          number = (w - 2) / 2;
           timer = T200;
           line_there = there;
-<<<<<<< HEAD
-          number_there = omega (arith, before);
-          is = is ∙ ap (λ n. line * (4 * terminals + 2) + n) (omega (arith, even));
-=======
           number_there = omega (arith, within, after);
-          is = is ∙ ap (λ n. line * (4 * terminals + 1) + n) (omega (arith, even, after));
->>>>>>> main
+          is = is ∙ ap (λ n. line * (4 * terminals + 2) + n) (omega (arith, even, after));
         })
         | inr odd ↦ inl (record {
           line = line;
-          number = (w - 1) / 2;
+          number = (w - 2) / 2;
           timer = T203;
           line_there = there;
-<<<<<<< HEAD
-          number_there = omega (arith, before);
-          is = is ∙ ap (λ n. line * (4 * terminals + 2) + n) (omega (arith, odd));
-=======
           number_there = omega (arith, within, after);
-          is = is ∙ ap (λ n. line * (4 * terminals + 1) + n) (omega (arith, odd, after));
->>>>>>> main
+          is = is ∙ ap (λ n. line * (4 * terminals + 2) + n) (omega (arith, odd, after));
         })
       ]
     ]
 
-<<<<<<< HEAD
 slot_there : (terminals lines line number : ℕ) (timer : LinkTimer) → line < lines → number < 2 * terminals → slot_of terminals line number timer < lines * (4 * terminals + 2)
-slot_there terminals lines line number T200 there within = before_end line lines (4 * terminals + 2) (2 * number + 0) there (omega (arith, within))
-slot_there terminals lines line number T203 there within = before_end line lines (4 * terminals + 2) (2 * number + 1) there (omega (arith, within))
-=======
-slot_there : (terminals lines line number : ℕ) (timer : LinkTimer) → line < lines → number < 2 * terminals → slot_of terminals line number timer < lines * (4 * terminals + 1)
-slot_there terminals lines line number T200 there within = before_end line lines (4 * terminals + 1) (2 * number + 1) there (omega (arith, within))
-slot_there terminals lines line number T203 there within = before_end line lines (4 * terminals + 1) (2 * number + 2) there (omega (arith, within))
->>>>>>> main
+slot_there terminals lines line number T200 there within = before_end line lines (4 * terminals + 2) (2 * number + 2) there (omega (arith, within))
+slot_there terminals lines line number T203 there within = before_end line lines (4 * terminals + 2) (2 * number + 3) there (omega (arith, within))
 
 same_line : (a b d w v : ℕ) → w < d → v < d → a * d + w ≡ b * d + v → a ≡ b
 same_line a b d w v less more e =
@@ -87,7 +61,7 @@ same_line a b d w v less more e =
       ]
     ]
 
-in_slot : (terminals number : ℕ) (timer : LinkTimer) → number < 2 * terminals → 2 * number + kind_of timer < 4 * terminals + 1
+in_slot : (terminals number : ℕ) (timer : LinkTimer) → number < 2 * terminals → 2 * number + kind_of timer < 4 * terminals + 2
 in_slot terminals number T200 within = omega (arith, within)
 in_slot terminals number T203 within = omega (arith, within)
 
@@ -103,7 +77,7 @@ apart terminals line number other more timer its one two e =
     let d = 4 * terminals + 2 in
     let w = 2 * number + kind_of timer in
     let v = 2 * more + kind_of its in
-    let lines : line ≡ other = same_line line other d w v (omega (arith, in_slot terminals number timer one)) (omega (arith, in_slot terminals more its two)) e in
+    let lines : line ≡ other = same_line line other d w v (in_slot terminals number timer one) (in_slot terminals more its two) e in
     let same = same_slot number more timer its (omega (arith, e, ap (λ n. n * d) lines)) in
     record { line_is = lines; number_is = same.0; timer_is = same.1 }
 
@@ -111,24 +85,19 @@ of_two : (which : Bool) → line_kind which < 2
 of_two false = omega arith
 of_two true = omega arith
 
-in_line_slot : (terminals : ℕ) (which : Bool) → 4 * terminals + line_kind which < 4 * terminals + 2
+in_line_slot : (terminals : ℕ) (which : Bool) → line_kind which < 4 * terminals + 2
 in_line_slot terminals which = omega (arith, of_two which)
 
 beside : (terminals line number other : ℕ) (timer : LinkTimer) (which : Bool) → number < 2 * terminals → line_slot_of terminals which other ≡ slot_of terminals line number timer → ⊥
 beside terminals line number other timer which within e =
     let d = 4 * terminals + 2 in
     let w = 2 * number + kind_of timer in
-<<<<<<< HEAD
-    let lines : other ≡ line = same_line other line d (4 * terminals + line_kind which) w (in_line_slot terminals which) (omega (arith, in_slot terminals number timer within)) e in
-    absurd (omega (arith, e, ap (λ n. n * d) lines, in_slot terminals number timer within))
-=======
-    let lines : other ≡ line = same_line other line d 0 w (omega arith) (omega (arith, in_slot terminals number timer within)) (omega (arith, e)) in
-    absurd (omega (arith, e, ap (λ n. n * d) lines, after_t201 timer))
+    let lines : other ≡ line = same_line other line d (line_kind which) w (in_line_slot terminals which) (in_slot terminals number timer within) e in
+    absurd (omega (arith, e, ap (λ n. n * d) lines, of_two which, after_own timer))
   where
-    after_t201 : (timer : LinkTimer) → 1 ≤ kind_of timer
-    after_t201 T200 = omega arith
-    after_t201 T203 = omega arith
->>>>>>> main
+    after_own : (timer : LinkTimer) → 2 ≤ kind_of timer
+    after_own T200 = omega arith
+    after_own T203 = omega arith
 
 same_kind : (which its : Bool) → line_kind which ≡ line_kind its → which ≡ its
 same_kind false false e = refl
@@ -139,7 +108,7 @@ same_kind true true e = refl
 two : (terminals line other : ℕ) (which its : Bool) → line_slot_of terminals which line ≡ line_slot_of terminals its other → which ≡ its
 two terminals line other which its e =
     let d = 4 * terminals + 2 in
-    let lines : line ≡ other = same_line line other d (4 * terminals + line_kind which) (4 * terminals + line_kind its) (in_line_slot terminals which) (in_line_slot terminals its) e in
+    let lines : line ≡ other = same_line line other d (line_kind which) (line_kind its) (in_line_slot terminals which) (in_line_slot terminals its) e in
     same_kind which its (omega (arith, e, ap (λ n. n * d) lines))
 
 pub is_layout : (terminals lines : ℕ) → IsLayout lines (2 * terminals) (lines * (4 * terminals + 2)) (slot_of terminals) (line_slot_of terminals)
@@ -149,12 +118,8 @@ is_layout terminals lines = record {
   apart = apart terminals;
   beside = beside terminals;
   slot_there = slot_there terminals lines;
-<<<<<<< HEAD
   two = two terminals;
-  line_slot_there = λ line which there. before_end line lines (4 * terminals + 2) (4 * terminals + line_kind which) there (in_line_slot terminals which);
-=======
-  t201_there = λ line there. omega (arith, before_end line lines (4 * terminals + 1) 0 there (omega arith));
->>>>>>> main
+  line_slot_there = λ line which there. before_end line lines (4 * terminals + 2) (line_kind which) there (in_line_slot terminals which);
 }
 
 -- At places at which no timer runs all is as it should be.
@@ -170,19 +135,12 @@ idle_holds terminals lines IsOn es h =
       layout = subst (λ n. IsLayout lines (2 * terminals) n (slot_of terminals) (line_slot_of terminals)) (sym h.count) (is_layout terminals lines);
       at_links = λ line number timer there within. record {
         line_is = h.of_line (slot_of terminals line number timer) (omega (arith, h.count, slot_there terminals lines line number timer there within))
-            ∙ div-mul-add line d (2 * number + kind_of timer) (omega (arith, in_slot terminals number timer within));
+            ∙ div-mul-add line d (2 * number + kind_of timer) (in_slot terminals number timer within);
         its = λ soon. absurd (omega (arith, soon, all-at es (slot_of terminals line number timer) h.rest));
       };
-<<<<<<< HEAD
       at_lines = λ line which there. record {
-        line_is = h.of_line (line_slot_of terminals which line) (omega (arith, h.count, before_end line lines d (4 * terminals + line_kind which) there (in_line_slot terminals which)))
-            ∙ div-mul-add line d (4 * terminals + line_kind which) (in_line_slot terminals which);
+        line_is = h.of_line (line_slot_of terminals which line) (omega (arith, h.count, before_end line lines d (line_kind which) there (in_line_slot terminals which)))
+            ∙ div-mul-add line d (line_kind which) (in_line_slot terminals which);
         its = λ soon. absurd (omega (arith, soon, all-at es (line_slot_of terminals which line) h.rest));
-=======
-      at_lines = λ line there. record {
-        line_is = h.of_line (t201_of terminals line) (omega (arith, h.count, before_end line lines d 0 there (omega arith)))
-            ∙ ap (λ n. n / d) (omega arith) ∙ div-mul-add line d 0 (omega arith);
-        its = λ soon. absurd (omega (arith, soon, all-at es (t201_of terminals line) h.rest));
->>>>>>> main
       };
     }

@@ -67,26 +67,17 @@ pub record AreApart (lines : ℕ) (IsOn : ℕ → ℕ → ℕ → Type 0) : Type
   pub once : (line place other tei : ℕ) → line < lines → IsOn line place tei → IsOn line other tei → place ≡ other
   pub alone : (line place tei other : ℕ) → line < lines → IsOn line place tei → IsOn line place other → tei ≡ other
 
-<<<<<<< HEAD
--- Of a line there are four places for the two links of each of its TEIs, and after those one for its T201 and one for its T202.
-=======
--- Of a line there is a place for its T201, and after it there are four for the two links of each of its TEIs.
->>>>>>> main
+-- Of a line there is a place for its T201 and one for its T202, and after these there are four for the two links of each of its TEIs.
 abbrev pub kind_of : LinkTimer → ℕ
-kind_of T200 = 1
-kind_of T203 = 2
+kind_of T200 = 2
+kind_of T203 = 3
 
 abbrev pub slot_of : ℕ → ℕ → ℕ → LinkTimer → ℕ
 slot_of terminals line number timer = line * (4 * terminals + 2) + (2 * number + kind_of timer)
 
-<<<<<<< HEAD
 abbrev pub line_kind : Bool → ℕ
 line_kind false = 0
 line_kind true = 1
 
 abbrev pub line_slot_of : ℕ → Bool → ℕ → ℕ
-line_slot_of terminals which line = line * (4 * terminals + 2) + (4 * terminals + line_kind which)
-=======
-abbrev pub t201_of : ℕ → ℕ → ℕ
-t201_of terminals line = line * (4 * terminals + 1)
->>>>>>> main
+line_slot_of terminals which line = line * (4 * terminals + 2) + line_kind which

@@ -25,7 +25,7 @@ pub(crate) fn first_places(
     each: usize,
 ) -> Result<Vec<Lead>, AllocError>
     requires lines { lines ≤ 64 }
-    requires each { each ≤ 33 }
+    requires each { each ≤ 34 }
     ensures count { IfOk result (λ leads. length leads.items ≡ lines) }
     ensures first { IfOk result (λ leads. AreFirstPlaces each leads.items) }
 {

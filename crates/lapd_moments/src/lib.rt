@@ -3,13 +3,8 @@
 //! A clock (`lapd_clock`) finds a timer by looking at those of its line. Whoever knows the place of each timer starts and stops
 //! it there, and looks at no other.
 //!
-<<<<<<< HEAD
 //! - `moments`: `Moments`, a place for each timer of each link of each line, and for each line's T201 and T202.
-//! - `look`: which place falls due first. `place`: one place. `timers`: which timer goes first at one moment.
-=======
-//! - `moments`: `Moments`, a place for each timer of each link of each line, and for each line's T201.
 //! - `lead`: which place of a line falls due first, when one changes. `look`: which of the card does. `place`: one place. `timers`: which timer goes first at one moment.
->>>>>>> main
 #![tactic(auto)]
 
 mod lead;

@@ -46,13 +46,8 @@ impl Model for Moments {
 impl Moments {
     ghost use Rattle.lapd_moments.specs.Places.{AreIdle};
 
-<<<<<<< HEAD
-    /// The places of so many lines of so many terminals, at which no timer runs: of each line one for T200 and
-    /// one for T203 of each link, one for T201, and one for T202.
-=======
-    /// The places of so many lines of so many terminals, at which no timer runs: of each line one for T201, and after it one
-    /// for T200 and one for T203 of each link.
->>>>>>> main
+    /// The places of so many lines of so many terminals, at which no timer runs: of each line one for T201 and one for T202,
+    /// and after these one for T200 and one for T203 of each link.
     ///
     /// # Errors
     ///

@@ -6,18 +6,11 @@ use Rattle.lapd_clock.specs.Firsts.{never}
 use Rattle.lapd_clock.specs.Timer.{Timer, T200, T203, T201, T202, Start, Stop, duration}
 use Rattle.lapd_clock.specs.Timers.{Expiry, with_expiry, without}
 use Rattle.lapd_frame.specs.declared.services.Service.{Service}
-<<<<<<< HEAD
 use Rattle.lapd_moments.specs.OfCard.{Holds, AreApart, slot_of, line_slot_of, timer_of, line_timer}
-use Rattle.lapd_moments.specs.Places.{timers_in, with_timer, without_timer, IsItsPlace}
-use Rattle.lapd_moments.proofs.InPlace.{started_in_place, stopped_in_place, stopped_nowhere}
-use Rattle.lapd_moments.proofs.OfCard.{its_place, line_place, found_place, holds_started, holds_stopped, holds_line}
-=======
-use Rattle.lapd_moments.specs.OfCard.{Holds, AreApart, slot_of, t201_of, timer_of}
 use Rattle.lapd_moments.specs.Places.{timers_in, with_timer, without_timer, IsItsPlace, IsRestarted}
 use Rattle.lapd_moments.proofs.InPlace.{started_in_place, stopped_in_place, stopped_nowhere}
 use Rattle.lapd_moments.proofs.Again.{holds_restarted}
-use Rattle.lapd_moments.proofs.OfCard.{its_place, t201_place, found_place, holds_started, holds_stopped, holds_t201}
->>>>>>> main
+use Rattle.lapd_moments.proofs.OfCard.{its_place, line_place, found_place, holds_started, holds_stopped, holds_line}
 use Rattle.lapd_tei.proofs.Tables.{place_of-is}
 use Rattle.lapd_tei.specs.Sound.{IsSoundTable}
 use Rattle.model_card.specs.Card.{Card, line_at}
@@ -163,7 +156,7 @@ module _ (m : Card) (e : Event) (reached : IsReached m) (here : e.line < m.confi
       → moment ≡ h.now + duration h.lengths timer → moment < never → AreAt (IsOnAmid e m) (record h { moments = es }) m (obey line c (Start timer))
   carried-restart line timer moment es again at soon =
       let its : IsItsPlace again.place line timer h.moments =
-      found_place h.lines (2 * h.terminals) slot t201 (IsOnAmid e m) h.moments amid.places lines-apart again.place line timer again.runs in
+      found_place h.lines (2 * h.terminals) slot line_slot (IsOnAmid e m) h.moments amid.places lines-apart again.place line timer again.runs in
       let moment_is : c.now + duration c.lengths timer ≡ moment = ap (λ n. n + duration c.lengths timer) amid.now ∙ ap (λ l. h.now + duration l timer) amid.lengths ∙ sym at in
       record {
         lines = amid.lines;
@@ -174,8 +167,8 @@ module _ (m : Card) (e : Event) (reached : IsReached m) (here : e.line < m.confi
             ap (λ n. with_expiry (record { moment = n; line = line; timer = timer }) (without line timer c.running)) moment_is
             ∙ ap (λ rs. with_expiry (record { moment = moment; line = line; timer = timer }) (without line timer rs)) amid.running
             ∙ started_in_place h.moments again.place line timer moment its soon ∙ ap timers_in (sym again.is);
-        places = subst (Holds h.lines (2 * h.terminals) slot t201 (IsOnAmid e m)) (sym again.is)
-            (holds_restarted h.lines (2 * h.terminals) slot t201 (IsOnAmid e m) h.moments amid.places again.place line timer moment again.runs);
+        places = subst (Holds h.lines (2 * h.terminals) slot line_slot (IsOnAmid e m)) (sym again.is)
+            (holds_restarted h.lines (2 * h.terminals) slot line_slot (IsOnAmid e m) h.moments amid.places again.place line timer moment again.runs);
       }
 
   -- and one that is stopped is stopped where it runs

@@ -228,18 +228,14 @@ impl CardTimers {
         match timer {
             Timer::T200(service, tei) => {
                 let number = self.link(card, line, service, tei)?;
-                Some(slot(self.terminals, line, number, 1))
+                Some(slot(self.terminals, line, number, 2))
             }
             Timer::T203(service, tei) => {
                 let number = self.link(card, line, service, tei)?;
-                Some(slot(self.terminals, line, number, 2))
+                Some(slot(self.terminals, line, number, 3))
             }
-<<<<<<< HEAD
-            Timer::T201 => Some(slot(self.terminals, line, 2 * self.terminals, 0)),
-            Timer::T202 => Some(slot(self.terminals, line, 2 * self.terminals, 1)),
-=======
             Timer::T201 => Some(slot(self.terminals, line, 0, 0)),
->>>>>>> main
+            Timer::T202 => Some(slot(self.terminals, line, 0, 1)),
         }
     }
 
@@ -266,23 +262,13 @@ impl CardTimers {
     }
 }
 
-<<<<<<< HEAD
-/// The place of a timer of a line, by the number of its link and of its kind; after those of all links are those of T201 and T202.
-fn slot(terminals: usize, line: usize, number: usize, kind: usize) -> usize
-    requires terminals { terminals ≤ 8 }
-    requires line { line < 64 }
-    requires number { number ≤ 16 }
-    requires kind { kind ≤ 1 }
-    ensures { result ≡ line * (4 * terminals + 2) + (2 * number + kind) }
-=======
-/// The place of a timer of a line, by the number of its link and of its kind; before those of all links is that of T201.
+/// The place of a timer of a line, by the number of its link and of its kind; before those of all links are those of T201 and T202.
 fn slot(terminals: usize, line: usize, number: usize, kind: usize) -> usize
     requires terminals { terminals ≤ 8 }
     requires line { line < 64 }
     requires number { number < 16 }
-    requires kind { kind ≤ 2 }
-    ensures { result ≡ line * (4 * terminals + 1) + (2 * number + kind) }
->>>>>>> main
+    requires kind { kind ≤ 3 }
+    ensures { result ≡ line * (4 * terminals + 2) + (2 * number + kind) }
 {
     line * (4 * terminals + 2) + (2 * number + kind)
 }

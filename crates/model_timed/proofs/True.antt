@@ -3,7 +3,7 @@ use Rattle.lapd_clock.proofs.Vocabulary.{◌≡◌, ℕ, ◌+◌, ◌<◌, ◌�
 use Rattle.std.specs.Prelude.{Option, IfSome, fold, option_map}
 use Rattle.std.specs.Option.{option_map_or}
 use Rattle.std.proofs.lemmas.List.Sums.{fold-append}
-use Rattle.lapd_clock.specs.Timer.{T200, T203, T201}
+use Rattle.lapd_clock.specs.Timer.{T200, T203, T201, T202}
 use Rattle.lapd_clock.proofs.First.{no_earlier}
 use Rattle.lapd_clock.proofs.Moments.{moment_of-none, of_itself}
 use Rattle.model_timed.specs.Clock.{Clock, obey, obeyed, stopped, due, first_due, without_first, at_moment, first_moment}
@@ -16,6 +16,7 @@ same-length : (lengths : Lengths) (timer : Timer) → duration lengths timer ≡
 same-length lengths (T200 service tei) = refl
 same-length lengths (T203 service tei) = refl
 same-length lengths T201 = refl
+same-length lengths T202 = refl
 
 abbrev due_by : Lengths → Timer → Option ℕ → Option ℕ
 due_by lengths timer start = option_map (λ s. s + length_of lengths timer) start

@@ -1,16 +1,17 @@
 -- Timers are true: each expiry comes as long after the last start of its timer as the timer runs.
 use Rattle.std.specs.Prelude.{◌≡◌, ℕ, ◌+◌, ◌≤◌, ◌<◌, List, fold, Option, None, Some, IfSome}
-use Rattle.lapd_clock.specs.Timer.{Timer, T200, T203, T201, Lengths}
+use Rattle.lapd_clock.specs.Timer.{Timer, T200, T203, T201, T202, Lengths}
 use Rattle.lapd_clock.specs.Timers.{Expiry}
 use Rattle.model_timed.specs.Clock.{stopped, due, next_moment}
 use Rattle.model_timed.specs.Timed.{Kind, Timed, Step, time, after_all, ArePrompt}
 use Rattle.model_timed.specs.Sayings.{Saying, said_in, last_start}
 
--- How long a timer runs (Q.921 clauses 5.9.1, 5.9.6 and 5.9.8).
+-- How long a timer runs (Q.921 clauses 5.9.1 and 5.9.6 to 5.9.8).
 abbrev pub length_of : Lengths → Timer → ℕ
 length_of lengths (T200 service tei) = lengths.t200
 length_of lengths (T203 service tei) = lengths.t203
 length_of lengths T201 = lengths.t201
+length_of lengths T202 = lengths.t202
 
 -- The moment to which time went on last in some steps; 0 where it did not.
 abbrev pub gone_to : {Event : Type 0} → ℕ → Step Event → ℕ

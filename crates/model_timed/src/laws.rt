@@ -7,7 +7,7 @@ ghost use Rattle.model_timed.specs.TimersAreTrue.{TimersAreTrue};
 
 /// Timers are true. After any steps of a card of either kind its clock is at the moment to which time went on last. Let
 /// the steps be prompt to so many milliseconds. Then each timer that is due was started, and neither stopped nor
-/// expired since. Its own length, T200, T203 or T201, has passed since then, and at most so many milliseconds more. So
+/// expired since. Its own length, T200, T203, T201 or T202, has passed since then, and at most so many milliseconds more. So
 /// if the steps are prompt to the millisecond, each expiry comes exactly its length after the last start. And none is
 /// passed over. The next moment that the clock tells is the first at which a timer that runs falls due.
 #[tactic(auto, using(crate::proofs::True::timers_are_true))]

@@ -120,7 +120,7 @@ static void octets(void) {
         memcpy(other->data + at, one->data + at, length);
         u32 cut = LAPD_MOST_FRAME + 1;
         are_same("a frame", one, other, w2c_lapd_frame(one, HANDLE, 0, at, cut, REPORT), w2c_lapd_frame(other, HANDLE, 0, at, length, REPORT));
-        u8 request = (u8)(round % 5 ? LAPD_DATA : below(13)), service = (u8)(round % 7 ? LAPD_CALL : below(20));
+        u8 request = (u8)(round % 5 ? LAPD_DATA : below(15)), service = (u8)(round % 7 ? LAPD_CALL : below(20));
         u32 line = round % 11 == 0, a, b;
         cut = LAPD_MOST_OCTETS + 1;
         a = w2c_lapd_request(one, HANDLE, line, request, service, 64, at, cut, REPORT);

@@ -10,7 +10,8 @@ use Rattle.lapd_terminal.specs.Laws as terminal_laws
 use Rattle.lapd_terminal.specs.Words.{Course}
 use Rattle.lapd_terminal.proofs.Served.{leads}
 use Rattle.model_line.proofs.Managed.{idle_course}
-use Rattle.laws_line.proofs.Vocabulary.{◌∙◌, ◌∷◌, ◌⊎◌, sym, Bool, true, cond, IfSome, option_map, option_to_list, Denied, Doubled, Gained, Left, RemoveAll, Removed, Unassigned, T200, T201, T202, T203, AskTei, VerifyTei, LineTold, Management, Own as OwnPart, IsOfSide, is_terminal, terminal_in, with_terminal, at_a_terminal, note_of, of_network, of_terminal, of_terminal_if, told_of_terminal, TerminalEvent, TerminalNews, asking, verifying, tei_expiry, terminal_after, terminal_told, terminal_assign, terminal_expiry, terminal_message, terminal_remove}
+use Rattle.laws_line.proofs.Vocabulary.{◌∙◌, ◌∷◌, ◌⊎◌, sym, Bool, true, cond, IfSome, option_map, option_to_list, Denied, Doubled, Gained, Left, RemoveAll, Removed, Unassigned, T200, T201, T202, T203, AskTei, VerifyTei, LineTold, Management, Own as OwnPart, IsOfSide, is_terminal, terminal_in, with_terminal, at_a_terminal, note_of, of_network, of_terminal, of_terminal_if, told_of_terminal}
+use Rattle.laws_line.proofs.Vocabulary.{TerminalEvent, TerminalNews, asking, verifying, tei_expiry, terminal_after, terminal_told, terminal_assign, terminal_expiry, terminal_message, terminal_remove}
 use Rattle.lapd_terminal.proofs.Noted.{ByNews, StaysBy, noted_there}
 use Rattle.laws_line.proofs.TeiNotes.{ByChange, noted}
 use Rattle.laws_line.proofs.Tied.{Ties, heard-ties, expiry-ties, request-ties}

@@ -12,10 +12,10 @@ pub fn lines_stay_sound()
 {}
 
 /// What a line has sent, and may still send without anything else happening, rises by no more than an event's price.
-/// The price is two for a frame that is heard, and at a terminal as many as it may have TEIs, if these are more; one for
-/// an accepted request; k + 1 for the expiry of a running timer; k
-/// more for an REJ with a valid N(R), which is a frame of four octets or more; otherwise 0. A call for the next frame
-/// that takes one lowers what may be sent by one or two, and any other leaves it as it is.
+/// A frame that is heard has the price two; at a terminal that may have more TEIs, the price is their number. An accepted
+/// request costs one, and the expiry of a running timer k + 1. An REJ with a valid N(R), which is a frame of four octets
+/// or more, costs k more. All else costs 0. A call for the next frame that takes one lowers what may be sent by one or
+/// two, and any other leaves it as it is.
 #[tactic(auto, using(crate::proofs::MachineLaws::lines_rise))]
 pub fn lines_rise()
     ensures { LinesRise }
@@ -30,10 +30,9 @@ pub fn deactivations_give_up()
 
 /// If a line is down, its unit data that waits is given up, and of TEI management the messages that wait and the check
 /// that runs, or a terminal's procedure. All else of the line stays, its links, too. That T201 or T202 stops, if it ran,
-/// is all that is told. Let each
-/// link of a TEI on it be deactivated besides, before or after that, in any order, and nothing else happen at the line.
-/// Then nothing waits on it, and the next call for a frame gives none. Each link is in state 4, as one that begins; no
-/// timer is needed; and the TEIs stay (Q.921 annex B, persistent deactivation).
+/// is all that is told. Let each link of a TEI on it be deactivated besides, before or after that, in any order, and
+/// nothing else happen at the line. Then nothing waits on it, and the next call for a frame gives none. Each link is in
+/// state 4, as one that begins; no timer is needed; and the TEIs stay (Q.921 annex B, persistent deactivation).
 pub fn lines_go_down()
     ensures { LinesGoDown }
 {}

@@ -11,8 +11,8 @@ use Rattle.lapd_sim.specs.machine.Steps.{held}
 use Rattle.lapd_sim.specs.machine.Script.{played}
 use Rattle.lapd_sim.specs.machine.Events.{script_events}
 
--- The bound of a configuration, as the program's word `limits` tells it. A terminal remembers no assignments, and has room for
--- one message more than TEIs, each of 8 octets.
+-- The bound of a configuration: if it is no terminal, as the program's word `limits` tells it. A terminal remembers no
+-- assignments, and one message more than its lines may have TEIs can wait there, each of 8 octets.
 abbrev pub terminal_bound : ℕ → ℕ → ℕ → ℕ → ℕ → ℕ
 terminal_bound lines terminals control slots n201 = lines * (2 * n201 + 10 + 8 * control * terminals + 8 * (terminals + 1)) + slots * n201
 

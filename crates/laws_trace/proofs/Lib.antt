@@ -122,6 +122,7 @@ pub mod AnswersAreGiven
 pub mod AnswersSuit
 pub mod Known
 pub mod ServedByTerminal
+pub mod CausesOfSide
 pub mod CausesAreTold
 pub mod CountersCount
 pub mod SeenAs

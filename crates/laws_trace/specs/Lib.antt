@@ -37,6 +37,7 @@ pub mod WorkedControls
 pub mod WorkedLoss
 pub mod WorkedAnswers
 pub mod WorkedManaging
+pub mod WorkedTerminal
 pub mod WorkedOtherSide
 pub mod WorkedSapis
 pub mod RoomsAreTold

@@ -212,7 +212,7 @@ unfolding exchanged read_by reading header_of control_of unnumbered_of
 kept_for_later h = cc h.begins
 
 -- A terminal with seed 0x1234, and messages of the network to it: by a type, an Ri and Ai.
-abbrev terminal : Config
+abbrev pub terminal : Config
 terminal = record usual { side = User; seed = Some 0x1234 }
 
 abbrev says : ℕ → ℕ → ℕ → ℕ → Event

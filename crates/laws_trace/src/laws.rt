@@ -152,11 +152,11 @@ pub fn what_is_given_is_due()
 /// stays on the line, to an observer, and the link is not deactivated.
 ///
 /// There have to be more calls than frames that the configuration lets go before. These are four messages of TEI
-/// management (on the user's side there is none), and all unit data that may wait. Beside these there are one frame of
-/// every link for each other control frame that the link has room for, and one of each other link. Each message of TEI
-/// management and each unit data that comes meanwhile counts, too. So with eight terminals, 4 unit data and 4 control
-/// frames 72 calls are enough, if none of these comes (Q.921 clauses 5.5.1.2, 5.5.3.2, 5.6.2 to 5.6.7, 5.7 and 5.8.1,
-/// and profile).
+/// management, and all unit data that may wait. (At a trunk's end there is no message; at a terminal there may be one
+/// more than its line may have TEIs.) Beside these there are one frame of every link for each other control frame that
+/// the link has room for, and one of each other link. Each message of TEI management and each unit data that comes
+/// meanwhile counts, too. So with eight terminals, 4 unit data and 4 control frames 72 calls are enough on the network's
+/// side, if none of these comes (Q.921 clauses 5.5.1.2, 5.5.3.2, 5.6.2 to 5.6.7, 5.7 and 5.8.1, and profile).
 pub fn answers_are_given()
     ensures { Always QueueIsSent }
 {}
@@ -178,8 +178,8 @@ pub fn answers_suit_events()
 /// Nothing is lost without need. Let control frames of a link become due by an event, as [`what_is_given_is_due`] has
 /// them, while its TEI stays on the line. Then an answer tells as many as lost as find no place beside those of the link
 /// that wait. At most as many wait as the configuration says. If none of any link becomes due, it tells as many as
-/// messages of TEI management are lost, by [`teis_are_managed`]. That is one if four are owed and another is, and none
-/// otherwise (profile).
+/// messages of TEI management are lost, by [`teis_are_managed`]. On the network's side that is one if four are owed and
+/// another is, and none otherwise. A terminal loses none (profile).
 pub fn nothing_is_lost_in_vain()
     ensures { Always NoLossInVain }
 {}

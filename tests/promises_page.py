@@ -44,7 +44,7 @@ RUNS = {
     'timers_are_true': 'model_timed Worked', 'timers_run_the_same': 'model_timed WorkedOctets',
     'frames_are_heard': 'model_card ports/WorkedText', 'given_frames_are_heard': 'laws_trace octets/Worked',
     'frames_go_at_once': 'model_card ports/WorkedText', 'answers_are_heard': 'laws_trace octets/WorkedAnswers',
-    'a_call_comes_through': 'laws_wire Worked', 'cards_deliver': 'laws_wire Worked',
+    'a_call_comes_through': 'laws_wire Worked', 'a_terminal_comes_through': 'laws_wire WorkedTerminals', 'cards_deliver': 'laws_wire Worked',
     'a_call_comes_through_in_octets': 'laws_order circuit/WorkedCall', 'calls_are_of_frames': 'laws_order circuit/WorkedMixed',
     'all_is_told_in_beats': 'laws_order circuit/Worked', 'a_call_comes_to_rest': 'laws_order circuit/WorkedDamaged',
     'told_in_order': 'laws_wire WorkedLosing',

@@ -19,9 +19,11 @@ const KINDS = [
   ["card", "octets"],
   ["frames", "whole frames"],
 ];
+const TERMINAL = "terminal";
 const SIDES = [
   ["", "the network's"],
-  ["user", "the user's"],
+  ["user", "the user's: a trunk's end"],
+  [TERMINAL, "the user's: a terminal"],
 ];
 export const USUAL = "card 1 8 7 8 4 4 64 260 3";
 
@@ -63,8 +65,11 @@ export class Card {
     });
     this.sapi = document.createElement("input");
     Object.assign(this.sapi, { type: "number", min: 1, max: 62, name: "SAPI", inputMode: "numeric" });
+    this.seed = document.createElement("input");
+    Object.assign(this.seed, { type: "number", min: 0, max: 65535, name: "seed", inputMode: "numeric" });
     this.field("between card and lines", "whether octets or whole frames go", this.kind);
     this.field("side", "whose side of its lines the card is", this.side);
+    this.field("seed", "a terminal's first reference number: 0 to 65535 (clause 5.3.2)", this.seed);
     NUMBERS.forEach(([name, least, most, words], at) => this.field(name, `${words}: ${least} to ${most}`, this.numbers[at]));
     this.field("SAPI", "the SAPI of packet links: 1 to 62; where it is left out, it is 16", this.sapi);
     form.addEventListener("change", () => onChanged(this.text()));
@@ -82,8 +87,9 @@ export class Card {
   text() {
     const numbers = this.numbers.map((it) => it.value || "0");
     if (!this.numbers.at(-1).value) numbers.pop();
+    const side = this.side.value === TERMINAL ? `user ${this.seed.value || "0"}` : this.side.value;
     const sapi = this.sapi.value ? `sapi ${this.sapi.value}` : "";
-    return [this.kind.value, ...numbers, this.side.value, sapi].filter((it) => it !== "").join(" ");
+    return [this.kind.value, ...numbers, side, sapi].filter((it) => it !== "").join(" ");
   }
 
   /** Shows the card line of a script. */
@@ -93,13 +99,19 @@ export class Card {
     this.kind.value = words[0];
     const sapi = words.at(-2) === "sapi" ? words.splice(-2)[1] : "";
     if (document.activeElement !== this.sapi) this.sapi.value = /^[0-9]+$/.test(sapi) ? String(Number(sapi)) : "";
-    this.side.value = words.at(-1) === "user" ? "user" : "";
+    const seed = words.at(-2) === "user" && /^[0-9]+$/.test(words.at(-1)) ? words.splice(-1)[0] : "";
+    if (document.activeElement !== this.seed) this.seed.value = seed === "" ? "" : String(Number(seed));
+    const isUser = words.at(-1) === "user";
+    if (seed !== "") this.side.value = TERMINAL;
+    else this.side.value = isUser ? "user" : "";
+    this.seed.parentElement.hidden = seed === "";
     const numbers = words.slice(1).filter((it) => it !== "user");
     this.numbers.forEach((it, at) => {
       if (document.activeElement !== it) it.value = /^[0-9]+$/.test(numbers[at] ?? "") ? String(Number(numbers[at])) : "";
     });
     const kind = words[0] === "card" ? "octets" : "whole frames";
-    const side = words.at(-1) === "user" ? "user" : "network";
-    this.summary.textContent = found ? `for ${kind}, the ${side}'s side` : "the script has no card line yet";
+    const side = isUser ? "user" : "network";
+    const who = seed === "" ? `the ${side}'s side` : "a terminal";
+    this.summary.textContent = found ? `for ${kind}, ${who}` : "the script has no card line yet";
   }
 }

@@ -6,7 +6,7 @@ const LONGEST_WAIT = 3600000;
 const LINE_FEED = 10;
 const OCTETS = /^(rx|in) ([0-9]+) (-|(?:[0-9A-Fa-f]{2})*)$/;
 const WAIT = /^wait ([0-9]+)$/;
-const TIMERS = /^timers 0*([1-9][0-9]*) 0*([1-9][0-9]*) 0*([1-9][0-9]*)$/;
+const TIMERS = /^timers 0*([1-9][0-9]*) 0*([1-9][0-9]*) 0*([1-9][0-9]*)(?: 0*([1-9][0-9]*))?$/;
 const CARD_WIDE = ["card", "frames", "wait", "timers", "stored"];
 
 /** The octets of digits. */
@@ -54,16 +54,16 @@ export class Line {
     return found && { word: found[1], about: Number(found[2]), octets: octetsIn(found[3] === "-" ? "" : found[3]) };
   }
 
-  /** Of `timers` the three lengths, in milliseconds. */
+  /** Of `timers` the three or four lengths, in milliseconds. */
   lengths() {
     const found = this.text.length <= LONGEST_LINE ? TIMERS.exec(this.text) : null;
-    return found ? found.slice(1).map(Number) : [];
+    return found ? found.slice(1).filter((it) => it !== undefined).map(Number) : [];
   }
 
   /** Whether it is a card line whose card is the user's side. */
   isOfUser() {
     const words = this.words();
-    return ["card", "frames"].includes(words[0]) && words.slice(-3).includes("user");
+    return ["card", "frames"].includes(words[0]) && words.slice(-4).includes("user");
   }
 
   /** Of `wait` the milliseconds; else null. */

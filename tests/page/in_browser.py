@@ -219,6 +219,9 @@ def has_fields(page: Page, scripts: List[Played]) -> Iterator[str]:
         ("side", "user", "card 1 8 3 8 4 4 64 260 3 user"),
         ("K16", "2", "card 1 8 3 8 4 4 64 260 3 2 user"),
         ("kind", "frames", "frames 1 8 3 8 4 4 64 260 3 2 user"),
+        ("side", "terminal", "frames 1 8 3 8 4 4 64 260 3 2 user 0"),
+        ("seed", "4660", "frames 1 8 3 8 4 4 64 260 3 2 user 4660"),
+        ("SAPI", "62", "frames 1 8 3 8 4 4 64 260 3 2 user 4660 sapi 62"),
     ]:
         page.browser.value(f"change({json.dumps(name)}, {json.dumps(value)})")
         time.sleep(0.2)

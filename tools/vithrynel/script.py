@@ -9,7 +9,7 @@ LONGEST_LINE = 4096
 LONGEST_WAIT = 3_600_000
 OCTETS = re.compile(rb"(rx|in) ([0-9]+) (-|(?:[0-9A-Fa-f]{2})*)")
 WAIT = re.compile(rb"wait ([0-9]+)")
-TIMERS = re.compile(rb"timers 0*([1-9][0-9]*) 0*([1-9][0-9]*) 0*([1-9][0-9]*)")
+TIMERS = re.compile(rb"timers 0*([1-9][0-9]*) 0*([1-9][0-9]*) 0*([1-9][0-9]*)(?: 0*([1-9][0-9]*))?")
 
 
 class Line(NamedTuple):
@@ -45,14 +45,14 @@ class Line(NamedTuple):
         return found[1].decode(), int(found[2]), octets
 
     def lengths(self) -> List[int]:
-        """Of `timers` the three lengths, in milliseconds."""
+        """Of `timers` the three or four lengths, in milliseconds."""
         found = TIMERS.fullmatch(self.text) if len(self.text) <= LONGEST_LINE else None
-        return [int(it) for it in found.groups()] if found else []
+        return [int(it) for it in found.groups() if it] if found else []
 
     def is_of_user(self) -> bool:
         """Whether it is a card line whose card is the user's side."""
         words = self.words()
-        return words[0] in ("card", "frames") and "user" in words[-3:]
+        return words[0] in ("card", "frames") and "user" in words[-4:]
 
     def waits(self) -> Optional[int]:
         """Of `wait` the milliseconds."""

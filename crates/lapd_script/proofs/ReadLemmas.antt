@@ -1,10 +1,10 @@
 -- What is read of words that stand in references, and of lines with too many.
-use Rattle.lapd_script.proofs.Vocabulary.{◌≡◌, ℕ, Bool, true, false, cond, List, [], ◌∷◌, length, take, drop, get_or, Some, None, Ok, Err, Result, Option, refl, sym, ap, ◌∙◌, Bor, arith, IsErr, IsErrAnd, false≢true, Network, FaultKind, BadNumberOfWords, Config, Word, Ask, texts, word_named, carries_octets, read_words, read_after, read_as, card_numbers, nine_numbers, three_numbers, ten_numbers}
-use Rattle.lapd_script.proofs.Vocabulary.{side_numbers, for_sapi, names_sapi}
+use Rattle.lapd_script.proofs.Vocabulary.{◌≡◌, ℕ, Bool, true, false, cond, List, [], ◌∷◌, length, take, drop, get_or, Some, None, Ok, Err, Result, Option, refl, sym, ap, ◌∙◌, Bor, arith, IsErr, IsErrAnd, false≢true, Network, FaultKind, BadNumberOfWords, Config, Word, Ask, texts, word_named, carries_octets, read_words, read_after, read_as, card_numbers, nine_numbers, three_numbers}
+use Rattle.lapd_script.proofs.Vocabulary.{side_numbers, for_sapi, more_numbers, names_sapi}
 use Rattle.std.specs.Prelude.{◌-◌, ◌&&◌, nat_le, bytes_eq, codes, zero, suc}
 use Rattle.lapd_script.specs.declared.word.Word.TheVariants.{Card}
 use Rattle.lapd_script.specs.Meaning.{card}
-use Rattle.lapd_script.proofs.Vocabulary.{for_user, is_user, ◌>>=◌}
+use Rattle.lapd_script.proofs.Vocabulary.{◌>>=◌}
 
 abbrev pub nowhere : Bor (List ℕ)
 nowhere = record { ref_ptr = (0, 0); now = [] }
@@ -59,55 +59,60 @@ pub nine_grouped : (words : List (Bor (List ℕ))) (ra rb rc : Result (ℕ × �
     → grouped ra rb rc ≡ nine_numbers (texts words)
 nine_grouped words ra rb rc n ea eb ec = grind (arith, nine_given)
 
--- ten words: the last is a tenth number, or says that the card is the user's side;
+-- ten, eleven and twelve words: nine, and what stands after them;
 pub with_tenth : (words : List (Bor (List ℕ))) → length words ≡ 10
-    → side_numbers (texts words) ≡ cond (is_user (at words 9)) (for_user (nine_numbers (texts (take 9 words)))) (ten_numbers (texts (take 9 words)) (at words 9))
+    → more_numbers (texts (take 9 words)) (at words 9 ∷ []) ≡ side_numbers (texts words)
 with_tenth (a ∷ b ∷ c ∷ d ∷ e ∷ f ∷ g ∷ h ∷ i ∷ j ∷ []) n = refl
 with_tenth _ n = absurd (omega (arith, n))
 
--- eleven words: the last says that;
 pub with_eleventh : (words : List (Bor (List ℕ))) → length words ≡ 11
-    → side_numbers (texts words) ≡ cond (is_user (at words 10)) (for_user (ten_numbers (texts (take 9 words)) (at words 9))) (Err BadNumberOfWords)
+    → more_numbers (texts (take 9 words)) (at words 9 ∷ at words 10 ∷ []) ≡ side_numbers (texts words)
 with_eleventh (a ∷ b ∷ c ∷ d ∷ e ∷ f ∷ g ∷ h ∷ i ∷ j ∷ k ∷ []) n = refl
 with_eleventh _ n = absurd (omega (arith, n))
 
+pub with_twelfth : (words : List (Bor (List ℕ))) → length words ≡ 12
+    → more_numbers (texts (take 9 words)) (at words 9 ∷ at words 10 ∷ at words 11 ∷ []) ≡ side_numbers (texts words)
+with_twelfth (a ∷ b ∷ c ∷ d ∷ e ∷ f ∷ g ∷ h ∷ i ∷ j ∷ k ∷ l ∷ []) n = refl
+with_twelfth _ n = absurd (omega (arith, n))
+
 -- and else they are nine numbers, or too few, or too many.
-pub without : (words : List (Bor (List ℕ))) → (length words ≡ 10 → ⊥) → (length words ≡ 11 → ⊥) → nine_numbers (texts words) ≡ side_numbers (texts words)
-without (a ∷ b ∷ c ∷ d ∷ e ∷ f ∷ g ∷ h ∷ i ∷ j ∷ []) n m = absurd (n refl)
-without (a ∷ b ∷ c ∷ d ∷ e ∷ f ∷ g ∷ h ∷ i ∷ j ∷ k ∷ []) n m = absurd (m refl)
-without _ n m = refl
+pub without : (words : List (Bor (List ℕ))) → (length words ≡ 10 → ⊥) → (length words ≡ 11 → ⊥) → (length words ≡ 12 → ⊥) → nine_numbers (texts words) ≡ side_numbers (texts words)
+without (a ∷ b ∷ c ∷ d ∷ e ∷ f ∷ g ∷ h ∷ i ∷ j ∷ []) n m o = absurd (n refl)
+without (a ∷ b ∷ c ∷ d ∷ e ∷ f ∷ g ∷ h ∷ i ∷ j ∷ k ∷ []) n m o = absurd (m refl)
+without (a ∷ b ∷ c ∷ d ∷ e ∷ f ∷ g ∷ h ∷ i ∷ j ∷ k ∷ l ∷ []) n m o = absurd (o refl)
+without _ n m o = refl
 
 either : {A : Type 0} (t : Bool) (x : A) → cond t x x ≡ x
 either true x = refl
 either false x = refl
 
 -- so many words are too many for each first word, and so are more
-too_many : (word : Word) (a b c d e f g h i j k l m n : List ℕ) (more : List (List ℕ))
-    → read_as word (a ∷ b ∷ c ∷ d ∷ e ∷ f ∷ g ∷ h ∷ i ∷ j ∷ k ∷ l ∷ m ∷ n ∷ more) ≡ Err BadNumberOfWords
-too_many (Ask what) a b c d e f g h i j k l m n more = either (carries_octets what) (Err BadNumberOfWords)
-too_many (Card kind) a b c d e f g h i j k l m n more = go (names_sapi words)
+too_many : (word : Word) (a b c d e f g h i j k l m n o : List ℕ) (more : List (List ℕ))
+    → read_as word (a ∷ b ∷ c ∷ d ∷ e ∷ f ∷ g ∷ h ∷ i ∷ j ∷ k ∷ l ∷ m ∷ n ∷ o ∷ more) ≡ Err BadNumberOfWords
+too_many (Ask what) a b c d e f g h i j k l m n o more = either (carries_octets what) (Err BadNumberOfWords)
+too_many (Card kind) a b c d e f g h i j k l m n o more = go (names_sapi words)
   where
     words : List (List ℕ)
-    words = a ∷ b ∷ c ∷ d ∷ e ∷ f ∷ g ∷ h ∷ i ∷ j ∷ k ∷ l ∷ m ∷ n ∷ more
+    words = a ∷ b ∷ c ∷ d ∷ e ∷ f ∷ g ∷ h ∷ i ∷ j ∷ k ∷ l ∷ m ∷ n ∷ o ∷ more
 
-    shorter : length words - 2 ≡ suc (suc (suc (suc (suc (suc (suc (suc (suc (suc (suc (suc (length more))))))))))))
+    shorter : length words - 2 ≡ suc (suc (suc (suc (suc (suc (suc (suc (suc (suc (suc (suc (suc (length more)))))))))))))
     shorter = omega arith
 
     go : (b : Bool) → (cond b (for_sapi (side_numbers (take (length words - 2) words)) (get_or words (length words - 1) [])) (side_numbers words) >>= (λ numbers. Ok (card kind numbers))) ≡ Err BadNumberOfWords
     go true = ap (λ n. for_sapi (side_numbers (take n words)) (get_or words (length words - 1) []) >>= (λ numbers. Ok (card kind numbers))) shorter
     go false = refl
-too_many _ a b c d e f g h i j k l m n more = refl
+too_many _ a b c d e f g h i j k l m n o more = refl
 
-pub taken_words : (word : Word) (words : List (List ℕ)) → read_as word (take 14 words) ≡ read_as word words
-taken_words word (a ∷ b ∷ c ∷ d ∷ e ∷ f ∷ g ∷ h ∷ i ∷ j ∷ k ∷ l ∷ m ∷ n ∷ more) = too_many word a b c d e f g h i j k l m n [] ∙ sym (too_many word a b c d e f g h i j k l m n more)
+pub taken_words : (word : Word) (words : List (List ℕ)) → read_as word (take 15 words) ≡ read_as word words
+taken_words word (a ∷ b ∷ c ∷ d ∷ e ∷ f ∷ g ∷ h ∷ i ∷ j ∷ k ∷ l ∷ m ∷ n ∷ o ∷ more) = too_many word a b c d e f g h i j k l m n o [] ∙ sym (too_many word a b c d e f g h i j k l m n o more)
 taken_words word _ = refl
 
 abbrev first_word : List (List ℕ) → List ℕ
 first_word [] = []
 first_word (name ∷ more) = name
 
--- where the first fifteen words are these, they say what all the words say
-pub read_taken : (all : List (List ℕ)) (name : List ℕ) (words : List (List ℕ)) (word : Option Word) → name ∷ words ≡ take 15 all → word ≡ word_named name → read_after word words ≡ read_words all
+-- where the first sixteen words are these, they say what all the words say
+pub read_taken : (all : List (List ℕ)) (name : List ℕ) (words : List (List ℕ)) (word : Option Word) → name ∷ words ≡ take 16 all → word ≡ word_named name → read_after word words ≡ read_words all
 read_taken all name words word e w = grind (arith, taken_words)
 
 -- the exit of a `?`

@@ -18,7 +18,7 @@ pub use Rattle.std.specs.Char.{is_ascii_digit, is_ascii_hexdigit}
 pub use Rattle.std.specs.Int.{is_in_range}
 pub use Rattle.std.specs.Io.KnownBytes.{Consumes, IsAtEnd, Keeps}
 pub use Rattle.std.specs.List.{AllPass, AllWithin, HoldsAt, copy_within, list_all, list_any, position, position_or_len}
-pub use Rattle.std.specs.Prelude.{All, IfOk, IsErr, IsErrAnd, Vec}
+pub use Rattle.std.specs.Prelude.{All, IfOk, IsErr, IsErrAnd, Vec, not}
 pub use Rattle.std.specs.Result.{result_ok}
 pub use Rattle.std.specs.Str.{IsAscii, IsUtf8, all_ascii_digits}
 pub use Rattle.std.specs.Str.Parse.{ParsesUnsigned, digits_value}
@@ -34,7 +34,7 @@ pub use Rattle.lapd_script.specs.Job.{Job, frame, job, job_or_none, limits_of, s
 pub use Rattle.lapd_script.specs.Number.{number, within}
 pub use Rattle.lapd_script.specs.Octets.{octets, or_bad}
 pub use Rattle.lapd_script.specs.Pieces.{line_in, pieces_of, with_octet}
-pub use Rattle.lapd_script.specs.Read.{card_numbers, for_sapi, for_user, is_user, names_sapi, side_numbers, nine_numbers, read_after, read_as, read_words, ten_numbers, three_numbers, ◌>>=◌}
+pub use Rattle.lapd_script.specs.Read.{card_numbers, for_sapi, for_terminal, for_user, is_user, more_numbers, names_sapi, side_numbers, nine_numbers, read_after, read_as, read_words, ten_numbers, three_numbers, ◌>>=◌}
 pub use Rattle.lapd_script.specs.ScriptLines.{Advances, AreLeft, IsReady, Takes, held, left_to_read, too_long_after}
 pub use Rattle.lapd_script.specs.Shown.{IsShown, IsUnshown, ShowsFrame}
 pub use Rattle.lapd_script.specs.Word.{carries_octets, word_named}

@@ -4,10 +4,11 @@ use Rattle.lapd_script.specs.declared.kind.FaultKind.{FaultKind}
 use Rattle.lapd_transcript.specs.declared.counters.CounterGroup.{CounterGroup}
 use Rattle.lapd_script.specs.declared.command.Asked.{Asked}
 use Rattle.lapd_script.specs.declared.command.CardKind.{CardKind}
+use Rattle.lapd_script.specs.declared.command.Durations.{Durations}
 use Rattle.model_line.specs.declared.faults.Fault.{Fault}
 use Rattle.model_line.specs.declared.config.Config.{Config}
 use Rattle.lapd_script.specs.declared.command.Command.{Command}
-use Rattle.lapd_script.specs.declared.command.Command.TheVariants.{Skip, Card, Rx, In, Failed, Next, Down, Pull, Wait, Timers, Stored, Counters, Ask}
+use Rattle.lapd_script.specs.declared.command.Command.TheVariants.{Skip, Card, Rx, In, Failed, Next, Down, AskTei, Pull, Wait, Timers, Stored, Counters, Ask}
 
 pub data Meaning : Type 0 where
   -- nothing: the line is skipped
@@ -24,12 +25,14 @@ pub data Meaning : Type 0 where
   next : ℕ → Meaning
   -- the line is down: its links are given up, and all that waits on it
   down : ℕ → Meaning
+  -- a terminal asks for a TEI of the line
+  ask_tei : ℕ → Meaning
   -- the line takes so many octets
   pull : ℕ → ℕ → Meaning
   -- so many milliseconds pass
   wait : ℕ → Meaning
-  -- T200, T203 and T201 run so many milliseconds from now on
-  timers : ℕ → ℕ → ℕ → Meaning
+  -- T200, T203, T201 and T202 run so long from now on
+  timers : Durations → Meaning
   -- what the card holds is shown
   stored : Meaning
   -- what was counted of the line is shown, of these counters
@@ -46,9 +49,10 @@ meant buffer (In line count) = into line (take count buffer)
 meant buffer (Failed line fault) = failed line fault
 meant buffer (Next line) = next line
 meant buffer (Down line) = down line
+meant buffer (AskTei line) = ask_tei line
 meant buffer (Pull line count) = pull line count
 meant buffer (Wait milliseconds) = wait milliseconds
-meant buffer (Timers t200 t203 t201) = timers t200 t203 t201
+meant buffer (Timers durations) = timers durations
 meant buffer Stored = stored
 meant buffer (Counters line group) = counters line group
 meant buffer (Ask line tei what count) = ask line tei what (take count buffer)

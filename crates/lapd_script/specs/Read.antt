@@ -1,17 +1,18 @@
 -- How a line of a script is read: what each first word takes, and what can be wrong with the words by themselves.
-use Rattle.std.specs.Prelude.{ℕ, ◌-◌, ◌==◌, ◌&&◌, nat_le, Bool, if◌then◌else◌, List, [], ◌∷◌, length, get_or, take, drop, codes, bytes_eq, Option, Some, None, Result, Ok, Err}
+use Rattle.std.specs.Prelude.{ℕ, ◌-◌, ◌==◌, ◌&&◌, not, nat_le, Bool, if◌then◌else◌, List, [], ◌∷◌, length, get_or, take, drop, codes, bytes_eq, Option, Some, None, Result, Ok, Err}
 use Rattle.lapd_frame.specs.declared.addresses.Side.TheVariants.{User, Network}
 use Rattle.lapd_script.specs.declared.kind.FaultKind.{FaultKind}
 use Rattle.lapd_script.specs.declared.kind.FaultKind.TheVariants.{UnknownWord, BadNumberOfWords}
 use Rattle.model_line.specs.declared.config.Config.{Config}
+use Rattle.lapd_script.specs.declared.command.Durations.{Durations}
 use Rattle.lapd_script.specs.declared.word.Word.{Word}
-use Rattle.lapd_script.specs.declared.word.Word.TheVariants.{Card, Rx, In, Failed, Next, Down, Pull, Wait, Timers, Stored, Counters, Ask}
+use Rattle.lapd_script.specs.declared.word.Word.TheVariants.{Card, Rx, In, Failed, Next, Down, AskTei, Pull, Wait, Timers, Stored, Counters, Ask}
 use Rattle.lapd_script.specs.Words.{words_of, no_words, one_word, two_words, three_words}
 use Rattle.lapd_script.specs.Number.{number}
 use Rattle.lapd_script.specs.Octets.{octets}
 use Rattle.lapd_script.specs.Cause.{cause}
 use Rattle.lapd_script.specs.Word.{word_named, carries_octets}
-use Rattle.lapd_script.specs.Meaning.{Meaning, skip, card, rx, into, failed, next, down, pull, wait, timers, stored, counters, ask}
+use Rattle.lapd_script.specs.Meaning.{Meaning, skip, card, rx, into, failed, next, down, ask_tei, pull, wait, timers, stored, counters, ask}
 
 -- the second step, where the first one found no fault
 infixl 10 ◌>>=◌
@@ -42,13 +43,16 @@ nine_numbers (lines ∷ terminals ∷ k ∷ queue ∷ unit_queue ∷ control ∷
   Ok (record { lines = a.0; terminals = a.1; k = a.2; queue = b.0; unit_queue = b.1; control = b.2; slots = c.0; n201 = c.1; n200 = c.2; k16 = a.2; side = Network; sapi = 16; seed = None })
 nine_numbers _ = Err BadNumberOfWords
 
--- nine numbers, or ten: the tenth is the window of packet links; and the word `user` behind them, if the card is the user's
--- side of its lines
+-- nine numbers, or ten: the tenth is the window of packet links. After them stands the word `user`, if the card is the user's
+-- side of its lines; and after that a number, its seed, if it is a terminal and no trunk's end
 abbrev pub with_k16 : ℕ → Config → Config
 with_k16 k16 numbers = record numbers { k16 = k16 }
 
 abbrev pub of_user : Config → Config
 of_user numbers = record numbers { side = User }
+
+abbrev pub with_seed : ℕ → Config → Config
+with_seed seed numbers = record numbers { seed = Some seed }
 
 abbrev pub ten_numbers : List (List ℕ) → List ℕ → Result Config FaultKind
 ten_numbers nine k16 = do
@@ -61,14 +65,24 @@ for_user read = do
   numbers ← read
   Ok (of_user numbers)
 
+abbrev pub for_terminal : Result Config FaultKind → List ℕ → Result Config FaultKind
+for_terminal read seed = do
+  numbers ← for_user read
+  seed ← number 0 65535 seed
+  Ok (with_seed seed numbers)
+
 abbrev pub is_user : List ℕ → Bool
 is_user word = bytes_eq word (codes "user")
 
 abbrev pub more_numbers : List (List ℕ) → List (List ℕ) → Result Config FaultKind
 more_numbers nine [] = nine_numbers nine
 more_numbers nine (last ∷ []) = if is_user last then for_user (nine_numbers nine) else ten_numbers nine last
-more_numbers nine (k16 ∷ last ∷ []) = if is_user last then for_user (ten_numbers nine k16) else Err BadNumberOfWords
-more_numbers nine (k16 ∷ last ∷ third ∷ words) = Err BadNumberOfWords
+more_numbers nine (word ∷ last ∷ []) =
+    if is_user last then for_user (ten_numbers nine word)
+    else if is_user word then for_terminal (nine_numbers nine) last
+    else Err BadNumberOfWords
+more_numbers nine (k16 ∷ word ∷ last ∷ []) = if is_user word && not (is_user last) then for_terminal (ten_numbers nine k16) last else Err BadNumberOfWords
+more_numbers nine (k16 ∷ word ∷ last ∷ more ∷ words) = Err BadNumberOfWords
 
 abbrev pub side_numbers : List (List ℕ) → Result Config FaultKind
 side_numbers words = more_numbers (take 9 words) (drop 9 words)
@@ -92,14 +106,23 @@ card_numbers words =
     then for_sapi (side_numbers (take (length words - 2) words)) (get_or words (length words - 1) [])
     else side_numbers words
 
--- T200, T203 and T201 in milliseconds: each a millisecond to an hour
-abbrev pub lengths : List (List ℕ) → Result (ℕ × ℕ × ℕ) FaultKind
-lengths words = do
-  word ← three_words words
-  t200 ← number 1 3600000 word.0
-  t203 ← number 1 3600000 word.1
-  t201 ← number 1 3600000 word.2
-  Ok (t200, t203, t201)
+-- how many milliseconds a timer runs: one to those of an hour
+abbrev pub duration : List ℕ → Result ℕ FaultKind
+duration word = number 1 3600000 word
+
+-- T200, T203 and T201, and T202, which runs two seconds if it is left out (clause 5.9.7)
+abbrev pub four_durations : List ℕ → List ℕ → List ℕ → Result ℕ FaultKind → Result Durations FaultKind
+four_durations t200 t203 t201 fourth = do
+  t200 ← duration t200
+  t203 ← duration t203
+  t201 ← duration t201
+  t202 ← fourth
+  Ok (record { t200 = t200; t203 = t203; t201 = t201; t202 = t202 })
+
+abbrev pub durations : List (List ℕ) → Result Durations FaultKind
+durations (t200 ∷ t203 ∷ t201 ∷ []) = four_durations t200 t203 t201 (Ok 2000)
+durations (t200 ∷ t203 ∷ t201 ∷ t202 ∷ []) = four_durations t200 t203 t201 (duration t202)
+durations _ = Err BadNumberOfWords
 
 -- what each first word takes after it
 abbrev pub read_as : Word → List (List ℕ) → Result Meaning FaultKind
@@ -129,6 +152,10 @@ read_as Down words = do
   word ← one_word words
   line ← line_number word
   Ok (down line)
+read_as AskTei words = do
+  word ← one_word words
+  line ← line_number word
+  Ok (ask_tei line)
 read_as Pull words = do
   word ← two_words words
   line ← line_number word.0
@@ -139,8 +166,8 @@ read_as Wait words = do
   milliseconds ← number 0 3600000 word
   Ok (wait milliseconds)
 read_as Timers words = do
-  lengths ← lengths words
-  Ok (timers lengths.0 lengths.1 lengths.2)
+  durations ← durations words
+  Ok (timers durations)
 read_as Stored words = do
   none ← no_words words
   Ok stored

@@ -2,11 +2,11 @@
 use Rattle.std.specs.Prelude.{ℕ, Bool, true, false, if◌then◌else◌, List, codes, bytes_eq, Option, Some, None, option_map}
 use Rattle.lapd_frame.specs.declared.services.Service.TheVariants.{Call, Packet}
 use Rattle.lapd_script.specs.declared.command.Asked.{Asked}
-use Rattle.lapd_script.specs.declared.command.Asked.TheVariants.{Assign, Remove, Check, Disown, Establish, Release, SetBusy, ClearBusy, Deactivate, Data, Unit}
+use Rattle.lapd_script.specs.declared.command.Asked.TheVariants.{Assign, Remove, Check, Disown, Verify, Establish, Release, SetBusy, ClearBusy, Deactivate, Data, Unit}
 use Rattle.lapd_script.specs.declared.command.CardKind.TheVariants.{Octets, Frames}
 use Rattle.lapd_transcript.specs.declared.counters.CounterGroup.TheVariants.{Line, Messages}
 use Rattle.lapd_script.specs.declared.word.Word.{Word}
-use Rattle.lapd_script.specs.declared.word.Word.TheVariants.{Card, Rx, In, Failed, Next, Down, Pull, Wait, Timers, Stored, Counters, Ask}
+use Rattle.lapd_script.specs.declared.word.Word.TheVariants.{Card, Rx, In, Failed, Next, Down, AskTei, Pull, Wait, Timers, Stored, Counters, Ask}
 
 -- what is asked for, of a line and a TEI; for packet links (SAPI 16) with 16 after the word
 abbrev pub asked_named : List ℕ → Option Asked
@@ -15,6 +15,7 @@ asked_named name =
     else if bytes_eq name (codes "remove") then Some Remove
     else if bytes_eq name (codes "check") then Some Check
     else if bytes_eq name (codes "disown") then Some Disown
+    else if bytes_eq name (codes "verify") then Some Verify
     else if bytes_eq name (codes "establish") then Some (Establish Call)
     else if bytes_eq name (codes "establish16") then Some (Establish Packet)
     else if bytes_eq name (codes "release") then Some (Release Call)
@@ -40,6 +41,7 @@ word_named name =
     else if bytes_eq name (codes "failed") then Some Failed
     else if bytes_eq name (codes "next") then Some Next
     else if bytes_eq name (codes "down") then Some Down
+    else if bytes_eq name (codes "ask") then Some AskTei
     else if bytes_eq name (codes "pull") then Some Pull
     else if bytes_eq name (codes "wait") then Some Wait
     else if bytes_eq name (codes "timers") then Some Timers

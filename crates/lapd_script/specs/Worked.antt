@@ -10,7 +10,7 @@ use Rattle.lapd_script.specs.declared.command.Asked as asked
 use Rattle.lapd_script.specs.declared.command.CardKind.TheVariants.{Octets, Frames}
 use Rattle.model_line.specs.declared.faults.Fault.TheVariants.{Ragged}
 use Rattle.lapd_transcript.specs.declared.counters.CounterGroup.TheVariants as group
-use Rattle.lapd_script.specs.Meaning.{skip, card, rx, into, failed, next, down, pull, wait, timers, stored, counters, ask}
+use Rattle.lapd_script.specs.Meaning.{skip, card, rx, into, failed, next, down, ask_tei, pull, wait, timers, stored, counters, ask}
 use Rattle.lapd_script.specs.Read.{read}
 use Rattle.lapd_script.specs.Job.{job, run, frame, limits}
 use Rattle.lapd_script.specs.Bound.{bound}
@@ -36,6 +36,25 @@ of_user = refl
 ten_of_user : read (codes "card 1 8 7 8 4 4 64 260 3 15 user") ≡ Ok (card Octets (record { lines = 1; terminals = 8; k = 7; queue = 8; unit_queue = 4; control = 4; slots = 64; n201 = 260; n200 = 3; k16 = 15; side = User; sapi = 16; seed = None }))
 ten_of_user = refl
 
+a_terminal : read (codes "frames 1 8 7 8 4 4 64 260 3 user 4660") ≡ Ok (card Frames (record { lines = 1; terminals = 8; k = 7; queue = 8; unit_queue = 4; control = 4; slots = 64; n201 = 260; n200 = 3; k16 = 7; side = User; sapi = 16; seed = Some 4660 }))
+a_terminal = refl
+
+ten_of_terminal : read (codes "card 1 8 7 8 4 4 64 260 3 15 user 065535 sapi 62") ≡ Ok (card Octets (record { lines = 1; terminals = 8; k = 7; queue = 8; unit_queue = 4; control = 4; slots = 64; n201 = 260; n200 = 3; k16 = 15; side = User; sapi = 62; seed = Some 65535 }))
+ten_of_terminal = refl
+
+long_seed : read (codes "card 1 8 7 8 4 4 64 260 3 user 65536") ≡ Err BadNumber
+long_seed = refl
+
+no_seed : read (codes "card 1 8 7 8 4 4 64 260 3 15 user sapi") ≡ Err BadNumber
+no_seed = refl
+
+-- as the last word, `user` is no seed
+user_last : read (codes "card 1 8 7 8 4 4 64 260 3 15 user user") ≡ Err BadNumberOfWords
+user_last = refl
+
+after_the_seed : read (codes "card 1 8 7 8 4 4 64 260 3 user 7 7") ≡ Err BadNumberOfWords
+after_the_seed = refl
+
 with_sapi : read (codes "card 1 8 7 8 4 4 64 260 3 sapi 62") ≡ Ok (card Octets (record { lines = 1; terminals = 8; k = 7; queue = 8; unit_queue = 4; control = 4; slots = 64; n201 = 260; n200 = 3; k16 = 7; side = Network; sapi = 62; seed = None }))
 with_sapi = refl
 
@@ -53,6 +72,9 @@ sapi_before_user = refl
 
 user_too_soon : read (codes "card 1 8 7 8 4 4 64 260 user") ≡ Err BadNumber
 user_too_soon = refl
+
+seed_too_soon : read (codes "card 1 8 7 8 4 4 64 260 user 7") ≡ Err BadNumber
+seed_too_soon = refl
 
 no_side : read (codes "card 1 8 7 8 4 4 64 260 3 15 network") ≡ Err BadNumberOfWords
 no_side = refl
@@ -88,8 +110,20 @@ pulls = refl
 an_hour : read (codes "wait 3600000") ≡ Ok (wait 3600000)
 an_hour = refl
 
-slow_timers : read (codes "timers 12000 60000 1000") ≡ Ok (timers 12000 60000 1000)
+slow_timers : read (codes "timers 12000 60000 1000") ≡ Ok (timers (record { t200 = 12000; t203 = 60000; t201 = 1000; t202 = 2000 }))
 slow_timers = refl
+
+four_timers : read (codes "timers 12000 60000 1000 03") ≡ Ok (timers (record { t200 = 12000; t203 = 60000; t201 = 1000; t202 = 3 }))
+four_timers = refl
+
+two_timers : read (codes "timers 12000 60000") ≡ Err BadNumberOfWords
+two_timers = refl
+
+five_timers : read (codes "timers 1 1 1 1 1") ≡ Err BadNumberOfWords
+five_timers = refl
+
+long_t202 : read (codes "timers 1000 10000 1000 3600001") ≡ Err BadNumber
+long_t202 = refl
 
 no_timer : read (codes "timers 0 10000 1000") ≡ Err BadNumber
 no_timer = refl
@@ -121,6 +155,15 @@ deactivate = refl
 
 line_down : read (codes "down 63") ≡ Ok (down 63)
 line_down = refl
+
+a_tei : read (codes "ask 63") ≡ Ok (ask_tei 63)
+a_tei = refl
+
+a_tei_is_not_named : read (codes "ask 0 64") ≡ Err BadNumberOfWords
+a_tei_is_not_named = refl
+
+verified : read (codes "verify 0 64") ≡ Ok (ask 0 64 asked.TheVariants.Verify [])
+verified = refl
 
 line_down_has_no_tei : read (codes "down 0 64") ≡ Err BadNumberOfWords
 line_down_has_no_tei = refl

@@ -15,6 +15,8 @@ pub enum Asked {
     Check,
     /// `disown`: tells its terminals, or all of them, to give up a TEI that is not on the line.
     Disown,
+    /// `verify`: a terminal asks the network whether the TEI is still its own.
+    Verify,
     /// `establish`, `establish16`: the link's establishment.
     Establish(Service),
     /// `release`, `release16`: its release.
@@ -40,6 +42,19 @@ pub enum CardKind {
     Frames,
 }
 
+/// How many milliseconds timers run, 1 to 3,600,000 each.
+#[derive(Clone, Copy)]
+pub struct Durations {
+    /// T200.
+    pub t200: u32,
+    /// T203.
+    pub t203: u32,
+    /// T201.
+    pub t201: u32,
+    /// T202.
+    pub t202: u32,
+}
+
 /// What a line of a script says. `line` is the number of a line of the card, from 0, and `octets` how many octets HEX
 /// stands for.
 #[derive(Clone, Copy)]
@@ -47,7 +62,7 @@ pub enum Command {
     /// Nothing: the line is empty, or begins with `#`.
     Skip,
     /// `card`, `frames`: starts a card with these sizes and limits, which are any numbers of 16 bits. In the line `k16`
-    /// stands last, and it is `k` if it is left out.
+    /// stands after the other numbers, and it is `k` if it is left out.
     Card(CardKind, Config),
     /// `rx LINE HEX`: octets come from the line.
     Rx {
@@ -68,6 +83,8 @@ pub enum Command {
     Next(u16),
     /// `down LINE`: the line is down, so its links are given up, and all that waits on it.
     Down(u16),
+    /// `ask LINE`: a terminal asks the network for a TEI.
+    AskTei(u16),
     /// `pull LINE N`: the line takes 1 to 4,096 octets.
     Pull {
         line: u16,
@@ -75,12 +92,9 @@ pub enum Command {
     },
     /// `wait MS`: so many milliseconds pass, at most 3,600,000.
     Wait(u32),
-    /// `timers T200 T203 T201`: from now on timers that are started run so many milliseconds, 1 to 3,600,000 each.
-    Timers {
-        t200: u32,
-        t203: u32,
-        t201: u32,
-    },
+    /// `timers T200 T203 T201 T202`: from now on timers that are started run so long. In the line T202 is 2,000 if it is left
+    /// out.
+    Timers(Durations),
     /// `stored`: shows what the card holds.
     Stored,
     /// `counters LINE`, `messages LINE`: shows what was counted of the line.

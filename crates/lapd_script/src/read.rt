@@ -1,9 +1,9 @@
 //! Reads a line of a script.
 
-ghost use Rattle.std.specs.Prelude.{◌≡◌, ◌*◌, ◌/◌, ◌≤◌, ℕ, List, take, drop, length, codes, bytes_eq, All, Ok, Err, IfOk, MatchResult};
-ghost use Rattle.lapd_script.specs.{texts, rx, into, meant_by, IsCounted, read, read_words, read_as, lengths, card_numbers, for_sapi, for_user, is_user, nine_numbers, side_numbers, ten_numbers, three_numbers, Rx, In, Failed, Pull, Ask};
+ghost use Rattle.std.specs.Prelude.{◌≡◌, ◌*◌, ◌/◌, ◌≤◌, ℕ, List, [], ◌∷◌, take, drop, length, codes, bytes_eq, All, Ok, Err, IfOk, MatchResult};
+ghost use Rattle.lapd_script.specs.{texts, rx, into, meant_by, IsCounted, read, read_words, read_as, duration, durations, four_durations, card_numbers, for_sapi, for_terminal, for_user, is_user, more_numbers, nine_numbers, side_numbers, ten_numbers, three_numbers, Rx, In, Failed, Pull, Ask};
 
-use crate::command::{Asked, Command};
+use crate::command::{Asked, Command, Durations};
 use crate::kind::FaultKind;
 use crate::values::{cause, number, octet, octets, short};
 use crate::word::Word;
@@ -34,10 +34,10 @@ pub fn read_line(line: &[u8], room: &mut [u8]) -> Result<Command, FaultKind>
     read_words(words.as_slice(), room)
 }
 
-/// What the words of a line say, of which those past the fifteenth may be left out.
+/// What the words of a line say, of which those past the sixteenth may be left out.
 fn read_words(words: &[&[u8]], room: &mut [u8]) -> Result<Command, FaultKind>
     requires room { All (λ word. length word.now ≤ 2 * length room.old) words.now }
-    ensures read { (all : List (List ℕ)) → texts words.now ≡ take 15 all → meant_by room.new result ≡ read_words all }
+    ensures read { (all : List (List ℕ)) → texts words.now ≡ take 16 all → meant_by room.new result ≡ read_words all }
     ensures counted { IfOk result (IsCounted (length room.new)) }
     ensures rest { (n : ℕ) → All (λ word. length word.now ≤ n) words.now → drop (n / 2) room.new ≡ drop (n / 2) room.old }
 {
@@ -70,12 +70,10 @@ fn read_as(word: Word, words: &[&[u8]], room: &mut [u8]) -> Result<Command, Faul
         Word::Failed => failed(words),
         Word::Next => Ok(Command::Next(short(one(words)?)?)),
         Word::Down => Ok(Command::Down(short(one(words)?)?)),
+        Word::AskTei => Ok(Command::AskTei(short(one(words)?)?)),
         Word::Pull => pull(words),
         Word::Wait => Ok(Command::Wait(number(0, 3_600_000, one(words)?)?)),
-        Word::Timers => {
-            let (t200, t203, t201) = lengths(words)?;
-            Ok(Command::Timers { t200, t203, t201 })
-        }
+        Word::Timers => Ok(Command::Timers(durations(words)?)),
         Word::Stored => {
             none(words)?;
             Ok(Command::Stored)
@@ -155,18 +153,41 @@ fn ask(what: Asked, words: &[&[u8]], room: &mut [u8]) -> Result<Command, FaultKi
     })
 }
 
-/// T200, T203 and T201, each a millisecond to an hour.
-fn lengths(words: &[&[u8]]) -> Result<(u32, u32, u32), FaultKind>
-    ensures read { result ≡ lengths (texts words.now) }
+/// How long T200, T203 and T201 run, and T202, which runs two seconds if it is left out.
+fn durations(words: &[&[u8]]) -> Result<Durations, FaultKind>
+    ensures read { result ≡ durations (texts words.now) }
 {
-    let (t200, t203, t201) = three(words)?;
-    let t200 = number(1, 3_600_000, t200)?;
-    let t203 = number(1, 3_600_000, t203)?;
-    let t201 = number(1, 3_600_000, t201)?;
-    Ok((t200, t203, t201))
+    match words {
+        [t200, t203, t201] => four_durations(t200, t203, t201, Ok(2_000)),
+        [t200, t203, t201, t202] => four_durations(t200, t203, t201, duration(t202)),
+        _ => Err(FaultKind::BadNumberOfWords),
+    }
 }
 
-/// The numbers of a card line, `user` after them if the card is the user's side, and `sapi` with the SAPI of the second
+fn four_durations(
+    t200: &[u8],
+    t203: &[u8],
+    t201: &[u8],
+    t202: Result<u32, FaultKind>,
+) -> Result<Durations, FaultKind>
+    ensures { result ≡ four_durations t200.now t203.now t201.now t202 }
+{
+    Ok(Durations {
+        t200: duration(t200)?,
+        t203: duration(t203)?,
+        t201: duration(t201)?,
+        t202: t202?,
+    })
+}
+
+/// How long a timer runs: a millisecond to an hour.
+fn duration(word: &[u8]) -> Result<u32, FaultKind>
+    ensures { result ≡ duration word.now }
+{
+    number(1, 3_600_000, word)
+}
+
+/// The numbers of a card line, and who it is on its lines if it is the user's side; and `sapi` with the SAPI of the second
 /// service if that is not 16.
 fn card_numbers(words: &[&[u8]]) -> Result<Config, FaultKind>
     ensures read { result ≡ card_numbers (texts words.now) }
@@ -193,16 +214,51 @@ fn for_sapi(numbers: Result<Config, FaultKind>, sapi: &[u8]) -> Result<Config, F
     Ok(numbers)
 }
 
-/// The nine or ten numbers of a card line, and `user` after them if the card is the user's side.
+/// The nine or ten numbers of a card line. If the card is the user's side, `user` stands after them, and if it is a terminal,
+/// then its seed.
 fn side_numbers(words: &[&[u8]]) -> Result<Config, FaultKind>
     ensures read { result ≡ side_numbers (texts words.now) }
 {
     match words.len() {
-        10 if is_user(words[9]) => for_user(nine_numbers(&words[..9])),
-        10 => ten_numbers(&words[..9], words[9]),
-        11 if is_user(words[10]) => for_user(ten_numbers(&words[..9], words[9])),
-        11 => Err(FaultKind::BadNumberOfWords),
+        10 => ten_words(&words[..9], words[9]),
+        11 => eleven_words(&words[..9], words[9], words[10]),
+        12 => twelve_words(&words[..9], words[9], words[10], words[11]),
         _ => nine_numbers(words),
+    }
+}
+
+/// Nine numbers and a word: the window of packet links, or `user`.
+fn ten_words(nine: &[&[u8]], last: &[u8]) -> Result<Config, FaultKind>
+    ensures { result ≡ more_numbers (texts nine.now) (last.now ∷ []) }
+{
+    if is_user(last) {
+        for_user(nine_numbers(nine))
+    } else {
+        ten_numbers(nine, last)
+    }
+}
+
+/// Nine numbers and two words: the window of packet links and `user`, or `user` and the seed of a terminal.
+fn eleven_words(nine: &[&[u8]], word: &[u8], last: &[u8]) -> Result<Config, FaultKind>
+    ensures { result ≡ more_numbers (texts nine.now) (word.now ∷ last.now ∷ []) }
+{
+    if is_user(last) {
+        for_user(ten_numbers(nine, word))
+    } else if is_user(word) {
+        for_terminal(nine_numbers(nine), last)
+    } else {
+        Err(FaultKind::BadNumberOfWords)
+    }
+}
+
+/// Nine numbers and three words: the window of packet links, `user`, and the seed of a terminal.
+fn twelve_words(nine: &[&[u8]], k16: &[u8], word: &[u8], last: &[u8]) -> Result<Config, FaultKind>
+    ensures { result ≡ more_numbers (texts nine.now) (k16.now ∷ word.now ∷ last.now ∷ []) }
+{
+    if is_user(word) && !is_user(last) {
+        for_terminal(ten_numbers(nine, k16), last)
+    } else {
+        Err(FaultKind::BadNumberOfWords)
     }
 }
 
@@ -218,6 +274,15 @@ fn for_user(numbers: Result<Config, FaultKind>) -> Result<Config, FaultKind>
 {
     let mut numbers = numbers?;
     numbers.side = Side::User;
+    Ok(numbers)
+}
+
+/// The same of a card that is a terminal: its first reference number.
+fn for_terminal(numbers: Result<Config, FaultKind>, seed: &[u8]) -> Result<Config, FaultKind>
+    ensures { result ≡ for_terminal numbers seed.now }
+{
+    let mut numbers = for_user(numbers)?;
+    numbers.seed = Some(short(seed)?);
     Ok(numbers)
 }
 

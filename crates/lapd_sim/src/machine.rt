@@ -50,15 +50,16 @@ pub fn waits_leave_nothing_due()
     ensures { WaitsLeaveNothingDue }
 {}
 
-/// A script's card never stores more octets than the bound that the program's word `limits` tells of its numbers. That is
-/// the limit that a line `stored` tells. It holds after each event, and so after each line.
+/// A script's card never stores more octets than its bound. That is what the program's word `limits` tells of its numbers,
+/// unless the card is a terminal: other messages wait there, and no assignments are kept. It is the limit that a line
+/// `stored` tells. It holds after each event, and so after each line.
 pub fn scripts_stay_within()
     ensures { ScriptsStayWithin }
 {}
 
 /// The program's word `limits` can be asked about each configuration that a card can be started with, and about no
-/// others. Its numbers, in decimal digits, ask for the bound of that card (`each`), and words that ask for a bound have
-/// the numbers of such a configuration (`only`).
+/// others. Its numbers, in decimal digits, ask for the bound of a card of these numbers that is no terminal (`each`), and
+/// words that ask for a bound have the numbers of such a configuration (`only`).
 pub fn limits_are_of_cards()
     ensures { LimitsAreOfCards }
 {}

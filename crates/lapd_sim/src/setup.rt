@@ -9,11 +9,11 @@ ghost use Rattle.lapd_sim.specs.machine.Setup as machine;
 ghost use Rattle.model_line.specs.Sound.{IsInRange};
 
 use crate::exchange::{tell, written};
-use crate::parts::{Plan, begin, listeners, request_for, terminals};
+use crate::parts::{Plan, begin, lengths_of, listeners, request_for, terminals};
 use lapd_bits::Deframer;
-use lapd_card::{AnyCard, BareReport, Config, Fault, limit};
+use lapd_card::{AnyCard, BareReport, Config, Fault, Request, limit};
 use lapd_clock::Lengths;
-use lapd_script::{Asked, Command, FaultKind, LineFault};
+use lapd_script::{Asked, Command, Durations, FaultKind, LineFault};
 use lapd_timed::{CardTimers, TimedCard};
 use lapd_transcript::{CounterGroup, LONGEST_FRAME, Page, SHORTEST_FRAME, Target, Terminal};
 use std::alloc::Global;
@@ -81,9 +81,10 @@ impl Setup {
             Command::Failed { line, fault } => self.fail(line, fault, page),
             Command::Next(line) => self.take(line, room, page),
             Command::Down(line) => self.bring_down(line, room, page),
+            Command::AskTei(line) => self.ask_for_tei(line, page),
             Command::Pull { line, count } => self.pull(line, count as usize, room, page),
             Command::Wait(milliseconds) => self.wait(milliseconds, page),
-            Command::Timers { t200, t203, t201 } => self.set_timers(t200, t203, t201),
+            Command::Timers(durations) => self.set_timers(durations),
             Command::Stored => {
                 written(page.put_stored(self.timed.card().stored(), limit(&self.config)))
             }
@@ -218,10 +219,10 @@ impl Setup {
     }
 
     /// Timers that are started from now on run so long; each has to run a millisecond to an hour.
-    fn set_timers(&mut self, t200: u32, t203: u32, t201: u32) -> Obeyed
-        ensures { (before : Output) → Answers result self.old self.new before before (meaning.timers t200 t203 t201) }
+    fn set_timers(&mut self, durations: Durations) -> Obeyed
+        ensures { (before : Output) → Answers result self.old self.new before before (meaning.timers durations) }
     {
-        let Ok(lengths) = Lengths::new(t200, t203, t201) else {
+        let Ok(lengths) = lengths_of(durations) else {
             return Err(LineFault::Faulty(FaultKind::BadNumber));
         };
         self.timed.set_lengths(lengths);
@@ -249,5 +250,13 @@ impl Setup {
     {
         let line = self.line(line)?;
         written(self.ask(line, request_for(what, tei, octets), page))
+    }
+
+    /// A terminal asks for a TEI.
+    fn ask_for_tei<T: Target>(&mut self, line: u16, page: &mut Page<T>) -> Obeyed
+        ensures { Answers result self.old self.new (on T.taken page.old) (on T.taken page.new) (meaning.ask_tei line) }
+    {
+        let line = self.line(line)?;
+        written(self.ask(line, Request::AskTei, page))
     }
 }

@@ -1,15 +1,15 @@
 -- What an event of a line is to the link of a service with a TEI that is in state 7 or 8.
-use Rattle.laws_order.proofs.Vocabulary.{arith, ◌≡◌, ℕ, ◌==◌, ◌&&◌, ◌||◌, not, Bool, true, false, cond, IsTrue, List, [], ◌∷◌, ◌++◌, Ok, refl, sym, ap, ◌∙◌, subst, eq-eqb, true≢false, ◌⊎◌, inl, inr, All, fold, option_to_list, unwrap_or, list_any, All-head, All-tail, Ui, Note, Service, Parts, reading, sapi_of, information_of, State, Terms, Link, is_multiple_frame, address_at, Config, hears, expiry}
+use Rattle.laws_order.proofs.Vocabulary.{arith, ◌≡◌, ℕ, ◌==◌, ◌&&◌, ◌||◌, not, Bool, true, false, cond, IsTrue, List, [], ◌∷◌, ◌++◌, Ok, refl, sym, ap, ◌∙◌, subst, eq-eqb, true≢false, ◌⊎◌, inl, inr, All, fold, option_to_list, unwrap_or, list_any, All-head, All-tail, Ui, Note, Service, Parts, reading, sapi_of, State, Terms, Link, is_multiple_frame, address_at, Config, hears, expiry}
 use Rattle.laws_order.proofs.Vocabulary.{request, next, Answer, heard_side, Line, link_of, terms, aim_of, accepted, is_up_in, notes_of, contents_in, up_by_note, is_up_of, of_link, is_granted, IsBy, timer_of, link-grants, not-refused, same-sapi, sapi-is, known-up, frame_in, is_own, seen, is_ui, unless, granted-data, data-noted, no-data, frames_given, is_at_link, HasOne, IsForeign, HasNone}
 use Rattle.laws_order.proofs.Vocabulary.{event-goes, read-again, frames_by, fresh, Event, is_of_link, of_link_in, data_noted, data_granted, ends_by_note, ends_by, of_link_on, stream_frame, link_frame, LinkEvent, Release, cleared, requested, overlong, undefined, wrong_size, offer, expired, received, NoteEstablishIndication, NoteData, NoteReleaseIndication, NoteRemoved, NoteEstablishConfirm}
 use Rattle.laws_order.proofs.Vocabulary.{NoteError, NoteXid, NoteAssigned, NoteReleaseConfirm, NoteDoubled, NoteUnit, or-true, event-follows, own_side}
+use Rattle.lapd_frame.specs.declared.notes.Note.TheVariants.{Denied, Unassigned, RemoveAll}
 use Rattle.laws_trace.proofs.DataAsked.{elsewhere}
 use Rattle.model_link.specs.Machine as links
 use Rattle.model_line.specs.Machine as lines
 use Rattle.model_line.specs.Sound as line_sound
 use Rattle.laws_order.proofs.LinkEnds.{Ended, own, Leaves, IsNoRelease, event-leaves, Fallen, undefined-falls, wrong-size-falls, overlong-falls, unit-data-stays}
 use Rattle.laws_order.proofs.Shown.{fits, same-frames, noted-is, asked_in, granted-is, ends-is, request-ends}
-use Rattle.laws_trace.proofs.ReadAgain.{message-text}
 
 -- Where the notes of a link that was up say that it is down, one of them ends it.
 module _ (service : Service) (tei : ℕ) where
@@ -37,6 +37,9 @@ module _ (service : Service) (tei : ℕ) where
   falls (NoteAssigned by ∷ ns) h up = falls ns h refl
   falls (NoteRemoved by ∷ ns) h up = falls ns h refl
   falls (NoteDoubled by ∷ ns) h up = falls ns h refl
+  falls (Denied ∷ ns) h up = falls ns h refl
+  falls (Unassigned ∷ ns) h up = falls ns h refl
+  falls (RemoveAll ∷ ns) h up = falls ns h refl
   falls (NoteXid of by ∷ ns) h up = falls ns h refl
 
   -- a link in state 7 or 8 is up, and one that begins is not
@@ -54,9 +57,9 @@ module _ (c : Config) (service : Service) (tei : ℕ) where
   -- Frames of other links and of TEI management, and unit data, are none of the link.
   foreign : (frame : List ℕ) → IsForeign c service tei frame → of_link_in service tei (reading (own_side c) frame) ≡ []
   foreign frame (inl x) =
-      ap (λ o. of_link_in service tei (reading (own_side c) o)) (x.1 ∙ message-text c x.0)
+      ap (λ o. of_link_in service tei (reading (own_side c) o)) x.1
       ∙ read-again (own_side c) (λ r. of_link_in service tei r ≡ []) (record { sapi = 63; command = true; tei = 127 }) (Ui false)
-      (λ info. grind arith) (λ fault. refl) (information_of x.0)
+      (λ info. grind arith) (λ fault. refl) x.0
   foreign frame (inr (inl x)) =
       ap (λ o. of_link_in service tei (reading (own_side c) o)) x.1
       ∙ read-again (own_side c) (λ r. of_link_in service tei r ≡ []) (record { sapi = sapi_of x.0.service; command = true; tei = x.0.tei }) (Ui false)

@@ -197,6 +197,7 @@ module _ (c : Config) (lengths : Lengths) (late number : ℕ) (ranged : IsInRang
 
     any : (timer : Timer) → x.timer ≡ timer → Own timer
     any timers.T201 same = foreign timers.T201 same refl
+    any timers.T202 same = foreign timers.T202 same refl
     any (timers.T200 of by) same = go (is_own service tei of by) refl
       where
         go : (b : Bool) → is_own service tei of by ≡ b → Own (timers.T200 of by)

@@ -22,7 +22,7 @@ use Rattle.laws_time.specs.Watched.{of_frames}
 use Rattle.laws_time.specs.Silence.{news, told_in, first_in, all_in, AreStill}
 
 abbrev pub lengths : Lengths
-lengths = record { t200 = 10; t203 = 50; t201 = 10 }
+lengths = record { t200 = 10; t203 = 50; t201 = 10; t202 = 20 }
 
 -- TEI 64, and its SABME: the link is in state 7 at moment 0, and T203 runs, up to 50.
 abbrev pub up : List (Step Event)

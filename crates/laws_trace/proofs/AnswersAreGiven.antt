@@ -1,16 +1,22 @@
 -- What answers a poll, SABME or DISC is given within a number of calls: the law.
 use Rattle.laws_trace.proofs.Vocabulary.{◌≡◌, ℕ, ◌+◌, ◌-◌, ◌<◌, ◌==◌, ◌&&◌, Bool, true, false, cond, All, List, [], ◌∷◌, ◌++◌, map, length, take, drop, filter, Some, refl, sym, ap, ◌∙◌, subst, arith, append_assoc, option_map_or, All-head, All-cons, All-nil, Service, ControlFrame, Config, Line, IsInRange, control_text, deactivates, place_in, tei_at, link_at, link_in, link_number, link_count}
-use Rattle.laws_trace.proofs.Vocabulary.{place_of-is, place_at-number, service_at-number, number_within, at-within, unit_frame, line_at, at, moments, fresh, fresh_link, fresh_is_sound, always_sound, config-stays, all-left, all-right, CardEvent as Event, after, Card, after_all, IsAtLine, AreAtLines, after_all-append, Always, not, and_parts, eq-eqb, Answer, managed_after, managing_is_on as is_on}
+use Rattle.laws_trace.proofs.Vocabulary.{place_of-is, place_at-number, service_at-number, number_within, at-within, unit_frame, line_at, at, moments, fresh, fresh_link, fresh_is_sound, always_sound, config-stays, all-left, all-right, CardEvent as Event, after, Card, after_all, IsAtLine, AreAtLines, after_all-append, Always, not, and_parts, eq-eqb, Answer, Managed, managed_after}
+use Rattle.laws_trace.proofs.Vocabulary.{managing_is_on as is_on}
 use Rattle.laws_trace.proofs.Vocabulary.{has_tei, View, Outgoing, outgoing_of, lost_in, take-length, length-map, is_take, takes_of, frames_given, waiting-taken, most_frames_before, changed, command_of, put_in, is_frame_of, Observed, by_event, enters, in_state, moment_of, view_of, views, outgoing_waits as waits, trace_frame_in as frame_in, Moment, units_of, text}
 use Rattle.model_line.specs.Event as line_event
+use Rattle.model_line.specs.Line.{is_terminal}
+use Rattle.model_line.specs.Sound.{IsOfSide}
 use Rattle.laws_line.specs.card.Among.{AreAmong}
 unfoldable use Rattle.laws_line.specs.card.PromisesOfTakes.{StaysAt, come_first_at}
 use Rattle.laws_line.specs.card.PromisesOfTakes.{IsNotDeactivated, is_deactivated_at}
 use Rattle.laws_trace.specs.NoLossInVain.{puts_by}
-use Rattle.laws_trace.specs.AnswersAreGiven.{texts, queue, priority_waiting, sent_during, QueueIsSent, AnswersAreSent}
+use Rattle.laws_trace.specs.AnswersAreGiven.{texts, priority_waiting, sent_during, QueueIsSent, AnswersAreSent}
 unfoldable use Rattle.laws_trace.specs.AnswersAreGiven.{Stays, priority_added}
 use Rattle.laws_line.specs.Among as at_line
 use Rattle.laws_trace.proofs.Addressed.{at-some-place}
+use Rattle.laws_trace.specs.Managing.{own_of}
+use Rattle.laws_trace.specs.ManagingTerminal.{OfTerminal}
+use Rattle.laws_trace.proofs.Known.{Knows, knows-now}
 use Rattle.laws_trace.proofs.LineAtEnd.{line-at-end}
 use Rattle.laws_trace.proofs.Outgoing.{then-is, view-is}
 use Rattle.laws_trace.proofs.Plain.{all-wait}
@@ -27,12 +33,38 @@ module _ (c : Config) (number : ℕ) (ranged : IsInRange c) (within : number < c
   abbrev end : List Event → Line
   end events = line_at number (card events)
 
+  -- the messages that wait are owed, of whatever side
+  messages-are : (events : List Event) → AreAtLines (fresh c) events → let w = managed_after c number events in
+      length w.owed + length (own_of c w).owed ≡ length (end events).management.waiting + length (end events).own.waiting
+  messages-are events all = go (is_terminal c) refl
+    where
+      w : Managed
+      w = managed_after c number events
+
+      l : Line
+      l = end events
+
+      knows : Knows c w l
+      knows = knows-now c events number ranged all within
+
+      sides : IsOfSide (is_terminal c) l.management l.own
+      sides = (line-at-end c events number ranged all within).own
+
+      go : (b : Bool) → is_terminal c ≡ b → length w.owed + length (own_of c w).owed ≡ length l.management.waiting + length l.own.waiting
+      go true is =
+          let unused = (subst (λ b. IsOfSide b l.management l.own) is sides).1 in
+          ap (λ ms. length ms + length (own_of c w).owed) (knows.none_owed is) ∙ ap (λ (t : OfTerminal). 0 + length t.owed) (knows.terminal is)
+          ∙ sym (ap (λ ms. length ms + length l.own.waiting) unused.waiting)
+      go false net =
+          let none = subst (λ b. IsOfSide b l.management l.own) net sides in
+          ap (λ (v : Managed). length v.owed + length (own_of c v).owed) (knows.network net) ∙ sym (ap (λ ms. length l.management.waiting + length ms) none.1)
+
   -- the frames that go first
   first-are : (events : List Event) → AreAtLines (fresh c) events → priority_waiting c number events ≡ at_line.go_first (end events)
   first-are events all =
-      let owed = ap (λ w. length w.owed) (follows-now c events number ranged all within).is in
       let units = ap length (waiting-is c events number ranged all within) ∙ length-map (end events).units (unit_frame c) in
-      ap (λ n. n + length (units_of c events number)) owed ∙ ap (λ n. length (end events).management.waiting + n) units
+      ap (λ n. n + length (units_of c events number)) (messages-are events all)
+      ∙ ap (λ n. length (end events).management.waiting + length (end events).own.waiting + n) units
 
   card-then : (before : List Event) (e : Event) → card (before ++ e ∷ []) ≡ after e (card before)
   unfolding after_all

@@ -1,33 +1,46 @@
 -- The cause of each drop is told, and no other: the law.
-use Rattle.laws_trace.proofs.Vocabulary.{◌≡◌, ℕ, ◌+◌, ◌*◌, ◌/◌, ◌%◌, ◌<◌, ◌==◌, ◌&&◌, ◌||◌, Bool, true, false, cond, List, [], ◌∷◌, Option, Some, None, Ok, Err, Result, refl, sym, ap, ◌∙◌, subst, arith, leb-true, eqb-true, and_parts, nat_le, length, is_some, option_map_or, PoolFull, ReadFault, BadExtension, Address, Service, Long, Parts, reading, service_of, Terms, Link, state_number, State}
-use Rattle.laws_trace.proofs.Vocabulary.{Received, received, frame, undefined, wrong_size, overlong, LinkEvent, link_told, begun, Config, hears, expiry, request, next, Answer, refused, Line, state_of, state_in, place_in, terms, link_in, at_link, at_management, at_no_link, of_aim, LinkRequest, requested, expired, cleared, at_requested, at_deactivated, at_timer, aim_of_expiry, aim_of_request}
-use Rattle.laws_trace.proofs.Vocabulary.{unless_refused, unless_refused_told, refusal, Refusal, Request, Timer, LinkTimer, Aim, addressed, aim_of_reading, aim_of_long, heard_side, message_of, at_side, IsToGroup, group-read, IsSound as IsSoundLine, Card, line_at, is_full, at, always_sound, fresh_is_sound, has_lines, by_room, config-stays, fresh, CardEvent as Event, card_answer, after_all, IsAtLine}
-use Rattle.laws_trace.proofs.Vocabulary.{CardIsSound as IsSound, line_sound as sound-at, nothing_due, stream_frame, Managed, managed_after, view_of, is_unit_taken, IfSome, Always, is_ui, is_up, Management, Change, of_change, told_of_management, tei_after, not, tei_begun, tei_told, tei_message, TeiEvent, heard_in, heard_of_type, Check, Checked, may_check, tei_course, tei_refusal, no_room, lose_one}
-use Rattle.laws_trace.proofs.Vocabulary.{free_place, told, dropped, none-some}
+use Rattle.laws_trace.proofs.Vocabulary.{◌≡◌, ℕ, ◌+◌, ◌*◌, ◌/◌, ◌%◌, ◌<◌, ◌==◌, ◌&&◌, ◌||◌, Bool, true, false, cond, cond_both, List, [], ◌∷◌, Option, Some, None, Ok, Err, Result, refl, sym, ap, ◌∙◌, subst, arith, leb-true, eqb-true, and_parts, nat_le, length, is_some, option_map_or, PoolFull, ReadFault, BadExtension, Address, Side, Network, User, Service, Long, Parts, reading, service_of}
+use Rattle.laws_trace.proofs.Vocabulary.{Terms, Link, state_number, State, Received, received, frame, undefined, wrong_size, overlong, LinkEvent, link_told, begun, Config, hears, expiry, request, next, Answer, refused, Line, state_of, state_in, place_in, terms, link_in, at_link, at_management, at_no_link, at_none, of_aim, LinkRequest, requested, expired, cleared, at_requested}
+use Rattle.laws_trace.proofs.Vocabulary.{at_deactivated, at_timer, aim_of_expiry, aim_of_request}
+use Rattle.laws_trace.proofs.Vocabulary.{unless_refused, unless_refused_told, refusal, Refusal, Request, Timer, TimerT200, TimerT203, T201, LinkTimer, T200, T203, Aim, addressed, aim_of_reading, aim_of_long, heard_side, message_of, at_side, IsToGroup, group-read, IsSound as IsSoundLine, Card, line_at, is_full, at, always_sound, fresh_is_sound, has_lines, by_room, config-stays, fresh}
+use Rattle.laws_trace.proofs.Vocabulary.{CardEvent as Event, card_answer}
+use Rattle.laws_trace.proofs.Vocabulary.{after_all, IsAtLine, CardIsSound as IsSound, line_sound as sound-at, nothing_due, stream_frame, Managed, managed_after, view_of, is_unit_taken, IfSome, Always, is_ui, is_up, Management, Change, of_change, told_of_management, TeiTold, tei_after, not, tei_begun, tei_told, tei_message, tei_assign, tei_remove, tei_check, tei_disown, TeiEvent}
+use Rattle.laws_trace.proofs.Vocabulary.{heard_in, heard_of_type, Check, Checked, may_check}
+use Rattle.laws_trace.proofs.Vocabulary.{tei_course, tei_refusal, no_room, lose_one, free_place, told, dropped, none-some, Assign, Checking, ClearBusy, Data, Deactivate, Disown, Down, Establish, Release, Remove, SetBusy, LinkClearBusy, LinkData, LinkEstablish, LinkRelease, LinkSetBusy}
 use Rattle.lapd_frame.specs.Senders.{long_reading}
+use Rattle.lapd_frame.specs.declared.timers.Timer.TheVariants.{T202}
 use Rattle.lapd_tei.specs.Rows as rows
 use Rattle.lapd_tei.specs.Table as table
-use Rattle.lapd_tei.specs.Events.{down as tei_down}
+use Rattle.lapd_tei.specs.Events.{down as tei_down, expiry as tei_expiry}
+use Rattle.lapd_terminal.specs.Events as terminals
+use Rattle.lapd_terminal.specs.Events.{Event as TerminalEvent, after as terminal_after, told as terminal_told}
 use Rattle.model_bits.specs.Stream as stream
 use Rattle.model_bits.specs.declared.heard.Cause.{Cause}
 use Rattle.model_bits.specs.declared.heard.Cause.TheVariants.{Sapi, Tei, Unserved}
 use Rattle.lapd_frame.specs.declared.faults.ReadFault.TheVariants.{Undefined, WrongSize, Short}
 use Rattle.lapd_frame.specs.declared.overlong.Long.TheVariants as long
 use Rattle.model_line.specs.Event as line_event
-use Rattle.model_line.specs.Effect.{unserved_cause, without_units}
+use Rattle.model_line.specs.Request as asked
+use Rattle.model_line.specs.Effect.{at_a_terminal, at_terminal, of_network, of_terminal_if, told_of_terminal, unserved_cause, without_units}
 use Rattle.model_line.specs.Heard.{drop_for, at_place, to_service, unless_at_link}
 use Rattle.model_line.specs.Laws.{cause_in}
+use Rattle.model_line.specs.Line.{is_terminal, terminal_in, with_terminal}
 use Rattle.model_line.specs.Machine as lines
+use Rattle.model_line.specs.Sides.{managed_at}
 use Rattle.model_line.proofs.Drops.{heard_leaves}
 use Rattle.model_link.specs.Requests.{release_in}
 use Rattle.model_link.specs.Machine.{told_of_clearing}
-use Rattle.laws_trace.specs.CausesAreTold.{CausesAreTold, by_address, by_fault, by_frame, by_long, cause_due, serves, serves_message, unless}
-use Rattle.laws_trace.specs.Managing.{is_on, manages}
-use Rattle.laws_trace.proofs.Follows.{Follows, as_seen}
+use Rattle.laws_trace.specs.CausesAreTold.{CausesAreTold, by_address, by_fault, by_frame, by_long, cause_due, hears_messages, serves, serves_information, serves_message, unless}
+use Rattle.laws_trace.specs.Managing.{is_on, manages, own_of}
+use Rattle.laws_trace.specs.ManagingTerminal as seen
+use Rattle.laws_trace.proofs.Follows.{as_seen}
+use Rattle.laws_trace.proofs.Known.{Knows, knows-now}
 use Rattle.laws_trace.proofs.ManagingTables.{AreOn}
 use Rattle.laws_trace.proofs.ObservedLaws.{moved-so}
 use Rattle.laws_trace.proofs.ObservedRun.{is-told}
-use Rattle.laws_trace.proofs.TeisAreManaged.{follows-now}
+use Rattle.laws_trace.proofs.LineAtEnd.{line-at-end}
+use Rattle.laws_trace.proofs.TerminalTables.{IsOnce}
+use Rattle.laws_trace.proofs.ServedByTerminal.{own-serves, others-served, is_message as is_own_message}
 
 -- What a link serves of what it receives.
 abbrev served_by : ℕ → Received → ℕ → Bool
@@ -108,8 +121,30 @@ named c l aim = (of_aim c aim l).told.cause
 change-keeps : (c : Config) (o : Option Change) (t : line_event.LineTold) (l : Line) → (of_change c o t l).told.cause ≡ t.cause
 change-keeps c o t l = grind arith
 
-managed-named : (c : Config) (e : TeiEvent) (l : Line) → named c l (at_management e) ≡ unserved_cause (tei_told e l.management).unserved
-managed-named c e l = let t = tei_told e l.management in change-keeps c t.change (told_of_management t) (record l { management = tei_after e l.management })
+-- Whether the TEI management of the side leaves an event unserved.
+abbrev unserved_there : Option TerminalEvent → Line → Bool
+unserved_there None l = false
+unserved_there (Some e) l = (terminal_told e (terminal_in l)).unserved
+
+abbrev unserved_by : Config → TeiEvent → Line → Bool
+unserved_by c e l = cond (is_terminal c) (unserved_there (at_a_terminal e) l) (tei_told e l.management).unserved
+
+own-named : (c : Config) (e : TerminalEvent) (l : Line) → named c l (at_terminal e) ≡ unserved_cause (terminal_told e (terminal_in l)).unserved
+own-named c e l = let t = terminal_told e (terminal_in l) in change-keeps c t.change (told_of_terminal t) (with_terminal (terminal_after e (terminal_in l)) l)
+
+own-named-if : (c : Config) (o : Option TerminalEvent) (l : Line) → (of_terminal_if c o l).told.cause ≡ unserved_cause (unserved_there o l)
+own-named-if c None l = refl
+own-named-if c (Some e) l = own-named c e l
+
+managed-named : (c : Config) (e : TeiEvent) (l : Line) → named c l (at_management e) ≡ unserved_cause (unserved_by c e l)
+managed-named c e l = go (is_terminal c)
+  where
+    t : TeiTold
+    t = tei_told e l.management
+
+    go : (b : Bool) → (cond b (of_terminal_if c (at_a_terminal e) l) (of_network c e l)).told.cause ≡ unserved_cause (cond b (unserved_there (at_a_terminal e) l) (tei_told e l.management).unserved)
+    go true = own-named-if c (at_a_terminal e) l
+    go false = change-keeps c t.change (told_of_management t) (record l { management = tei_after e l.management })
 
 unserved-named : (served unserved : Bool) → unserved ≡ not served → unserved_cause unserved ≡ unless served
 unserved-named served unserved is = grind arith
@@ -129,27 +164,27 @@ group-to c f for o is = grind (arith, is_some, eqb-true, leb-true)
 abbrev Names : Option Cause → Answer → Type 0
 Names due a = (cause_in a ≡ due) × IfSome due (λ cause. a ≡ told (dropped cause))
 
-module _ (c : Config) (l : Line) (on : List ℕ) (states : Service → ℕ → ℕ) where
-  abbrev here : Managed
-  here = as_seen on l.management
+-- A link is, to an observer, as it stands on the line; and TEI management serves what he has it serve.
+abbrev Agree : Line → Managed → (Service → ℕ → ℕ) → Type 0
+Agree l w states = (service : Service) (tei : ℕ) → state_of service tei l ≡ cond (is_on tei w) (Some (states service tei)) None
 
-  abbrev Agree : Type 0
-  Agree = (service : Service) (tei : ℕ) → state_of service tei l ≡ cond (is_on tei here) (Some (states service tei)) None
+abbrev Serves : Config → Line → Managed → Type 0
+Serves c l w = (info : List ℕ) → named c l (at_management (tei_message info)) ≡ unless (serves_information c w info)
 
 -- What is for a link is for one on the line, in its state.
-module _ (c : Config) (l : Line) (on : List ℕ) (states : Service → ℕ → ℕ) (agree : Agree c l on states) where
+module _ (c : Config) (l : Line) (w : Managed) (states : Service → ℕ → ℕ) (agree : Agree l w states) where
   module _ (seen : Aim → Option Cause) (served : ℕ → Bool) (what : Received) (drops : (cause : Cause) → seen (drop_for cause) ≡ Some cause)
       (links : (service : Service) (tei place : ℕ) → seen (at_link service tei place (received what)) ≡ unless (served (state_in l service place))) where
     there : (service : Service) (tei : ℕ) (o : Option ℕ) → place_in l tei ≡ o
-        → seen (at_place service tei what o) ≡ cond (is_on tei (here c l on states)) (unless (served (states service tei))) (Some Tei)
+        → seen (at_place service tei what o) ≡ cond (is_on tei w) (unless (served (states service tei))) (Some Tei)
     there service tei o is = grind (arith, agree, drops, links)
 
     to-services : (tei : ℕ) (o : Option Service)
-        → seen (to_service l tei what o) ≡ option_map_or (λ service. cond (is_on tei (here c l on states)) (unless (served (states service tei))) (Some Tei)) o (Some Sapi)
+        → seen (to_service l tei what o) ≡ option_map_or (λ service. cond (is_on tei w) (unless (served (states service tei))) (Some Tei)) o (Some Sapi)
     to-services tei None = drops Sapi
     to-services tei (Some service) = there service tei (place_in l tei) refl
 
-    addresseds : (a : Address) (m : Aim) (b : Bool) → seen m ≡ unless b → seen (addressed l a what m) ≡ by_address (here c l on states) states served b a
+    addresseds : (a : Address) (m : Aim) (b : Bool) → seen m ≡ unless b → seen (addressed l a what m) ≡ by_address w states served b a
     addresseds a m b is = grind (arith, drops, to-services)
 
   -- A link's own.
@@ -157,7 +192,7 @@ module _ (c : Config) (l : Line) (on : List ℕ) (states : Service → ℕ → �
   links-named what service tei place = grind (arith, received-serves)
 
   abbrev malformed : Address → Option Cause
-  malformed = by_address (here c l on states) states is_up false
+  malformed = by_address w states is_up false
 
   faults : (fault : ReadFault) → named c l (aim_of_reading c l (Err fault)) ≡ by_fault malformed fault
   faults BadExtension = refl
@@ -165,7 +200,7 @@ module _ (c : Config) (l : Line) (on : List ℕ) (states : Service → ℕ → �
   faults (WrongSize a) = addresseds (named c l) is_up wrong_size (λ cause. refl) (links-named wrong_size) a (drop_for Unserved) false refl
   faults Short = refl
 
-  longs : (r : Result Long ReadFault) → named c l (aim_of_long l r) ≡ by_long (here c l on states) states r
+  longs : (r : Result Long ReadFault) → named c l (aim_of_long l r) ≡ by_long w states r
   longs (Ok (long.Information a)) = addresseds (named c l) is_up overlong (λ cause. refl) (links-named overlong) a (drop_for Unserved) false refl
   longs (Ok (long.Unnumbered a)) =
       addresseds (λ aim. named c l (unless_at_link aim)) (λ state. false) overlong (λ cause. refl) (λ service tei place. refl) a (drop_for Unserved) false refl
@@ -175,54 +210,55 @@ module _ (c : Config) (l : Line) (on : List ℕ) (states : Service → ℕ → �
   longs (Err Short) = refl
 
   -- A frame that the grammar has, by the side; but for unit data that is told.
-  module _ (h : AreOn on l.management.places) (f : Parts) where
-    abbrev knows : Managed
-    knows = here c l on states
-
+  module _ (served : Serves c l w) (f : Parts) where
     abbrev is_told : Bool
-    is_told = is_some (service_of f.address.sapi) && is_unit_taken c f.address.tei knows f
+    is_told = is_some (service_of f.address.sapi) && is_unit_taken c f.address.tei w f
 
     abbrev its_message : Bool
-    its_message = (manages c.side && is_ui f.control) && serves_message knows f.info
-
-    managed : (info : List ℕ) → named c l (at_management (tei_message info)) ≡ unless (serves_message knows info)
-    unfolding tei_course tei_refusal
-    managed info =
-        managed-named c (tei_message info) l
-        ∙ unserved-named (serves_message knows info) (tei_told (tei_message info) l.management).unserved (message-serves on l.management h info)
+    its_message = hears_messages c f && serves_information c w f.info
 
     -- where the frame is of no unit data for the group
     module _ (alone : is_for_group c f ≡ false) where
       drops-so : (cause : Cause) → named c l (at_side c f (drop_for cause)) ≡ Some cause
       drops-so cause = grind arith
 
-      message-so : named c l (at_side c f (message_of f.control f.info)) ≡ unless its_message
-      message-so = grind (arith, managed, drops-so)
+      -- a message is that of the side
+      by-user : (b : Bool) (info : List ℕ) → named c l (cond b (at_management (tei_message info)) (at_none (dropped Unserved))) ≡ unless (b && serves_information c w info)
+      by-user true info = served info
+      by-user false info = refl
 
-      frames : named c l (aim_of_reading c l (Ok f)) ≡ by_address knows states (served_by c.n201 (frame f)) its_message f.address
+      by-side : (side : Side) (info : List ℕ)
+          → named c l (managed_at c f side (tei_message info)) ≡ unless ((manages side || (is_terminal c && f.address.command)) && serves_information c w info)
+      by-side Network info = served info
+      by-side User info = by-user (is_terminal c && f.address.command) info
+
+      message-so : named c l (at_side c f (message_of f.control f.info)) ≡ unless its_message
+      message-so = grind (arith, by-side, drops-so)
+
+      frames : named c l (aim_of_reading c l (Ok f)) ≡ by_address w states (served_by c.n201 (frame f)) its_message f.address
       frames =
           addresseds (λ aim. named c l (at_side c f aim)) (served_by c.n201 (frame f)) (frame f) drops-so (links-named (frame f)) f.address
           (message_of f.control f.info) its_message message-so
 
     -- Unit data of a TEI on the line is told, and any other UI is not served.
     abbrev by_served : (ℕ → Bool) → Option Service → Option Cause
-    by_served served o = option_map_or (λ service. cond (is_on f.address.tei knows) (unless (served (states service f.address.tei))) (Some Tei)) o (Some Sapi)
+    by_served served o = option_map_or (λ service. cond (is_on f.address.tei w) (unless (served (states service f.address.tei))) (Some Tei)) o (Some Sapi)
 
     as-due : is_for_group c f ≡ false → (o : Option Service) → service_of f.address.sapi ≡ o
-        → by_served (served_by c.n201 (frame f)) o ≡ cond (is_some o && is_unit_taken c f.address.tei knows f) None (by_served (serves f.control) o)
+        → by_served (served_by c.n201 (frame f)) o ≡ cond (is_some o && is_unit_taken c f.address.tei w f) None (by_served (serves f.control) o)
     as-due alone o is = grind arith
 
     abbrev managing : Option Cause
     managing = cond (f.address.tei == 127) (unless its_message) (Some Tei)
 
     by-due : is_for_group c f ≡ false
-        → by_address knows states (served_by c.n201 (frame f)) its_message f.address ≡ cond is_told None (by_address knows states (serves f.control) its_message f.address)
+        → by_address w states (served_by c.n201 (frame f)) its_message f.address ≡ cond is_told None (by_address w states (serves f.control) its_message f.address)
     by-due alone = go (f.address.sapi == 63) refl (as-due alone (service_of f.address.sapi) refl)
       where
         go : (b : Bool) → (f.address.sapi == 63) ≡ b
             → by_served (served_by c.n201 (frame f)) (service_of f.address.sapi) ≡ cond is_told None (by_served (serves f.control) (service_of f.address.sapi))
             → cond b managing (by_served (served_by c.n201 (frame f)) (service_of f.address.sapi)) ≡ cond is_told None (cond b managing (by_served (serves f.control) (service_of f.address.sapi)))
-        go true is same = ap (λ o. cond (is_some o && is_unit_taken c f.address.tei knows f) None managing) (sym (ap service_of (eqb-true f.address.sapi 63 is)))
+        go true is same = ap (λ o. cond (is_some o && is_unit_taken c f.address.tei w f) None managing) (sym (ap service_of (eqb-true f.address.sapi 63 is)))
         go false is same = same
 
 -- A request, and an expiry, name none.
@@ -230,11 +266,23 @@ module _ (c : Config) (l : Line) where
   links-quiet : (service : Service) (tei place : ℕ) (e : LinkEvent) → is_received e ≡ false → named c l (at_link service tei place e) ≡ None
   links-quiet service tei place e none = ap unserved_cause (others-serve (terms c service tei) e (link_in l service place) none)
 
-  managed-quiet : (e : TeiEvent) → is_message e ≡ false → named c l (at_management e) ≡ None
-  managed-quiet e none = managed-named c e l ∙ ap unserved_cause (managed-serve e l.management none)
+  own-quiet : (e : TerminalEvent) → is_own_message e ≡ false → named c l (at_terminal e) ≡ None
+  own-quiet e none = own-named c e l ∙ ap unserved_cause (others-served e (terminal_in l) none)
+
+  serves-quietly : (e : TeiEvent) (l : Line) → is_message e ≡ false → option_map_or is_own_message (at_a_terminal e) false ≡ false → unserved_by c e l ≡ false
+  serves-quietly e l none none-there =
+      cond_both (is_terminal c) (unserved_there (at_a_terminal e) l) (tei_told e l.management).unserved (λ b. b ≡ false)
+      (λ is. unserved-if (at_a_terminal e) none-there) (λ net. managed-serve e l.management none)
+    where
+      unserved-if : (o : Option TerminalEvent) → option_map_or is_own_message o false ≡ false → unserved_there o l ≡ false
+      unserved-if None none = refl
+      unserved-if (Some e) none = others-served e (terminal_in l) none
+
+  managed-quiet : (e : TeiEvent) → is_message e ≡ false → option_map_or is_own_message (at_a_terminal e) false ≡ false → named c l (at_management e) ≡ None
+  managed-quiet e none none-there = managed-named c e l ∙ ap unserved_cause (serves-quietly e l none none-there)
 
   down-quiet : named c l at_no_link ≡ None
-  down-quiet = managed-named c tei_down (without_units l) ∙ ap unserved_cause (managed-serve tei_down l.management refl)
+  down-quiet = managed-named c tei_down (without_units l) ∙ ap unserved_cause (serves-quietly tei_down (without_units l) refl refl)
 
   asked-quiet : (service : Service) (tei : ℕ) (asked : LinkRequest) (o : Option ℕ) → named c l (at_requested service tei asked o) ≡ None
   asked-quiet service tei asked None = refl
@@ -245,7 +293,20 @@ module _ (c : Config) (l : Line) where
   deactivated-quiet service tei (Some place) = links-quiet service tei place cleared refl
 
   request-quiet : (r : Request) → named c l (aim_of_request r l) ≡ None
-  request-quiet r = grind (arith, managed-quiet, down-quiet, asked-quiet, deactivated-quiet)
+  request-quiet (Establish service tei) = asked-quiet service tei LinkEstablish (place_in l tei)
+  request-quiet (Release service tei) = asked-quiet service tei LinkRelease (place_in l tei)
+  request-quiet (Data service tei contents) = asked-quiet service tei (LinkData contents) (place_in l tei)
+  request-quiet (SetBusy service tei) = asked-quiet service tei LinkSetBusy (place_in l tei)
+  request-quiet (ClearBusy service tei) = asked-quiet service tei LinkClearBusy (place_in l tei)
+  request-quiet (asked.Unit service tei contents) = refl
+  request-quiet (Assign tei) = managed-quiet (tei_assign tei) refl refl
+  request-quiet (Remove tei) = managed-quiet (tei_remove tei) refl refl
+  request-quiet (Checking tei) = managed-quiet (tei_check tei) refl refl
+  request-quiet (Disown tei) = managed-quiet (tei_disown tei) refl refl
+  request-quiet asked.AskTei = own-quiet terminals.ask refl
+  request-quiet (asked.VerifyTei tei) = own-quiet (terminals.verify tei) refl
+  request-quiet (Deactivate service tei) = deactivated-quiet service tei (place_in l tei)
+  request-quiet Down = down-quiet
 
   unless-quiet : (r : Request) (o : Option Refusal) → cause_in (unless_refused_told o (of_aim c (unless_refused o (aim_of_request r l)) l)) ≡ None
   unless-quiet r None = request-quiet r
@@ -256,33 +317,33 @@ module _ (c : Config) (l : Line) where
   timer-quiet service tei timer (Some place) = links-quiet service tei place (expired timer) refl
 
   expiry-quiet : (timer : Timer) → named c l (aim_of_expiry timer l) ≡ None
-  expiry-quiet timer = grind (arith, managed-quiet, timer-quiet)
+  expiry-quiet (TimerT200 service tei) = timer-quiet service tei T200 (place_in l tei)
+  expiry-quiet (TimerT203 service tei) = timer-quiet service tei T203 (place_in l tei)
+  expiry-quiet T201 = managed-quiet tei_expiry refl refl
+  expiry-quiet T202 = own-quiet terminals.expiry refl
 
 -- Events of a line.
-module _ (c : Config) (l : Line) (s : IsSoundLine c l) (on : List ℕ) (states : Service → ℕ → ℕ) (agree : Agree c l on states) (h : AreOn on l.management.places) where
-  abbrev known : Managed
-  known = as_seen on l.management
-
+module _ (c : Config) (l : Line) (s : IsSoundLine c l) (w : Managed) (states : Service → ℕ → ℕ) (agree : Agree l w states) (served : Serves c l w) where
   abbrev cause_after : line_event.Event → Option Cause
   cause_after e = cause_in (lines.answer c e l)
 
-  frame-heard : (octets : List ℕ) (r : Result Parts ReadFault) → reading (heard_side c) octets ≡ r → cause_after (hears (stream_frame octets)) ≡ by_frame c known states r
+  frame-heard : (octets : List ℕ) (r : Result Parts ReadFault) → reading (heard_side c) octets ≡ r → cause_after (hears (stream_frame octets)) ≡ by_frame c w states r
   unfolding lines.answer
-  frame-heard octets (Err fault) is = ap (λ r. named c l (aim_of_reading c l r)) is ∙ faults c l on states agree fault
+  frame-heard octets (Err fault) is = ap (λ r. named c l (aim_of_reading c l r)) is ∙ faults c l w states agree fault
   frame-heard octets (Ok f) is = go (is_for_group c f) refl
     where
-      go : (b : Bool) → is_for_group c f ≡ b → cause_after (hears (stream_frame octets)) ≡ by_frame c known states (Ok f)
+      go : (b : Bool) → is_for_group c f ≡ b → cause_after (hears (stream_frame octets)) ≡ by_frame c w states (Ok f)
       go true for =
           let to = group-to c f for (service_of f.address.sapi) refl in
           ap cause_in (group-read c l f octets to.0 s is to.1).answer_is
-          ∙ sym (ap (λ b. cond b None (by_address known states (serves f.control) ((manages c.side && is_ui f.control) && serves_message known f.info) f.address)) (group-told c f known for))
-      go false alone = ap (λ r. named c l (aim_of_reading c l r)) is ∙ frames c l on states agree h f alone ∙ by-due c l on states agree h f alone
+          ∙ sym (ap (λ b. cond b None (by_address w states (serves f.control) (hears_messages c f && serves_information c w f.info) f.address)) (group-told c f w for))
+      go false alone = ap (λ r. named c l (aim_of_reading c l r)) is ∙ frames c l w states agree served f alone ∙ by-due c l w states agree served f alone
 
-  cause-is : (e : line_event.Event) → cause_after e ≡ cause_due c known states e
+  cause-is : (e : line_event.Event) → cause_after e ≡ cause_due c w states e
   unfolding lines.answer
   cause-is (hears (stream.dropped cause)) = refl
   cause-is (hears (stream.frame octets)) = frame-heard octets (reading (heard_side c) octets) refl
-  cause-is (hears (stream.overlong head)) = longs c l on states agree (long_reading (heard_side c) head)
+  cause-is (hears (stream.overlong head)) = longs c l w states agree (long_reading (heard_side c) head)
   cause-is (expiry timer) = expiry-quiet c l timer
   cause-is (request r) = unless-quiet c l r (refusal c false r l)
   cause-is next = refl
@@ -296,53 +357,42 @@ module _ (c : Config) (l : Line) (s : IsSoundLine c l) (on : List ℕ) (states :
   alone-named (request r) (Some cause) is = absurd (none-some cause (sym (unless-quiet c l r (refusal c false r l)) ∙ is))
   alone-named next (Some cause) is = absurd (none-some cause is)
 
-  names : (e : line_event.Event) → Names (cause_due c known states e) (lines.answer c e l)
-  names e = (cause-is e, alone-named e (cause_due c known states e) (cause-is e))
+  names : (e : line_event.Event) → Names (cause_due c w states e) (lines.answer c e l)
+  names e = (cause-is e, alone-named e (cause_due c w states e) (cause-is e))
 
 -- A request that finds the pool full names none.
 full-names : (states : Service → ℕ → ℕ) (w : Managed) (c : Config) (e : line_event.Event) (l : Line) → lines.takes_slot c e l ≡ true → Names (cause_due c w states e) (refused PoolFull)
 unfolding lines.takes_slot
 full-names states w c e l takes = grind arith
 
--- What was due before is no part of it.
+-- What an observer has it serve is what TEI management of the side serves.
 message-same : (w : Managed) (info : List ℕ) → serves_message (nothing_due w) info ≡ serves_message w info
 message-same w info = grind arith
 
-fault-same : (f g : Address → Option Cause) → ((a : Address) → f a ≡ g a) → (fault : ReadFault) → by_fault f fault ≡ by_fault g fault
-fault-same f g same BadExtension = refl
-fault-same f g same (Undefined a) = same a
-fault-same f g same (WrongSize a) = same a
-fault-same f g same Short = refl
+serves-known : (c : Config) (l : Line) (w : Managed) → IsSoundLine c l → Knows c w l → Serves c l w
+unfolding tei_course tei_refusal
+serves-known c l w s knows info =
+    managed-named c (tei_message info) l ∙ unserved-named (serves_information c w info) (unserved_by c (tei_message info) l) (go (is_terminal c) refl)
+  where
+    once : (tei : ℕ) → IsOnce tei l.management.places
+    once tei i j at there = s.management.table.once i j tei at there
 
-due-same : (states : Service → ℕ → ℕ) (w : Managed) (c : Config) (e : line_event.Event) → cause_due c (nothing_due w) states e ≡ cause_due c w states e
-due-same states w c (hears (stream.frame octets)) = go (reading (heard_side c) octets)
-  where
-    go : (r : Result Parts ReadFault) → by_frame c (nothing_due w) states r ≡ by_frame c w states r
-    go (Ok f) =
-        ap (λ b. cond (is_some (service_of f.address.sapi) && is_unit_taken c f.address.tei w f) None (by_address w states (serves f.control) ((manages c.side && is_ui f.control) && b) f.address))
-        (message-same w f.info)
-    go (Err fault) = fault-same (by_address (nothing_due w) states is_up false) (by_address w states is_up false) (λ a. refl) fault
-due-same states w c (hears (stream.dropped cause)) = refl
-due-same states w c (hears (stream.overlong head)) = go (long_reading (heard_side c) head)
-  where
-    go : (r : Result Long ReadFault) → by_long (nothing_due w) states r ≡ by_long w states r
-    go (Ok (long.Information a)) = refl
-    go (Ok (long.Unnumbered a)) = refl
-    go (Err fault) = fault-same (by_address (nothing_due w) states is_up false) (by_address w states is_up false) (λ a. refl) fault
-due-same states w c (expiry timer) = refl
-due-same states w c (request r) = refl
-due-same states w c next = refl
+    go : (b : Bool) → is_terminal c ≡ b
+        → cond b (terminal_told (terminals.message info) (terminal_in l)).unserved (tei_told (tei_message info) l.management).unserved
+        ≡ not (cond b (is_some (seen.by_message info (own_of c w))) (serves_message w info))
+    go true is = own-serves (terminal_in l) once info ∙ ap (λ t. not (is_some (seen.by_message info t))) (sym (knows.terminal is))
+    go false net =
+        message-serves w.on l.management knows.on info
+        ∙ ap not (ap (λ (u : Managed). serves_message u info) (sym (knows.network net)) ∙ message-same w info)
 
 -- At a card.
-own-names : (states : Service → ℕ → ℕ) (w : Managed) (k : Card) (e : Event) → IsSound k → IsAtLine k e → Follows w (line_at e.line k).management
-    → Agree k.config (line_at e.line k) w.on states → Names (cause_due k.config w states e.what) (card_answer e k)
-own-names states w k e s here follows agree =
+own-names : (states : Service → ℕ → ℕ) (w : Managed) (k : Card) (e : Event) → IsSound k → IsAtLine k e → Agree (line_at e.line k) w states → Serves k.config (line_at e.line k) w
+    → Names (cause_due k.config w states e.what) (card_answer e k)
+own-names states w k e s here agree served =
     let c = k.config in
     let l = line_at e.line k in
     by_room (λ ls a. Names (cause_due c w states e.what) a) e k (λ full. full-names states w c e.what l (and_parts (lines.takes_slot c e.what l) (is_full k) full).0)
-    (λ room.
-    subst (λ o. Names o (lines.answer c e.what l)) (ap (λ (u : Managed). cause_due c u states e.what) (sym follows.is) ∙ due-same states w c e.what)
-    (names c l (sound-at k e.line (has_lines k s) here) w.on states agree follows.on e.what))
+    (λ room. names c l (sound-at k e.line (has_lines k s) here) w states agree served e.what)
 
 -- The state that the observer has.
 its-state : (o : Option ℕ) (b d : Bool) (n : ℕ) → o ≡ cond b (Some n) None → d ≡ is_some o → o ≡ cond d (Some n) None
@@ -354,11 +404,12 @@ causes-are-told c events number ranged all within what =
     let l = line_at number k in
     let w = managed_after c number events in
     let kept = config-stays (fresh c) events in
-    let follows = follows-now c events number ranged all within in
+    let knows = knows-now c events number ranged all within in
     let states : Service → ℕ → ℕ = λ service tei. (view_of c service tei number events).link.state in
     subst (λ (d : Config). Names (cause_due d w states what) (card_answer (at number what) k)) kept
     (own-names states w k (at number what) (always_sound (fresh c) events (fresh_is_sound c ranged) all)
-    (subst (λ (d : Config). number < d.lines) (sym kept) within) follows
+    (subst (λ (d : Config). number < d.lines) (sym kept) within)
     (λ service tei.
     its-state (state_of service tei l) (is_on tei (view_of c service tei number events).teis) (is_on tei w) (states service tei)
-    (moved-so c events number ranged all within service tei) (follows.on.same tei ∙ is-told service tei l)))
+    (moved-so c events number ranged all within service tei) (knows.on.same tei ∙ is-told service tei l))
+    (subst (λ (d : Config). Serves d l w) (sym kept) (serves-known c l w (line-at-end c events number ranged all within) knows)))

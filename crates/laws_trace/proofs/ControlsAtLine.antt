@@ -1,6 +1,7 @@
 -- The control frames of a link that wait and go: one event of a line.
 use Rattle.laws_trace.proofs.Vocabulary.{arith, ◌≡◌, ℕ, ◌+◌, ◌-◌, ◌≤◌, ◌==◌, ◌&&◌, ◌||◌, Bool, true, false, cond, List, [], ◌++◌, drop, length, map, take, Some, None, refl, sym, ap, ◌∙◌, subst, inl, inr, append-nil, true≢false, flat_map, not, option_to_list, is_some, list_any, option_map_or, le-ltb, BadTei, NoLink, Service, same_service, place_of-is, takes_contents, as_heard, moves, as_response}
-use Rattle.laws_trace.proofs.Vocabulary.{event-follows, HasItsTimer, ControlFrame, Terms, restarts, Link, is_multiple_frame, state_number, event-delivers, Config, next, Answer, Deactivate, at_deactivated, Line, link_in, link_number, link_of, place_in, has_tei, state_of, terms, aim_of, unless_refused, IsInRange, terms_in_range, lost_in, notes_of, is_data_of, deactivates, is_deactivation, both-true}
+use Rattle.laws_trace.proofs.Vocabulary.{event-follows, HasItsTimer, ControlFrame, Terms, restarts, Link, is_multiple_frame, state_number, event-delivers, Config, next, Answer, Deactivate, at_deactivated, Line, link_in, link_number, link_of, place_in, has_tei, state_of, terms, aim_of, unless_refused, IsInRange, terms_in_range, lost_in, notes_of, is_data_of, deactivates, is_deactivation}
+use Rattle.laws_trace.proofs.Vocabulary.{both-true}
 use Rattle.laws_trace.proofs.Vocabulary.{IsBy, HaveTheirTimers, eqb-true, fresh_link as fresh, Event, refusal, Request, line_after as after, answer, line_frame_of as frame_of, IsSound, trace_frame_in as frame_in, Seen, seen, request}
 use Rattle.model_link.specs.Events as link
 use Rattle.model_link.specs.Machine as links

@@ -1,6 +1,7 @@
 -- What is seen of the control frames of a link, and which are due by it.
-use Rattle.laws_trace.proofs.Vocabulary.{arith, ◌≡◌, ℕ, ◌==◌, ◌&&◌, true, false, cond, List, [], ◌∷◌, ◌++◌, map, drop, Some, None, refl, sym, ap, ◌∙◌, inl, inr, eq-eqb, append-nil, Result, Ok, Err, All, IfSome, flat_map, option_to_list, nat_lt, length, All-head, All-tail, Ui, ReadFault, Service, Parts, reading, sapi_of, reading-again, event-follows, ControlFrame, Terms, Link, address_at, IsGiven}
-use Rattle.laws_trace.proofs.Vocabulary.{Given, orders_for, given_is_frame, Config, hears, Answer, Line, place_in, terms, aim_of, message_of, aim_of_reading, at_side, is_granted, IsBy, Brings, sapi-is, same-sapi, both-true, eqb-true, unwrap_or, information_of, begun as course_begun, Event, answer, line_frame_of as frame_of, Request, trace_frame_in as frame_in, Seen, heard, seen, seen_told}
+use Rattle.laws_trace.proofs.Vocabulary.{arith, ◌≡◌, ℕ, ◌==◌, ◌&&◌, true, false, cond, List, [], ◌∷◌, ◌++◌, map, drop, Some, None, refl, sym, ap, ◌∙◌, inl, inr, eq-eqb, append-nil, Result, Ok, Err, All, IfSome, flat_map, option_to_list, nat_lt, length, All-head, All-tail, Ui, ReadFault, Service, Parts, reading, sapi_of, reading-again, event-follows, ControlFrame, Terms, Link, address_at}
+use Rattle.laws_trace.proofs.Vocabulary.{IsGiven}
+use Rattle.laws_trace.proofs.Vocabulary.{Given, orders_for, given_is_frame, Config, hears, Answer, Line, place_in, terms, aim_of, message_of, aim_of_reading, at_side, is_granted, IsBy, Brings, sapi-is, same-sapi, both-true, eqb-true, unwrap_or, begun as course_begun, Event, answer, line_frame_of as frame_of, Request, trace_frame_in as frame_in, Seen, heard, seen, seen_told}
 use Rattle.laws_trace.proofs.Vocabulary.{seen_granted, drop-nil, link_after as after, link_given_of as given_of, offer_among, LinkIsInRange as IsInRange, LinkIsSound as IsSound, trace_begun as begun, service-same, StreamEvent, own_side}
 use Rattle.model_link.specs.Events as link
 use Rattle.laws_trace.proofs.ControlsWatched.{of_link, control_in, controls_at, while_up, answer_to, changed, answers_at, answers_to_frame}
@@ -8,7 +9,7 @@ use Rattle.laws_trace.proofs.DeliveriesWatched.{Standing}
 use Rattle.laws_trace.proofs.Addressed.{addressed-is}
 use Rattle.laws_trace.proofs.ControlsDue.{controls, answers_of}
 use Rattle.laws_trace.proofs.OneLink.{frames_given, IsForeign, is_at_link}
-use Rattle.laws_trace.proofs.ReadAgain.{read-again, message-text}
+use Rattle.laws_trace.proofs.ReadAgain.{read-again}
 use Rattle.laws_trace.proofs.Spelled.{whole-parts}
 use Rattle.laws_trace.proofs.Facts.{either-none}
 

@@ -1,9 +1,9 @@
 -- I-frames of a link that go out, as they are read.
-use Rattle.laws_trace.proofs.Vocabulary.{arith, ◌≡◌, ℕ, ◌==◌, ◌&&◌, true, false, cond, List, [], Option, Some, None, refl, ap, ◌∙◌, subst, eq-eqb, inl, inr, IfSome, option_map_or, Ui, Service, Parts, reading, sapi_of, reading-again, Link, address_at, is_information, Given, given_is_frame, Config, NextFrame, terms, same-sapi, unwrap_or, Control, information_of, line_frame_of as frame_of, given}
+use Rattle.laws_trace.proofs.Vocabulary.{arith, ◌≡◌, ℕ, ◌==◌, ◌&&◌, true, false, cond, List, [], Option, Some, None, refl, ap, ◌∙◌, subst, eq-eqb, inl, inr, IfSome, option_map_or, Ui, Service, Parts, reading, sapi_of, reading-again, Link, address_at, is_information, Given, given_is_frame, Config, NextFrame, terms, same-sapi, unwrap_or, Control, line_frame_of as frame_of, given}
 use Rattle.laws_trace.proofs.Vocabulary.{IsGiven, LinkIsInRange as IsInRange, LinkIsSound as IsSound, own_side}
 use Rattle.laws_trace.proofs.TimersWatched.{Sent, sent_by, sent_in}
 use Rattle.laws_trace.proofs.OneLink.{IsForeign}
-use Rattle.laws_trace.proofs.ReadAgain.{read-again, message-text}
+use Rattle.laws_trace.proofs.ReadAgain.{read-again}
 
 pub none-sent : (control : Control) (info : List ℕ) → is_information control ≡ false → sent_by control info ≡ None
 none-sent control info e = grind arith

@@ -1,7 +1,8 @@
 -- What the observer of a line knows of its TEIs is what TEI management has, and what is due by an event is what that tells.
-use Rattle.laws_trace.proofs.Vocabulary.{◌≡◌, ℕ, ◌+◌, ◌*◌, ◌/◌, ◌%◌, ◌==◌, ◌&&◌, Bool, true, false, cond, not, List, [], ◌∷◌, length, drop, ◌++◌, length-append, Option, Some, None, IfSome, option_map, option_map_or, refl, sym, ap, ◌∙◌, subst, arith, eq-eqb, filter, is_some, nat_lt, find, range_with_len, leb-true, leb-false, Management, Remembered, Period, First, Second, Message, IdentityAssigned}
+use Rattle.laws_trace.proofs.Vocabulary.{◌≡◌, ℕ, ◌+◌, ◌*◌, ◌/◌, ◌%◌, ◌==◌, ◌&&◌, Bool, true, false, cond, not, List, [], ◌∷◌, length, drop, ◌++◌, length-append, Option, Some, None, IfSome, option_map, option_map_or, refl, sym, ap, ◌∙◌, subst, arith, eq-eqb, filter, is_some, nat_lt, find, range_with_len, leb-true, leb-false, Management, Remembered, Period, First, Second, Message}
+use Rattle.laws_trace.proofs.Vocabulary.{IdentityAssigned}
 use Rattle.laws_trace.proofs.Vocabulary.{IdentityDenied, IdentityRemove, heard_of_type, heard_in, IsSoundCheck, free_place, free_tei-is, Config, eqb-true, ltb-true, ltb-false, Removed, Doubled, Check, TeiCourse as Course, tei_begun as begun, by_message, Checked, Managed, nothing_due, owes, gives, asked, leaves, over, checks, may_check, responded, ran_out, managing_is_on as is_on, is_of_teis}
-use Rattle.laws_trace.proofs.Vocabulary.{is_of_t201, begin_check, end_check, leave, lose_one, no_room, send, unserved, tei_with_message as with_message, false_from_ne_true}
+use Rattle.laws_trace.proofs.Vocabulary.{is_of_line, begin_check, end_check, leave, lose_one, no_room, send, unserved, tei_with_message as with_message, false_from_ne_true}
 use Rattle.lapd_tei.specs.Rows as rows
 use Rattle.lapd_tei.specs.Sound.{IsSound}
 use Rattle.lapd_tei.specs.Table as table
@@ -24,7 +25,7 @@ abbrev pub InOrder : Check → Type 0
 InOrder check = is_second check.period ≡ false → check.second ≡ 0
 
 abbrev pub as_seen : List ℕ → Management → Managed
-as_seen on m = record { on = on; held = m.remembered; check = option_map seen_check m.check; owed = m.waiting; notes = []; orders = []; lost = 0; begins = []; granted = None }
+as_seen on m = record { on = on; held = m.remembered; check = option_map seen_check m.check; owed = m.waiting; own = None; notes = []; orders = []; lost = 0; begins = []; granted = None }
 
 pub record Follows (w : Managed) (m : Management) : Type 0 where
   pub is : nothing_due w ≡ as_seen w.on m
@@ -34,7 +35,7 @@ pub record Follows (w : Managed) (m : Management) : Type 0 where
 -- What is due is what is told.
 pub record Leads (d : Managed) (x : Course) : Type 0 where
   pub notes : filter is_of_teis x.told.notes ≡ d.notes
-  pub orders : filter is_of_t201 x.told.orders ≡ d.orders
+  pub orders : filter is_of_line x.told.orders ≡ d.orders
   pub lost : x.told.lost ≡ d.lost
   pub begins : d.begins ≡ []
   pub granted : d.granted ≡ None

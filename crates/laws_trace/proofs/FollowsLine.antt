@@ -1,49 +1,26 @@
--- What is due of TEI management by one event of a line is what its answer shows, and the observer follows it.
-use Rattle.laws_trace.proofs.Vocabulary.{◌≡◌, ℕ, ◌==◌, Bool, true, false, cond, List, [], ◌∷◌, map, take, drop, slice_get, filter, Option, Some, None, IfSome, option_map, refl, sym, ap, ◌∙◌, subst, append-nil, true≢false, ◌⊎◌, inl, inr, arith, option_map_or, none-some, filter-append, Ui, Service, Timer, Parts, reading, Result, ReadFault, sapi_of, reading-again, Management, Message, Config, Aim}
-use Rattle.laws_trace.proofs.Vocabulary.{at_none, at_link, at_management, of_aim, hears, expiry, next, Answer, LineTold, gave, orders_in, Line, link_at, terms, service_at, aim_of, aim_of_heard, management_sapi, Taken, taken, next_of, line_of, at_requested, at_deactivated, heard_aims, lost_in, IsOwed, IsIdle, contents_of_link, IsOne, taken-one, served, unwrap_or, TimerT200 as T200}
-use Rattle.laws_trace.proofs.Vocabulary.{message_frame as frame_of, information_of, Event, told, line_after as after, answer, IsSound, result_ok, Managed, by_message, managing_by_event as by_event, is_of_teis, is_of_t201, IsAsDue, trace_frame_in as frame_in, offer, LinkEvent, LinkRequest, received, StreamEvent, link_told, tei_message, TeiEvent, tei_refusal, tei_course, own_side}
+-- What is due of TEI management by one event of a line of the network's side, or of a trunk's end, is what its answer shows, and
+-- the observer follows it.
+use Rattle.laws_trace.proofs.Vocabulary.{◌≡◌, ℕ, true, false, cond, List, [], ◌∷◌, ◌++◌, map, take, drop, filter, Option, Some, None, IfSome, refl, sym, ap, ◌∙◌, subst, append-nil, true≢false, inl, inr, option_map_or, filter-append, Timer, Management, Message, Config, Aim, at_management, of_aim, hears, expiry, next, Line}
+use Rattle.laws_trace.proofs.Vocabulary.{aim_of_heard, Taken, taken, line_of, heard_aims, IsOwed, IsIdle, contents_of_link, served, TimerT200 as T200, TimerT203 as T203, T201, message_frame as frame_of, information_of, Event, told, line_after as after, answer, IsSound, Managed, by_message, managing_by_event as by_event, is_of_teis, received, StreamEvent, tei_message, TeiEvent}
+use Rattle.laws_trace.proofs.Vocabulary.{tei_refusal, tei_course, tei_told, tei_after, told_of_management}
+use Rattle.lapd_frame.specs.declared.timers.Timer.TheVariants.{T202}
+use Rattle.lapd_tei.specs.declared.messages.Message.TheVariants.{IdentityAssigned, IdentityDenied, IdentityCheckRequest, IdentityRemove}
+use Rattle.lapd_terminal.specs.Events as terminals
+use Rattle.model_line.specs.Effect.{Effect, at_a_terminal, of_network, of_terminal, of_terminal_if, told_of_terminal}
+use Rattle.model_line.specs.Sound.{IsOfSide}
+use Rattle.model_link.specs.declared.timers.LinkTimer.TheVariants as link_timer
+use Rattle.lapd_terminal.specs.Words.{Course}
+use Rattle.laws_trace.proofs.Vocabulary.{aim_of, of_change}
+use Rattle.lapd_tei.specs.Events.{expiry as tei_expiry}
+use Rattle.model_line.specs.Line.{is_terminal, Own, with_terminal}
+use Rattle.model_line.proofs.Managed.{idle_course}
+use Rattle.laws_trace.specs.Managing.{octets_of}
+use Rattle.laws_trace.specs.TeisAreManaged.{message_text}
 use Rattle.laws_trace.proofs.Follows.{Follows, Leads, InOrder, as_seen, serve-leads, expire-leads}
 use Rattle.laws_trace.proofs.ManagingTables.{AreOn}
-use Rattle.laws_trace.proofs.ManagingNotes.{none-of-teis, link-others, told-orders, Cases, is_management, message_in, message-is-read, heard-cases}
-use Rattle.laws_trace.proofs.OneLink.{given-orders}
-use Rattle.laws_trace.proofs.ReadAgain.{read-again, message-text}
-use Rattle.lapd_frame.specs.Senders.{spelling}
-use Rattle.lapd_tei.specs.declared.messages.Message.TheVariants.{IdentityAssigned, IdentityDenied, IdentityCheckRequest, IdentityRemove}
-use Rattle.laws_trace.specs.TeisAreManaged.{octets_of, message_text}
-
--- Frames with SAPI 63.
-abbrev of_management : Result Parts ReadFault → Bool
-of_management r = option_map_or (λ (f : Parts). f.address.sapi == management_sapi) (result_ok r) false
-
-abbrev is_message : Config → List ℕ → Bool
-is_message c octets = of_management (reading (own_side c) octets)
-
--- What an answer shows, and what is known behind it. What is lost is so many messages, or is none of them, where the event
--- is one of a link.
-pub record Shows (c : Config) (l : Line) (e : Event) (d : Managed) (a : Answer) (new : Management) : Type 0 where
-  pub as_due : IsAsDue c d a
-  pub lost : (lost_in a ≡ d.lost) ⊎ ((d.lost ≡ 0) × (is_management (aim_of c e l) ≡ false))
-  pub follows : Follows d new
-
-module _ (c : Config) (l : Line) where
-  -- No event of it.
-  pub record IsUnmanaged (aim : Aim) : Type 0 where
-    pub stays : (of_aim c aim l).line.management ≡ l.management
-    pub others : filter is_of_teis (of_aim c aim l).told.notes ≡ []
-    pub orders : filter is_of_t201 (of_aim c aim l).told.orders ≡ []
-    pub none : is_management aim ≡ false
-
-  none-aims : (t : LineTold) → filter is_of_teis t.notes ≡ [] → t.orders ≡ [] → IsUnmanaged (at_none t)
-  none-aims t notes orders = record { stays = refl; others = notes; orders = ap (filter is_of_t201) orders; none = refl }
-
-  link-aims : (service : Service) (tei place : ℕ) (event : LinkEvent) → IsUnmanaged (at_link service tei place event)
-  link-aims service tei place event = grind (arith, none-of-teis, link_told, link-others, told-orders)
-
-  pub asked-aims : (service : Service) (tei : ℕ) (asked : LinkRequest) (o : Option ℕ) → IsUnmanaged (at_requested service tei asked o)
-  asked-aims service tei asked o = grind (arith, none-aims, link-aims)
-
-  pub deactivated-aims : (service : Service) (tei : ℕ) (o : Option ℕ) → IsUnmanaged (at_deactivated service tei o)
-  deactivated-aims service tei o = grind (arith, none-aims, link-aims)
+use Rattle.laws_trace.proofs.ManagingNotes.{none-of-teis, Cases, is_management, message_in, message-is-read, heard-cases, Behind, behind}
+use Rattle.laws_trace.proofs.ReadAgain.{message-text}
+use Rattle.laws_trace.proofs.Tracked.{OfSide, Tracks, Shows, IsQuiet, IsUnmanaged, none-granted, none-aims, link-aims, unmanaged-shows, timer-shows, is_managed, managed_of, one-or-none, first-goes, message-is, unit-is, link-is, next-shows}
 
 -- A message goes in the octets that are due.
 same-octets : (m : Message) → information_of m ≡ octets_of m
@@ -52,39 +29,54 @@ same-octets (IdentityDenied ri) = refl
 same-octets (IdentityCheckRequest tei) = refl
 same-octets (IdentityRemove tei) = refl
 
-same-text : (c : Config) (m : Message) → frame_of c.side m ≡ message_text c m
-same-text c m =
-    message-text c m ∙ ap (λ info. spelling (own_side c) (record { address = record { sapi = 63; command = true; tei = 127 }; control = Ui false; info = info })) (same-octets m)
+same-text : (c : Config) (m : Message) → frame_of c.side m ≡ message_text c (octets_of m)
+same-text c m = message-text c m ∙ ap (message_text c) (same-octets m)
 
-same-texts : (c : Config) (ms : List Message) → map (frame_of c.side) ms ≡ map (message_text c) ms
-same-texts c [] = refl
-same-texts c (m ∷ ms) = ap (λ text. text ∷ map (frame_of c.side) ms) (same-text c m) ∙ ap (λ texts. message_text c m ∷ texts) (same-texts c ms)
-
--- One event of a line.
-first-goes : (ms : List Message) (m : Message) → slice_get ms 0 ≡ Some m → take 1 ms ≡ m ∷ []
-first-goes ms m is = grind arith
-
--- Where no request of management is granted or refused, nothing is said of it.
-pub none-granted : (d : Managed) → d.granted ≡ None → (its so : Bool) → d.granted ≡ Some so → its ≡ so
-none-granted d none its so is = absurd (none-some so (sym none ∙ is))
-
-module _ (c : Config) (l : Line) (s : IsSound c l) (on : List ℕ) (h : AreOn on l.management.places) (order : IfSome l.management.check InOrder) where
+module _ (c : Config) (l : Line) (s : IsSound c l) (net : is_terminal c ≡ false) (on : List ℕ) (h : AreOn on l.management.places) (order : IfSome l.management.check InOrder) where
   abbrev m : Management
   m = l.management
 
   abbrev w : Managed
   w = as_seen on m
 
-  pub managed-shows : (e : Event) (d : Managed) (me : TeiEvent) → Leads d (tei_course me m) → let y = of_aim c (at_management me) l in Shows c l e d (told y.told) y.line.management
-  managed-shows e d me leads = grind (arith, filter-append, none-of-teis, append-nil, none-granted)
+  pub tracked : (d : Managed) (m : Management) (own : Own) → Follows d m → Tracks c d m own
+  tracked d m own f = record { on = f.on; side = subst (λ b. OfSide c b d m own) (sym net) f }
 
-  pub unmanaged-shows : (e : Event) (aim : Aim) → is_management (aim_of c e l) ≡ false → IsUnmanaged c l aim
-      → let y = of_aim c aim l in Shows c l e w (told y.told) y.line.management
-  unmanaged-shows e aim none x = grind (arith, none-granted, Follows)
+  pub here : Tracks c w m l.own
+  here = tracked w m l.own (record { is = refl; on = h; order = order })
+
+  pub none-due : IsQuiet w
+  none-due = record { notes = refl; orders = refl; lost = refl; begins = refl; granted = refl }
+
+  -- An event of TEI management.
+  network-shows : (e : Event) (d : Managed) (me : TeiEvent) → Leads d (tei_course me m) → let y = of_network c me l in Shows c l e d (told y.told) y.line
+  network-shows e d me leads =
+      let t = tei_told me m in
+      let y = of_network c me l in
+      let x : Behind c (told_of_management t) (record l { management = tei_after me m }) t.change = behind c (told_of_management t) (record l { management = tei_after me m }) t.change in
+      record {
+        as_due = record {
+          notes =
+              ap (filter is_of_teis) x.notes ∙ filter-append is_of_teis t.notes x.others ∙ ap (λ ns. filter is_of_teis t.notes ++ ns) (none-of-teis x.others x.are) ∙ append-nil (filter is_of_teis t.notes)
+              ∙ leads.notes;
+          orders = x.orders ∙ leads.orders;
+          begins = sym (ap (map (message_text c)) leads.begins);
+          granted = none-granted d leads.granted true;
+        };
+        lost = inl (x.lost ∙ leads.lost);
+        follows = subst (λ m. Tracks c d m y.line.own) (sym x.stays) (tracked d (tei_after me m) y.line.own leads.follows);
+      }
+
+  pub managed-shows : (e : Event) (d : Managed) (me : TeiEvent) → Leads d (tei_course me m) → let y = of_aim c (at_management me) l in Shows c l e d (told y.told) y.line
+  managed-shows e d me leads =
+      subst (λ b. let y = cond b (of_terminal_if c (at_a_terminal me) l) (of_network c me l) in Shows c l e d (told y.told) y.line) (sym net) (network-shows e d me leads)
+
+  others-show : (e : Event) (aim : Aim) → is_management (aim_of c e l) ≡ false → IsUnmanaged c l aim → let y = of_aim c aim l in Shows c l e w (told y.told) y.line
+  others-show e aim none x = unmanaged-shows c l e w aim none-due here none x
 
   -- What is heard.
   abbrev Heard : StreamEvent → Aim → Option (List ℕ) → Type 0
-  Heard e aim message = let y = of_aim c aim l in Shows c l (hears e) (option_map_or (by_message c w) message w) (told y.told) y.line.management
+  Heard e aim message = let y = of_aim c aim l in Shows c l (hears e) (option_map_or (by_message c w) message w) (told y.told) y.line
 
   plain-aim : (e : StreamEvent) → is_management (aim_of_heard c l e) ≡ false → IsUnmanaged c l (aim_of_heard c l e)
   plain-aim e none =
@@ -97,65 +89,69 @@ module _ (c : Config) (l : Line) (s : IsSound c l) (on : List ℕ) (h : AreOn on
       subst (λ aim. Heard e aim (message_in c e)) (sym x.aim_is)
       (subst (Heard e (at_management (tei_message x.info))) (sym x.said_is)
       (managed-shows (hears e) (by_message c w x.info) (tei_message x.info) (serve-leads on m h order s.management c s.places x.info)))
-  by-cases e (inr x) = subst (Heard e (aim_of_heard c l e)) (sym x.said_is) (unmanaged-shows (hears e) (aim_of_heard c l e) x.aim_is (plain-aim e x.aim_is))
+  by-cases e (inr x) = subst (Heard e (aim_of_heard c l e)) (sym x.said_is) (others-show (hears e) (aim_of_heard c l e) x.aim_is (plain-aim e x.aim_is))
 
-  pub hears-shows : (e : StreamEvent) → Shows c l (hears e) (by_event c (hears e) w) (answer c (hears e) l) (after c (hears e) l).management
+  pub hears-shows : (e : StreamEvent) → Shows c l (hears e) (by_event c (hears e) w) (answer c (hears e) l) (after c (hears e) l)
   unfolding after answer
-  hears-shows e = grind (arith, message-is-read, by-cases, heard-cases)
+  hears-shows e =
+      let y = of_aim c (aim_of_heard c l e) l in
+      subst (λ d. Shows c l (hears e) d (told y.told) y.line) (sym (message-is-read c w e net)) (by-cases e (heard-cases c l e))
 
-  -- An expiry.
-  pub expiry-shows : (timer : Timer) → Shows c l (expiry timer) (by_event c (expiry timer) w) (answer c (expiry timer) l) (after c (expiry timer) l).management
+  -- An expiry. T202 does not run.
+  abbrev effect_of : Course → Effect
+  effect_of x = of_change c x.told.change (told_of_terminal x.told) (with_terminal x.now l)
+
+  t202-shows : let y = of_terminal c terminals.expiry l in Shows c l (expiry T202) w (told y.told) y.line
+  t202-shows =
+      let none = subst (λ b. IsOfSide b l.management l.own) net s.own in
+      subst (λ (x : Course). let y = effect_of x in Shows c l (expiry T202) w (told y.told) y.line) (sym (idle_course c l s none.0))
+      (record { as_due = record { notes = refl; orders = refl; begins = refl; granted = none-granted w refl true }; lost = inl refl; follows = here })
+
+  pub expiry-shows : (timer : Timer) → Shows c l (expiry timer) (by_event c (expiry timer) w) (answer c (expiry timer) l) (after c (expiry timer) l)
   unfolding after answer tei_course tei_refusal
-  expiry-shows (T200 service tei) = grind (arith, none-aims, link-aims, unmanaged-shows)
-  expiry-shows timer = grind (arith, none-aims, link-aims, unmanaged-shows, managed-shows, expire-leads)
+  expiry-shows (T200 service tei) = timer-shows c l w none-due here (T200 service tei) service tei link_timer.T200 refl
+  expiry-shows (T203 service tei) = timer-shows c l w none-due here (T203 service tei) service tei link_timer.T203 refl
+  expiry-shows T201 = managed-shows (expiry T201) (by_event c (expiry T201) w) tei_expiry (expire-leads on m h order s.management)
+  expiry-shows T202 = t202-shows
 
   -- A call for the next frame.
-  next-orders : (o : Option Taken) → IfSome o (IsOne c l) → filter is_of_t201 (orders_in (gave (option_map next_of o))) ≡ []
-  next-orders None x = refl
-  next-orders (Some t) (inl x) = ap (λ (t : Taken). filter is_of_t201 t.orders) x.1
-  next-orders (Some t) (inr (inl x)) = ap (λ (t : Taken). filter is_of_t201 t.orders) x.1
-  next-orders (Some t) (inr (inr x)) =
-      let t = terms c (service_at x.number) x.tei in
-      ap (λ (t : Taken). filter is_of_t201 t.orders) x.is ∙ ap (filter is_of_t201) (given-orders c l s (service_at x.number) x.tei t (link_at x.number l) x.what x.given)
-      ∙ told-orders t offer (link_at x.number l)
-
-  message-is : (message : Message) → is_message c (frame_of c.side message) ≡ true
-  message-is message =
-      let parts : Parts = record { address = record { sapi = 63; command = true; tei = 127 }; control = Ui false; info = information_of message } in
-      ap of_management (reading-again (own_side c) parts (frame_of c.side message) (record { is_frame = record { sapi = omega arith; tei = omega arith; kind = refl; size = refl }; octets_are = message-text c message }))
-
   abbrev later : Managed
-  later = record w { owed = drop 1 m.waiting; begins = take 1 m.waiting }
+  later = record w { owed = drop 1 m.waiting; begins = map octets_of (take 1 m.waiting) }
 
-  stays : (new : Line) → new.management ≡ m → m.waiting ≡ [] → Follows later new.management
-  stays new is none = subst (Follows later) (sym is) (subst (λ ms. Follows (record w { owed = ms; begins = take 1 m.waiting }) m) (sym (ap (drop 1) none ∙ sym none)) (record { is = refl; on = h; order = order }))
-
-  none-goes : m.waiting ≡ [] → [] ≡ map (frame_of c.side) (take 1 m.waiting)
-  none-goes none = sym (ap (λ ms. map (frame_of c.side) (take 1 ms)) none)
+  abbrev due_texts : List (List ℕ)
+  due_texts = map (message_text c) (map octets_of (take 1 m.waiting))
 
   abbrev Goes : Line → Option Taken → Type 0
-  Goes new o = (filter (is_message c) (frame_in (gave (option_map next_of o))) ≡ map (frame_of c.side) (take 1 m.waiting)) × Follows later new.management
+  Goes new o = (managed_of c o ≡ due_texts) × Tracks c later new.management new.own
+
+  stays : (new : Line) → new.management ≡ m → m.waiting ≡ [] → Tracks c later new.management new.own
+  stays new is none =
+      tracked later new.management new.own
+      (subst (Follows later) (sym is) (subst (λ ms. Follows (record w { owed = ms; begins = map octets_of (take 1 m.waiting) }) m) (sym (ap (drop 1) none ∙ sym none)) (record { is = refl; on = h; order = order })))
+
+  none-goes : m.waiting ≡ [] → [] ≡ due_texts
+  none-goes none = sym (ap (λ ms. map (message_text c) (map octets_of (take 1 ms))) none)
 
   goes : (new : Line) (o : Option Taken) → elim o as (λ o. Type 0) [ None ↦ IsIdle c l new | Some t ↦ IsOwed c (contents_of_link l) l new t.frame ] → Goes new o
-  goes new None x = (none-goes x.nothing.messages, stays new (ap (λ (l : Line). l.management) x.line) x.nothing.messages)
-  goes new (Some t) (inl x) = grind (arith, message-is, first-goes)
-  goes new (Some t) (inr (inl x)) = (
-    (ap (λ false. cond false (t.frame ∷ []) []) (ap (is_message c) x.spelled
-        ∙ read-again (own_side c) (λ r. of_management r ≡ false) (record { sapi = sapi_of x.unit.service; command = true; tei = x.unit.tei }) (Ui false) (λ info. grind arith) (λ fault. refl) x.unit.contents))
-        ∙ none-goes x.no_message,
-    stays new (ap (λ (l : Line). l.management) x.line) x.no_message,
+  goes new None x = (none-goes x.nothing.messages.management, stays new (ap (λ (l : Line). l.management) x.line) x.nothing.messages.management)
+  goes new (Some t) (inl x) = (
+    one-or-none c t true (ap (is_managed c) x.spelled ∙ ap (is_managed c) (same-text c x.message) ∙ message-is c (octets_of x.message))
+        ∙ ap (λ f. f ∷ []) (x.spelled ∙ same-text c x.message) ∙ sym (ap (λ ms. map (message_text c) (map octets_of ms)) (first-goes m.waiting x.message x.oldest)),
+    subst (λ (l : Line). Tracks c later l.management l.own) (sym x.line) (tracked later (record m { waiting = drop 1 m.waiting }) l.own (record { is = refl; on = h; order = order })),
   )
-  goes new (Some t) (inr (inr x)) = (
-    (ap (λ false. cond false (t.frame ∷ []) []) (ap (is_message c) x.spelled
-        ∙ read-again (own_side c) (λ r. of_management r ≡ false) (record { sapi = sapi_of (service_at x.number); command = x.command; tei = x.tei }) x.control (λ info. grind arith) (λ fault. refl)
-        (unwrap_or x.information []))) ∙ none-goes x.its_turn.no_message,
-    stays new (ap (λ (l : Line). l.management) x.line) x.its_turn.no_message,
+  goes new (Some t) (inr (inl x)) = absurd (true≢false (sym x.terminal ∙ net))
+  goes new (Some t) (inr (inr (inl x))) = (
+    one-or-none c t false (unit-is c l new t x) ∙ none-goes x.no_message.management,
+    stays new (ap (λ (l : Line). l.management) x.line) x.no_message.management,
+  )
+  goes new (Some t) (inr (inr (inr x))) = (
+    one-or-none c t false (link-is c l new t (contents_of_link l) x) ∙ none-goes x.its_turn.no_message.management,
+    stays new (ap (λ (l : Line). l.management) x.line) x.its_turn.no_message.management,
   )
 
-  goes-due : (new : Line) (o : Option Taken) → elim o as (λ o. Type 0) [ None ↦ IsIdle c l new | Some t ↦ IsOwed c (contents_of_link l) l new t.frame ]
-      → (filter (is_message c) (frame_in (gave (option_map next_of o))) ≡ map (message_text c) (take 1 m.waiting)) × Follows later new.management
-  goes-due new o x = let g = goes new o x in (g.0 ∙ same-texts c (take 1 m.waiting), g.1)
-
-  pub next-shows : Shows c l next (by_event c next w) (answer c next l) (after c next l).management
-  unfolding after answer
-  next-shows = grind (arith, next-orders, taken-one, none-granted, goes-due (option_map_or line_of (taken c l) l) (taken c l) (served c l s))
+  pub next-shown : Shows c l next (by_event c next w) (answer c next l) (after c next l)
+  unfolding after
+  next-shown =
+      let new = option_map_or line_of (taken c l) l in
+      let g = goes new (taken c l) (served c l s) in
+      next-shows c l s later refl refl refl refl g.0 g.1

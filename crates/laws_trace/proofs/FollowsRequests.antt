@@ -1,29 +1,68 @@
--- What is due of TEI management by a request, and by any event of a line, is what its answer shows.
-use Rattle.laws_trace.proofs.Vocabulary.{IdentityRemove, ◌≡◌, ℕ, ◌==◌, ◌&&◌, ◌||◌, Bool, true, false, cond, not, List, [], ◌∷◌, length, Option, Some, None, IfSome, is_some, refl, sym, ap, subst, inl, arith, leb-true, leb-false, nat_le, nat_lt, list_any, Refusal, Management, free_place, on-range, Config, at_management, of_aim, hears, expiry, request, next, Line, place_in, has_tei, unless_refused}
-use Rattle.laws_trace.proofs.Vocabulary.{unless_refused_told, wrong_side, bad_tei, no_link, tei_taken, bad_tei_or_all, tei_in_use, table_full, check_running, control_full, Assign, Remove, Disown, tei_disown, Deactivate, aim_of_request, has_management, passed, Down, at_no_link, filter, option_map, Stop, T201, ltb-true, ltb-false, tei_begun as begun, Event, told, line_after as after, answer}
-use Rattle.laws_trace.proofs.Vocabulary.{refusal, Request, Checking, SetBusy, ClearBusy, IsSound, Managed, owes, leaves, checks, may_check, grants, managing_by_event as by_event, due, is_of_t201, by-down, stop_of, Check, false_from_ne_true, LinkSetBusy, LinkClearBusy, tei_check, tei_unless_refused, tei_course, tei_remove, tei_refusal_if, TeiEvent, tei_refusal, tei_assign, tei_step}
+-- What is due of TEI management by a request, and by any event of a line of the network's side or of a trunk's end, is what its
+-- answer shows.
+use Rattle.laws_trace.proofs.Vocabulary.{IdentityRemove, ◌≡◌, ℕ, ◌==◌, ◌&&◌, ◌||◌, Bool, true, false, cond, not, List, [], ◌∷◌, ◌∙◌, length, Option, Some, None, IfSome, is_some, refl, sym, ap, subst, inl, arith, leb-true, leb-false, nat_le, nat_lt, list_any, Refusal, Management, free_place, on-range, Config, at_management, of_aim, hears, expiry, request, next, Line, has_tei, unless_refused}
+use Rattle.laws_trace.proofs.Vocabulary.{unless_refused_told, bad_tei, no_link, tei_taken, bad_tei_or_all, tei_in_use, table_full, check_running, control_full, Assign, Remove, Disown, tei_disown, Deactivate, aim_of_request, passed, Down, at_no_link, filter, option_map, Stop, T201, ltb-true, ltb-false, tei_begun as begun, Event, told, line_after as after, answer, Establish, Release, true≢false}
+use Rattle.laws_trace.proofs.Vocabulary.{refusal, Request, Checking, SetBusy, ClearBusy, IsSound, Managed, owes, leaves, checks, may_check, grants, manages, managing_by_event as by_event, is_of_line, by-down, stop_of, Check, false_from_ne_true, LinkSetBusy, LinkClearBusy, tei_check, tei_unless_refused, tei_course, tei_remove, tei_refusal_if, TeiEvent, tei_refusal, tei_assign, tei_step}
+use Rattle.lapd_frame.specs.declared.addresses.Side.{Side}
+use Rattle.lapd_frame.specs.declared.addresses.Side.TheVariants.{User, Network}
+use Rattle.model_line.specs.Line.{is_terminal}
+use Rattle.model_line.specs.Line.{Own}
+use Rattle.model_line.specs.Refusal.{wrong_side, not_network, not_terminal, procedure_running}
+use Rattle.model_line.specs.Sound.{IsOfSide}
+use Rattle.model_line.proofs.Downs.{stop_202}
+use Rattle.model_link.specs.Events.{Establish as LinkEstablish, Release as LinkRelease, Data as LinkData}
+use Rattle.laws_trace.proofs.Vocabulary.{◌++◌, append-nil, nothing_due}
+use Rattle.model_line.specs.Request.{AskTei, VerifyTei, Data, Unit}
+use Rattle.model_line.specs.Sides.{has_management, is_network}
 use Rattle.laws_trace.proofs.Follows.{Follows, Leads, InOrder, seen_check, as_seen, plain, assign-leads, remove-leads, begins-check, fewer-on, all-on}
 use Rattle.laws_trace.proofs.ManagingTables.{AreOn, used-same}
-use Rattle.laws_trace.proofs.ManagingNotes.{is_management}
-use Rattle.laws_trace.proofs.FollowsLine.{Shows, IsUnmanaged, none-granted, asked-aims, deactivated-aims, managed-shows, unmanaged-shows, hears-shows, expiry-shows, next-shows}
+use Rattle.laws_trace.proofs.FollowsLine.{tracked, managed-shows, here, none-due, hears-shows, expiry-shows, next-shown}
+use Rattle.laws_trace.proofs.Tracked.{OfSide, Tracks, Shows}
+use Rattle.laws_trace.proofs.TrackedRequests.{asked-shows, deactivated-shows, units-shows}
+
+network-is : (side : Side) → is_network side ≡ manages side
+network-is Network = refl
+network-is User = refl
 
 -- The rows that refuse a request of management.
-module _ (c : Config) (l : Line) (s : IsSound c l) (on : List ℕ) (h : AreOn on l.management.places) (order : IfSome l.management.check InOrder) where
+module _ (c : Config) (l : Line) (s : IsSound c l) (net : is_terminal c ≡ false) (on : List ℕ) (h : AreOn on l.management.places) (order : IfSome l.management.check InOrder) where
   abbrev m : Management
   m = l.management
 
   abbrev w : Managed
   w = as_seen on m
 
+  alone : has_management c ≡ manages c.side
+  alone = ap (λ b. is_network c.side || b) net ∙ no-other (is_network c.side) ∙ network-is c.side
+    where
+      no-other : (b : Bool) → (b || false) ≡ b
+      no-other b = grind arith
+
   -- A request.
   abbrev Answers : Request → Managed → Option Refusal → Type 0
-  Answers r d o = let x = of_aim c (unless_refused o (aim_of_request r l)) l in Shows c l (request r) d (unless_refused_told o x) x.line.management
+  Answers r d o = let x = of_aim c (unless_refused o (aim_of_request r l)) l in Shows c l (request r) d (unless_refused_told o x) x.line
 
   granted-so : (so : Bool) → Some true ≡ Some so → true ≡ so
   granted-so so is = cc is
 
+  refused-so : (so : Bool) → Some false ≡ Some so → false ≡ so
+  refused-so so is = cc is
+
+  is-refused : (r : Request) (why : Refusal) → Answers r (record w { granted = Some false }) (Some why)
+  is-refused r why = record {
+    as_due = record { notes = refl; orders = refl; begins = refl; granted = refused-so };
+    lost = inl refl;
+    follows = tracked c l s net on h order (record w { granted = Some false }) m l.own (record { is = refl; on = h; order = order });
+  }
+
   by-grant : (r : Request) (after : Managed) (may : Bool) → is_some (refusal c false r l) ≡ not may → (refusal c false r l ≡ None → Answers r (grants true after w) None) → Answers r (grants may after w) (refusal c false r l)
-  by-grant r after may same granted = grind (arith, granted)
+  by-grant r after may same granted = go (refusal c false r l) may same granted
+    where
+      go : (o : Option Refusal) (may : Bool) → is_some o ≡ not may → (o ≡ None → Answers r (grants true after w) None) → Answers r (grants may after w) o
+      go None true same granted = granted refl
+      go None false same granted = absurd (true≢false (sym same))
+      go (Some why) true same granted = absurd (true≢false same)
+      go (Some why) false same granted = is-refused r why
 
   course-is : (e : TeiEvent) → tei_refusal e m ≡ None → tei_course e m ≡ tei_step e (begun m)
   unfolding tei_course
@@ -31,13 +70,17 @@ module _ (c : Config) (l : Line) (s : IsSound c l) (on : List ℕ) (h : AreOn on
 
   granted-shows : (r : Request) (d : Managed) (e : TeiEvent) → aim_of_request r l ≡ at_management e → tei_refusal e m ≡ None → Leads d (tei_step e (begun m)) → Answers r (grants true d w) None
   granted-shows r d e aim none leads =
-      subst (λ aim. let y = of_aim c aim l in Shows c l (request r) (grants true d w) (told y.told) y.line.management) (sym aim)
-      (let x = managed-shows c l s on h order (request r) d e (subst (Leads d) (sym (course-is e none)) leads) in
+      subst (λ aim. let y = of_aim c aim l in Shows c l (request r) (grants true d w) (told y.told) y.line) (sym aim)
+      (let x = managed-shows c l s net on h order (request r) d e (subst (Leads d) (sym (course-is e none)) leads) in
+      let y = of_aim c (at_management e) l in
       record {
         as_due = record { notes = x.as_due.notes; orders = x.as_due.orders; begins = x.as_due.begins; granted = granted-so };
         lost = x.lost;
-        follows = record { is = x.follows.is; on = x.follows.on; order = x.follows.order };
+        follows = tracked c l s net on h order (grants true d w) y.line.management y.line.own (its-follows d y.line.management y.line.own x.follows);
       })
+    where
+      its-follows : (d : Managed) (m : Management) (own : Own) → Tracks c d m own → Follows (grants true d w) m
+      its-follows d m own x = let f = subst (λ b. OfSide c b d m own) net x.side in record { is = f.is; on = f.on; order = f.order }
 
   two : (a b : Bool) (x y : Refusal) → a ≡ false → b ≡ false → tei_refusal_if a x (tei_refusal_if b y None) ≡ None
   two a b x y e f = rw (e, f) refl
@@ -68,10 +111,10 @@ module _ (c : Config) (l : Line) (s : IsSound c l) (on : List ℕ) (h : AreOn on
 
   remove-shows : (tei : ℕ) → Answers (Remove tei) (by_event c (request (Remove tei)) w) (refusal c false (Remove tei) l)
   unfolding tei_refusal
-  remove-shows tei = by-grant (Remove tei) (owes (IdentityRemove tei) (leaves tei w)) (has_management c.side && list_any (λ y. y == tei) on && not (nat_le 4 (length m.waiting))) same granted
+  remove-shows tei = by-grant (Remove tei) (owes (IdentityRemove tei) (leaves tei w)) (manages c.side && list_any (λ y. y == tei) on && not (nat_le 4 (length m.waiting))) same granted
     where
-      same : is_some (refusal c false (Remove tei) l) ≡ not (has_management c.side && list_any (λ y. y == tei) on && not (nat_le 4 (length m.waiting)))
-      same = grind (arith, nat_le, on-low)
+      same : is_some (refusal c false (Remove tei) l) ≡ not (manages c.side && list_any (λ y. y == tei) on && not (nat_le 4 (length m.waiting)))
+      same = rw alone (grind (arith, nat_le, on-low))
 
       granted : refusal c false (Remove tei) l ≡ None → Answers (Remove tei) (grants true (owes (IdentityRemove tei) (leaves tei w)) w) None
       granted none =
@@ -82,14 +125,14 @@ module _ (c : Config) (l : Line) (s : IsSound c l) (on : List ℕ) (h : AreOn on
 
   check-shows : (tei : ℕ) → Answers (Checking tei) (by_event c (request (Checking tei)) w) (refusal c false (Checking tei) l)
   unfolding tei_refusal
-  check-shows tei = by-grant (Checking tei) (checks tei None w) (has_management c.side && may_check tei w && not (nat_le 4 (length m.waiting))) same granted
+  check-shows tei = by-grant (Checking tei) (checks tei None w) (manages c.side && may_check tei w && not (nat_le 4 (length m.waiting))) same granted
     where
-      same : is_some (refusal c false (Checking tei) l) ≡ not (has_management c.side && may_check tei w && not (nat_le 4 (length m.waiting)))
-      same = grind (arith, is_some, nat_le, on-low)
+      same : is_some (refusal c false (Checking tei) l) ≡ not (manages c.side && may_check tei w && not (nat_le 4 (length m.waiting)))
+      same = rw (network-is c.side) (grind (arith, is_some, nat_le, on-low))
 
       granted : refusal c false (Checking tei) l ≡ None → Answers (Checking tei) (grants true (checks tei None w) w) None
       granted none =
-          let bad = passed (bad_tei tei) (no_link tei l ∷ check_running l ∷ control_full l ∷ []) (passed (wrong_side c) (bad_tei tei ∷ no_link tei l ∷ check_running l ∷ control_full l ∷ []) none).1 in
+          let bad = passed (bad_tei tei) (no_link tei l ∷ check_running l ∷ control_full l ∷ []) (passed (not_network c) (bad_tei tei ∷ no_link tei l ∷ check_running l ∷ control_full l ∷ []) none).1 in
           let unknown = passed (no_link tei l) (check_running l ∷ control_full l ∷ []) bad.1 in
           let running = passed (check_running l) (control_full l ∷ []) unknown.1 in
           let full = passed (control_full l) [] running.1 in
@@ -97,58 +140,80 @@ module _ (c : Config) (l : Line) (s : IsSound c l) (on : List ℕ) (h : AreOn on
 
   disown-shows : (tei : ℕ) → Answers (Disown tei) (by_event c (request (Disown tei)) w) (refusal c false (Disown tei) l)
   unfolding tei_refusal
-  disown-shows tei = by-grant (Disown tei) (owes (IdentityRemove tei) w) (has_management c.side && nat_le tei 127 && not (list_any (λ y. tei == 127 || y == tei) on) && not (nat_le 4 (length m.waiting))) same granted
+  disown-shows tei = by-grant (Disown tei) (owes (IdentityRemove tei) w) (manages c.side && nat_le tei 127 && not (list_any (λ y. tei == 127 || y == tei) on) && not (nat_le 4 (length m.waiting))) same granted
     where
-      same : is_some (refusal c false (Disown tei) l) ≡ not (has_management c.side && nat_le tei 127 && not (list_any (λ y. tei == 127 || y == tei) on) && not (nat_le 4 (length m.waiting)))
-      same = rw (used-same on m.places h tei) (grind (arith, is_some, nat_le, leb-true, ltb-true, leb-false, ltb-false))
+      same : is_some (refusal c false (Disown tei) l) ≡ not (manages c.side && nat_le tei 127 && not (list_any (λ y. tei == 127 || y == tei) on) && not (nat_le 4 (length m.waiting)))
+      same = rw (used-same on m.places h tei, network-is c.side) (grind (arith, is_some, nat_le, leb-true, ltb-true, leb-false, ltb-false))
 
       granted : refusal c false (Disown tei) l ≡ None → Answers (Disown tei) (grants true (owes (IdentityRemove tei) w) w) None
       granted none =
-          let bad = passed (bad_tei_or_all tei) (tei_in_use tei l ∷ control_full l ∷ []) (passed (wrong_side c) (bad_tei_or_all tei ∷ tei_in_use tei l ∷ control_full l ∷ []) none).1 in
+          let bad = passed (bad_tei_or_all tei) (tei_in_use tei l ∷ control_full l ∷ []) (passed (not_network c) (bad_tei_or_all tei ∷ tei_in_use tei l ∷ control_full l ∷ []) none).1 in
           let used = passed (tei_in_use tei l) (control_full l ∷ []) bad.1 in
           let full = passed (control_full l) [] used.1 in
           granted-shows (Disown tei) (owes (IdentityRemove tei) w) (tei_disown tei) refl (two _ _ _ _ used.0 full.0) (plain on m h order s.management (IdentityRemove tei))
 
-  link-shows : (r : Request) → IsUnmanaged c l (aim_of_request r l) → (o : Option Refusal) → refusal c false r l ≡ o → Answers r w o
-  link-shows r x o is = grind (arith, none-granted, unmanaged-shows, is_management)
+  -- A terminal alone asks for a TEI, or has it verified.
+  not-here : (b : Bool) → b ≡ false → not b ≡ true
+  not-here b is = ap not is
+
+  ask-shows : Answers AskTei (by_event c (request AskTei) w) (refusal c false AskTei l)
+  ask-shows = by-grant AskTei w false (grind (arith, not-here)) (λ none. absurd (true≢false (sym (not-here (is_terminal c) net) ∙ (passed (not_terminal c) (table_full l ∷ procedure_running l ∷ []) none).0)))
+
+  verify-shows : (tei : ℕ) → Answers (VerifyTei tei) (by_event c (request (VerifyTei tei)) w) (refusal c false (VerifyTei tei) l)
+  verify-shows tei =
+      by-grant (VerifyTei tei) w false (grind (arith, not-here))
+      (λ none. absurd (true≢false (sym (not-here (is_terminal c) net) ∙ (passed (not_terminal c) (bad_tei tei ∷ no_link tei l ∷ procedure_running l ∷ []) none).0)))
 
   -- That the line is down.
-  stopped : (o : Option Check) → filter is_of_t201 (stop_of o) ≡ cond (is_some (option_map seen_check o)) (Stop T201 ∷ []) []
+  stopped : (o : Option Check) → filter is_of_line (stop_of o) ≡ cond (is_some (option_map seen_check o)) (Stop T201 ∷ []) []
   stopped o = grind arith
 
   abbrev down : Managed
   down = by_event c (request Down) w
 
-  down-shows : let y = of_aim c at_no_link l in Shows c l (request Down) down (told y.told) y.line.management
+  none-stops : l.own.procedure ≡ None → stop_202 l.own.procedure ≡ []
+  none-stops none = ap stop_202 none
+
+  down-shows : let y = of_aim c at_no_link l in Shows c l (request Down) down (told y.told) y.line
   down-shows =
-      by-down c l (λ y. Shows c l (request Down) down (told y.told) y.line.management) (
-      record {
-        as_due = record { notes = refl; orders = stopped m.check; begins = refl; granted = granted-so };
+      let idle = subst (λ b. IsOfSide b l.management l.own) net s.own in
+      by-down c l s (λ y. Shows c l (request Down) down (told y.told) y.line)
+      (record {
+        as_due = record {
+          notes = refl;
+          orders = ap (λ orders. filter is_of_line (stop_of m.check ++ orders)) (none-stops idle.0) ∙ ap (filter is_of_line) (append-nil (stop_of m.check)) ∙ stopped m.check;
+          begins = refl;
+          granted = granted-so;
+        };
         lost = inl refl;
-        follows = record { is = refl; on = h; order = tt };
-      }
-      )
+        follows = tracked c l s net on h order down (record m { check = None; waiting = [] }) (record l.own { procedure = None; waiting = [] }) (record { is = refl; on = h; order = tt });
+      })
 
   abbrev Requested : Request → Type 0
-  Requested r = Shows c l (request r) (by_event c (request r) w) (answer c (request r) l) (after c (request r) l).management
+  Requested r = Shows c l (request r) (by_event c (request r) w) (answer c (request r) l) (after c (request r) l)
 
   request-shows : (r : Request) → Requested r
   unfolding after answer
-  request-shows (SetBusy service tei) = link-shows (SetBusy service tei) (asked-aims c l service tei LinkSetBusy (place_in l tei)) (refusal c false (SetBusy service tei) l) refl
-  request-shows (ClearBusy service tei) = link-shows (ClearBusy service tei) (asked-aims c l service tei LinkClearBusy (place_in l tei)) (refusal c false (ClearBusy service tei) l) refl
-  request-shows (Deactivate service tei) = link-shows (Deactivate service tei) (deactivated-aims c l service tei (place_in l tei)) (refusal c false (Deactivate service tei) l) refl
+  request-shows (Establish service tei) = asked-shows c l w (none-due c l s net on h order) (here c l s net on h order) (Establish service tei) service tei LinkEstablish refl
+  request-shows (Release service tei) = asked-shows c l w (none-due c l s net on h order) (here c l s net on h order) (Release service tei) service tei LinkRelease refl
+  request-shows (Data service tei contents) = asked-shows c l w (none-due c l s net on h order) (here c l s net on h order) (Data service tei contents) service tei (LinkData contents) refl
+  request-shows (Unit service tei contents) = units-shows c l w (none-due c l s net on h order) (here c l s net on h order) service tei contents
+  request-shows (SetBusy service tei) = asked-shows c l w (none-due c l s net on h order) (here c l s net on h order) (SetBusy service tei) service tei LinkSetBusy refl
+  request-shows (ClearBusy service tei) = asked-shows c l w (none-due c l s net on h order) (here c l s net on h order) (ClearBusy service tei) service tei LinkClearBusy refl
+  request-shows (Deactivate service tei) = deactivated-shows c l w (none-due c l s net on h order) (here c l s net on h order) service tei
   request-shows (Assign tei) = assign-shows tei
   request-shows (Remove tei) = remove-shows tei
   request-shows (Checking tei) = check-shows tei
   request-shows (Disown tei) = disown-shows tei
+  request-shows AskTei = ask-shows
+  request-shows (VerifyTei tei) = verify-shows tei
   request-shows Down = down-shows
-  request-shows other = grind (arith, link-shows, asked-aims)
 
-  seen-shows : (e : Event) → Shows c l e (by_event c e w) (answer c e l) (after c e l).management
-  seen-shows (hears e) = hears-shows c l s on h order e
-  seen-shows (expiry timer) = expiry-shows c l s on h order timer
+  seen-shows : (e : Event) → Shows c l e (by_event c e w) (answer c e l) (after c e l)
+  seen-shows (hears e) = hears-shows c l s net on h order e
+  seen-shows (expiry timer) = expiry-shows c l s net on h order timer
   seen-shows (request r) = request-shows r
-  seen-shows next = next-shows c l s on h order
+  seen-shows next = next-shown c l s net on h order
 
-pub event-shows : (c : Config) (l : Line) → IsSound c l → (w : Managed) → Follows w l.management → (e : Event) → Shows c l e (due c e w) (answer c e l) (after c e l).management
-event-shows c l s w h e = subst (λ w. Shows c l e (by_event c e w) (answer c e l) (after c e l).management) (sym h.is) (seen-shows c l s w.on h.on h.order e)
+pub network-event-shows : (c : Config) (l : Line) → IsSound c l → is_terminal c ≡ false → (w : Managed) → Follows w l.management → (e : Event) → Shows c l e (by_event c e (nothing_due w)) (answer c e l) (after c e l)
+network-event-shows c l s net w h e = subst (λ w. Shows c l e (by_event c e w) (answer c e l) (after c e l)) (sym h.is) (seen-shows c l s net w.on h.on h.order e)

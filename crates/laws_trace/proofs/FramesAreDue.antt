@@ -1,5 +1,6 @@
 -- What is given of a link is due: the laws.
-use Rattle.laws_trace.proofs.Vocabulary.{◌≡◌, ℕ, ◌<◌, true, false, cond, All, List, [], ◌∷◌, ◌++◌, map, filter, Option, Some, None, option_to_list, refl, sym, ap, ◌∙◌, subst, inl, inr, append-nil, Service, place_of-is, given-in-order, IsInOrder, All-head, ControlFrame, Terms, Link, Given, given_is_frame, Config, next, Answer, Line, link_of, place_in, terms, IsInRange, terms_in_range, line_at, at}
+use Rattle.laws_trace.proofs.Vocabulary.{◌≡◌, ℕ, ◌<◌, true, false, cond, All, List, [], ◌∷◌, ◌++◌, map, filter, Option, Some, None, option_to_list, refl, sym, ap, ◌∙◌, subst, inl, inr, append-nil, Service, place_of-is, given-in-order, IsInOrder, All-head, ControlFrame, Terms, Link, Given, given_is_frame, Config, next, Answer, Line, link_of, place_in, terms, IsInRange, terms_in_range}
+use Rattle.laws_trace.proofs.Vocabulary.{line_at, at}
 use Rattle.laws_trace.proofs.Vocabulary.{IsSound, line_frame_of as frame_of, fresh, CardEvent as Event, card_answer as answer, after_all, AreAtLines, offers, GivenIsDue, DueIsGiven, is_frame_of, managing_is_on as is_on, View, Outgoing, outgoing_of, trace_frame_in as frame_in, IsFront, Always, is_ui, offer, link_after as after, given}
 use Rattle.model_link.specs.Sound as link_sound
 use Rattle.model_line.specs.Machine as lines

@@ -1,8 +1,8 @@
 -- Which of the frames that begin are those of a link.
-use Rattle.laws_trace.proofs.Vocabulary.{arith, ◌≡◌, ℕ, ◌==◌, ◌&&◌, ◌||◌, not, Bool, true, false, cond, List, [], ◌∷◌, Some, None, refl, ap, ◌∙◌, eq-eqb, inl, inr, All, filter, list_any, option_map_or, All-head, All-tail, Ui, Service, Parts, reading-again, sapi_of, address_at, IsGiven, Given, Config, terms, same-sapi, unwrap_or, information_of, line_frame_of as frame_of, result_ok, its_frame}
+use Rattle.laws_trace.proofs.Vocabulary.{arith, ◌≡◌, ℕ, ◌==◌, ◌&&◌, ◌||◌, not, Bool, true, false, cond, List, [], ◌∷◌, Some, None, refl, ap, ◌∙◌, eq-eqb, inl, inr, All, filter, list_any, option_map_or, All-head, All-tail, Ui, Service, Parts, reading-again, sapi_of, address_at, IsGiven, Given, Config, terms, same-sapi, unwrap_or, line_frame_of as frame_of, result_ok, its_frame}
 use Rattle.laws_trace.proofs.Vocabulary.{is_frame_of, is_ui, own_side}
 use Rattle.laws_trace.proofs.OneLink.{IsForeign}
-use Rattle.laws_trace.proofs.ReadAgain.{read-again, message-text}
+use Rattle.laws_trace.proofs.ReadAgain.{read-again}
 use Rattle.laws_trace.proofs.Spelled.{whole-parts}
 
 abbrev plain : Parts → Bool

@@ -39,6 +39,7 @@ pub mod Units
 pub mod UnitsGoOut
 pub mod Spelled
 pub mod SmallMessages
+pub mod SmallOwn
 pub mod SmallMessagesWait
 pub mod OctetsBegin
 pub mod Drained
@@ -68,6 +69,12 @@ pub mod ControlsSeen
 pub mod ControlsAtLine
 pub mod ControlFrames
 pub mod ManagingTables
+pub mod TerminalTables
+pub mod FollowsTerminal
+pub mod Tracked
+pub mod TrackedRequests
+pub mod FollowsTerminalLine
+pub mod FollowsTerminalRequests
 pub mod ManagingNotes
 pub mod Follows
 pub mod FollowsLine
@@ -113,6 +120,8 @@ pub mod RequestsTakeEffect
 pub mod RefusalsAreTold
 pub mod AnswersAreGiven
 pub mod AnswersSuit
+pub mod Known
+pub mod ServedByTerminal
 pub mod CausesAreTold
 pub mod CountersCount
 pub mod SeenAs

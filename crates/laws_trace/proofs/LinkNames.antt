@@ -1,5 +1,5 @@
 -- The links of the frames that begin.
-use Rattle.laws_trace.proofs.Vocabulary.{◌≡◌, ℕ, ◌/◌, Bool, cond, not, List, map, filter, slice_index, Some, arith, eqb-false, Call, Packet, sapi_of, Side, Parts, Config, Line, service_at, place_at, tei_at, eqb-true, IsSound, reads, Seen, frames_begun, is_ui, own_side, Sender, exchanged}
+use Rattle.laws_trace.proofs.Vocabulary.{◌≡◌, ℕ, ◌/◌, Bool, cond, not, List, map, filter, slice_index, Some, arith, eqb-false, Call, Packet, sapi_of, Parts, Config, Line, service_at, place_at, tei_at, eqb-true, IsSound, reads, Seen, frames_begun, is_ui, own_side, Sender, exchanged}
 
 -- All that are no UI are of a link, by the address, whether command or response. It is named by its service.
 pub record LinkName : Type 0 where

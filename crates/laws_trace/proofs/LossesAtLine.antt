@@ -1,5 +1,6 @@
 -- How many of the control frames of a link that are due one event of its line loses.
-use Rattle.laws_trace.proofs.Vocabulary.{◌≡◌, ℕ, ◌+◌, ◌-◌, Bool, false, true, List, length, refl, sym, ap, ◌∙◌, subst, arith, true≢false, inl, inr, Some, Service, as_heard, put, event-follows, ControlFrame, Terms, Link, Config, Answer, Line, has_tei, link_of, place_in, terms, IsInRange, lost_in, deactivates, IsBy, HaveTheirTimers, length-drop, Event, line_after as after, answer, IsSound, is_empty}
+use Rattle.laws_trace.proofs.Vocabulary.{◌≡◌, ℕ, ◌+◌, ◌-◌, Bool, false, true, List, length, refl, sym, ap, ◌∙◌, subst, arith, true≢false, inl, inr, Some, Service, as_heard, put, event-follows, ControlFrame, Terms, Link, Config, Answer, Line, has_tei, link_of, place_in, terms, IsInRange, lost_in, deactivates, IsBy, HaveTheirTimers, length-drop, Event, line_after as after, answer, IsSound}
+use Rattle.laws_trace.proofs.Vocabulary.{is_empty}
 use Rattle.laws_trace.proofs.Vocabulary.{seen, link_told, link_after}
 use Rattle.model_link.specs.Events as link
 use Rattle.model_link.specs.Sound as link_sound

@@ -1,8 +1,8 @@
 -- What an event of TEI management is to the link of a service with a TEI: it stays as it is, or its TEI comes or
 -- leaves; and it orders what stops the timer of a link whose TEI leaves.
-use Rattle.laws_trace.proofs.Vocabulary.{◌≡◌, ℕ, ◌==◌, Bool, true, false, List, ◌++◌, Option, Some, None, refl, sym, ap, ◌∙◌, eq-eqb, true≢false, ◌⊎◌, inl, inr, is_some, none-some, Service, Order, Call, Packet, Management, IsSoundTable, Change, Gained, Left, t201_follows, Link, Config, told_of_management, of_change, Line, has_tei, link_in, link_of, terms, some-same, is-off, has-no-place, []}
-use Rattle.laws_trace.proofs.Vocabulary.{append-nil, arith, get_or, set, get_or-set_other, option_map_or, filter-append, is_on-at, place_of-is, has-place, place_in, link_number, orders_for, Terms, eqb-true, fresh_link as fresh, line_after as after, IsSound, HasJoined, HasLeft, TeiIsInRange as IsInRange, Moves, changes_are_told, sound-after, elsewhere, emptied, emptied-read, filled-read, same-read}
-use Rattle.laws_trace.proofs.Vocabulary.{and-false, tei_after, tei_told, TeiEvent, none-ordered}
+use Rattle.laws_trace.proofs.Vocabulary.{◌≡◌, ℕ, ◌==◌, Bool, true, false, List, ◌++◌, Option, Some, None, refl, sym, ap, ◌∙◌, eq-eqb, true≢false, ◌⊎◌, inl, inr, none-some, Service, Order, Call, Packet, Management, IsSoundTable, Change, Gained, Left, Link, Config, of_change, Line, has_tei, link_in, link_of, terms, some-same, is-off, has-no-place, []}
+use Rattle.laws_trace.proofs.Vocabulary.{append-nil, arith, get_or, set, get_or-set_other, option_map_or, filter-append, is_on-at, place_of-is, has-place, place_in, link_number, orders_for, Terms, eqb-true, fresh_link as fresh, line_after as after, IsSound, HasJoined, HasLeft, TeiIsInRange as IsInRange, Moves, elsewhere, emptied, emptied-read, filled-read, same-read}
+use Rattle.laws_trace.proofs.Vocabulary.{and-false, TeiEvent, none-ordered}
 use Rattle.laws_trace.proofs.OrdersOfLink.{its_orders, of-event, management-orders-none}
 use Rattle.laws_trace.proofs.Facts.{its-own}
 use Rattle.laws_line.proofs.Changes.{AreOfLine, Turn, turned, turned-there}

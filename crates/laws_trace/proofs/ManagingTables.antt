@@ -23,7 +23,7 @@ holder x o is = grind (arith, eqb-true)
 abbrev IsAlone : Places → ℕ → ℕ → Type 0
 IsAlone places place tei = (j : ℕ) → IsAt places j tei → j ≡ place
 
-none-else : (x : ℕ) (places : Places) → ((j : ℕ) → IsAt places j x → ⊥) → is_on x places ≡ false
+pub none-else : (x : ℕ) (places : Places) → ((j : ℕ) → IsAt places j x → ⊥) → is_on x places ≡ false
 none-else x [] h = refl
 none-else x (o ∷ places) h = go (has x o) refl (none-else x places (λ j at. h (suc j) at))
   where
@@ -122,7 +122,7 @@ others-length : (x : ℕ) (ys : List ℕ) → length ys ≡ length (others x ys)
 others-length x [] = refl
 others-length x (y ∷ ys) = grind (arith, others-length x ys)
 
-none-times : (x : ℕ) (ys : List ℕ) → among x ys ≡ false → times x ys ≡ 0
+pub none-times : (x : ℕ) (ys : List ℕ) → among x ys ≡ false → times x ys ≡ 0
 none-times x [] off = refl
 none-times x (y ∷ ys) off = go (y == x) off (λ off. none-times x ys off)
   where

@@ -1,6 +1,7 @@
 -- What layer 3 is told of establishments and releases: the law.
 use Rattle.laws_trace.proofs.Vocabulary.{◌≡◌, ℕ, ◌<◌, ◌==◌, ◌&&◌, not, Bool, true, false, cond, List, [], ◌∷◌, get_or, set, Option, Some, None, refl, sym, ap, ◌∙◌, subst, arith, eq-eqb, true≢false, fold, filter, list_any, option_map_or, and_parts, get_or-set_same, get_or-replicate, All-head, All-tail, PoolFull, Service, Link, Config, Answer, refused, Line, fresh_line, link_of, link_in, state_of}
-use Rattle.laws_trace.proofs.Vocabulary.{IsInRange, Card, line_at, is_full, at, moments, fresh_is_sound, after_is_sound, has_lines, by_room, line_sound, AllHaveTheirTimers, timely-after, begins-timely-card, notes_of, nowhere, eqb-true, unwrap_or, fresh_link, fresh, CardEvent as Event, after, card_answer as answer, Moment, after_all, IsAtLine, AreAtLines, is_news, is_sabme, is_xid, releases, wrong}
+use Rattle.laws_trace.proofs.Vocabulary.{IsInRange, Card, line_at, is_full, at, moments, fresh_is_sound, after_is_sound, has_lines, by_room, line_sound, AllHaveTheirTimers, timely-after, begins-timely-card, notes_of, nowhere, eqb-true, unwrap_or, fresh_link, fresh, CardEvent as Event, after, card_answer as answer, Moment, after_all, IsAtLine, AreAtLines, is_news, is_sabme, is_xid}
+use Rattle.laws_trace.proofs.Vocabulary.{releases, wrong}
 use Rattle.laws_trace.proofs.Vocabulary.{moment_of, seen, Always, CardIsSound as IsSound, and-false}
 use Rattle.model_line.specs.Event as line_event
 use Rattle.model_line.specs.Machine as lines

@@ -1,8 +1,8 @@
 -- Where the TEI of a link leaves its line, what is told of the link is what the end of the TEI tells.
 use Rattle.laws_trace.proofs.Vocabulary.{◌≡◌, ℕ, ◌==◌, ◌&&◌, ◌||◌, not, Bool, true, false, List, [], ◌++◌, Option, Some, None, refl, sym, ap, ◌∙◌, subst, arith, eq-eqb, true≢false, ◌⊎◌, inl, inr, append-nil, filter, option_map_or, get_or-set_other, filter-append, Note, Refusal, Service, Call, Packet, Timer, same_service, Management, is_on, Change, Gained, Left, place_of-is, is_on-at}
-use Rattle.laws_trace.proofs.Vocabulary.{event-follows, Link, state_number, Config, Aim, at_none, at_link, at_management, of_aim, of_change, told_of_management, Answer, hears, expiry, request, next, dropped, aim_of_expiry, Line, has_tei, link_in, link_of, link_number, place_in, terms, aim_of, unless_refused, unless_refused_told, aim_of_heard, aim_of_request, group_told, IsProper, heard_aims}
-use Rattle.laws_trace.proofs.Vocabulary.{request_proper, notes_of, has-place, ByChange, noted, Down, at_no_link, IfSome, line_of, Taken, taken, IsOne, taken-one, eqb-true, fresh_link as fresh, line_of_link as of_link, Event, line_after as after, answer, refusal, Request, Checking as Check, Disown, tei_disown, IsSound, is_news, releases, by-down, or-true, HasLeft, TeiIsInRange as IsInRange, Moves}
-use Rattle.laws_trace.proofs.Vocabulary.{changes_are_told, link_told as told, false_from_ne_true, received, LinkEvent, cleared, StreamEvent, tei_check, tei_told, TeiEvent, tei_message, tei_after}
+use Rattle.laws_trace.proofs.Vocabulary.{event-follows, Link, state_number, Config, Aim, at_none, at_link, at_management, of_aim, of_change, Answer, hears, expiry, request, next, dropped, aim_of_expiry, Line, has_tei, link_in, link_of, link_number, place_in, terms, aim_of, unless_refused, unless_refused_told, aim_of_heard, aim_of_request, group_told, IsProper, heard_aims}
+use Rattle.laws_trace.proofs.Vocabulary.{request_proper, notes_of, has-place, Down, at_no_link, IfSome, line_of, Taken, taken, IsOne, taken-one, eqb-true, fresh_link as fresh, line_of_link as of_link, Event, line_after as after, answer, refusal, Request, Checking as Check, Disown, tei_disown, IsSound, is_news, releases, by-down, or-true, HasLeft, TeiIsInRange as IsInRange, Moves}
+use Rattle.laws_trace.proofs.Vocabulary.{link_told as told, false_from_ne_true, received, LinkEvent, cleared, StreamEvent, tei_check, TeiEvent, tei_message}
 use Rattle.lapd_frame.specs.declared.timers.Timer.TheVariants.{T202}
 use Rattle.laws_line.proofs.Changes.{AreOfTeis, Turn, turned, turned-there}
 use Rattle.laws_trace.proofs.Vocabulary.{T201, LineTold, Assign, Remove, tei_assign, tei_remove}

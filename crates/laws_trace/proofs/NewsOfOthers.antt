@@ -1,8 +1,8 @@
 -- Where no event is one of a link, and its TEI stays on the line, nothing is told of its establishment or its release.
 use Rattle.laws_trace.proofs.Vocabulary.{Packet, All-append, and-false, same_service, ◌&&◌, ◌++◌}
 use Rattle.laws_trace.proofs.Vocabulary.{arith, ◌≡◌, ℕ, ◌==◌, Bool, true, false, cond, List, [], ◌∷◌, Option, Some, None, refl, sym, ap, ◌∙◌, true≢false, ◌⊎◌, inl, inr, All, filter, All-nil, All-cons, All-head, All-tail, All-weaker, Note, Service, Call, Timer, is_on-at, Management, IsAt, IsSoundTable, Change, Left, Terms, Link, notes-own, Config, Aim, at_link, at_management, of_aim, of_change}
-use Rattle.laws_trace.proofs.Vocabulary.{told_of_management, aim_of_expiry, Line, has_tei, link_in, place_in, terms, aim_of, aim_of_heard, group_tei, Assign, Remove, Deactivate, at_requested, at_deactivated, aim_of_request, IsProper, heard_aims, request_proper, notes_of, is-off, has-no-place, ByChange, noted, Down, eqb-true, IsOwn, fresh_link as fresh, line_of_link as of_link, Event}
-use Rattle.laws_trace.proofs.Vocabulary.{line_after as after, answer, Request, Establish, Release, Data, Checking as Check, Disown, tei_disown, SetBusy, ClearBusy, IsSound, is_own, is_news, by-down, Unit, changes_are_told, sound-after, HasLeft, TeiIsInRange as IsInRange, Moves, link_told as told, emptied, StreamEvent, tei_check, tei_remove, tei_told, TeiEvent, tei_assign, tei_message, tei_after}
+use Rattle.laws_trace.proofs.Vocabulary.{aim_of_expiry, Line, has_tei, link_in, place_in, terms, aim_of, aim_of_heard, group_tei, Assign, Remove, Deactivate, at_requested, at_deactivated, aim_of_request, IsProper, heard_aims, request_proper, notes_of, is-off, has-no-place, Down, eqb-true, IsOwn, fresh_link as fresh, line_of_link as of_link, Event}
+use Rattle.laws_trace.proofs.Vocabulary.{line_after as after, answer, Request, Establish, Release, Data, Checking as Check, Disown, tei_disown, SetBusy, ClearBusy, IsSound, is_own, is_news, by-down, Unit, HasLeft, TeiIsInRange as IsInRange, Moves, link_told as told, emptied, StreamEvent, tei_check, tei_remove, TeiEvent, tei_assign, tei_message}
 use Rattle.model_link.specs.Events as link
 use Rattle.laws_trace.proofs.OneLink.{is_at_link}
 use Rattle.lapd_frame.specs.declared.timers.Timer.TheVariants.{T202}

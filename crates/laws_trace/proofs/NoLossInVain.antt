@@ -1,6 +1,7 @@
 -- Nothing is told as lost in vain: the law.
 use Rattle.laws_trace.proofs.Vocabulary.{◌≡◌, ℕ, ◌+◌, ◌-◌, ◌<◌, ◌≤◌, ◌==◌, ◌&&◌, Bool, true, false, cond, List, [], length, get_or, Option, Some, None, refl, sym, ap, ◌∙◌, subst, ◌⊎◌, inl, inr, arith, eq-eqb, true≢false, fold, le-ltb, and_parts, option_map_or, get_or-set_same, PoolFull, Refusal, Service, Call, place_of-is, is_on-at, service-same, ControlFrame, Config, Aim, at_none, at_link}
 use Rattle.laws_trace.proofs.Vocabulary.{of_aim, aim_of_expiry, aim_of_heard, hears, expiry, request, next, Answer, refused, Line, fresh_line, has_tei, link_of, aim_of, unless_refused, unless_refused_told, at_requested, aim_of_request, heard_aims, IsInRange, lost_in, deactivates, HaveTheirTimers, AllHaveTheirTimers, Card, line_at, is_full, at, fresh_is_sound, has_lines, by_room, line_sound}
+use Rattle.laws_trace.proofs.Vocabulary.{Moment, in_state, not}
 use Rattle.laws_trace.proofs.Vocabulary.{config-stays, at_no_link, Event, refusal, IsSound, after, card_answer as answer, after_all, AreAtLines, always_sound, put_in, managing_is_on as is_on, due, managed_after, Observed, View, by_event, view_of, view_behind, moment_of, is_empty, outgoing_of, seen, trace_of, Always, by-down, fresh, LinkRequest, StreamEvent, CardEvent}
 use Rattle.model_line.specs.Machine as lines
 use Rattle.model_card.specs.Sound as card_sound
@@ -28,6 +29,10 @@ use Rattle.laws_trace.proofs.TeisAreManaged.{shows-behind}
 use Rattle.laws_trace.proofs.TimersAreTimely.{timely-now}
 use Rattle.laws_trace.proofs.WaitingNow.{waiting-now}
 use Rattle.laws_trace.proofs.Facts.{either-none}
+
+-- A link that is deactivated puts none.
+none-put : (c : Config) (service : Service) (tei : ℕ) (m : Moment) (o : Observed) → deactivates service tei m.event.what ≡ true → put_in c service tei o (by_event c service tei m.event.what m.answer o) m ≡ []
+none-put c service tei m o down = grind (arith, eq-eqb, le-ltb, either-none, unchanged)
 
 -- One event of a line.
 abbrev NoLoss : Aim → Type 0
@@ -191,12 +196,15 @@ module _ (c : Config) (events : List CardEvent) (number : ℕ) (ranged : IsInRan
     was-on : is_on tei v.teis ≡ has_tei tei l
     was-on = tei-seen c events number ranged all within service tei
 
+    is-on-then : is_on tei u.teis ≡ has_tei tei x
+    is-on-then = (holds-behind c events number ranged all within service tei what).follows.on.same tei
+
     abbrev Its : Config → List ControlFrame
     Its d = Puts service tei w.told.count w.busy w.rejected d l what its-answer x
 
     module _ (on : has_tei tei l ≡ true) (on-then : has_tei tei x ≡ true) where
       stays-on : Stays ≡ true
-      stays-on = ap (λ b. b && is_on tei v.teis) (((holds-behind c events number ranged all within service tei what).follows.on.same tei) ∙ on-then) ∙ was-on ∙ on
+      stays-on = ap (λ b. b && is_on tei v.teis) (is-on-then ∙ on-then) ∙ was-on ∙ on
 
       its-puts : Its c ≡ puts_by c number events what service tei
       its-puts =
@@ -211,7 +219,10 @@ module _ (c : Config) (events : List CardEvent) (number : ℕ) (ranged : IsInRan
           waiting-now c number ranged within service tei events all p.0 p.1 ∙ all-wait c events number ranged all within service tei p.0 p.1
 
       link-is : u.link ≡ by_event c service tei what its-answer v.link
-      link-is = grind (arith, holds-behind, was-on, eq-eqb)
+      link-is =
+          let own = by_event c service tei what its-answer v.link in
+          ap (λ b. cond (not b) (in_state 1) (cond (is_on tei v.teis) (cond (number == number) own v.link) (in_state 4))) (is-on-then ∙ on-then)
+          ∙ ap (λ b. cond b (cond (number == number) own v.link) (in_state 4)) (was-on ∙ on) ∙ ap (λ b. cond b own v.link) (eq-eqb number number refl)
 
       loses : is_empty (puts_by c number events what service tei) ≡ false
           → lost_in its-answer ≡ length (outgoing_of c service tei number events).waiting + length (puts_by c number events what service tei) - c.control
@@ -223,7 +234,7 @@ module _ (c : Config) (events : List CardEvent) (number : ℕ) (ranged : IsInRan
               let none : puts_by c number events what service tei ≡ [] =
               ap (λ b. cond b (put_in c service tei v.link u.link (moment_of c events number what)) []) stays-on
               ∙ ap (λ (q : Observed). put_in c service tei v.link q (moment_of c events number what)) link-is
-              ∙ (grind (arith, eq-eqb, le-ltb, either-none, unchanged)) in
+              ∙ none-put c service tei (moment_of c events number what) v.link down in
               absurd (true≢false (sym (ap is_empty none) ∙ some))
           go false stays =
               let s = run-stands c events number ranged all within service tei in
@@ -238,7 +249,10 @@ module _ (c : Config) (events : List CardEvent) (number : ℕ) (ranged : IsInRan
       where
         go : (b : Bool) → Stays ≡ b → is_empty (cond b (put_in c service tei v.link u.link (moment_of c events number what)) []) ≡ false
             → lost_in its-answer ≡ length (outgoing_of c service tei number events).waiting + length (puts_by c number events what service tei) - c.control
-        go b off some = grind (arith, and_parts, loses, was-on, holds-behind)
+        go true both some =
+            let parts = and_parts (is_on tei u.teis) (is_on tei v.teis) both in
+            loses (sym was-on ∙ parts.1) (sym is-on-then ∙ parts.0) (subst (λ b. is_empty (cond b (put_in c service tei v.link u.link (moment_of c events number what)) []) ≡ false) (sym both) some)
+        go false off some = absurd (true≢false some)
 
   of-messages : ((service : Service) (tei : ℕ) → puts_by c number events what service tei ≡ []) → lost_in its-answer ≡ messages
   of-messages none = go (shows-behind c events number ranged all within what).lost

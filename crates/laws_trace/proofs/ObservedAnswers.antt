@@ -1,5 +1,6 @@
 -- How the observer's link stands behind a frame that is answered in states 7 and 8, whatever state it leads to.
-use Rattle.laws_trace.proofs.Vocabulary.{◌≡◌, ℕ, ◌+◌, ◌==◌, ◌&&◌, ◌||◌, not, Bool, true, false, cond, length, Some, None, refl, sym, ap, ◌∙◌, subst, true≢false, nat_lt, is_some, Result, Ok, Err, list_any, option_map_or, and_parts, none-some, Information, ReceiveReady, ReceiveNotReady, Reject, ReadFault, Service, Parts, reading, State, state_number, Config, hears, Answer, heard_side, Line, link_of}
+use Rattle.laws_trace.proofs.Vocabulary.{◌≡◌, ℕ, ◌+◌, ◌==◌, ◌&&◌, ◌||◌, not, Bool, true, false, cond, length, Some, None, refl, sym, ap, ◌∙◌, subst, true≢false, nat_lt, is_some, Result, Ok, Err, list_any, option_map_or, and_parts, none-some, Information, ReceiveReady, ReceiveNotReady, Reject, ReadFault, Service, Parts, reading, State, state_number, Config, hears, Answer, heard_side}
+use Rattle.laws_trace.proofs.Vocabulary.{Line, link_of}
 use Rattle.laws_trace.proofs.Vocabulary.{place_in, IsInRange, notes_of, is_data_of, Card, line_at, is_full, at, has_lines, by_room, line_sound, Control, IsSound, card_answer as answer, IsAtLine, option_and_then, result_ok, result_err, frame_of, its_frame, malformed, fault_of, Observed, takes_next, observer_is_invalid as is_invalid, observer_takes as takes, anew, while_up, while_down}
 use Rattle.laws_trace.proofs.Vocabulary.{observer_by_frame as by_frame, by_heard, brings_next, is_up, seen, and-false, stream_frame, StreamEvent}
 use Rattle.model_line.specs.Machine as lines

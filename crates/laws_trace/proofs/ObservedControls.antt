@@ -1,7 +1,9 @@
 -- The control frames of a link that are due by what the observer knows are those that are due by how the link stands.
-use Rattle.laws_trace.proofs.Vocabulary.{arith, ◌≡◌, ℕ, ◌&&◌, not, Bool, true, false, cond, length, List, [], ◌++◌, Some, None, is_some, refl, ap, nat_lt, Result, Ok, Err, option_map_or, seq, Reject, ReadFault, Service, Timer, Parts, reading, Config, request, Answer, heard_side, as_response, is_granted, Request, SetBusy, ClearBusy, result_ok, brought, frame_of, its_frame, is_for, Managed, due}
+use Rattle.laws_trace.proofs.Vocabulary.{arith, ◌≡◌, ℕ, ◌&&◌, not, Bool, true, false, cond, length, List, [], ◌++◌, Some, None, is_some, refl, ap, nat_lt, Result, Ok, Err, option_map_or, seq, Reject, ReadFault, Service, Timer, Parts, reading, Config, request, Answer, heard_side, as_response, is_granted, Request, SetBusy, ClearBusy, result_ok, brought, frame_of, its_frame, is_for}
+use Rattle.laws_trace.proofs.Vocabulary.{Managed, due, nothing_due}
 use Rattle.laws_trace.proofs.Vocabulary.{Observed, observer_by_expiry as by_expiry, observer_by_request as by_request, by_event, is_up, heard, seen_told, seen_granted, T201, cond_both, stream_frame, StreamEvent}
 use Rattle.model_line.specs.Event as line_event
+use Rattle.model_line.specs.Line.{is_terminal}
 use Rattle.laws_trace.specs.ControlFrames as now_due
 use Rattle.laws_trace.proofs.ControlsSeen.{answers_seen, asked-answers}
 use Rattle.laws_trace.proofs.ControlsWatched as old
@@ -51,6 +53,14 @@ module _ (c : Config) (service : Service) (tei : ℕ) (o q : Observed) (w u : St
       → answers_seen c service tei w u o.state (seen_granted r a ++ seen_told a) ≡ cond (is_granted a) (now_due.changed o q) []
   asked-answers-is r a behind down as_before = grind (arith, asked-answers, old.changed, old.receipt)
 
+-- Where nothing is due of TEI management, of whatever side, the same TEIs are on the line.
+pub none-due : (c : Config) (w : Managed) → (cond (is_terminal c) (nothing_due w) (nothing_due w)).on ≡ w.on
+none-due c w = go (is_terminal c)
+  where
+    go : (b : Bool) → (cond b (nothing_due w) (nothing_due w)).on ≡ w.on
+    go true = refl
+    go false = refl
+
 -- What is kept while layer 3 asks for something else.
 module _ (service : Service) (tei : ℕ) where
   pub stays-down : (r : Request) (o : Observed) → is_up o.state ≡ false → is_up (by_request service tei r o).state ≡ false
@@ -66,7 +76,9 @@ module _ (service : Service) (tei : ℕ) where
   still-busy r busy is = grind arith
 
   pub none-led : (c : Config) (r : Request) (w : Managed) → busies r ≡ true → (due c (request r) w).on ≡ w.on
-  none-led c r w is = grind arith
+  none-led c (SetBusy of by) w is = none-due c w
+  none-led c (ClearBusy of by) w is = none-due c w
+  none-led c other w is = grind arith
 
 -- Where no frame comes, and nothing is granted, layer 3 is as busy as before.
 abbrev pub AsBusy : Observed → Observed → Type 0

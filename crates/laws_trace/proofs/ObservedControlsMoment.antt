@@ -29,7 +29,7 @@ use Rattle.laws_trace.proofs.Runs.{apart}
 
 module _ (service : Service) (tei number : ℕ) where
   module _ (card : Card) (s : IsSound card) (timely : AllHaveTheirTimers card) (e : Event) (here : IsAtLine card e)
-      (k : Known) (asked : Bool) (w : Owing) (known_is : w.known ≡ k) (m : ℕ) (v : View) (h : Holds service tei k asked w.outstanding m (line_at number card) v)
+      (k : Known) (asked : Bool) (w : Owing) (known_is : w.known ≡ k) (m : ℕ) (v : View) (h : Holds card.config service tei k asked w.outstanding m (line_at number card) v)
       (n : ℕ) (busy rejected : Bool) (stands : StandsCalm service tei number n busy rejected (line_at number card)) (agree : Agree v.link (calm n busy rejected)) where
     abbrev c : Config
     c = card.config
@@ -76,10 +76,10 @@ module _ (service : Service) (tei number : ℕ) where
         ≡ cond (b && not (o.state == 1)) (now_due.put_in c service tei o q its) []
 
     before : Facts from k asked w.outstanding m o
-    before = facts service tei k asked w.outstanding m (line_at number card) v h
+    before = facts c service tei k asked w.outstanding m (line_at number card) v h
 
     behind : Facts to (watch c service tei number k its) (news.asked service tei number asked its) (owing c service tei number w its).outstanding (repeated service tei number m its) q
-    behind = facts service tei (watch c service tei number k its) (news.asked service tei number asked its) (owing c service tei number w its).outstanding (repeated service tei number m its)
+    behind = facts c service tei (watch c service tei number k its) (news.asked service tei number asked its) (owing c service tei number w its).outstanding (repeated service tei number m its)
         (line_at number (after e card)) (views c service tei number v its) (holds-then service tei number card s timely e here k asked w known_is m v h)
 
     agrees : Agree q (stands-by (e.line == number))

@@ -16,8 +16,8 @@ abbrev pub Facts : Option ℕ → Known → Bool → Bool → ℕ → Observed �
 Facts st k asked owed n o =
     ((st ≡ None) × (k ≡ nothing_yet) × (o ≡ in_state 1)) ⊎ ((x : State) × (st ≡ Some (state_number x)) × IsObserved (state_number x) k asked owed n o)
 
-pub facts : (service : Service) (tei : ℕ) (k : Known) (asked owed : Bool) (n : ℕ) (l : Line) (v : View) → Holds service tei k asked owed n l v → Facts (state_of service tei l) k asked owed n v.link
-facts service tei k asked owed n l v h = grind (arith, from-is, IsFrom, IsSeen)
+pub facts : (c : Config) (service : Service) (tei : ℕ) (k : Known) (asked owed : Bool) (n : ℕ) (l : Line) (v : View) → Holds c service tei k asked owed n l v → Facts (state_of service tei l) k asked owed n v.link
+facts c service tei k asked owed n l v h = grind (arith, from-is, IsFrom, IsSeen)
 
 module _ (st : Option ℕ) (k : Known) (asked owed : Bool) (n : ℕ) (o : Observed) where
   pub told-so : Facts st k asked owed n o → st ≡ cond (is_some st) (Some o.state) None
@@ -38,6 +38,9 @@ module _ (st : Option ℕ) (k : Known) (asked owed : Bool) (n : ℕ) (o : Observ
   -- a TEI that left is in state 4, or none
   pub down-is : Facts st k asked owed n o → nat_le o.state 4 ≡ (unwrap_or st 4 == 4)
   down-is o = grind (arith, nat_le)
+
+  pub up-is : Facts st k asked owed n o → (o.state == 7) ≡ (unwrap_or st 4 == 7)
+  up-is o = grind arith
 
   pub seen-is : Facts st k asked owed n o → o.state ≡ unwrap_or st 1
   seen-is o = grind arith

@@ -1,12 +1,12 @@
 -- What the observer knows of a link gives the laws of it, by what follows its parts.
 use Rattle.laws_trace.proofs.Vocabulary.{arith, lt-ltb, config-stays, ◌≡◌, ℕ, ◌<◌, ◌==◌, ◌&&◌, ◌||◌, inl, inr, not, Bool, false, cond, List, [], ◌∷◌, ◌++◌, map, Option, Some, None, is_some, refl, sym, ap, ◌∙◌, subst, fold, filter, nat_le, list_any, Note, Error, Service, State, LinkTimer, state_number, Config, orders_in, Line, state_of, IsInRange, obeyed, notes_of, timer_of, left_by}
-use Rattle.laws_trace.proofs.Vocabulary.{runs_at_callers, line_at, at, moments, unwrap_or, fresh, CardEvent as Event, after, Moment, after_all, AreAtLines, managing_is_on as is_on, NewsIsTold, Observed, View, view_of, moment_of, view_behind, TimersRun, Seen, seen, Always, renews}
+use Rattle.laws_trace.proofs.Vocabulary.{runs_at_callers, line_at, at, moments, unwrap_or, fresh, CardEvent as Event, after, Moment, after_all, AreAtLines, managing_is_on as is_on, NewsIsTold, Observed, View, view_of, moment_of, view_behind, TimersRun, Seen, seen, Always, renews, is_outstanding}
 use Rattle.model_line.specs.Event as line_event
 use Rattle.laws_trace.specs.LinksMove.{LinksMove}
 use Rattle.laws_trace.proofs.MovesWatched.{repeated}
 use Rattle.laws_trace.proofs.NewsWatched.{Owing, none_owed, owing}
 use Rattle.laws_trace.proofs.Observed.{IsObserved}
-use Rattle.laws_trace.proofs.ObservedFacts.{Facts, facts, told-so, numbers-are, state-is, owed-is, asked-is, down-is, seen-is, differs-is, brings-is}
+use Rattle.laws_trace.proofs.ObservedFacts.{Facts, facts, told-so, numbers-are, state-is, owed-is, asked-is, down-is, up-is, seen-is, differs-is, brings-is}
 use Rattle.laws_trace.proofs.ObservedShape.{known_of}
 use Rattle.laws_trace.proofs.ObservedRun.{Holds, holds-now, holds-behind, is-told}
 use Rattle.laws_trace.proofs.TimersAreTimely.{front-at, itself, config-now, started-law, timers-run}
@@ -42,11 +42,11 @@ module _ (c : Config) (events : List Event) (number : ℕ) (ranged : IsInRange c
   abbrev v : View
   v = view_of c service tei number events
 
-  pub holds : Holds service tei k was_asked w.outstanding n its_line v
+  pub holds : Holds c service tei k was_asked w.outstanding n its_line v
   holds = holds-now c events number ranged all within service tei
 
   pub known-now : Facts (state_of service tei its_line) k was_asked w.outstanding n v.link
-  known-now = facts service tei k was_asked w.outstanding n its_line v holds
+  known-now = facts c service tei k was_asked w.outstanding n its_line v holds
 
   pub on-line-now : is_on tei v.teis ≡ is_some (state_of service tei its_line)
   on-line-now = holds.follows.on.same tei ∙ is-told service tei its_line
@@ -81,7 +81,7 @@ module _ (c : Config) (events : List Event) (number : ℕ) (ranged : IsInRange c
     u = view_behind c service tei number events what
 
     pub known-then : Facts (state_of service tei next_line) l then_asked x.outstanding r u.link
-    known-then = facts service tei l then_asked x.outstanding r next_line u (holds-behind c events number ranged all within service tei what)
+    known-then = facts c service tei l then_asked x.outstanding r next_line u (holds-behind c events number ranged all within service tei what)
 
 pub links-move-so : Always LinksMove
 links-move-so c events number ranged all within service tei =
@@ -132,7 +132,8 @@ module _ (c : Config) (before : List Event) (number : ℕ) (ranged : IsInRange c
 
   pub anew-is : (timer : LinkTimer) → moved_or_renewed c service tei timer was now what ≡ old_anew timer (seen what its_moment.answer)
   anew-is timer =
-      ap (λ b. b || (was.state == 7 && now_news.brings (renews timer was.acknowledged was.busy) c service tei what)) (grind (arith, differs-is, known-now, known-then))
+      ap (λ b. b || (was.state == 7 && now_news.brings (renews timer was.acknowledged was.busy) c service tei what))
+      (differs-is from to its_numbers _ its_asked _ its_owed _ its_count _ was now is-before (known-then c before number ranged all within service tei what))
       ∙ ap (λ b. differ from to || (b && now_news.brings (renews timer was.acknowledged was.busy) c service tei what)) (state-is from its_numbers its_asked its_owed its_count was 7 refl is-before)
       ∙ ap (λ (z : Known). differ from to || (is_state 7 from && now_news.brings (renews timer z.acknowledged z.busy) c service tei what)) (numbers-are from its_numbers its_asked its_owed its_count was is-before)
       ∙ ap (λ b. differ from to || (is_state 7 from && b)) (sym (brings-is c service tei (known.renews timer its_numbers) what its_moment.answer))
@@ -147,7 +148,17 @@ module _ (c : Config) (before : List Event) (number : ℕ) (ranged : IsInRange c
       → map (Error service tei) (now_news.wrong c service tei what was.state now.state)
       ++ now_news.due service tei (now_news.brings now_news.is_xid c service tei what) (now_news.brings now_news.is_sabme c service tei what) (now_news.releases service tei what its_moment.answer) was now.state
       ≡ old_due (seen what its_moment.answer)
-  due-is x h = grind (arith, nat_le, seen-is, down-is, asked-is, owed-is, news.due, brings-is, known.brings, known-then)
+  due-is x h =
+      let its = known-then c before number ranged all within service tei what in
+      let ended : nat_le now.state 4 ≡ (unwrap_or to 4 == 4) = down-is to _ _ _ _ now its in
+      let up : (now.state == 7) ≡ (unwrap_or to 4 == 7) = up-is to _ _ _ _ now its in
+      let stood : now.state ≡ unwrap_or to 1 = seen-is to _ _ _ _ now its in
+      let was_owed : is_outstanding was ≡ its_owed = owed-is from its_numbers its_asked its_owed its_count was x h in
+      let had_asked : (was.state == 5 && was.asked) ≡ (was.state == 5 && its_asked) = asked-is from its_numbers its_asked its_owed its_count was x h in
+      let an_xid = brings-is c service tei now_news.is_xid what its_moment.answer in
+      let a_sabme = brings-is c service tei now_news.is_sabme what its_moment.answer in
+      let began : was.state ≡ state_number x = h.state_is in
+      grind (arith, nat_le, news.due)
 
 -- when a timer is started
 pub started-so : (c : Config) (before : List Event) (number : ℕ) (ranged : IsInRange c) (all : AreAtLines (fresh c) before) (within : number < c.lines) (service : Service) (tei : ℕ) (timer : LinkTimer) (what : line_event.Event) →

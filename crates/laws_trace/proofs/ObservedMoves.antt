@@ -1,5 +1,6 @@
 -- How an event moves what an observer knows of a link: the state, the numbers, what layer 3 asked and how often T200 expired.
-use Rattle.laws_trace.proofs.Vocabulary.{arith, ℕ, ◌==◌, ◌&&◌, ◌||◌, Bool, false, cond, length, Option, Some, None, is_some, nat_lt, option_map_or, Service, Timer, Parts, State, TeiAssigned, AwaitingEstablishment, AwaitingRelease, Established, TimerRecovery, LinkTimer, state_number, Config, expiry, request, Answer, LineTold, Control, T200, Event, told, Request, its_frame, Observed, anew, while_up}
+use Rattle.laws_trace.proofs.Vocabulary.{arith, ℕ, ◌==◌, ◌&&◌, ◌||◌, Bool, false, cond, length, Option, Some, None, is_some, nat_lt, option_map_or, Service, Timer, Parts, State, TeiAssigned, AwaitingEstablishment, AwaitingRelease, Established, TimerRecovery, LinkTimer, state_number, Config, expiry, request, Answer, LineTold, Control, T200, Event, told, Request, its_frame, Observed, anew}
+use Rattle.laws_trace.proofs.Vocabulary.{while_up}
 use Rattle.laws_trace.proofs.Vocabulary.{while_down, observer_by_frame as by_frame, by_t200, observer_by_expiry as by_expiry, enquires, by_event, is_own, is_up, seen, TimerT200}
 use Rattle.laws_trace.proofs.TimersWatched.{sent_by, Known, nothing_yet}
 use Rattle.laws_trace.proofs.States as states

@@ -11,7 +11,7 @@ use Rattle.laws_trace.proofs.NewsWatched.{Owing, none_owed, owing}
 use Rattle.laws_trace.proofs.LinkLed.{on-line}
 use Rattle.laws_trace.proofs.LinksMove.{IsCountOf, own-led, moment-counted}
 use Rattle.laws_trace.proofs.MovesOfLink.{Counts}
-use Rattle.laws_trace.proofs.Follows.{Follows}
+use Rattle.laws_trace.proofs.Tracked.{Tracks}
 use Rattle.laws_trace.proofs.TeisAreManaged.{moment-follows, fresh-follows}
 use Rattle.laws_trace.proofs.ObservedShape.{When, Shape}
 use Rattle.laws_trace.proofs.Observed.{IsSeen, counted_by, goes-on, comes}
@@ -57,15 +57,15 @@ module _ (service : Service) (tei : ℕ) where
     renewed from h = grind (arith, IsSeen, When)
 
 -- What is known beside it.
-pub record Holds (service : Service) (tei : ℕ) (k : Known) (asked owed : Bool) (n : ℕ) (l : Line) (v : View) : Type 0 where
+pub record Holds (c : Config) (service : Service) (tei : ℕ) (k : Known) (asked owed : Bool) (n : ℕ) (l : Line) (v : View) : Type 0 where
   pub true_of : IsTrueOf service tei k l
   pub counts_of : IsCountOf service tei n l
-  pub follows : Follows v.teis l.management
+  pub follows : Tracks c v.teis l.management l.own
   pub link_is : IsSeen (state_of service tei l) k asked owed n v.link
 
 module _ (service : Service) (tei number : ℕ) where
   module _ (card : Card) (s : IsSound card) (timely : AllHaveTheirTimers card) (e : Event) (here : IsAtLine card e)
-      (k : Known) (asked : Bool) (w : Owing) (known_is : w.known ≡ k) (n : ℕ) (v : View) (h : Holds service tei k asked w.outstanding n (line_at number card) v) where
+      (k : Known) (asked : Bool) (w : Owing) (known_is : w.known ≡ k) (n : ℕ) (v : View) (h : Holds card.config service tei k asked w.outstanding n (line_at number card) v) where
     abbrev c : Config
     c = card.config
 
@@ -81,7 +81,7 @@ module _ (service : Service) (tei number : ℕ) where
     abbrev to : Option ℕ
     to = state_of service tei (line_at number (after e card))
 
-    follows-then : Follows (led c number v.teis e) later.management
+    follows-then : Tracks c (led c number v.teis e) later.management later.own
     follows-then = moment-follows card e number v.teis s here h.follows
 
     on-before : is_on tei v.teis ≡ is_some from
@@ -121,7 +121,7 @@ module _ (service : Service) (tei number : ℕ) where
         (subst (λ l. IsSeen from l asked (cond (is_state 5 from) w.outstanding (not (l.next == l.acknowledged))) n (cond (not (is_some from)) (in_state 1) (cond (is_some from) v.link (in_state 4))))
         (sym (none-learned service tei number c (line_at number card) k h.true_of)) (at-rest from (renewed service tei c k asked w.outstanding n v.link from h.link_is)))
 
-    pub holds-then : Holds service tei (watch c service tei number k m) (news.asked service tei number asked m) (owing c service tei number w m).outstanding (repeated service tei number n m) later
+    pub holds-then : Holds c service tei (watch c service tei number k m) (news.asked service tei number asked m) (owing c service tei number w m).outstanding (repeated service tei number n m) later
         (views c service tei number v m)
     holds-then = record {
       true_of = moment-known service tei number card s timely e here k h.true_of;
@@ -138,9 +138,9 @@ module _ (service : Service) (tei number : ℕ) where
     known-then = ap (λ x. watch c service tei number x m) known_is
 
   pub run-holds : (card : Card) (events : List Event) → IsSound card → AllHaveTheirTimers card → AreAtLines card events
-      → (k : Known) (asked : Bool) (w : Owing) → w.known ≡ k → (n : ℕ) (v : View) → Holds service tei k asked w.outstanding n (line_at number card) v
+      → (k : Known) (asked : Bool) (w : Owing) → w.known ≡ k → (n : ℕ) (v : View) → Holds card.config service tei k asked w.outstanding n (line_at number card) v
       → let ms = moments card events in let c = card.config in
-      Holds service tei (fold (watch c service tei number) k ms) (fold (news.asked service tei number) asked ms) (fold (owing c service tei number) w ms).outstanding (fold (repeated service tei number) n ms)
+      Holds c service tei (fold (watch c service tei number) k ms) (fold (news.asked service tei number) asked ms) (fold (owing c service tei number) w ms).outstanding (fold (repeated service tei number) n ms)
       (line_at number (after_all card events)) (fold (views c service tei number) v ms)
   unfolding moments after_all
   run-holds card [] s timely all k asked w is n v h = h
@@ -162,18 +162,28 @@ module _ (c : Config) (events : List Event) (number : ℕ) (ranged : IsInRange c
   pub off-link : link_of service tei (line_at number (fresh c)) ≡ fresh_link
   off-link = ap (link_of service tei) start ∙ off-fresh service tei (fresh_line c) (nowhere c tei)
 
-  pub at-start : Holds service tei nothing_yet false false 0 (line_at number (fresh c)) at_first
+  pub at-start : Holds c service tei nothing_yet false false 0 (line_at number (fresh c)) at_first
   at-start = record {
     true_of = begins-true c events number ranged all within service tei;
     counts_of = subst (λ (y : Link). Counts y.state 0 y.repeats) (sym off-link) tt;
-    follows = subst (λ (l : Line). Follows at_first.teis l.management) (sym start) (fresh-follows c);
+    follows = subst (λ (l : Line). Tracks c at_first.teis l.management l.own) (sym start) (fresh-follows c);
     link_is = subst (λ o. IsSeen o nothing_yet false false 0 (in_state 1)) (sym off) refl;
   }
 
   pub holds-now : let ms = moments (fresh c) events in
-      Holds service tei (fold (watch c service tei number) nothing_yet ms) (fold (news.asked service tei number) false ms) (fold (owing c service tei number) none_owed ms).outstanding
+      Holds c service tei (fold (watch c service tei number) nothing_yet ms) (fold (news.asked service tei number) false ms) (fold (owing c service tei number) none_owed ms).outstanding
       (fold (repeated service tei number) 0 ms) (line_at number (after_all (fresh c) events)) (view_of c service tei number events)
   holds-now = run-holds service tei number (fresh c) events (fresh_is_sound c ranged) (begins-timely-card c) all nothing_yet false none_owed refl 0 at_first at-start
+
+  -- as it is configured
+  pub holds-here : let ms = moments (fresh c) events in
+      Holds (after_all (fresh c) events).config service tei (fold (watch c service tei number) nothing_yet ms) (fold (news.asked service tei number) false ms)
+      (fold (owing c service tei number) none_owed ms).outstanding (fold (repeated service tei number) 0 ms) (line_at number (after_all (fresh c) events)) (view_of c service tei number events)
+  holds-here =
+      let ms = moments (fresh c) events in
+      subst (λ (d : Config). Holds d service tei (fold (watch c service tei number) nothing_yet ms) (fold (news.asked service tei number) false ms)
+      (fold (owing c service tei number) none_owed ms).outstanding (fold (repeated service tei number) 0 ms) (line_at number (after_all (fresh c) events)) (view_of c service tei number events))
+      (sym (config-now c events number ranged all within service tei)) holds-now
 
   abbrev numbers : Known
   numbers = fold (watch c service tei number) nothing_yet (moments (fresh c) events)
@@ -187,7 +197,7 @@ module _ (c : Config) (events : List Event) (number : ℕ) (ranged : IsInRange c
 
   -- and behind an event more
   pub holds-behind : (what : line_event.Event) → let m = moment_of c events number what in
-      Holds service tei (watch c service tei number numbers m) (news.asked service tei number (fold (news.asked service tei number) false (moments (fresh c) events)) m)
+      Holds c service tei (watch c service tei number numbers m) (news.asked service tei number (fold (news.asked service tei number) false (moments (fresh c) events)) m)
       (owing c service tei number owes_now m).outstanding (repeated service tei number (fold (repeated service tei number) 0 (moments (fresh c) events)) m)
       (line_at number (after (at number what) (after_all (fresh c) events))) (view_behind c service tei number events what)
   holds-behind what =
@@ -198,7 +208,7 @@ module _ (c : Config) (events : List Event) (number : ℕ) (ranged : IsInRange c
       let asked = fold (news.asked service tei number) false (moments (fresh c) events) in
       let n = fold (repeated service tei number) 0 (moments (fresh c) events) in
       let v = view_of c service tei number events in
-      subst (λ (d : Config). Holds service tei (watch d service tei number numbers m) (news.asked service tei number asked m) (owing d service tei number owes_now m).outstanding
+      subst (λ (d : Config). Holds d service tei (watch d service tei number numbers m) (news.asked service tei number asked m) (owing d service tei number owes_now m).outstanding
       (repeated service tei number n m) (line_at number (after (at number what) card)) (views d service tei number v m)) kept
       (holds-then service tei number card (sound-now c events number ranged all within service tei) (timely-now c events number ranged all within service tei) (at number what) here
-      numbers asked owes_now (known-is (moments (fresh c) events) nothing_yet none_owed refl) n v holds-now)
+      numbers asked owes_now (known-is (moments (fresh c) events) nothing_yet none_owed refl) n v holds-here)

@@ -8,8 +8,18 @@ use Rattle.model_link.specs.Machine as links
 use Rattle.model_link.specs.Sound as link_sound
 use Rattle.laws_trace.proofs.OneLink.{Goes, event-goes}
 use Rattle.laws_trace.proofs.Runs.{run-shows}
+use Rattle.lapd_tei.specs.Events as teis
+use Rattle.lapd_terminal.specs.Events as terminals
+use Rattle.lapd_terminal.specs.Messages.{action_of as own_action_of, frame_of as own_frame_of}
+use Rattle.lapd_terminal.specs.declared.messages.Message.{Message as OwnMessage}
+use Rattle.lapd_terminal.proofs.SoundWords.{low_front}
+use Rattle.model_line.specs.Line.{is_terminal, terminal_in}
+use Rattle.model_line.specs.Sound.{IsOfSide}
+use Rattle.model_line.specs.Taken.{message_taken, unit_taken, with_own_message}
+use Rattle.model_line.proofs.TakenWalk.{either}
 use Rattle.laws_trace.proofs.SmallMessages.{IsSmall}
-use Rattle.laws_trace.proofs.SmallMessagesWait.{messages-after}
+use Rattle.laws_trace.proofs.SmallMessagesWait.{MessagesAreSmall, fresh-small, messages-after}
+use Rattle.laws_trace.proofs.SmallOwn.{IsSmall as IsOwnSmall}
 use Rattle.laws_trace.proofs.Units.{none-told, none-requested, given-frames}
 use Rattle.laws_trace.proofs.Spelled.{Anything}
 use Rattle.laws_trace.proofs.LineAtEnd.{link-at-end}
@@ -19,7 +29,7 @@ IsUnit u = AreOctets u.contents
 
 -- What a line keeps are octets.
 record AreKept (l : Line) : Type 0 where
-  messages : All IsSmall l.management.waiting
+  messages : MessagesAreSmall l
   units : All IsUnit l.units
   links : (service : Service) (tei : ℕ) → All AreOctets (queue_of (link_of service tei l))
 
@@ -56,6 +66,9 @@ module _ (c : Config) (ranged : IsInRange c) (l : Line) (s : IsSound c l) (k : A
   message-exact : (m : Message) → IsSmall m → action_of m ≤ 127 → AreOctets (message_frame c.side m)
   message-exact m small low = grind (arith, whole-octets)
 
+  own-exact : (m : OwnMessage) → IsOwnSmall m → own_action_of m < 128 → AreOctets (own_frame_of m)
+  own-exact m small low = grind (arith, whole-octets)
+
   unit-exact : (u : UnitData) → u.tei ≤ 127 → IsUnit u → AreOctets (unit_frame c u)
   unit-exact u low h = named-octets (own_side c) (record { sapi = sapi_of u.service; command = true; tei = u.tei }) (Ui false) u.contents (sapi-small u.service) (omega (arith, low)) h
 
@@ -83,18 +96,38 @@ module _ (c : Config) (ranged : IsInRange c) (l : Line) (s : IsSound c l) (k : A
   first-exact : (o : Option Taken) → IfSome o (OfLink c l) → IfSome o IsExact
   first-exact o x = grind (arith, link-exact)
 
-  any-exact : (ms : List Message) (us : List UnitData) → All IsSmall ms → All (λ m. action_of m ≤ 127) ms → All (IsUnitData c) us → All IsUnit us
-      → IfSome (option_or (option_map (with_message l) (option_map (message_frame c.side) (slice_get ms 0))) (option_or (option_map (with_unit c l) (slice_get us 0)) (first_taken c l (round c l)))) IsExact
-  any-exact (m ∷ ms) us small low units octets = message-exact m (All-head IsSmall m ms small) (All-head (λ m. action_of m ≤ 127) m ms low)
-  any-exact [] (u ∷ us) small low units octets = unit-exact u (All-head (IsUnitData c) u us units).tei (All-head IsUnit u us octets)
-  any-exact [] [] small low units octets = first-exact (first_taken c l (round c l)) (of-links c l s (round c l) (round_below c l))
+  of-message : (ms : List Message) → All IsSmall ms → All (λ m. action_of m ≤ 127) ms → IfSome (option_map (with_message l) (option_map (message_frame c.side) (slice_get ms 0))) IsExact
+  of-message [] small low = tt
+  of-message (m ∷ ms) small low = message-exact m (All-head IsSmall m ms small) (All-head (λ m. action_of m ≤ 127) m ms low)
+
+  of-own : (ms : List OwnMessage) → All IsOwnSmall ms → ((m : OwnMessage) → slice_get ms 0 ≡ Some m → own_action_of m < 128)
+      → IfSome (option_map (with_own_message l) (option_map own_frame_of (slice_get ms 0))) IsExact
+  of-own [] small low = tt
+  of-own (m ∷ ms) small low = own-exact m (All-head IsOwnSmall m ms small) (low m refl)
+
+  by-message : (b : Bool) → is_terminal c ≡ b → IfSome (cond b (option_map (with_own_message l) (terminals.offered (terminal_in l))) (option_map (with_message l) (teis.offered c.side l.management))) IsExact
+  by-message true is =
+      let both = subst (λ b. IsOfSide b l.management l.own) is s.own in
+      of-own l.own.waiting k.messages.own.all (λ m first. low_front (terminal_in l) m both.0 first)
+  by-message false net = of-message l.management.waiting k.messages.messages s.management.queue.actions
+
+  by-unit : (us : List UnitData) → All (IsUnitData c) us → All IsUnit us → IfSome (option_map (with_unit c l) (slice_get us 0)) IsExact
+  by-unit [] units octets = tt
+  by-unit (u ∷ us) units octets = unit-exact u (All-head (IsUnitData c) u us units).tei (All-head IsUnit u us octets)
+
+  taken-exact : IfSome (taken c l) IsExact
+  taken-exact =
+      either IsExact (message_taken c l) (option_or (unit_taken c l) (first_taken c l (round c l))) (by-message (is_terminal c) refl)
+      (either IsExact (unit_taken c l) (first_taken c l (round c l)) (by-unit l.units s.units k.units)
+      (first-exact (first_taken c l (round c l)) (of-links c l s (round c l) (round_below c l))))
 
 by-next : (o : Option Taken) → IfSome o (λ t. AreOctets t.frame) → All AreOctets (frame_in (gave (option_map next_of o)))
 by-next o h = grind arith
 
 event-exact : (c : Config) → IsInRange c → (e : Event) (l : Line) → IsSound c l → AreKept l → All AreOctets (frames_begun (seen e (answer c e l)))
 unfolding answer
-event-exact c ranged e l s k = grind (arith, none-requested, given-frames, option_map, by-next, any-exact, none-told)
+event-exact c ranged next l s k = subst (All AreOctets) (sym (given-frames (option_map next_of (taken c l)))) (by-next (taken c l) (taken-exact c ranged l s k))
+event-exact c ranged e l s k = grind (arith, none-requested, none-told)
 
 -- What a link keeps, where what is granted are octets.
 granted-seen : (r : Request) (a : Answer) → is_granted a ≡ true → All GivesOctets (seen_granted r a ++ seen_told a) → AreOctets (contents_given r)
@@ -176,7 +209,7 @@ steps c ranged e l s h = (
 )
 
 fresh-kept : (c : Config) → AreKept (fresh_line c)
-fresh-kept c = record { messages = All-nil IsSmall; units = All-nil IsUnit; links = λ service tei. by-place service (place_in (fresh_line c) tei) }
+fresh-kept c = record { messages = fresh-small c; units = All-nil IsUnit; links = λ service tei. by-place service (place_in (fresh_line c) tei) }
   where
     by-place : (service : Service) (o : Option ℕ) → All AreOctets (queue_of (option_map_or (link_in (fresh_line c) service) o fresh_link))
     by-place service None = All-nil AreOctets

@@ -17,7 +17,7 @@ use Rattle.laws_trace.proofs.NewsWatched.{none_owed, owing, asked}
 use Rattle.laws_trace.proofs.ObservedAcknowledged.{agrees-now}
 use Rattle.laws_trace.proofs.ObservedControlsMoment.{puts-by}
 use Rattle.laws_trace.proofs.ObservedControlsSeen.{none-mapped}
-use Rattle.laws_trace.proofs.ObservedRun.{holds-now, known-is}
+use Rattle.laws_trace.proofs.ObservedRun.{holds-here, known-is}
 use Rattle.laws_trace.proofs.Outgoing.{comes, its, behind_of, here-at, has-now}
 use Rattle.laws_trace.proofs.OwedAtLine.{Owed, event-pends}
 use Rattle.laws_trace.proofs.Plain.{all-wait}
@@ -140,7 +140,7 @@ module _ (c : Config) (number : ℕ) (ranged : IsInRange c) (within : number < c
         subst (λ (d : Config). Puts d ≡ put_in d service tei o (views d service tei number v its-moment).link its-moment) same-config
         (puts-by service tei number m (sound-now c before number ranged all within service tei) (timely-now c before number ranged all within service tei) (at number what) (here-at c number ranged within service tei before all)
         (fold (watch c service tei number) known_first ms) (fold (asked service tei number) false ms) (fold (owing c service tei number) none_owed ms)
-        (known-is c before number ranged all within service tei ms known_first none_owed refl) (fold (repeated service tei number) 0 ms) v (holds-now c before number ranged all within service tei)
+        (known-is c before number ranged all within service tei ms known_first none_owed refl) (fold (repeated service tei number) 0 ms) v (holds-here c before number ranged all within service tei)
         w.told.count w.busy w.rejected (stands.1, stands.2) (agrees-now c before number ranged all within service tei) true (eq-eqb number number refl)
         ∙ ap (λ b. cond (not b) (put_in m.config service tei o (views m.config service tei number v its-moment).link its-moment) []) (ap (λ s. s == 1) was-state ∙ not-one (link_of service tei l).state))
 

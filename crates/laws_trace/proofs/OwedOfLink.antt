@@ -1,5 +1,6 @@
 -- Whether a link owes an acknowledgement behind one of its events.
-use Rattle.laws_trace.proofs.Vocabulary.{arith, ◌≡◌, ◌&&◌, ◌||◌, Bool, true, false, refl, sym, ap, ◌∙◌, true≢false, is_some, flag_left, takes_contents, unless_put, owed_in, pending_left, as_heard, numbers_begin, state_after, put, event-follows, State, Terms, restarts, Link, is_multiple_frame, event-delivers, LinkEvent as Event, is_empty, or_comm, link_after as after, link_told as told, cond_both}
+use Rattle.laws_trace.proofs.Vocabulary.{arith, ◌≡◌, ◌&&◌, ◌||◌, Bool, true, false, refl, sym, ap, ◌∙◌, true≢false, is_some, flag_left, takes_contents, unless_put, owed_in, pending_left, as_heard, numbers_begin, state_after, put, event-follows, State, Terms, restarts, Link, is_multiple_frame, event-delivers, LinkEvent as Event, is_empty, or_comm, link_after as after, link_told as told}
+use Rattle.laws_trace.proofs.Vocabulary.{cond_both}
 use Rattle.laws_trace.proofs.Vocabulary.{false_from_ne_true}
 use Rattle.laws_trace.proofs.Begins.{in-state, up-before}
 use Rattle.laws_trace.proofs.CommandsCaused.{IsNoOther}

@@ -1,5 +1,6 @@
 -- What an event shows of the places of a link: data that is granted, and that layer 3 learns of a loss.
-use Rattle.laws_trace.proofs.Vocabulary.{arith, ◌≡◌, ℕ, Bool, false, cond, List, [], ◌++◌, ◌||◌, append-nil, flat_map, list_any, Service, Timer, is_release, Answer, hears, expiry, request, next, Deactivate, notes_of, is_loss_of, is_granted, Event, LineTold, told, Request, Release, of_link, Seen, data_asked, granted, trace_noted as noted, is_own, seen, seen_told, seen_granted, and-false, or-false}
+use Rattle.laws_trace.proofs.Vocabulary.{arith, ◌≡◌, ℕ, Bool, false, cond, List, [], ◌++◌, ◌||◌, append-nil, flat_map, list_any, Service, Timer, is_release, Answer, hears, expiry, request, next, Deactivate, notes_of, is_loss_of, is_granted, Event, LineTold, told, Request, Release, of_link, Seen, data_asked, granted, trace_noted as noted, is_own, seen, seen_told, seen_granted, and-false}
+use Rattle.laws_trace.proofs.Vocabulary.{or-false}
 use Rattle.laws_trace.proofs.Vocabulary.{and-true, LinkRequest, StreamEvent}
 use Rattle.laws_trace.specs.Outgoing as outgoing
 use Rattle.laws_trace.proofs.LinkLed.{own-is}

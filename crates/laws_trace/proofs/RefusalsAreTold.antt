@@ -1,18 +1,23 @@
 -- Why unit data, and what management asks for, is refused: the law.
-use Rattle.laws_trace.proofs.Vocabulary.{◌≡◌, ℕ, ◌==◌, ◌&&◌, ◌<◌, Bool, not, cond, nat_le, nat_lt, List, length, Option, Some, None, IfSome, is_some, option_map, refl, sym, ap, ◌∙◌, subst, Config, Effect, Line, has_tei, unless_refused_told, Card, line_at}
+use Rattle.laws_trace.proofs.Vocabulary.{◌≡◌, ℕ, ◌==◌, ◌&&◌, ◌||◌, ◌<◌, Bool, true, false, true≢false, lt-ltb, le-ltb, arith, not, cond, nat_le, nat_lt, List, length, Option, Some, None, IfSome, is_some, option_map, refl, sym, ap, ◌∙◌, subst, Config, Effect, Line, has_tei, unless_refused_told, Card, line_at}
 use Rattle.laws_trace.proofs.Vocabulary.{is_full, answer_is, refusal, fresh, after_all, AreAtLines, IsInRange, units_of, of_request, config-stays, length-map, unit_frame, Side, User, Network, Refusal}
 use Rattle.laws_trace.proofs.Vocabulary.{Service, Answer, IsSound, last_unit_tei, used, manages, has_management, refused, Managed, managed_after, managing_is_on as is_on, CardEvent as Event, card_answer as answer, at, free_place}
 use Rattle.lapd_frame.specs.declared.refusals.Refusal.TheVariants.{BadTei, NoLink, TooLong, QueueFull, PoolFull, WrongSide, TeiTaken, TableFull, CheckRunning, ControlFull}
 use Rattle.lapd_tei.specs.declared.check.Check as check
+use Rattle.model_line.specs.Line.{is_at, is_terminal}
+use Rattle.model_line.specs.Sides.{is_network}
+use Rattle.model_line.specs.Sound.{IsOfSide}
 use Rattle.model_line.specs.Event as line_event
-use Rattle.model_line.specs.Request.{Request, Establish, Release, Data, Unit, Assign, Remove, Check, Disown, SetBusy, ClearBusy, Deactivate, Down}
+use Rattle.model_line.specs.Request.{Request, Establish, Release, Data, Unit, Assign, Remove, Check, Disown, AskTei, VerifyTei, SetBusy, ClearBusy, Deactivate, Down}
 use Rattle.laws_trace.specs.NoSlotIsLost.{slots_taken}
 use Rattle.laws_trace.specs.RefusalsAreTold.{why_not, RefusalsAreTold}
-use Rattle.laws_trace.proofs.Follows.{Follows, seen_check, fewer-on, all-on}
+use Rattle.laws_trace.specs.Managing.{own_of}
+use Rattle.laws_trace.specs.ManagingTerminal.{OfTerminal}
+use Rattle.laws_trace.proofs.Follows.{seen_check}
+use Rattle.laws_trace.proofs.Known.{Knows, knows-now}
 use Rattle.laws_trace.proofs.LineAtEnd.{line-at-end}
-use Rattle.laws_trace.proofs.ManagingTables.{used-same}
+use Rattle.laws_trace.proofs.ManagingTables.{free-fewer, none-free, used-same}
 use Rattle.laws_trace.proofs.SlotsTaken.{taken-is}
-use Rattle.laws_trace.proofs.TeisAreManaged.{follows-now}
 use Rattle.laws_trace.proofs.UnitsGoOut.{waiting-is}
 
 told-so : (o : Option Refusal) (outcome : Effect) → IfSome o (λ why. unless_refused_told o outcome ≡ refused why)
@@ -23,9 +28,9 @@ last-is : (side : Side) → last_unit_tei side ≡ cond (manages side) 127 126
 last-is Network = refl
 last-is User = refl
 
-side-is : (side : Side) → has_management side ≡ manages side
-side-is Network = refl
-side-is User = refl
+network-is : (side : Side) → is_network side ≡ manages side
+network-is Network = refl
+network-is User = refl
 
 mapped : (o : Option check.Check) → is_some o ≡ is_some (option_map seen_check o)
 mapped None = refl
@@ -38,6 +43,20 @@ if_so b why others = cond b (Some why) others
 if-same : (a b : Bool) (why : Refusal) (x y : Option Refusal) → a ≡ b → x ≡ y → if_so a why x ≡ if_so b why y
 if-same a b why x y tests others = ap (λ b. if_so b why x) tests ∙ ap (if_so b why) others
 
+-- The others may need that the first does not hold.
+unless-same : (a b : Bool) (why : Refusal) (x y : Option Refusal) → a ≡ b → (b ≡ false → x ≡ y) → if_so a why x ≡ if_so b why y
+unless-same a true why x y tests others = ap (λ b. if_so b why x) tests
+unless-same a false why x y tests others = ap (λ b. if_so b why x) tests ∙ others refl
+
+is-so : (b : Bool) → not b ≡ false → b ≡ true
+is-so true e = refl
+is-so false e = absurd (true≢false e)
+
+-- The network's side is no terminal.
+network-alone : (side : Side) (seed : Option ℕ) → manages side ≡ true → is_at side seed ≡ false
+network-alone Network seed is = refl
+network-alone User seed is = absurd (true≢false (sym is))
+
 module _ (c : Config) (events : List Event) (number : ℕ) (ranged : IsInRange c) (all : AreAtLines (fresh c) events) (within : number < c.lines) where
   abbrev card : Card
   card = after_all (fresh c) events
@@ -48,20 +67,37 @@ module _ (c : Config) (events : List Event) (number : ℕ) (ranged : IsInRange c
   abbrev w : Managed
   w = managed_after c number events
 
-  follows : Follows w l.management
-  follows = follows-now c events number ranged all within
+  knows : Knows c w l
+  knows = knows-now c events number ranged all within
 
   on-line : (tei : ℕ) → has_tei tei l ≡ is_on tei w
-  on-line tei = sym (follows.on.same tei)
+  on-line tei = sym (knows.on.same tei)
 
-  owed-is : l.management.waiting ≡ w.owed
-  owed-is = sym (ap (λ (v : Managed). v.owed) follows.is)
+  sound : IsSound c l
+  sound = line-at-end c events number ranged all within
 
-  checks : is_some l.management.check ≡ is_some w.check
-  checks = mapped l.management.check ∙ sym (ap (λ (v : Managed). is_some v.check) follows.is)
+  -- of the network's side, and of a terminal
+  owed-is : is_terminal c ≡ false → l.management.waiting ≡ w.owed
+  owed-is net = sym (ap (λ (v : Managed). v.owed) (knows.network net))
 
-  full-is : nat_le 4 (length l.management.waiting) ≡ nat_le 4 (length w.owed)
-  full-is = ap (λ ms. nat_le 4 (length ms)) owed-is
+  checks : is_terminal c ≡ false → is_some l.management.check ≡ is_some w.check
+  checks net = mapped l.management.check ∙ sym (ap (λ (v : Managed). is_some v.check) (knows.network net))
+
+  full-is : is_terminal c ≡ false → nat_le 4 (length l.management.waiting) ≡ nat_le 4 (length w.owed)
+  full-is net = ap (λ ms. nat_le 4 (length ms)) (owed-is net)
+
+  never-full : is_terminal c ≡ true → nat_le 4 (length l.management.waiting) ≡ false
+  never-full is = let both = subst (λ b. IsOfSide b l.management l.own) is sound.own in ap (λ ms. nat_le 4 (length ms)) both.1.waiting
+
+  full-there : nat_le 4 (length l.management.waiting) ≡ (not (is_terminal c) && nat_le 4 (length w.owed))
+  full-there = go (is_terminal c) refl
+    where
+      go : (b : Bool) → is_terminal c ≡ b → nat_le 4 (length l.management.waiting) ≡ (not b && nat_le 4 (length w.owed))
+      go true is = never-full is
+      go false net = full-is net
+
+  procedure-is : is_terminal c ≡ true → is_some l.own.procedure ≡ is_some (own_of c w).procedure
+  procedure-is is = sym (ap (λ (t : OfTerminal). is_some t.procedure) (knows.terminal is))
 
   same : card.config ≡ c
   same = config-stays (fresh c) events
@@ -73,11 +109,11 @@ module _ (c : Config) (events : List Event) (number : ℕ) (ranged : IsInRange c
   slots-are = ap (λ (d : Config). nat_le d.slots (used card)) same ∙ ap (nat_le c.slots) (sym (taken-is c events ranged all))
 
   places-are : is_some (free_place l.management.places) ≡ nat_lt (length w.on) c.terminals
-  places-are = go (line-at-end c events number ranged all within) (free_place l.management.places) refl
+  places-are = go (free_place l.management.places) refl
     where
-      go : IsSound c l → (o : Option ℕ) → free_place l.management.places ≡ o → is_some o ≡ nat_lt (length w.on) c.terminals
-      go s None free = sym (all-on w.on l.management follows.on follows.order s.management c s.places free)
-      go s (Some place) free = sym (fewer-on w.on l.management follows.on follows.order s.management c s.places place free)
+      go : (o : Option ℕ) → free_place l.management.places ≡ o → is_some o ≡ nat_lt (length w.on) c.terminals
+      go None free = sym (le-ltb (length w.on) c.terminals (let whole = none-free l.management.places free in omega (arith, knows.on.size, whole, sound.places)))
+      go (Some place) free = sym (lt-ltb (length w.on) c.terminals (let few = free-fewer l.management.places place free in omega (arith, knows.on.size, few, sound.places)))
 
   abbrev Told : Request → Option Refusal → Type 0
   Told r o = IfSome o (λ why. answer (at number (line_event.request r)) card ≡ refused why)
@@ -88,8 +124,15 @@ module _ (c : Config) (events : List Event) (number : ℕ) (ranged : IsInRange c
       subst (λ (d : Config). Told r (refusal d (is_full card) r l)) same
       (subst (λ (a : Answer). IfSome o (λ why. a ≡ refused why)) (sym (answer_is card number r)) (told-so o (of_request card.config r l)))
 
-  wrong-side : not (has_management c.side) ≡ not (manages c.side)
-  wrong-side = ap not (side-is c.side)
+  wrong-side : not (has_management c) ≡ not (manages c.side || is_terminal c)
+  wrong-side = ap (λ b. not (b || is_terminal c)) (network-is c.side)
+
+  not-network : not (is_network c.side) ≡ not (manages c.side)
+  not-network = ap not (network-is c.side)
+
+  -- so a check is the network's side's
+  at-network : not (manages c.side) ≡ false → is_terminal c ≡ false
+  at-network managed = network-alone c.side c.seed (is-so (manages c.side) managed)
 
   abbrev Same : Request → Type 0
   Same r = refusal c (is_full card) r l ≡ why_not c events number w r
@@ -106,19 +149,31 @@ module _ (c : Config) (events : List Event) (number : ℕ) (ranged : IsInRange c
   remove-same : (tei : ℕ) → Same (Remove tei)
   remove-same tei =
       if-same _ _ WrongSide _ _ wrong-side
-      (if-same _ _ BadTei _ _ refl (if-same _ _ NoLink _ _ (ap not (on-line tei)) (if-same _ _ ControlFull _ _ full-is refl)))
+      (if-same _ _ BadTei _ _ refl (if-same _ _ NoLink _ _ (ap not (on-line tei)) (if-same _ _ ControlFull _ _ full-there refl)))
 
   check-same : (tei : ℕ) → Same (Check tei)
   check-same tei =
-      if-same _ _ WrongSide _ _ wrong-side
-      (if-same _ _ BadTei _ _ refl
-      (if-same _ _ NoLink _ _ (ap not (on-line tei)) (if-same _ _ CheckRunning _ _ checks (if-same _ _ ControlFull _ _ full-is refl))))
+      unless-same _ _ WrongSide _ _ not-network (λ managed.
+      if-same _ _ BadTei _ _ refl
+      (if-same _ _ NoLink _ _ (ap not (on-line tei))
+      (if-same _ _ CheckRunning _ _ (checks (at-network managed)) (if-same _ _ ControlFull _ _ (full-is (at-network managed)) refl))))
 
   disown-same : (tei : ℕ) → Same (Disown tei)
   disown-same tei =
-      if-same _ _ WrongSide _ _ wrong-side
-      (if-same _ _ BadTei _ _ refl
-      (if-same _ _ TeiTaken _ _ (sym (used-same w.on l.management.places follows.on tei)) (if-same _ _ ControlFull _ _ full-is refl)))
+      unless-same _ _ WrongSide _ _ not-network (λ managed.
+      if-same _ _ BadTei _ _ refl
+      (if-same _ _ TeiTaken _ _ (sym (used-same w.on l.management.places knows.on tei)) (if-same _ _ ControlFull _ _ (full-is (at-network managed)) refl)))
+
+  ask-same : Same AskTei
+  ask-same =
+      unless-same _ _ WrongSide _ _ refl (λ is.
+      if-same _ _ TableFull _ _ (ap not places-are) (if-same _ _ CheckRunning _ _ (procedure-is (is-so (is_terminal c) is)) refl))
+
+  verify-same : (tei : ℕ) → Same (VerifyTei tei)
+  verify-same tei =
+      unless-same _ _ WrongSide _ _ refl (λ is.
+      if-same _ _ BadTei _ _ refl
+      (if-same _ _ NoLink _ _ (ap not (on-line tei)) (if-same _ _ CheckRunning _ _ (procedure-is (is-so (is_terminal c) is)) refl)))
 
   pub refusals-are-told : RefusalsAreTold c events number
   refusals-are-told (Unit service tei contents) = subst (Told (Unit service tei contents)) (unit-same service tei contents) (told (Unit service tei contents))
@@ -126,6 +181,8 @@ module _ (c : Config) (events : List Event) (number : ℕ) (ranged : IsInRange c
   refusals-are-told (Remove tei) = subst (Told (Remove tei)) (remove-same tei) (told (Remove tei))
   refusals-are-told (Check tei) = subst (Told (Check tei)) (check-same tei) (told (Check tei))
   refusals-are-told (Disown tei) = subst (Told (Disown tei)) (disown-same tei) (told (Disown tei))
+  refusals-are-told AskTei = subst (Told AskTei) ask-same (told AskTei)
+  refusals-are-told (VerifyTei tei) = subst (Told (VerifyTei tei)) (verify-same tei) (told (VerifyTei tei))
   refusals-are-told (Establish service tei) = tt
   refusals-are-told (Release service tei) = tt
   refusals-are-told (Data service tei contents) = tt

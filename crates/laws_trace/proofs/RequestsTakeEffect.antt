@@ -1,8 +1,9 @@
 -- What layer 3 asks of a link is refused, or it takes effect: the law.
 use Rattle.laws_trace.proofs.Vocabulary.{◌≡◌, ℕ, ◌+◌, ◌-◌, ◌<◌, ◌≤◌, ⊎_elim, ◌==◌, ◌&&◌, ◌||◌, Bool, true, false, cond, nat_le, nat_lt, list_any, List, Option, [], ◌∷◌, ◌++◌, length, take, drop, filter, Some, None, Ok, Err, Result, refl, sym, ap, ◌∙◌, subst, arith, eqb-true, append-nil, All-nil, All-cons, All-append, Note, Service, Refusal, ControlFrame, Config, Answer, Line, link_of, has_tei}
-use Rattle.laws_trace.proofs.Vocabulary.{unless_refused_told, of_request, queue_of, IsInRange, lost_in, notes_of, is_loss_of, is_granted, deactivates, Card, line_at, is_full, at, fresh, refusal, refused_by_the_table, answer_is, CardEvent as Event, after_all, IsAtLine, AreAtLines, managing_is_on as is_on, due, releases, is_news, Observed, View, in_state, moment_of, view_of, views}
+use Rattle.laws_trace.proofs.Vocabulary.{unless_refused_told, of_request, queue_of, IsInRange, lost_in, notes_of, is_loss_of, is_granted, deactivates, Card, line_at, is_full, at, fresh, refusal, refused_by_the_table, answer_is, CardEvent as Event, after_all, IsAtLine, AreAtLines, managing_is_on as is_on, due, nothing_due, releases, is_news, Observed, View, in_state, moment_of, view_of, views}
 use Rattle.laws_trace.proofs.Vocabulary.{observer_by_request, Outgoing, outgoing_of, watches, is_empty, is_own, is_up, Always, request, Request, Establish, Release, Data, SetBusy, ClearBusy, Deactivate, Moment, state_number, is_multiple_frame, result_err, keeps, config-stays, used, of_link, LinkRequest, LinkEstablish, LinkRelease, LinkData, LinkSetBusy, LinkClearBusy, put_in, changed, went_on}
 use Rattle.laws_trace.proofs.Vocabulary.{data_granted, Link, as_command, Sabme, Disc, ReleaseConfirm}
+use Rattle.model_line.specs.Line.{is_terminal}
 use Rattle.model_card.specs.Card.{state}
 use Rattle.model_link.specs.Requests.{serves}
 use Rattle.laws_trace.specs.News as news
@@ -14,6 +15,7 @@ use Rattle.laws_trace.proofs.Facts.{either-none, number-up}
 use Rattle.laws_trace.proofs.LinkLed.{own-is}
 use Rattle.laws_trace.proofs.LineAtEnd.{line-at-end, link-at-end}
 use Rattle.laws_trace.proofs.NoLossInVain.{no-loss-in-vain}
+use Rattle.laws_trace.proofs.ObservedControls.{none-due}
 use Rattle.laws_trace.proofs.ObservedLaws.{links-move-so, news-is-told-so}
 use Rattle.laws_trace.proofs.Outgoing.{then-is, view-is, kept-now}
 use Rattle.laws_trace.proofs.Plain.{all-wait}
@@ -186,6 +188,9 @@ module _ (c : Config) (events : List Event) (number : ℕ) (ranged : IsInRange c
       TakesEffect service tei (moment_of c events number (request r)).answer (state number service tei (after_all (fresh c) (events ++ at number (request r) ∷ [])))
       (outgoing_of c service tei number (events ++ at number (request r) ∷ [])) e
 
+  the-same : is_on tei (cond (is_terminal c) (nothing_due o.view.teis) (nothing_due o.view.teis)) ≡ is_on tei o.view.teis
+  the-same = ap (list_any (λ on. on == tei)) (none-due c o.view.teis)
+
   module _ (on : is_on tei o.view.teis ≡ true) where
     abbrev w : Observed
     w = o.view.link
@@ -197,7 +202,7 @@ module _ (c : Config) (events : List Event) (number : ℕ) (ranged : IsInRange c
     unfolding Effective
     establish-takes unrefused is =
         let at_4 : w.state ≡ 4 = eqb-true w.state 4 is in
-        gives (Establish service tei) refl on unrefused (record (puts c (as_command (Sabme true)) o) { link = record (in_state 5) { asked = true } }) refl
+        gives (Establish service tei) the-same on unrefused (record (puts c (as_command (Sabme true)) o) { link = record (in_state 5) { asked = true } }) refl
         (ap (λ b. cond (b && w.state == 4) (record (in_state 5) { asked = true }) w) (own-is service tei) ∙ ap (λ b. cond b (record (in_state 5) { asked = true }) w) is)
         (ap (λ fs. take c.control (o.waiting ++ fs)) (sabme-put w at_4)) (either-none (w.state == 1))
         (λ none. ap (λ b. cond b [] (cond (is_up w.state) (drop (went_on false w (record (in_state 5) { asked = true })) o.kept ++ []) o.kept)) none
@@ -208,9 +213,9 @@ module _ (c : Config) (events : List Event) (number : ℕ) (ranged : IsInRange c
     released-takes unrefused is =
         let at_4 : w.state ≡ 4 = eqb-true w.state 4 is in
         let its_answer = (moment_of c events number (request (Release service tei))).answer in
-        let granted_so : is_granted its_answer ≡ true = so (Release service tei) refl on unrefused in
+        let granted_so : is_granted its_answer ≡ true = so (Release service tei) the-same on unrefused in
         let own : releases service tei (request (Release service tei)) its_answer ≡ true = ap (λ b. b && is_own service tei service tei) granted_so ∙ own-is service tei in
-        gives (Release service tei) refl on unrefused (record (puts c [] o) { kept = []; told = ReleaseConfirm service tei ∷ [] }) refl
+        gives (Release service tei) the-same on unrefused (record (puts c [] o) { kept = []; told = ReleaseConfirm service tei ∷ [] }) refl
         (ap (λ b. cond (b && is_up w.state) (in_state 6) w) (own-is service tei) ∙ ap (λ n. cond (is_up n) (in_state 6) w) at_4)
         (ap (λ fs. take c.control (o.waiting ++ fs)) (still w)) (ap (λ b. told_by service tei b w w) own ∙ released-told service tei w at_4)
         (λ lost. grind (arith, own))
@@ -219,9 +224,9 @@ module _ (c : Config) (events : List Event) (number : ℕ) (ranged : IsInRange c
     unfolding Effective
     disc-takes unrefused up =
         let its_answer = (moment_of c events number (request (Release service tei))).answer in
-        let granted_so : is_granted its_answer ≡ true = so (Release service tei) refl on unrefused in
+        let granted_so : is_granted its_answer ≡ true = so (Release service tei) the-same on unrefused in
         let own : releases service tei (request (Release service tei)) its_answer ≡ true = ap (λ b. b && is_own service tei service tei) granted_so ∙ own-is service tei in
-        gives (Release service tei) refl on unrefused (record (puts c (as_command (Disc true)) o) { link = in_state 6; kept = [] }) refl
+        gives (Release service tei) the-same on unrefused (record (puts c (as_command (Disc true)) o) { link = in_state 6; kept = [] }) refl
         (ap (λ b. cond (b && is_up w.state) (in_state 6) w) (own-is service tei) ∙ ap (λ b. cond b (in_state 6) w) up)
         (ap (λ fs. take c.control (o.waiting ++ fs)) (disc-put w up)) (either-none (w.state == 1)) (λ none. grind (arith, own))
 
@@ -229,10 +234,10 @@ module _ (c : Config) (events : List Event) (number : ℕ) (ranged : IsInRange c
     unfolding Effective
     data-takes contents unrefused up =
         let its_answer = (moment_of c events number (request (Data service tei contents))).answer in
-        let granted_so : is_granted its_answer ≡ true = so (Data service tei contents) refl on unrefused in
+        let granted_so : is_granted its_answer ≡ true = so (Data service tei contents) the-same on unrefused in
         let its : data_granted service tei (request (Data service tei contents)) its_answer ≡ contents ∷ [] =
         ap (λ b. cond (b && is_own service tei service tei) (contents ∷ []) []) granted_so ∙ ap (λ b. cond b (contents ∷ []) []) (own-is service tei) in
-        gives (Data service tei contents) refl on unrefused (record (puts c [] o) { kept = o.kept ++ contents ∷ [] }) refl refl
+        gives (Data service tei contents) the-same on unrefused (record (puts c [] o) { kept = o.kept ++ contents ∷ [] }) refl refl
         (ap (λ fs. take c.control (o.waiting ++ fs)) (still w)) (up-told service tei w w up refl)
         (λ none. ap (λ b. cond b [] (cond (is_up w.state) (drop (went_on false w w) o.kept ++ data_granted service tei (request (Data service tei contents)) its_answer) o.kept)) none
         ∙ ap (λ b. cond b (drop (went_on false w w) o.kept ++ data_granted service tei (request (Data service tei contents)) its_answer) o.kept) up
@@ -249,14 +254,14 @@ module _ (c : Config) (events : List Event) (number : ℕ) (ranged : IsInRange c
     set-takes : fine (SetBusy service tei) → is_up w.state ≡ true → Effective (SetBusy service tei) (record (puts c (changed w (busy true)) o) { link = busy true })
     unfolding Effective
     set-takes unrefused up =
-        gives (SetBusy service tei) refl on unrefused (record (puts c (changed w (busy true)) o) { link = busy true }) refl
+        gives (SetBusy service tei) the-same on unrefused (record (puts c (changed w (busy true)) o) { link = busy true }) refl
         (ap (λ b. cond b (busy true) w) (own-is service tei)) (ap (λ fs. take c.control (o.waiting ++ fs)) (busy-put w true)) (up-told service tei w (busy true) up refl)
         (λ none. ap (λ b. cond b [] (cond (is_up w.state) (drop (went_on false w (busy true)) o.kept ++ []) o.kept)) none ∙ same-kept true up)
 
     clear-takes : fine (ClearBusy service tei) → is_up w.state ≡ true → Effective (ClearBusy service tei) (record (puts c (changed w (busy false)) o) { link = busy false })
     unfolding Effective
     clear-takes unrefused up =
-        gives (ClearBusy service tei) refl on unrefused (record (puts c (changed w (busy false)) o) { link = busy false }) refl
+        gives (ClearBusy service tei) the-same on unrefused (record (puts c (changed w (busy false)) o) { link = busy false }) refl
         (ap (λ b. cond b (busy false) w) (own-is service tei)) (ap (λ fs. take c.control (o.waiting ++ fs)) (busy-put w false)) (up-told service tei w (busy false) up refl)
         (λ none. ap (λ b. cond b [] (cond (is_up w.state) (drop (went_on false w (busy false)) o.kept ++ []) o.kept)) none ∙ same-kept false up)
 
@@ -278,16 +283,16 @@ module _ (c : Config) (events : List Event) (number : ℕ) (ranged : IsInRange c
     ended-takes unrefused =
         let r = Deactivate service tei in
         let its_answer = (moment_of c events number (request r)).answer in
-        let granted_so : is_granted its_answer ≡ true = so r refl on unrefused in
+        let granted_so : is_granted its_answer ≡ true = so r the-same on unrefused in
         let link_is : observer_by_request service tei r w ≡ in_state 4 = ap (λ b. cond b (in_state 4) w) (own-is service tei) in
         let its_own : has_tei tei l ≡ true = sym on-is ∙ on in
         record {
           granted = granted_so;
-          told = told-is r refl on unrefused ∙ ap (λ (n : Observed). told_by service tei false w n) link_is ∙ ended-told service tei w own.state (state-seen its_own);
-          state = state-is r refl on unrefused ∙ ap (λ (n : Observed). Some n.state) link_is;
-          link = link r refl on unrefused ∙ link_is;
-          waiting = ap (λ (n : Outgoing). n.waiting) (now-is r refl on unrefused) ∙ waiting-ended c number service tei o card r its_answer refl on granted_so (own-is service tei);
-          kept = kept-is r refl on unrefused ∙ (grind (arith, granted_so, own-is));
+          told = told-is r the-same on unrefused ∙ ap (λ (n : Observed). told_by service tei false w n) link_is ∙ ended-told service tei w own.state (state-seen its_own);
+          state = state-is r the-same on unrefused ∙ ap (λ (n : Observed). Some n.state) link_is;
+          link = link r the-same on unrefused ∙ link_is;
+          waiting = ap (λ (n : Outgoing). n.waiting) (now-is r the-same on unrefused) ∙ waiting-ended c number service tei o card r its_answer the-same on granted_so (own-is service tei);
+          kept = kept-is r the-same on unrefused ∙ (grind (arith, granted_so, own-is));
         }
 
   answered : (r : Request) (due : Result Effect Refusal) → refusal card.config (is_full card) r l ≡ result_err due → ((e : Effect) → due ≡ Ok e → refusal card.config (is_full card) r l ≡ None → Effective r e)

@@ -1,5 +1,6 @@
 -- What is told of the room of a link: the law.
-use Rattle.laws_trace.proofs.Vocabulary.{◌≡◌, ℕ, ◌≤◌, Bool, true, false, not, cond, length, Some, None, Ok, refl, sym, ap, ◌∙◌, arith, nat_lt, le-ltb, BadTei, NoLink, place_of-is, is_on-at, Room, queue_of, is_multiple_frame, room_of, Config, Line, link_of, place_in, terms, has_tei, unless, Card, line_at, free, fresh, after_all, managing_is_on as is_on, View, view_of, Outgoing, outgoing_of, Always}
+use Rattle.laws_trace.proofs.Vocabulary.{◌≡◌, ℕ, ◌≤◌, Bool, true, false, not, cond, length, Some, None, Ok, refl, sym, ap, ◌∙◌, arith, nat_lt, le-ltb, BadTei, NoLink, place_of-is, is_on-at, Room, queue_of, is_multiple_frame, room_of, Config, Line, link_of, place_in, terms, has_tei, unless, Card, line_at, free, fresh, after_all, managing_is_on as is_on, View, view_of, Outgoing}
+use Rattle.laws_trace.proofs.Vocabulary.{outgoing_of, Always}
 use Rattle.laws_trace.proofs.Vocabulary.{is_up, always_sound, fresh_is_sound, used}
 use Rattle.model_card.specs.Room.{room}
 use Rattle.laws_trace.specs.RoomsAreTold.{IsRoom, RoomsAreTold}

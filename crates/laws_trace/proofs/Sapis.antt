@@ -1,5 +1,5 @@
 -- Which SAPI a service has on a line: the law.
-use Rattle.laws_trace.proofs.Vocabulary.{arith, ◌≡◌, ℕ, ◌/◌, ◌≤◌, ◌==◌, Bool, cond, List, slice_index, Result, Ok, sym, ap, ◌∙◌, subst, IfOk, Address, Side, Sender, ReadFault, Parts, Control, refl, header_of, completed, exchanged, side_reading, reading, parts_named, named-ok, Config, IsInRange, heard_side, own_side, le-leb, ranges_of}
+use Rattle.laws_trace.proofs.Vocabulary.{arith, ◌≡◌, ℕ, ◌≤◌, ◌==◌, cond, List, slice_index, Result, Ok, sym, ap, ◌∙◌, subst, IfOk, Address, Side, Sender, ReadFault, Parts, Control, refl, header_of, completed, exchanged, side_reading, reading, parts_named, named-ok, Config, IsInRange, heard_side, own_side, le-leb, ranges_of}
 use Rattle.std.proofs.lemmas.Bool.{eq-eqb, ne_eqb}
 use Rattle.std.proofs.lemmas.Bool.Decides.{eqb_tells}
 use Rattle.lapd_frame.specs.Senders.{packet_sapi}

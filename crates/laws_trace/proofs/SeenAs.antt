@@ -23,9 +23,9 @@ pub record IsSeenAs (k : Link) (o : Observed) : Type 0 where
   pub acknowledged_is : is_multiple_frame k.state ≡ true → o.acknowledged ≡ k.a % 128
   pub asked_is : (state_number k.state == 5) ≡ true → o.asked ≡ k.asked
 
-seen-as : (service : Service) (tei : ℕ) (k : Known) (asked owed : Bool) (n : ℕ) (l : Line) (v : View) → Holds service tei k asked owed n l v → IsAskedOf service tei asked l
+seen-as : (c : Config) (service : Service) (tei : ℕ) (k : Known) (asked owed : Bool) (n : ℕ) (l : Line) (v : View) → Holds c service tei k asked owed n l v → IsAskedOf service tei asked l
     → (place : ℕ) → place_in l tei ≡ Some place → IsSeenAs (link_of service tei l) v.link
-seen-as service tei k asked owed n l v h asks place on = grind (arith, IsObserved, IsSeen, state-on, Known, known-up, When, Asks)
+seen-as c service tei k asked owed n l v h asks place on = grind (arith, IsObserved, IsSeen, state-on, Known, known-up, When, Asks)
 
 -- After a list of events, and behind one more.
 module _ (c : Config) (events : List Event) (number : ℕ) (ranged : IsInRange c) (all : AreAtLines (fresh c) events) (within : number < c.lines) (service : Service) (tei : ℕ) where
@@ -44,7 +44,7 @@ module _ (c : Config) (events : List Event) (number : ℕ) (ranged : IsInRange c
   pub seen-before : (place : ℕ) → place_in (line_at number (after_all (fresh c) events)) tei ≡ Some place
       → IsSeenAs (link_of service tei (line_at number (after_all (fresh c) events))) (view_of c service tei number events).link
   seen-before place on =
-      seen-as service tei known asks owes.outstanding count (line_at number (after_all (fresh c) events)) (view_of c service tei number events)
+      seen-as c service tei known asks owes.outstanding count (line_at number (after_all (fresh c) events)) (view_of c service tei number events)
       (holds-now c events number ranged all within service tei) (asked-now c events number ranged all within service tei) place on
 
   pub tei-seen : is_on tei (view_of c service tei number events).teis ≡ has_tei tei (line_at number (after_all (fresh c) events))
@@ -54,6 +54,6 @@ module _ (c : Config) (events : List Event) (number : ℕ) (ranged : IsInRange c
       → IsSeenAs (link_of service tei (line_at number (after (at number what) (after_all (fresh c) events)))) (view_behind c service tei number events what).link
   seen-behind what place on =
       let m = moment_of c events number what in
-      seen-as service tei (watch c service tei number known m) (news.asked service tei number asks m) (owing c service tei number owes m).outstanding (repeated service tei number count m)
+      seen-as c service tei (watch c service tei number known m) (news.asked service tei number asks m) (owing c service tei number owes m).outstanding (repeated service tei number count m)
       (line_at number (after (at number what) (after_all (fresh c) events))) (view_behind c service tei number events what)
       (holds-behind c events number ranged all within service tei what) (asked-behind c events number ranged all within service tei what) place on

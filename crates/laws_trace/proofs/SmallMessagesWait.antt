@@ -1,7 +1,20 @@
 -- The messages of TEI management that wait stay small: what it hears are octets.
-use Rattle.laws_trace.proofs.Vocabulary.{arith, ◌≡◌, ℕ, ◌<◌, List, [], ◌∷◌, ◌++◌, length, drop, Option, IfSome, refl, subst, Ok, All, option_map_or, All-drop, All-head, AreOctets, Parts, reading, reading-found, Config, Aim, at_management, of_aim, hears, Answer, Line, aim_of_heard, heard_side, Taken, taken, line_of, side_aims, IsOne, taken-one, head_of, Event, line_after as after, IsSound}
-use Rattle.laws_trace.proofs.Vocabulary.{HasOctets, GivesOctets, seen, by-down, heard, seen_told, StreamEvent, other_side, renamed}
+use Rattle.laws_trace.proofs.Vocabulary.{arith, ◌≡◌, ℕ, ◌<◌, ◌%◌, Bool, true, false, cond, List, [], ◌∷◌, ◌++◌, length, drop, slice_get, Option, Some, None, IfSome, refl, sym, subst, Ok, All, option_map, option_map_or, option_or, unwrap_or, cond_both, All-nil, All-drop, All-head, AreOctets, Parts, reading, reading-found, Config, Aim, at_link, at_management, at_no_link, at_none, at_units}
+use Rattle.laws_trace.proofs.Vocabulary.{of_aim, of_change, hears, expiry, request, next, Answer, Line}
+use Rattle.laws_trace.proofs.Vocabulary.{fresh_line, aim_of_heard, aim_of_expiry, aim_of_request, heard_side, Taken, taken, line_of, side_aims, head_of, Event, line_after as after, IsSound, LineTold, UnitData, first_taken, round, round_below, OfLink, of-links, terms, service_at, with_given_frame, with_message, with_unit, TeiEvent, tei_after, tei_told, told_of_management, Change, Gained}
+use Rattle.laws_trace.proofs.Vocabulary.{Left, Management, Refusal, Request, Timer, refusal, unless_refused}
+use Rattle.laws_trace.proofs.Vocabulary.{HasOctets, GivesOctets, seen, heard, seen_told, StreamEvent, other_side, renamed}
+use Rattle.std.proofs.Math.Nat.{mod-lt}
+use Rattle.lapd_tei.specs.Events as teis
+use Rattle.lapd_tei.specs.Events.{down as tei_down}
+use Rattle.lapd_terminal.specs.Events as terminals
+use Rattle.lapd_terminal.specs.Events.{Event as TerminalEvent, after as terminal_after, told as terminal_told}
+use Rattle.model_line.specs.Effect.{at_a_terminal, at_terminal, of_management, of_network, of_terminal, of_terminal_if, told_of_terminal, without_units}
+use Rattle.model_line.specs.Line.{Own, is_terminal, seed_of, terminal_in, with_terminal}
+use Rattle.model_line.specs.Taken.{message_taken, unit_taken, with_own_message}
+use Rattle.model_line.proofs.TakenWalk.{either}
 use Rattle.laws_trace.proofs.SmallMessages.{IsSmall, IsOfOctets, after-small}
+use Rattle.laws_trace.proofs.SmallOwn as own
 
 -- What TEI management hears are octets.
 abbrev IsOfOctetsAt : Aim → Type 0
@@ -21,17 +34,109 @@ module _ (c : Config) (l : Line) where
   heard-aims : (e : StreamEvent) → HasOctets e → IsOfOctetsAt (aim_of_heard c l e)
   heard-aims e h = grind (arith, side_aims, info-octets)
 
--- The messages that wait then.
-aim-small : (c : Config) (aim : Aim) (l : Line) → IsOfOctetsAt aim → All IsSmall l.management.waiting → All IsSmall (of_aim c aim l).line.management.waiting
-aim-small c aim l o h = grind (arith, after-small, by-down, IsSmall)
+-- What management asks for, and an expiry, is no message.
+requests-tell : (r : Request) (l : Line) → IsOfOctetsAt (aim_of_request r l)
+requests-tell r l = grind arith
 
-next-small : (c : Config) (l : Line) → IsSound c l → All IsSmall l.management.waiting → All IsSmall (option_map_or line_of (taken c l) l).management.waiting
-next-small c l s h = go (taken c l) (taken-one c l s)
-  where
-    go : (o : Option Taken) → IfSome o (IsOne c l) → All IsSmall (option_map_or line_of o l).management.waiting
-    go o x = grind arith
+expiries-tell : (timer : Timer) (l : Line) → IsOfOctetsAt (aim_of_expiry timer l)
+expiries-tell timer l = grind arith
 
-pub messages-after : (c : Config) (e : Event) (l : Line) (a : Answer) → IsSound c l → All GivesOctets (seen e a) → All IsSmall l.management.waiting → All IsSmall (after c e l).management.waiting
+-- The messages of either side that wait, and the number that comes next.
+pub record MessagesAreSmall (l : Line) : Type 0 where
+  pub messages : All IsSmall l.management.waiting
+  pub own : own.AreSmall l.own.number l.own.waiting
+
+-- as a line begins
+seed-low : (c : Config) → seed_of c < 65536
+seed-low c = cond_both (is_terminal c) (unwrap_or c.seed 0 % 65536) 0 (λ n. n < 65536) (λ is. mod-lt (unwrap_or c.seed 0) (omega arith)) (λ net. omega arith)
+
+pub fresh-small : (c : Config) → MessagesAreSmall (fresh_line c)
+fresh-small c = record { messages = All-nil IsSmall; own = record { low = seed-low c; all = All-nil own.IsSmall } }
+
+same-messages : (l now : Line) → now.management ≡ l.management → now.own ≡ l.own → MessagesAreSmall l → MessagesAreSmall now
+same-messages l now management its h = record {
+  messages = subst (λ (m : Management). All IsSmall m.waiting) (sym management) h.messages;
+  own = subst (λ (o : Own). own.AreSmall o.number o.waiting) (sym its) h.own;
+}
+
+changed-small : (c : Config) (o : Option Change) (t : LineTold) (l : Line) → MessagesAreSmall l → MessagesAreSmall (of_change c o t l).line
+changed-small c None t l h = h
+changed-small c (Some (Gained tei place)) t l h = same-messages l (of_change c (Some (Gained tei place)) t l).line refl refl h
+changed-small c (Some (Left tei place)) t l h = same-messages l (of_change c (Some (Left tei place)) t l).line refl refl h
+
+terminal-small : (c : Config) (e : TerminalEvent) (l : Line) → MessagesAreSmall l → MessagesAreSmall (of_terminal c e l).line
+terminal-small c e l h =
+    let t = terminal_told e (terminal_in l) in
+    changed-small c t.change (told_of_terminal t) (with_terminal (terminal_after e (terminal_in l)) l) (record { messages = h.messages; own = own.own-after e (terminal_in l) h.own })
+
+terminal-if-small : (c : Config) (o : Option TerminalEvent) (l : Line) → MessagesAreSmall l → MessagesAreSmall (of_terminal_if c o l).line
+terminal-if-small c None l h = h
+terminal-if-small c (Some e) l h = terminal-small c e l h
+
+managed-small : (c : Config) (e : TeiEvent) (l : Line) → IsOfOctets e → MessagesAreSmall l → MessagesAreSmall (of_management c e l).line
+managed-small c e l o h =
+    cond_both (is_terminal c) (of_terminal_if c (at_a_terminal e) l) (of_network c e l) (λ f. MessagesAreSmall f.line)
+    (λ is. terminal-if-small c (at_a_terminal e) l h)
+    (λ net.
+    let t = tei_told e l.management in
+    changed-small c t.change (told_of_management t) (record l { management = tei_after e l.management }) (record { messages = after-small e l.management o h.messages; own = h.own }))
+
+aim-small : (c : Config) (aim : Aim) (l : Line) → IsOfOctetsAt aim → MessagesAreSmall l → MessagesAreSmall (of_aim c aim l).line
+aim-small c (at_none told) l o h = h
+aim-small c (at_link service tei place event) l o h = same-messages l (of_aim c (at_link service tei place event) l).line refl refl h
+aim-small c (at_management e) l o h = managed-small c e l o h
+aim-small c (at_terminal e) l o h = terminal-small c e l h
+aim-small c (at_units unit) l o h = same-messages l (of_aim c (at_units unit) l).line refl refl h
+aim-small c at_no_link l o h = managed-small c tei_down (without_units l) tt (same-messages l (without_units l) refl refl h)
+
+-- What is taken waits no more.
+module _ (c : Config) (l : Line) (s : IsSound c l) (h : MessagesAreSmall l) where
+  abbrev LeavesSmall : Taken → Type 0
+  LeavesSmall t = MessagesAreSmall t.line
+
+  message-leaves : (b : Bool) → IfSome (cond b (option_map (with_own_message l) (terminals.offered (terminal_in l))) (option_map (with_message l) (teis.offered c.side l.management))) LeavesSmall
+  message-leaves true = go (terminals.offered (terminal_in l))
+    where
+      go : (o : Option (List ℕ)) → IfSome (option_map (with_own_message l) o) LeavesSmall
+      go None = tt
+      go (Some octets) = record { messages = h.messages; own = record { low = h.own.low; all = All-drop own.IsSmall 1 l.own.waiting h.own.all } }
+  message-leaves false = go (teis.offered c.side l.management)
+    where
+      go : (o : Option (List ℕ)) → IfSome (option_map (with_message l) o) LeavesSmall
+      go None = tt
+      go (Some octets) = record { messages = All-drop IsSmall 1 l.management.waiting h.messages; own = h.own }
+
+  unit-leaves : (o : Option UnitData) → IfSome (option_map (with_unit c l) o) LeavesSmall
+  unit-leaves None = tt
+  unit-leaves (Some unit) = same-messages l (with_unit c l unit).line refl refl h
+
+  link-leaves : (t : Taken) → OfLink c l t → LeavesSmall t
+  link-leaves t x = subst LeavesSmall (sym x.is) (same-messages l (with_given_frame c l x.number (terms c (service_at x.number) x.tei) x.what).line refl refl h)
+
+  first-leaves : (o : Option Taken) → IfSome o (OfLink c l) → IfSome o LeavesSmall
+  first-leaves None x = tt
+  first-leaves (Some t) x = link-leaves t x
+
+  leaves-small : IfSome (taken c l) LeavesSmall
+  leaves-small =
+      either LeavesSmall (message_taken c l) (option_or (unit_taken c l) (first_taken c l (round c l))) (message-leaves (is_terminal c))
+      (either LeavesSmall (unit_taken c l) (first_taken c l (round c l)) (unit-leaves (slice_get l.units 0))
+      (first-leaves (first_taken c l (round c l)) (of-links c l s (round c l) (round_below c l))))
+
+  next-small : MessagesAreSmall (option_map_or line_of (taken c l) l)
+  next-small = go (taken c l) leaves-small
+    where
+      go : (o : Option Taken) → IfSome o LeavesSmall → MessagesAreSmall (option_map_or line_of o l)
+      go None x = h
+      go (Some t) x = x
+
+aimed : (c : Config) (o : Option Refusal) (r : Request) (l : Line) → MessagesAreSmall l → MessagesAreSmall (of_aim c (unless_refused o (aim_of_request r l)) l).line
+aimed c (Some why) r l h = h
+aimed c None r l h = aim-small c (aim_of_request r l) l (requests-tell r l) h
+
+pub messages-after : (c : Config) (e : Event) (l : Line) (a : Answer) → IsSound c l → All GivesOctets (seen e a) → MessagesAreSmall l → MessagesAreSmall (after c e l)
 unfolding after
 messages-after c (hears what) l a s gives h = aim-small c (aim_of_heard c l what) l (heard-aims c l what (All-head GivesOctets (heard what) (seen_told a) gives)) h
-messages-after c e l a s gives h = grind (arith, aim-small, next-small)
+messages-after c (expiry timer) l a s gives h = aim-small c (aim_of_expiry timer l) l (expiries-tell timer l) h
+messages-after c (request r) l a s gives h = aimed c (refusal c false r l) r l h
+messages-after c next l a s gives h = next-small c l s h

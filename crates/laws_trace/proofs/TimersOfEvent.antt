@@ -1,6 +1,7 @@
 -- What is known of a link stays true: each event of a line.
 use Rattle.laws_trace.proofs.Vocabulary.{true≢false, true, false}
-use Rattle.laws_trace.proofs.Vocabulary.{arith, ◌≡◌, ℕ, ◌&&◌, ◌||◌, Bool, cond, [], map, Option, Some, None, option_map, refl, sym, ap, ◌∙◌, subst, ◌⊎◌, inl, inr, All, option_to_list, option_map_or, All-head, Service, Parts, place_of-is, HasItsTimer, State, Terms, LinkTimer, Link, Given, runs, Config, next, Answer, NextFrame, gave, Line, link_in, link_of, link_number, place_in, state_of, state_in}
+use Rattle.laws_trace.proofs.Vocabulary.{arith, ◌≡◌, ℕ, ◌&&◌, ◌||◌, Bool, cond, [], map, Option, Some, None, option_map, refl, sym, ap, ◌∙◌, subst, ◌⊎◌, inl, inr, All, option_to_list, option_map_or, All-head, Service, Parts, place_of-is, HasItsTimer, State, Terms, LinkTimer, Link, Given, runs, Config, next, Answer, NextFrame, gave, Line, link_in, link_of, link_number, place_in, state_of}
+use Rattle.laws_trace.proofs.Vocabulary.{state_in}
 use Rattle.laws_trace.proofs.Vocabulary.{terms, taken, next_of, IsInRange, terms_in_range, IsBy, timer_of, is_needed, left_by, HaveTheirTimers, T200, T203, fresh_link as fresh, Event, line_after as after, answer, line_frame_of as frame_of, IsSound, is_for, trace_frame_in as frame_in, seen, none-some, link_after, given, course}
 use Rattle.model_link.specs.Events as link
 use Rattle.model_link.specs.Sound as link_sound

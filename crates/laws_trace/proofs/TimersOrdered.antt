@@ -1,9 +1,12 @@
 -- What is ordered of the timers of a link is what is due: the law.
-use Rattle.laws_trace.proofs.Vocabulary.{arith, ◌≡◌, ℕ, ◌+◌, ◌<◌, ◌==◌, ◌&&◌, ◌||◌, not, Bool, true, false, cond, List, [], ◌∷◌, ◌++◌, refl, sym, ap, ◌∙◌, subst, ⊎_elim, eq-eqb, true≢false, and_parts, is_some, fold, fold-append, nat_lt, All-nil, All-cons, All-append, Service, Order, Timer, LinkTimer, obeyed, Config, hears, expiry, request, next, orders_in, IsInRange, timer_of, is_needed, left_by}
+use Rattle.laws_trace.proofs.Vocabulary.{arith, ◌≡◌, ℕ, ◌+◌, ◌<◌, ◌==◌, ◌&&◌, ◌||◌, not, Bool, true, false, cond, List, [], ◌∷◌, ◌++◌, refl, sym, ap, ◌∙◌, subst, ⊎_elim, eq-eqb, true≢false, and_parts, is_some, fold, fold-append, nat_lt, All-nil, All-cons, All-append, Service, Order, Timer, LinkTimer, obeyed, Config, hears, expiry, request, next, orders_in, IsInRange, timer_of, is_needed}
+use Rattle.laws_trace.proofs.Vocabulary.{left_by}
 use Rattle.laws_trace.proofs.Vocabulary.{Card, line_at, at, moments, runs_at_callers, eqb-true, T200, T203, fresh, CardEvent as Event, after, Moment, after_all, IsAtLine, AreAtLines, runs_then, one_more, Managed, managing_is_on as is_on, due, brings, Observed, View, in_state, anew, awaits, enquires, enters, by_t200, by_event, view_of, moment_of, view_behind, TimersAreTimely, is_own, Always}
-use Rattle.laws_trace.proofs.Vocabulary.{or-false, T201, TimerT203, TimerT200, after_all-append}
+use Rattle.laws_trace.proofs.Vocabulary.{list_any, or-false, T201, TimerT203, TimerT200, after_all-append}
+use Rattle.lapd_frame.specs.declared.timers.Timer.TheVariants.{T202}
 use Rattle.model_line.specs.Event as line_event
 use Rattle.laws_trace.specs.TimersAreTimely as timely
+use Rattle.laws_trace.proofs.ObservedControls.{none-due}
 use Rattle.laws_trace.proofs.ObservedExpiries.{IsNoMore, same, zero, either, no-more, enquired, t200-enters}
 use Rattle.laws_trace.proofs.ObservedLaws.{known-now, on-line-now, timers-run-so, started-so, moved_or_renewed}
 use Rattle.laws_trace.proofs.OrdersOfLink.{order_by}
@@ -118,6 +121,10 @@ module _ (c : Config) (events : List Event) (number : ℕ) (ranged : IsInRange c
   abbrev renewed : LinkTimer → line_event.Event → Bool
   renewed timer what = was.state == 7 && brings (timely.renews timer was.acknowledged was.busy) c service tei what
 
+  -- an expiry of a timer of a link takes no TEI off the line
+  none-ends : (of : Service) (by : ℕ) (w : Managed) → is_on tei (due c (expiry (TimerT200 of by)) w) ≡ is_on tei w
+  none-ends of by w = ap (list_any (λ on. on == tei)) (none-due c w)
+
   -- T200 that expires is counted, or the link leads on.
   other-t200 : (of : Service) (by : ℕ) → is_own service tei of by ≡ false → IsNoMore was (then_of (expiry (TimerT200 of by)))
   other-t200 of by other =
@@ -132,7 +139,7 @@ module _ (c : Config) (events : List Event) (number : ℕ) (ranged : IsInRange c
       let what = expiry (TimerT200 of by) in
       ap (λ b. not (cond b false (awaits was)) || moved_or_renewed c service tei T200 was (then_of what) what) own
       ∙ ended (awaits was) (not (was.state == (then_of what).state)) (nat_lt was.expiries (then_of what).expiries) (renewed T200 what)
-      (λ waits. ap (enters was) (on-then T200 what (λ w. refl) waits ∙ ap (λ b. cond b (by_t200 c.n200 was) was) own) ∙ t200-enters was c.n200 waits)
+      (λ waits. ap (enters was) (on-then T200 what (none-ends of by) waits ∙ ap (λ b. cond b (by_t200 c.n200 was) was) own) ∙ t200-enters was c.n200 waits)
 
   -- T203 that expires leads on.
   not-t200 : (what : line_event.Event) (timer : LinkTimer) → ((of : Service) (by : ℕ) → what ≡ expiry (TimerT200 of by) → ⊥) → IsNoMore was (then_of what)
@@ -143,14 +150,21 @@ module _ (c : Config) (events : List Event) (number : ℕ) (ranged : IsInRange c
       let what = expiry (TimerT203 of by) in
       ap (λ b. not (cond b false (timely.runs T203 was)) || moved_or_renewed c service tei T203 was (then_of what) what) other
       ∙ by-plain T203 what (not-t200 what T203 (λ of by is. cc is))
-  t203-of of by true own = grind (arith, moved_or_renewed, ended, on-then, enquired, eqb-true, and_parts)
+  t203-of of by true own =
+      let what = expiry (TimerT203 of by) in
+      let runs_on : Bool = timely.runs T203 was in
+      ap (λ b. not (cond b false runs_on) || moved_or_renewed c service tei T203 was (then_of what) what) own
+      ∙ ended runs_on (not (was.state == (then_of what).state)) (nat_lt was.expiries (then_of what).expiries) (renewed T203 what)
+      (λ runs.
+      ap (enters was) (on-then T203 what (λ w. ap (list_any (λ on. on == tei)) (none-due c w)) runs ∙ ap (λ b. cond (b && runs_on) (enquires was) was) own ∙ ap (λ b. cond b (enquires was) was) runs)
+      ∙ enquired was (eqb-true was.state 7 (and_parts (was.state == 7) (not (awaits was)) runs).0))
 
   -- While T203 runs an expiry of T200 does nothing.
   idle-then : (of : Service) (by : ℕ) → is_own service tei of by ≡ true → timely.runs T203 was ≡ true → then_of (expiry (TimerT200 of by)) ≡ was
   idle-then of by own runs =
       let parts = and_parts (was.state == 7) (not (awaits was)) runs in
       let last = cond (nat_lt was.expiries c.n200) (record was { expiries = was.expiries + 1 }) (cond (was.state == 8) (anew was) (in_state 4)) in
-      on-then T203 (expiry (TimerT200 of by)) (λ w. refl) runs ∙ ap (λ b. cond b (by_t200 c.n200 was) was) own
+      on-then T203 (expiry (TimerT200 of by)) (none-ends of by) runs ∙ ap (λ b. cond b (by_t200 c.n200 was) was) own
       ∙ ap (λ b. cond b (cond (awaits was) (enquires was) was) (cond (not (awaits was)) was last)) parts.0
       ∙ ap (λ b. cond b (enquires was) was) (not-so (awaits was) parts.1)
 
@@ -168,6 +182,8 @@ module _ (c : Config) (events : List Event) (number : ℕ) (ranged : IsInRange c
   due-so timer next = by-plain timer next (not-t200 next timer (λ of by is. cc is))
   due-so T200 (expiry T201) = by-plain T200 (expiry T201) (not-t200 (expiry T201) T200 (λ of by is. cc is))
   due-so T203 (expiry T201) = by-plain T203 (expiry T201) (not-t200 (expiry T201) T203 (λ of by is. cc is))
+  due-so T200 (expiry T202) = by-plain T200 (expiry T202) (not-t200 (expiry T202) T200 (λ of by is. cc is))
+  due-so T203 (expiry T202) = by-plain T203 (expiry T202) (not-t200 (expiry T202) T203 (λ of by is. cc is))
   due-so T200 (expiry (TimerT200 of by)) = t200-of of by (is_own service tei of by) refl
   due-so T203 (expiry (TimerT200 of by)) = t203-by-t200 of by (is_own service tei of by) refl
   due-so T200 (expiry (TimerT203 of by)) = by-plain T200 (expiry (TimerT203 of by)) (not-t200 (expiry (TimerT203 of by)) T200 (λ of by is. cc is))

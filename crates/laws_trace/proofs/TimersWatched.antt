@@ -1,5 +1,6 @@
 -- A part of what an observer knows of a link, its numbers; and by it when timers run, and when they are started.
-use Rattle.laws_trace.proofs.Vocabulary.{◌≡◌, ℕ, ◌+◌, ◌%◌, ◌==◌, ◌&&◌, ◌||◌, not, Bool, true, false, List, fold, Option, Some, None, Result, Ok, Err, if◌then◌else◌, list_any, option_map_or, ReadFault, Information, ReceiveReady, ReceiveNotReady, Reject, Sabme, Service, Parts, reading, LinkTimer, Config, state_of, line_at, moments, runs_at_callers, Control, fresh, CardEvent as Event, after, Moment}
+use Rattle.laws_trace.proofs.Vocabulary.{◌≡◌, ℕ, ◌+◌, ◌%◌, ◌==◌, ◌&&◌, ◌||◌, not, Bool, true, false, List, fold, Option, Some, None, Result, Ok, Err, if◌then◌else◌, list_any, option_map_or, ReadFault, Information, ReceiveReady, ReceiveNotReady, Reject, Sabme, Service, Parts, reading, LinkTimer, Config, state_of, line_at, moments, runs_at_callers, Control, fresh, CardEvent as Event}
+use Rattle.laws_trace.proofs.Vocabulary.{after, Moment}
 use Rattle.laws_trace.proofs.Vocabulary.{after_all, is_for, frame_of, Seen, heard, trace_begun as begun, seen_in, TimerT200 as T200, TimerT203 as T203, own_side}
 use Rattle.laws_trace.proofs.States.{is_state, state_before, state_after, differ}
 use Rattle.laws_trace.specs.TimersAreTimely as timely

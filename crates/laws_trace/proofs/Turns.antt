@@ -1,5 +1,5 @@
 -- Links take turns: over runs of a card of which a line is only called for its next frame.
-use Rattle.laws_trace.proofs.Vocabulary.{◌≡◌, ℕ, ◌+◌, ◌*◌, ◌/◌, ◌<◌, ◌≤◌, Bool, true, false, List, Result, refl, ap, arith, not, Address, Side, Ui, ReadFault, Parts, spelling, reading-again, option_map_or, Control, is_ui, result_ok, Sender, exchanged, exchanged-back, cr_bit, ◌∙◌}
+use Rattle.laws_trace.proofs.Vocabulary.{◌≡◌, ℕ, ◌+◌, ◌*◌, ◌/◌, ◌<◌, ◌≤◌, Bool, true, false, List, Result, refl, ap, arith, not, Address, Ui, ReadFault, Parts, spelling, reading-again, option_map_or, Control, is_ui, result_ok, Sender, exchanged, exchanged-back, cr_bit, ◌∙◌}
 use Rattle.laws_trace.proofs.LinkNames.{named_in, is_of_a_link}
 use Rattle.laws_trace.proofs.ReadAgain.{read-again}
 use Rattle.lapd_frame.proofs.AddressField.{cr_bit-small}

@@ -11,8 +11,8 @@ use Rattle.lapd_tei.specs.Machine.{Management}
 use Rattle.model_line.specs.Effect.{at_terminal}
 use Rattle.model_line.specs.Event.{LineTold}
 use Rattle.model_line.specs.Line.{Own}
-use Rattle.laws_trace.proofs.Vocabulary.{◌≡◌, ℕ, true, get_or, Option, Some, None, sym, ap, ◌∙◌, subst, arith, eq-eqb, true≢false, none-some, get_or-set_same, get_or-set_other, Places, is_on, Change, Left, Config, IsInRange, ranges_of, Aim, at_management, at_no_link, of_aim, of_change, told_of_management, IsProper, heard_proper, expiry_proper, request_proper, next, Line, fresh_line, next-moves}
-use Rattle.laws_trace.proofs.Vocabulary.{Card, line_at, by_room, has_lines, eqb-true, IsSound, CardEvent as Event, after, IsAtLine, line_sound, by-down, Moves, changes_are_told, line_after, tei_told, tei_after}
+use Rattle.laws_trace.proofs.Vocabulary.{◌≡◌, ℕ, true, get_or, Option, Some, None, sym, ap, ◌∙◌, subst, arith, eq-eqb, true≢false, none-some, get_or-set_same, get_or-set_other, Places, is_on, Change, Left, Config, IsInRange, ranges_of, Aim, at_management, at_no_link, of_aim, of_change, IsProper, heard_proper, expiry_proper, request_proper, next, Line, fresh_line, next-moves}
+use Rattle.laws_trace.proofs.Vocabulary.{Card, line_at, by_room, has_lines, eqb-true, IsSound, CardEvent as Event, after, IsAtLine, line_sound, by-down, Moves, line_after}
 use Rattle.model_line.specs.Event as line_event
 use Rattle.model_card.specs.Sound as card_sound
 use Rattle.laws_trace.proofs.ManagingTables.{clear-same}

@@ -1,6 +1,7 @@
 -- Unit data goes out in the order in which it was granted, over runs.
 use Rattle.lapd_terminal.specs.Messages.{information_of as own_information_of}
-use Rattle.laws_trace.proofs.Vocabulary.{arith, ◌≡◌, ℕ, ◌<◌, ◌≤◌, ◌==◌, ◌&&◌, Bool, true, false, cond, List, [], ◌∷◌, ◌++◌, drop, map, slice_get, Option, Some, None, option_map, refl, sym, ap, ◌∙◌, subst, inl, inr, append-nil, All, not, filter, get_or-replicate, map-append, All-nil, All-head, Ui, sapi_of, IsInOrder, Link, ControlFrame, Config, hears, expiry, request, next, NextFrame, Answer, gave}
+use Rattle.laws_trace.proofs.Vocabulary.{arith, ◌≡◌, ℕ, ◌<◌, ◌≤◌, ◌==◌, ◌&&◌, Bool, true, false, cond, List, [], ◌∷◌, ◌++◌, drop, map, slice_get, Option, Some, None, option_map, refl, sym, ap, ◌∙◌, subst, inl, inr, append-nil, All, not, filter, get_or-replicate, map-append, All-nil, All-head, Ui, sapi_of, IsInOrder, Link, ControlFrame, Config, hears, expiry, request, next, NextFrame}
+use Rattle.laws_trace.proofs.Vocabulary.{Answer, gave}
 use Rattle.laws_trace.proofs.Vocabulary.{Line, UnitData, link_count, link_at, service_at, terms, fresh_line, management_sapi, Taken, taken, unit_frame, next_of, IsInRange, IsUnitData, IsOfLink, IsOwed, IsIdle, contents_of_link, units_asked, event-follows, event-happens, served, units-wait, fold, information_of, fresh_link as fresh, Event, line_after as after, answer, Request, IsSound}
 use Rattle.laws_trace.proofs.Vocabulary.{trace_frame_in as frame_in, Seen, seen_told, seen_granted, seen, frames_begun, IsFront, units_left, is_ui, is_down, is_unit, waits, trace_begun as begun, granted, fold-append, trace, seen_in, Moment, own_side}
 use Rattle.laws_trace.proofs.NoUi.{IsPlain, all-left}

@@ -1,5 +1,6 @@
 -- Unit data is granted where there is room for it: the law.
-use Rattle.laws_trace.proofs.Vocabulary.{or-true, and-false, managing_is_on as is_on, view_of, ◌≡◌, ℕ, ◌≤◌, ◌==◌, ◌&&◌, ◌||◌, Bool, true, false, not, cond, nat_le, nat_lt, length, Option, Some, None, is_some, refl, sym, ap, ◌∙◌, arith, lt-ltb, eqb-true, le-ltb, leb-true, leb-false, BadTei, NoLink, place_of-is, Config, Effect, Line, has_tei, place_in, unit_frame, unless_refused_told, Card, line_at}
+use Rattle.laws_trace.proofs.Vocabulary.{or-true, and-false, managing_is_on as is_on, view_of, ◌≡◌, ℕ, ◌≤◌, ◌==◌, ◌&&◌, ◌||◌, Bool, true, false, not, cond, nat_le, nat_lt, length, Option, Some, None, is_some, refl, sym, ap, ◌∙◌, arith, lt-ltb, eqb-true, le-ltb, leb-true, leb-false, BadTei, NoLink, place_of-is, Config, Effect, Line, has_tei, place_in, unit_frame, unless_refused_told}
+use Rattle.laws_trace.proofs.Vocabulary.{Card, line_at}
 use Rattle.laws_trace.proofs.Vocabulary.{is_full, answer_is, refusal, fresh, after_all, units_of, Always, of_request, config-stays, length-map, Side, User, Network, Refusal, TooLong, QueueFull, PoolFull, last_unit_tei, used, is_granted, manages}
 use Rattle.model_line.specs.Request.{Unit}
 use Rattle.laws_trace.specs.NoSlotIsLost.{slots_taken}

@@ -1,6 +1,7 @@
 -- Unit data that is heard is told: the law.
 use Rattle.laws_trace.proofs.Vocabulary.{arith, ◌≡◌, ℕ, ◌≤◌, ◌==◌, ◌&&◌, ◌||◌, Bool, true, false, List, length, Option, Some, None, refl, sym, ap, ◌∙◌, subst, true≢false, ◌⊎◌, inl, inr, Ok, is_some, ◌∷◌, ◌++◌, list_any, option_or, le-leb, none-some, User, Ui, Service, Parts, reading, sapi_of, service_of, in_ui_frame, in_sequence, within, event-unit, data-is, Terms, eligible_of, Link, notes-own}
-use Rattle.laws_trace.proofs.Vocabulary.{event-tells, Config, hears, Answer, heard_side, Line, link_of, place_in, state_of, terms, IsToGroup, IsInRange, line_at, at, notes_of, contents_in, is_unit_of, group-read, own-all, service-same, both-true, IsBy, card_answer as answer, eqb-true, Control, link_information_of as information_of, Event as LineEvent, IsSound, fresh, CardEvent as Event, after_all}
+use Rattle.laws_trace.proofs.Vocabulary.{event-tells, Config, hears, Answer, heard_side, Line, link_of, place_in, state_of, terms, IsToGroup, IsInRange, line_at, at, notes_of, contents_in, is_unit_of, group-read, own-all, service-same, both-true, IsBy, card_answer as answer, eqb-true, Control, link_information_of as information_of, Event as LineEvent, IsSound, fresh, CardEvent as Event}
+use Rattle.laws_trace.proofs.Vocabulary.{after_all}
 use Rattle.laws_trace.proofs.Vocabulary.{AreAtLines, result_ok, is_for, Always, is_ui, link_told as told, stream_frame}
 use Rattle.model_link.specs.Events as link
 use Rattle.model_link.specs.Sound as link_sound

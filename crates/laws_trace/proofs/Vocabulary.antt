@@ -133,7 +133,7 @@ pub use Rattle.laws_trace.specs.Managing.{manages, Checked, Managed, asked, by_e
 pub use Rattle.laws_trace.specs.News.{NewsIsTold, brings, given_up, is_news, is_sabme, is_xid, releases, wrong, wrong_frame, wrong_number}
 pub use Rattle.laws_trace.specs.Observer.{Observed, View, anew, at_first, awaits, by_event, by_expiry as observer_by_expiry, by_frame as observer_by_frame, by_heard, by_request as observer_by_request, by_t200, enquires, enters, in_state, is_invalid as observer_is_invalid, takes_next, is_outstanding, moment_of, steps, takes as observer_takes, view_behind, view_of, views, while_down, while_up}
 pub use Rattle.laws_trace.specs.Outgoing.{Outgoing, data_granted, is_empty, keeps, nothing_yet, outgoing_of, still_owes, watches, went_on, waits as outgoing_waits}
-pub use Rattle.laws_trace.specs.TeisAreManaged.{IsAsDue, TeisAreManaged, is_of_t201, is_of_teis}
+pub use Rattle.laws_trace.specs.TeisAreManaged.{IsAsDue, TeisAreManaged, is_of_line, is_of_teis}
 pub use Rattle.laws_trace.specs.TimersAreTimely.{TimersAreTimely, TimersRun, is_order_of, renews}
 pub use Rattle.laws_trace.specs.Trace.{Always, IsAmong, IsFront, Seen, begun as trace_begun, data_asked, frame_begun, frame_in as trace_frame_in, frames_begun, granted, heard, is_own, is_up, lost, noted as trace_noted, seen, seen_granted, seen_in, seen_told, trace, trace_of}
 pub use Rattle.laws_trace.specs.Units.{is_down, is_ui}

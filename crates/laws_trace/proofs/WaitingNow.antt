@@ -1,5 +1,6 @@
 -- The control frames of a link that wait are those that an observer has.
-use Rattle.laws_trace.proofs.Vocabulary.{arith, ◌≡◌, ℕ, ◌<◌, ◌-◌, ◌==◌, ◌&&◌, false, cond, not, List, [], ◌++◌, drop, take, length, Some, refl, sym, ap, ◌∙◌, subst, eq-eqb, fold, Service, ControlFrame, Link, Config, Line, link_of, place_in, lost_in, IsInRange, at, moments, deactivates, fresh, CardEvent as Event, Moment, after_all, AreAtLines, Observed, View, views, view_of, moment_of, view_behind}
+use Rattle.laws_trace.proofs.Vocabulary.{arith, ◌≡◌, ℕ, ◌<◌, ◌-◌, ◌==◌, ◌&&◌, false, cond, not, List, [], ◌++◌, drop, take, length, Some, refl, sym, ap, ◌∙◌, subst, eq-eqb, fold, Service, ControlFrame, Link, Config, Line, link_of, place_in, lost_in, IsInRange, at, moments, deactivates, fresh, CardEvent as Event, Moment, after_all, AreAtLines, Observed, View, views, view_of, moment_of}
+use Rattle.laws_trace.proofs.Vocabulary.{view_behind}
 use Rattle.laws_trace.proofs.Vocabulary.{put_in, outgoing_of, seen, seen_in, trace_of, true, Bool, All, ◌∷◌, map, flat_map, filter, Option, None, option_to_list, inl, inr, append-nil, place_of-is, given-in-order, IsInOrder, All-head, Refusal, Terms, Given, IsGiven, given_is_frame, Effect, next, Answer, unless_refused_told, is_information, terms, terms_in_range, PoolFull, and_parts, line_at}
 use Rattle.laws_trace.proofs.Vocabulary.{is_full, by_room, Control, IsSound, line_frame_of as frame_of, Card, card_answer as answer, is_frame_of, trace_frame_in as frame_in, is_ui, drop-nil, offer, link_after as after, given, outgoing_waits}
 use Rattle.model_line.specs.Event as line_event
@@ -20,7 +21,7 @@ use Rattle.laws_trace.proofs.StandingOfLink.{calm}
 use Rattle.laws_trace.proofs.TimersWatched.{nothing_yet as known_first, watch}
 use Rattle.laws_trace.proofs.Outgoing.{comes, its, behind_of, here-at, has-now}
 use Rattle.laws_trace.proofs.LinkLed.{on-line}
-use Rattle.laws_trace.proofs.ObservedRun.{holds-now, known-is}
+use Rattle.laws_trace.proofs.ObservedRun.{holds-here, known-is}
 use Rattle.laws_trace.proofs.TimersAreTimely.{config-now, sound-now, timely-now}
 use Rattle.laws_trace.proofs.Facts.{not-one, some-of}
 use Rattle.model_link.specs.Sound as link_sound
@@ -149,7 +150,7 @@ module _ (c : Config) (number : ℕ) (ranged : IsInRange c) (within : number < c
       ≡ last_of (due_by d v.link (views d service tei number v m).link m) m) (config-now c before number ranged all within service tei)
       (due-same service tei number card (sound-now c before number ranged all within service tei) (timely-now c before number ranged all within service tei) (at number what) (here-at c number ranged within service tei before all)
       (fold (watch c service tei number) known_first ms) (fold (asked service tei number) false ms) (fold (owing c service tei number) none_owed ms)
-      (known-is c before number ranged all within service tei ms known_first none_owed refl) (fold (repeated service tei number) 0 ms) v (holds-now c before number ranged all within service tei)
+      (known-is c before number ranged all within service tei ms known_first none_owed refl) (fold (repeated service tei number) 0 ms) v (holds-here c before number ranged all within service tei)
       w.told.count w.busy w.rejected (x.1, x.2) (agrees-now c before number ranged all within service tei))
 
   -- as it is by what is seen,

@@ -13,7 +13,7 @@ use Rattle.model_card.specs.Event.{Event, at}
 use Rattle.model_card.specs.Run.{moments, after_all}
 use Rattle.model_card.specs.Takes.{is_take, takes_of, frames_given}
 use Rattle.laws_trace.specs.FramesAreDue.{text}
-use Rattle.laws_trace.specs.Managing.{is_on, managed_after}
+use Rattle.laws_trace.specs.Managing.{is_on, managed_after, own_of}
 use Rattle.laws_trace.specs.NoLossInVain.{puts_by}
 use Rattle.laws_trace.specs.Observer.{moment_of}
 use Rattle.laws_trace.specs.Outgoing.{outgoing_of}
@@ -21,7 +21,9 @@ use Rattle.laws_trace.specs.UnitsGoOut.{units_of}
 
 -- Frames with priority over links (profile): messages of TEI management that are owed, and unit data that waits.
 abbrev pub priority_waiting : Config → ℕ → List Event → ℕ
-priority_waiting c line past = length (managed_after c line past).owed + length (units_of c past line)
+priority_waiting c line past =
+    let w = managed_after c line past in
+    length w.owed + length (own_of c w).owed + length (units_of c past line)
 
 -- How many more of them come during `later`. A call for the next frame only takes one away, so it counts as none.
 unfoldable pub priority_added : Config → ℕ → List Event → List Event → ℕ

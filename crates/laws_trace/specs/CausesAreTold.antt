@@ -20,9 +20,11 @@ use Rattle.model_line.specs.Event as line_event
 use Rattle.model_line.specs.Event.{hears, told}
 use Rattle.model_line.specs.Laws.{cause_in}
 use Rattle.model_line.specs.Heard.{heard_side}
+use Rattle.model_line.specs.Line.{is_terminal}
 use Rattle.model_card.specs.Event.{Event}
 use Rattle.laws_trace.specs.Deliveries.{is_unit_taken}
-use Rattle.laws_trace.specs.Managing.{Checked, Managed, is_on, may_check, managed_after, manages}
+use Rattle.laws_trace.specs.Managing.{Checked, Managed, is_on, may_check, managed_after, manages, own_of}
+use Rattle.laws_trace.specs.ManagingTerminal.{by_message}
 use Rattle.laws_trace.specs.Observer.{view_of, moment_of}
 use Rattle.laws_trace.specs.Trace.{is_up}
 use Rattle.laws_trace.specs.Units.{is_ui}
@@ -38,13 +40,22 @@ serves (Ui p) state = false
 serves (Dm f) state = is_up state || (f && (state == 5 || state == 6))
 serves other state = is_up state
 
--- TEI management serves three messages of a terminal (clause 5.3.1, table 8), as `by_message` has them: it asks for any TEI; it
--- answers a check of its TEI, while that runs; and it asks for a check of a TEI that may be checked (profile).
+-- TEI management of the network's side serves three messages of a terminal (clause 5.3.1, table 8), as `by_message` has them: it asks
+-- for any TEI; it answers a check of its TEI, while that runs; and it asks for a check of a TEI that may be checked (profile).
 abbrev pub serves_message : Managed → List ℕ → Bool
 serves_message w (entity ∷ high ∷ low ∷ type ∷ last ∷ []) =
     (entity == 0x0F && last % 2 == 1)
     && ((type == 1 && last / 2 == 127) || (type == 5 && option_map_or (λ (check : Checked). check.tei == last / 2) w.check false) || (type == 7 && may_check (last / 2) w))
 serves_message w other = false
+
+-- Of a terminal it serves the messages of the network by which something comes to happen to it (`by_message` of a terminal), and no
+-- others (profile).
+abbrev pub serves_information : Config → Managed → List ℕ → Bool
+serves_information c w info = if is_terminal c then is_some (by_message info (own_of c w)) else serves_message w info
+
+-- They come in UI frames, and at a terminal in commands. A trunk's end serves none (clause 5.3.1 and profile).
+abbrev pub hears_messages : Config → Parts → Bool
+hears_messages c f = is_ui f.control && (manages c.side || (is_terminal c && f.address.command))
 
 -- A frame is by its address for TEI management, which has SAPI 63 and the TEI of the group; or for the link of a service with a
 -- TEI on the line, in its state; or for none, by its SAPI, and else by its TEI (clauses 2.9, 3.3.3, 3.3.4 and 5.3.1).
@@ -67,7 +78,7 @@ by_fault malformed Short = Some Unserved
 abbrev pub by_frame : Config → Managed → (Service → ℕ → ℕ) → Result Parts ReadFault → Option Cause
 by_frame c w states (Ok f) =
     if is_some (service_of f.address.sapi) && is_unit_taken c f.address.tei w f then None
-    else by_address w states (serves f.control) ((manages c.side && is_ui f.control) && serves_message w f.info) f.address
+    else by_address w states (serves f.control) (hears_messages c f && serves_information c w f.info) f.address
 by_frame c w states (Err fault) = by_fault (by_address w states is_up false) fault
 
 abbrev pub by_long : Managed → (Service → ℕ → ℕ) → Result Long ReadFault → Option Cause

@@ -11,6 +11,7 @@ pub mod FramesAreRead
 pub mod TurnsMeanwhile
 pub mod ControlFrames
 pub mod Managing
+pub mod ManagingTerminal
 pub mod TeisAreManaged
 pub mod NoLossInVain
 pub mod AnswersAreGiven

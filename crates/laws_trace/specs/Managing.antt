@@ -1,8 +1,8 @@
 -- What an observer of a line knows of its TEIs, by the procedures of Q.921 clause 5.3, and what is due by them: by what
--- terminals say, what management asks for, and T201.
-use Rattle.std.specs.Prelude.{ℕ, ◌==◌, ◌&&◌, ◌||◌, not, nat_lt, nat_le, Bool, true, false, List, [], ◌∷◌, ◌++◌, ◌+◌, ◌-◌, ◌*◌, ◌/◌, ◌%◌, length, take, drop, filter, fold, Option, Some, None, is_some, if◌then◌else◌}
+-- terminals say, what management asks for, and T201. Of a terminal's line it is what `OfTerminal` says.
+use Rattle.std.specs.Prelude.{ℕ, ◌==◌, ◌&&◌, ◌||◌, not, nat_lt, nat_le, Bool, true, false, List, [], ◌∷◌, ◌++◌, ◌+◌, ◌-◌, ◌*◌, ◌/◌, ◌%◌, length, map, take, drop, filter, fold, Option, Some, None, is_some, if◌then◌else◌}
 use Rattle.std.specs.List.{list_any, find, range_with_len}
-use Rattle.std.specs.Option.{option_map_or}
+use Rattle.std.specs.Option.{option_map_or, unwrap_or}
 use Rattle.lapd_frame.specs.declared.addresses.Side.{Side}
 use Rattle.lapd_frame.specs.declared.addresses.Side.TheVariants.{Network, User}
 use Rattle.lapd_frame.specs.declared.notes.Note.{Note}
@@ -16,10 +16,12 @@ use Rattle.lapd_tei.specs.declared.messages.Message.{Message}
 use Rattle.lapd_tei.specs.declared.messages.Message.TheVariants.{IdentityAssigned, IdentityDenied, IdentityCheckRequest, IdentityRemove}
 use Rattle.model_line.specs.declared.config.Config.{Config}
 use Rattle.model_line.specs.Event.{Event, hears, expiry, request, next}
-use Rattle.model_line.specs.Request.{Request, Assign, Remove, Check, Disown, Down}
+use Rattle.model_line.specs.Line.{is_terminal}
+use Rattle.model_line.specs.Request.{Request, Assign, Remove, Check, Disown, AskTei, VerifyTei, Down}
 use Rattle.model_card.specs.Event as card
 use Rattle.laws_trace.specs.LinkFrames.{frame_of}
-use Rattle.laws_trace.specs.Units.{is_ui}
+use Rattle.laws_trace.specs.ManagingTerminal as terminal
+use Rattle.laws_trace.specs.ManagingTerminal.{OfTerminal, own_on, teis_of, is_message}
 
 -- A check of a TEI: whether one of its terminals has answered since they were asked; and, once they were asked again, whether
 -- one had before (clause 5.3.3.2).
@@ -29,21 +31,23 @@ pub record Checked : Type 0 where
   pub before : Option Bool
 
 -- The TEIs on the line; the latest four assignments that hold (profile); the check that runs; and the messages that are
--- owed to terminals and have not begun, the oldest first. And what is due by the latest event: what is told of TEIs, what is
--- ordered of T201, how many messages are lost, which begins, and whether what management asked for is granted.
+-- owed to terminals and have not begun, the oldest first. Of a terminal's line, what is known after an event of it. And what is due by
+-- the latest event: what is told of TEIs, what is ordered of T201 or T202, how many messages are lost, which begins, in octets, and
+-- whether what management asked for is granted.
 pub record Managed : Type 0 where
   pub on : List ℕ
   pub held : List Remembered
   pub check : Option Checked
   pub owed : List Message
+  pub own : Option OfTerminal
   pub notes : List Note
   pub orders : List Order
   pub lost : ℕ
-  pub begins : List Message
+  pub begins : List (List ℕ)
   pub granted : Option Bool
 
 abbrev pub none_on : Managed
-none_on = record { on = []; held = []; check = None; owed = []; notes = []; orders = []; lost = 0; begins = []; granted = None }
+none_on = record { on = []; held = []; check = None; owed = []; own = None; notes = []; orders = []; lost = 0; begins = []; granted = None }
 
 abbrev pub nothing_due : Managed → Managed
 nothing_due w = record w { notes = []; orders = []; lost = 0; begins = []; granted = None }
@@ -121,18 +125,16 @@ by_message c w (entity ∷ high ∷ low ∷ type ∷ last ∷ []) =
     else w
 by_message c w other = w
 
--- The network's side alone manages TEIs (clause 5.3.1): the user's serves no message, and removes, checks and disowns none
--- (profile).
+-- A trunk's end manages no TEI: it serves no message, and removes, checks and disowns none (profile).
 abbrev pub manages : Side → Bool
 manages Network = true
 manages User = false
 
 abbrev pub by_frame : Config → Managed → Parts → Managed
-by_frame c w f =
-    if manages c.side && ((f.address.sapi == 63 && f.address.tei == 127) && is_ui f.control) then by_message c w f.info else w
+by_frame c w f = if manages c.side && is_message f then by_message c w f.info else w
 
--- What management asks for, and whether it is granted (clauses 4.1.1.5, 5.3.3 and 5.3.4). The user's side neither removes
--- a TEI, nor checks one, nor disowns one (profile). A TEI that is disowned is not on the line, and terminals that use it are to
+-- What management asks for, and whether it is granted (clauses 4.1.1.5, 5.3.3 and 5.3.4). A trunk's end neither removes a TEI, nor
+-- checks one, nor disowns one (profile), and only a terminal asks for one or has it verified. A TEI that is disowned is not on the line, and terminals that use it are to
 -- give it up (clause 5.3.4). That the line is down is always granted: no message is owed any more, and a check that runs
 -- ends without a result (annex B, persistent deactivation).
 abbrev pub grants : Bool → Managed → Managed → Managed
@@ -143,19 +145,40 @@ by_request c (Assign tei) w = grants (nat_le tei 126 && not (is_on tei w) && nat
 by_request c (Remove tei) w = grants (manages c.side && is_on tei w && not (is_full w)) (owes (IdentityRemove tei) (leaves tei w)) w
 by_request c (Check tei) w = grants (manages c.side && may_check tei w && not (is_full w)) (checks tei None w) w
 by_request c (Disown tei) w = grants (manages c.side && nat_le tei 127 && not (is_in_use tei w) && not (is_full w)) (owes (IdentityRemove tei) w) w
+by_request c AskTei w = grants false w w
+by_request c (VerifyTei tei) w = grants false w w
 by_request c Down w = record w { check = None; owed = []; orders = if is_some w.check then Stop T201 ∷ [] else []; granted = Some true }
 by_request c other w = w
+
+-- A message in octets: 0F, Ri with its high octet first, the type, and Ai with 1 as its extension bit; a denial has Ai 127, and a
+-- check request and a removal have Ri 0 (clause 5.3.1, its figure and table 8).
+abbrev pub octets_of : Message → List ℕ
+octets_of (IdentityAssigned ri tei) = 0x0F ∷ (ri / 256) ∷ (ri % 256) ∷ 2 ∷ (2 * tei + 1) ∷ []
+octets_of (IdentityDenied ri) = 0x0F ∷ (ri / 256) ∷ (ri % 256) ∷ 3 ∷ 0xFF ∷ []
+octets_of (IdentityCheckRequest tei) = 0x0F ∷ 0 ∷ 0 ∷ 4 ∷ (2 * tei + 1) ∷ []
+octets_of (IdentityRemove tei) = 0x0F ∷ 0 ∷ 0 ∷ 6 ∷ (2 * tei + 1) ∷ []
 
 -- What is due by an event of the line, and known behind it. As the line is called for its next frame, the oldest message begins.
 abbrev pub by_event : Config → Event → Managed → Managed
 by_event c (hears e) w = option_map_or (by_frame c w) (frame_of c e) w
 by_event c (expiry T201) w = option_map_or (ran_out w) w.check w
 by_event c (request r) w = by_request c r w
-by_event c next w = record w { owed = drop 1 w.owed; begins = take 1 w.owed }
+by_event c next w = record w { owed = drop 1 w.owed; begins = map octets_of (take 1 w.owed) }
 by_event c other w = w
 
+-- The same of a terminal's line, all of whose TEIs are at its places.
+abbrev pub of_terminal : Managed → OfTerminal → Managed
+of_terminal w t =
+    record w { on = teis_of t.places; own = Some t; notes = t.notes; orders = t.orders; begins = map terminal.octets_of t.begins; granted = t.granted }
+
+abbrev pub own_of : Config → Managed → OfTerminal
+own_of c w = terminal.none_due (unwrap_or w.own (own_on c))
+
+abbrev pub at_terminal : Config → Event → Managed → Managed
+at_terminal c e w = option_map_or (of_terminal w) (terminal.by_event c e (own_of c w)) w
+
 abbrev pub due : Config → Event → Managed → Managed
-due c e w = by_event c e (nothing_due w)
+due c e w = if is_terminal c then at_terminal c e (nothing_due w) else by_event c e (nothing_due w)
 
 -- What is known of a line of a card behind an event, and behind a list of them.
 abbrev pub led : Config → ℕ → Managed → card.Event → Managed

@@ -1,12 +1,13 @@
 -- Why unit data, and what management asks for, is refused.
-use Rattle.std.specs.Prelude.{◌≡◌, ℕ, ◌==◌, ◌&&◌, not, nat_le, nat_lt, List, length, Option, Some, None, is_some, IfSome, if◌then◌else◌}
+use Rattle.std.specs.Prelude.{◌≡◌, ℕ, ◌==◌, ◌&&◌, ◌||◌, not, nat_le, nat_lt, List, length, Option, Some, None, is_some, IfSome, if◌then◌else◌}
 use Rattle.lapd_frame.specs.declared.refusals.Refusal.{Refusal}
 use Rattle.lapd_frame.specs.declared.refusals.Refusal.TheVariants.{BadTei, NoLink, TooLong, QueueFull, PoolFull, WrongSide, TeiTaken, TableFull, CheckRunning, ControlFull}
 use Rattle.model_line.specs.declared.config.Config.{Config}
 use Rattle.model_line.specs.Event.{refused, request}
-use Rattle.model_line.specs.Request.{Request, Unit, Assign, Remove, Check, Disown}
+use Rattle.model_line.specs.Line.{is_terminal}
+use Rattle.model_line.specs.Request.{Request, Unit, Assign, Remove, Check, Disown, AskTei, VerifyTei}
 use Rattle.model_card.specs.Event.{Event}
-use Rattle.laws_trace.specs.Managing.{Managed, is_on, is_in_use, is_full, manages, managed_after}
+use Rattle.laws_trace.specs.Managing.{Managed, is_on, is_in_use, is_full, manages, managed_after, own_of}
 use Rattle.laws_trace.specs.NoSlotIsLost.{slots_taken}
 use Rattle.laws_trace.specs.Observer.{moment_of}
 use Rattle.laws_trace.specs.UnitsGoOut.{units_of}
@@ -22,8 +23,10 @@ why_no_unit c events number w tei contents =
     else if nat_le c.slots (slots_taken c events) then Some PoolFull
     else None
 
--- What management asks for is of a terminal's TEI. The user's side removes, checks and disowns none. The TEI is on the line, or to be
--- assigned or disowned it is not; a place is left for it; no check runs; and fewer than four messages are owed.
+-- What management asks for is of a terminal's TEI. A trunk's end removes none; the network's side alone checks and disowns one, and a
+-- terminal alone asks for one, or has it verified. The TEI is on the line, or to be assigned or disowned it is not; a place is left
+-- for it; no check runs, and no procedure of a terminal; and the network's side owes fewer than four messages. A terminal refuses
+-- nothing for want of room for a message.
 abbrev pub why_not : Config → List Event → ℕ → Managed → Request → Option Refusal
 why_not c events number w (Unit service tei contents) = why_no_unit c events number w tei contents
 why_not c events number w (Assign tei) =
@@ -32,10 +35,10 @@ why_not c events number w (Assign tei) =
     else if not (nat_lt (length w.on) c.terminals) then Some TableFull
     else None
 why_not c events number w (Remove tei) =
-    if not (manages c.side) then Some WrongSide
+    if not (manages c.side || is_terminal c) then Some WrongSide
     else if nat_lt 126 tei then Some BadTei
     else if not (is_on tei w) then Some NoLink
-    else if is_full w then Some ControlFull
+    else if not (is_terminal c) && is_full w then Some ControlFull
     else None
 why_not c events number w (Check tei) =
     if not (manages c.side) then Some WrongSide
@@ -49,6 +52,17 @@ why_not c events number w (Disown tei) =
     else if nat_lt 127 tei then Some BadTei
     else if is_in_use tei w then Some TeiTaken
     else if is_full w then Some ControlFull
+    else None
+why_not c events number w AskTei =
+    if not (is_terminal c) then Some WrongSide
+    else if not (nat_lt (length w.on) c.terminals) then Some TableFull
+    else if is_some (own_of c w).procedure then Some CheckRunning
+    else None
+why_not c events number w (VerifyTei tei) =
+    if not (is_terminal c) then Some WrongSide
+    else if nat_lt 126 tei then Some BadTei
+    else if not (is_on tei w) then Some NoLink
+    else if is_some (own_of c w).procedure then Some CheckRunning
     else None
 why_not c events number w other = None
 

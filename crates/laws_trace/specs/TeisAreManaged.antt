@@ -1,15 +1,13 @@
 -- TEIs are managed as the procedures of Q.921 clause 5.3 say: what an answer shows of it is what is due.
-use Rattle.std.specs.Prelude.{◌≡◌, ℕ, ◌+◌, ◌*◌, ◌/◌, ◌%◌, ◌==◌, Bool, true, false, List, [], ◌∷◌, filter, map, Some}
+use Rattle.std.specs.Prelude.{◌≡◌, ℕ, ◌==◌, Bool, true, false, List, filter, map, Some}
 use Rattle.lapd_frame.specs.declared.notes.Note.{Note}
-use Rattle.lapd_frame.specs.declared.notes.Note.TheVariants.{Assigned, Removed, Doubled}
+use Rattle.lapd_frame.specs.declared.notes.Note.TheVariants.{Assigned, Removed, Doubled, Denied, Unassigned, RemoveAll}
 use Rattle.lapd_frame.specs.declared.timers.Order.{Order}
 use Rattle.lapd_frame.specs.declared.timers.Order.TheVariants.{Start, Stop}
-use Rattle.lapd_frame.specs.declared.timers.Timer.TheVariants.{T201}
+use Rattle.lapd_frame.specs.declared.timers.Timer.TheVariants.{T201, T202}
 use Rattle.lapd_frame.specs.declared.controls.Control.TheVariants.{Ui}
 use Rattle.lapd_frame.specs.Grammar.{Parts}
 use Rattle.lapd_frame.specs.Senders.{spelling}
-use Rattle.lapd_tei.specs.declared.messages.Message.{Message}
-use Rattle.lapd_tei.specs.declared.messages.Message.TheVariants.{IdentityAssigned, IdentityDenied, IdentityCheckRequest, IdentityRemove}
 use Rattle.model_line.specs.declared.config.Config.{Config}
 use Rattle.model_line.specs.Event as line_event
 use Rattle.model_line.specs.Event.{Answer}
@@ -23,35 +21,32 @@ use Rattle.laws_trace.specs.Managing.{Managed, due, managed_after}
 use Rattle.laws_trace.specs.Observer.{moment_of}
 use Rattle.laws_trace.specs.Trace.{frame_in}
 
--- What an answer shows of TEI management: notes of TEIs, orders of T201, frames with SAPI 63, and whether what management
+-- What an answer shows of TEI management: notes of TEIs, orders of T201 and T202, frames with SAPI 63, and whether what management
 -- asks for is granted (clauses 5.3.1 to 5.3.5).
 abbrev pub is_of_teis : Note → Bool
 is_of_teis (Assigned tei) = true
 is_of_teis (Removed tei) = true
 is_of_teis (Doubled tei) = true
+is_of_teis Denied = true
+is_of_teis Unassigned = true
+is_of_teis RemoveAll = true
 is_of_teis other = false
 
-abbrev pub is_of_t201 : Order → Bool
-is_of_t201 (Start T201) = true
-is_of_t201 (Stop T201) = true
-is_of_t201 other = false
+abbrev pub is_of_line : Order → Bool
+is_of_line (Start T201) = true
+is_of_line (Stop T201) = true
+is_of_line (Start T202) = true
+is_of_line (Stop T202) = true
+is_of_line other = false
 
--- A message in octets: 0F, Ri with its high octet first, the type, and Ai with 1 as its extension bit; a denial has Ai 127, and a
--- check request and a removal have Ri 0 (clause 5.3.1, its figure and table 8). It goes to the group, TEI 127, in a UI command with
--- SAPI 63 and P=0.
-abbrev pub octets_of : Message → List ℕ
-octets_of (IdentityAssigned ri tei) = 0x0F ∷ (ri / 256) ∷ (ri % 256) ∷ 2 ∷ (2 * tei + 1) ∷ []
-octets_of (IdentityDenied ri) = 0x0F ∷ (ri / 256) ∷ (ri % 256) ∷ 3 ∷ 0xFF ∷ []
-octets_of (IdentityCheckRequest tei) = 0x0F ∷ 0 ∷ 0 ∷ 4 ∷ (2 * tei + 1) ∷ []
-octets_of (IdentityRemove tei) = 0x0F ∷ 0 ∷ 0 ∷ 6 ∷ (2 * tei + 1) ∷ []
-
-abbrev pub message_text : Config → Message → List ℕ
-message_text c message =
-    spelling (own_side c) (record { address = record { sapi = 63; command = true; tei = 127 }; control = Ui false; info = octets_of message })
+-- A message goes to the group, TEI 127, in a UI command of the side with SAPI 63 and P=0 (clause 5.3.1).
+abbrev pub message_text : Config → List ℕ → List ℕ
+message_text c octets =
+    spelling (own_side c) (record { address = record { sapi = 63; command = true; tei = 127 }; control = Ui false; info = octets })
 
 pub record IsAsDue (c : Config) (due : Managed) (a : Answer) : Type 0 where
   pub notes : filter is_of_teis (notes_of a) ≡ due.notes
-  pub orders : filter is_of_t201 (orders_in a) ≡ due.orders
+  pub orders : filter is_of_line (orders_in a) ≡ due.orders
   pub begins : filter (reads (own_side c) (λ (f : Parts). f.address.sapi == 63)) (frame_in a) ≡ map (message_text c) due.begins
   pub granted : (so : Bool) → due.granted ≡ Some so → is_granted a ≡ so
 

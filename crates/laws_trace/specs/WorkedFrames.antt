@@ -4,7 +4,6 @@ use Rattle.std.proofs.Common.{arith, lit<}
 use Rattle.std.proofs.lemmas.List.Elements.{All-nil, All-cons, All-head, All-tail}
 use Rattle.model_bits.specs.Stream.{frame}
 use Rattle.model_bits.specs.StuffingLaws.{AreOctets}
-use Rattle.lapd_frame.specs.declared.addresses.Side.TheVariants.{Network}
 use Rattle.lapd_frame.specs.declared.controls.Control.{Control}
 use Rattle.lapd_frame.specs.declared.controls.Control.TheVariants as control
 use Rattle.lapd_frame.specs.declared.controls.Control.TheVariants.{Ui}

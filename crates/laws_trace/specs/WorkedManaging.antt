@@ -2,10 +2,10 @@
 use Rattle.std.specs.Prelude.{◌≡◌, ℕ, true, false, List, [], ◌∷◌, ◌++◌, None, Some, refl}
 use Rattle.lapd_frame.specs.declared.addresses.Side.TheVariants.{User}
 use Rattle.lapd_frame.specs.declared.notes.Note.{Note}
-use Rattle.lapd_frame.specs.declared.notes.Note.TheVariants.{Assigned, Removed, Doubled}
+use Rattle.lapd_frame.specs.declared.notes.Note.TheVariants.{Assigned, Removed, Doubled, Denied, Unassigned, RemoveAll}
 use Rattle.lapd_frame.specs.declared.timers.Order.{Order}
 use Rattle.lapd_frame.specs.declared.timers.Order.TheVariants.{Start, Stop}
-use Rattle.lapd_frame.specs.declared.timers.Timer.TheVariants.{T201}
+use Rattle.lapd_frame.specs.declared.timers.Timer.TheVariants.{T201, T202}
 use Rattle.lapd_frame.specs.Reading.{reading, header_of, control_of, unnumbered_of}
 use Rattle.lapd_frame.specs.Senders.{exchanged, reading as read_by}
 use Rattle.lapd_tei.specs.declared.messages.Message.{Message}
@@ -14,13 +14,13 @@ use Rattle.lapd_tei.specs.Events as teis
 use Rattle.model_line.specs.declared.config.Config.{Config}
 use Rattle.model_line.specs.Event.{Answer, expiry, next, nothing, told, gave}
 use Rattle.model_line.specs.Machine as lines
-use Rattle.model_line.specs.Request.{Assign, Check, Disown, Down}
+use Rattle.model_line.specs.Request.{Assign, Remove, Check, Disown, AskTei, VerifyTei, Down}
 use Rattle.model_card.specs.Card.{fresh}
 use Rattle.model_card.specs.Event.{Event, at}
 use Rattle.model_card.specs.Machine.{answer}
 use Rattle.model_card.specs.Run.{after_all}
 use Rattle.laws_line.specs.card.Worked.{usual, on_0}
-use Rattle.laws_trace.specs.Managing.{Managed, nothing_due, none_on, due, managed_after}
+use Rattle.laws_trace.specs.Managing.{Managed, nothing_due, none_on, octets_of, due, managed_after}
 use Rattle.laws_trace.specs.TeisAreManaged.{message_text, IsAsDue}
 use Rattle.laws_trace.specs.WorkedUnits.{calls, frame_comes}
 
@@ -48,11 +48,11 @@ abbrev owed_after : Config → List Event → List Message
 owed_after c events = (managed_after c 0 events).owed
 
 -- An answer by Ri 0x1234 with TEI 64, and a denial, in octets.
-answer_is : message_text usual (IdentityAssigned 0x1234 64) ≡ 0xFE ∷ 0xFF ∷ 0x03 ∷ 0x0F ∷ 0x12 ∷ 0x34 ∷ 0x02 ∷ 0x81 ∷ []
+answer_is : message_text usual (octets_of (IdentityAssigned 0x1234 64)) ≡ 0xFE ∷ 0xFF ∷ 0x03 ∷ 0x0F ∷ 0x12 ∷ 0x34 ∷ 0x02 ∷ 0x81 ∷ []
 unfolding exchanged
 answer_is = refl
 
-denial_is : message_text usual (IdentityDenied 0x1234) ≡ 0xFE ∷ 0xFF ∷ 0x03 ∷ 0x0F ∷ 0x12 ∷ 0x34 ∷ 0x03 ∷ 0xFF ∷ []
+denial_is : message_text usual (octets_of (IdentityDenied 0x1234)) ≡ 0xFE ∷ 0xFF ∷ 0x03 ∷ 0x0F ∷ 0x12 ∷ 0x34 ∷ 0x03 ∷ 0xFF ∷ []
 unfolding exchanged
 denial_is = refl
 
@@ -61,7 +61,7 @@ assigned : (due_behind usual [] asks).notes ≡ Assigned 64 ∷ []
 unfolding exchanged read_by reading header_of control_of unnumbered_of
 assigned = refl
 
-begins : (due_behind usual (asks ∷ []) (at 0 next)).begins ≡ IdentityAssigned 0x1234 64 ∷ []
+begins : (due_behind usual (asks ∷ []) (at 0 next)).begins ≡ octets_of (IdentityAssigned 0x1234 64) ∷ []
 unfolding exchanged read_by reading header_of control_of unnumbered_of
 begins = refl
 
@@ -194,7 +194,7 @@ unfolding exchanged read_by reading header_of control_of unnumbered_of
 anew h = cc h.orders
 
 abbrev frame : Answer
-frame = gave (Some (record { octets = message_text usual (IdentityRemove 64); orders = [] }))
+frame = gave (Some (record { octets = message_text usual (octets_of (IdentityRemove 64)); orders = [] }))
 
 not_owed : IsAsDue usual (due_behind usual [] (at 0 next)) frame → ⊥
 unfolding exchanged read_by reading header_of control_of unnumbered_of
@@ -207,6 +207,94 @@ passed_over h = cc h.begins
 runs_while_down : IsAsDue usual (due_behind usual checked (on_0 Down)) (tells [] []) → ⊥
 runs_while_down h = cc h.orders
 
-kept_for_later : IsAsDue usual (due_behind usual (checked ++ on_0 Down ∷ []) (at 0 next)) (gave (Some (record { octets = message_text usual (IdentityCheckRequest 64); orders = [] }))) → ⊥
+kept_for_later : IsAsDue usual (due_behind usual (checked ++ on_0 Down ∷ []) (at 0 next)) (gave (Some (record { octets = message_text usual (octets_of (IdentityCheckRequest 64)); orders = [] }))) → ⊥
 unfolding exchanged read_by reading header_of control_of unnumbered_of
 kept_for_later h = cc h.begins
+
+-- A terminal with seed 0x1234, and messages of the network to it: by a type, an Ri and Ai.
+abbrev terminal : Config
+terminal = record usual { side = User; seed = Some 0x1234 }
+
+abbrev says : ℕ → ℕ → ℕ → ℕ → Event
+says type high low last = frame_comes (0xFE ∷ 0xFF ∷ 0x03 ∷ 0x0F ∷ high ∷ low ∷ type ∷ last ∷ [])
+
+abbrev gets_64 : Event
+gets_64 = says 2 0x12 0x34 0x81
+
+abbrev t202 : Event
+t202 = at 0 (expiry T202)
+
+-- What begins by the next calls, as information.
+abbrev info : ℕ → ℕ → ℕ → ℕ → List ℕ
+info high low type last = 0x0F ∷ high ∷ low ∷ type ∷ last ∷ []
+
+abbrev begins_after : List Event → List (List ℕ)
+begins_after events = (due_behind terminal events (at 0 next)).begins ++ (due_behind terminal (events ++ calls 1) (at 0 next)).begins
+
+-- It asks for a TEI, and T202 runs; it is told the one that is assigned, answers a check of all, and is told that it is removed.
+abbrev asking : List Event
+asking = on_0 AskTei ∷ []
+
+starts : due_behind terminal [] (on_0 AskTei) ≡ record (due_behind terminal [] (on_0 AskTei)) { notes = []; orders = Start T202 ∷ []; lost = 0; begins = []; granted = Some true }
+starts = refl
+
+request_begins : begins_after asking ≡ info 0x12 0x34 1 0xFF ∷ []
+request_begins = refl
+
+comes : (due_behind terminal asking gets_64).notes ≡ Assigned 64 ∷ []
+unfolding exchanged read_by reading header_of control_of unnumbered_of
+comes = refl
+
+ends : (due_behind terminal asking gets_64).orders ≡ Stop T202 ∷ []
+unfolding exchanged read_by reading header_of control_of unnumbered_of
+ends = refl
+
+response_begins : begins_after (asking ++ calls 1 ++ gets_64 ∷ says 4 0 0 0xFF ∷ []) ≡ info 0x29 0x5D 5 0x81 ∷ []
+unfolding exchanged read_by reading header_of control_of unnumbered_of
+response_begins = refl
+
+taken_off : (due_behind terminal (asking ++ gets_64 ∷ []) (says 6 0 0 0xFF)).notes ≡ Removed 64 ∷ []
+unfolding exchanged read_by reading header_of control_of unnumbered_of
+taken_off = refl
+
+-- A newer request takes the place of an older one; a third is the last. A denial is told, and ends nothing.
+newer_begins : begins_after (asking ++ t202 ∷ []) ≡ info 0x29 0x5D 1 0xFF ∷ []
+newer_begins = refl
+
+gives_up : (due_behind terminal (asking ++ t202 ∷ t202 ∷ []) t202).notes ≡ Unassigned ∷ []
+gives_up = refl
+
+is_denied : (due_behind terminal asking (says 3 0x12 0x34 0xFF)).notes ≡ Denied ∷ []
+unfolding exchanged read_by reading header_of control_of unnumbered_of
+is_denied = refl
+
+-- Each of two TEIs is answered for, and if all are removed, management is told so.
+abbrev both : List Event
+both = on_0 (Assign 64) ∷ on_0 (Assign 65) ∷ []
+
+both_begin : begins_after (both ++ says 4 0 0 0xFF ∷ []) ≡ info 0x12 0x34 5 0x81 ∷ info 0x29 0x5D 5 0x83 ∷ []
+unfolding exchanged read_by reading header_of control_of unnumbered_of
+both_begin = refl
+
+all_go : (due_behind terminal both (says 6 0 0 0xFF)).notes ≡ RemoveAll ∷ []
+unfolding exchanged read_by reading header_of control_of unnumbered_of
+all_go = refl
+
+-- Another terminal was given TEI 64: it is verified, twice, and leaves.
+abbrev doubted : List Event
+doubted = on_0 (Assign 64) ∷ says 2 0x55 0x55 0x81 ∷ []
+
+verify_begins : begins_after doubted ≡ info 0 0 7 0x81 ∷ []
+unfolding exchanged read_by reading header_of control_of unnumbered_of
+verify_begins = refl
+
+verifies_twice : due_behind terminal (doubted ++ t202 ∷ []) t202 ≡ record (due_behind terminal (doubted ++ t202 ∷ []) t202) { on = []; notes = Removed 64 ∷ []; orders = Stop T202 ∷ [] }
+unfolding exchanged read_by reading header_of control_of unnumbered_of
+verifies_twice = refl
+
+-- It is granted no check of a TEI, nor to disown one; and a trunk's end, and the network's side, no request for one.
+refused_there : (due_behind terminal both (on_0 (Check 64))).granted ∷ (due_behind terminal both (on_0 (Disown 66))).granted ∷ (due_behind terminal asking (on_0 (VerifyTei 64))).granted ∷ [] ≡ Some false ∷ Some false ∷ Some false ∷ []
+refused_there = refl
+
+refused_elsewhere : (due_behind usual [] (on_0 AskTei)).granted ∷ (due_behind (record usual { side = User }) (on_0 (Assign 64) ∷ []) (on_0 (Remove 64))).granted ∷ [] ≡ Some false ∷ Some false ∷ []
+refused_elsewhere = refl

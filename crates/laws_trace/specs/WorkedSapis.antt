@@ -1,12 +1,12 @@
 -- Worked values: which service a SAPI names, and one that is not named so.
-use Rattle.std.specs.Prelude.{◌≡◌, ◌==◌, true, false, [], ◌∷◌, Ok, refl}
+use Rattle.std.specs.Prelude.{◌≡◌, true, [], ◌∷◌, Ok, refl}
 use Rattle.lapd_frame.specs.declared.controls.Control.TheVariants.{Sabme}
 use Rattle.lapd_frame.specs.Reading.{reading as side_reading, header_of, control_of, unnumbered_of}
 use Rattle.lapd_frame.specs.Senders.{exchanged, reading}
 use Rattle.model_line.specs.declared.config.Config.{Config}
 use Rattle.model_line.specs.Heard.{heard_side}
 use Rattle.laws_line.specs.card.Worked.{usual}
-use Rattle.laws_trace.specs.Sapis.{IsNamed, sapi_in}
+use Rattle.laws_trace.specs.Sapis.{IsNamed}
 
 abbrev abis : Config
 abis = record usual { sapi = 62 }

@@ -186,7 +186,7 @@ pub fn nothing_is_lost_in_vain()
 
 /// TEIs are managed as the procedures say. Whatever happened to a card, the answer to an event of a line shows exactly
 /// what is due of TEI management by that event. An observer of the line knows what is due (`Managing` of specs/). It is
-/// the notes of TEIs, the orders of T201, and the frames with SAPI 63 that begin.
+/// the notes of TEIs, the orders of T201 and T202, and the frames with SAPI 63 that begin. First the network's side.
 ///
 /// **Requests of terminals.** A terminal that asks for a TEI by an Ri is owed the one that is held for this Ri.
 /// Otherwise it is owed the lowest from 64 on that is not on the line, which is told, while that has fewer than the
@@ -207,8 +207,26 @@ pub fn nothing_is_lost_in_vain()
 ///
 /// **Granted** is exactly this. A TEI of at most 126 is put on a line that does not have it and has room. On the
 /// network's side more is granted, while fewer than four messages are owed. One that is on the line is removed, or
-/// checked while no check runs. One that is not on the line is disowned, or all TEIs while none is. The user's side
-/// serves no message (Q.921 clauses 4.1.1.5, 5.3.1 to 5.3.5, annex B and profile).
+/// checked while no check runs. One that is not on the line is disowned, or all TEIs while none is. A trunk's end serves
+/// no message.
+///
+/// **A terminal** is a user's side with a seed (`ManagingTerminal` of specs/).
+///
+/// - *It asks* for a TEI by a granted request, if it has room for one and has no other procedure. It asks three times at
+///   most, with a new reference number each time, as T202 expires; then it tells that none was assigned. A TEI of 64 to
+///   126 that is assigned by the number of the latest request comes to the line, and is told. A denial by that number is
+///   told, and ends nothing.
+/// - *It verifies* a TEI on its line by a granted request, and if that is assigned to another terminal. It asks the
+///   network for a check twice. If no check comes until T202 expires again, the TEI leaves, which is told.
+/// - *It answers* a check of its TEI, and of each of its TEIs if all are checked. *It gives up* a TEI that the network
+///   removes, which is told. If all are removed and it has more than one, it tells so alone. By a granted request a TEI
+///   leaves untold.
+/// - T202 is started with each request and each verify, and stopped as a procedure ends.
+/// - *No message is owed twice, and none is lost.* A newer request takes the place of an older one that is owed. A verify
+///   or a response that is owed is enough, for the one procedure and for each TEI. What is owed is withdrawn as its
+///   procedure ends, or its TEI leaves. Nothing is refused for want of room for a message.
+///
+/// (Q.921 clauses 4.1.1.5, 5.3.1 to 5.3.5, 5.9.4 and 5.9.7, annex B and profile.)
 pub fn teis_are_managed()
     ensures { Always TeisAreManaged }
 {}
@@ -350,8 +368,11 @@ pub fn no_slot_is_lost()
 ///
 /// A frame for TEI management has `Unserved`, too. On the network's side a UI has none if its information is one of
 /// three messages. It asks for a TEI with Ai 127. Or it answers the check that runs. Or it asks for a check of a TEI on
-/// the line, and none runs. [`teis_are_managed`] has the TEIs on the line and the check (Q.921 clauses 2.6, 2.7, 2.9,
-/// 2.10, 3.3.1 to 3.3.4, 5.3.1 to 5.3.5 and 5.8.5, annex B, and profile).
+/// the line, and none runs. At a terminal a UI command has none if its information is one of five messages. By the Ri of
+/// the request that is outstanding it assigns a TEI that may come to the line, or denies one. Or it assigns a TEI on the
+/// line, and no procedure runs. Or it checks or removes TEIs on the line. [`teis_are_managed`] has the TEIs on the line,
+/// the check and the procedure (Q.921 clauses 2.6, 2.7, 2.9, 2.10, 3.3.1 to 3.3.4, 5.3.1 to 5.3.5 and 5.8.5, annex B, and
+/// profile).
 pub fn causes_are_told()
     ensures { Always CausesAreTold }
 {}

@@ -23,29 +23,29 @@ use Rattle.laws_wire.proofs.Talking.{unheard, Holds, none-told}
 use Rattle.laws_wire.proofs.Speaking.{said_by}
 
 -- tables and lists of nothing
-none-on : (tei n : ℕ) → is_on tei (replicate n None) ≡ false
+pub none-on : (tei n : ℕ) → is_on tei (replicate n None) ≡ false
 none-on tei zero = refl
 none-on tei (suc n) = none-on tei n
 
-all-fresh : (n i : ℕ) → get_or (replicate n fresh) i fresh ≡ fresh
+pub all-fresh : (n i : ℕ) → get_or (replicate n fresh) i fresh ≡ fresh
 all-fresh (suc n) (suc i) = all-fresh n i
 all-fresh other any = refl
 
-set-fresh : (xs : List Link) (i j : ℕ) → ((k : ℕ) → get_or xs k fresh ≡ fresh) → get_or (set xs i fresh) j fresh ≡ fresh
+pub set-fresh : (xs : List Link) (i j : ℕ) → ((k : ℕ) → get_or xs k fresh ≡ fresh) → get_or (set xs i fresh) j fresh ≡ fresh
 set-fresh (x ∷ xs) zero (suc j) h = h (suc j)
 set-fresh (x ∷ xs) (suc i) zero h = h 0
 set-fresh (x ∷ xs) (suc i) (suc j) h = set-fresh xs i j (λ k. h (suc k))
 set-fresh other any rest h = refl
 
-all-fresh_lines : (c : Config) (n i : ℕ) → get_or (replicate n (fresh_line c)) i (fresh_line c) ≡ fresh_line c
+pub all-fresh_lines : (c : Config) (n i : ℕ) → get_or (replicate n (fresh_line c)) i (fresh_line c) ≡ fresh_line c
 all-fresh_lines c (suc n) (suc i) = all-fresh_lines c n i
 all-fresh_lines c other any = refl
 
 -- A TEI comes to a table of free places: it is at the first.
-abbrev frees : ℕ → Places
+abbrev pub frees : ℕ → Places
 frees n = replicate n None
 
-free-is : (n : ℕ) → 1 ≤ n → free_place (frees n) ≡ Some 0
+pub free-is : (n : ℕ) → 1 ≤ n → free_place (frees n) ≡ Some 0
 free-is n some = grind (arith, lt-ltb)
 
 module _ (tei n : ℕ) (some : 1 ≤ n) where

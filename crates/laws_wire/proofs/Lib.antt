@@ -91,3 +91,8 @@ pub mod ArrivingMet
 pub mod AnsweringMet
 pub mod EndingMet
 pub mod SettlingMet
+pub mod TerminalLines
+pub mod TerminalTurns
+pub mod ToldBefore
+pub mod TerminalCalls
+pub mod TerminalsMet

@@ -1,6 +1,6 @@
 -- A whole call: how many turns there are, what layer 3 was told so far, and what it was told where no turn is left.
-use Rattle.laws_wire.proofs.Vocabulary.{◌≡◌, ℕ, ◌+◌, ◌*◌, ◌≤◌, Bool, true, false, ◌||◌, List, [], ◌∷◌, map, take, None, refl, sym, ap, subst, ◌∙◌, inl, inr, arith, All, if◌then◌else◌, All-head, All-tail, Service, spelling, other_side, fresh, given, IsInRange, LinkEndpoint, Config, LineTold, next, gave, terms, terms_in_range, Pair, all-there, nothing-given, Endpoint, Wire, StepAt, turned, doing}
-use Rattle.laws_wire.proofs.Vocabulary.{IsStill, answered, calling, IsCall, calls_back, confirmed, data_told, told_first, IsBeginningOf, CanCall, ComesThrough, CallsComeThrough, own_side}
+use Rattle.laws_wire.proofs.Vocabulary.{◌≡◌, ℕ, ◌+◌, ◌*◌, ◌≤◌, Bool, true, false, ◌||◌, List, [], ◌∷◌, map, take, None, refl, sym, ap, subst, ◌∙◌, inl, inr, arith, All, if◌then◌else◌, All-head, All-tail, Service, spelling, fresh, given, IsInRange, LinkEndpoint, Config, LineTold, next, gave, terms, terms_in_range, Pair, all-there, nothing-given, Endpoint, Wire, StepAt, turned, doing}
+use Rattle.laws_wire.proofs.Vocabulary.{IsStill, answered, calling, IsCall, calls_back, confirmed, data_told, told_first, IsBeginningOf, AreOpposite, CanCall, ComesThrough, CallsComeThrough, own_side}
 use Rattle.laws_link.specs.two.Rounds.{HasArrived}
 unfoldable use Rattle.laws_wire.specs.Wire.{doing_all, turns}
 unfoldable use Rattle.laws_wire.specs.Call.{both_call}
@@ -147,16 +147,44 @@ module _ (service : Service) (tei : ℕ) where
     told-so_far true w k (inr (inl h)) = half-so_far (told_first service tei true) c d p q face back rt w k h
     told-so_far true w k (inr (inr h)) = let x = half-so_far (confirmed service tei) d c q p back face ru (turned w) k h in record { near = x.far; far = x.near }
 
--- A call from two cards that have just begun.
+-- A call from two ends in state 4, of which the near one was asked to establish.
 few-turns : (both : Bool) (b k g g' : ℕ) → b + k + (4 * g + 0) ≤ 4 + (4 * g' + cost both) → b ≤ (if both then 8 else 4) + 4 * g'
 few-turns both b k g g' h = grind arith
 
-module _ (service : Service) (c d : Config) (line other tei : ℕ) (ds : List StepAt) (can : CanCall c line d other tei) (called : All (IsCall service tei) ds) where
-  face : Face c d
-  face = record { side = sym can.opposite.0; n201 = can.opposite.1 }
+module _ (service : Service) (tei : ℕ) (few : tei ≤ 126) (c d : Config) (p q : ℕ) (face : Face c d) (back : Face d c) (rt : IsInRange (terms c service tei)) (ru : IsInRange (terms d service tei))
+    (w : Wire) (begun : Both service tei c d p q unheard unheard w (end (terms c service tei) asked []) (end (terms d service tei) fresh [])) (ds : List StepAt) (called : All (IsCall service tei) ds) where
+  abbrev last : Wire
+  last = doing_all ds w
 
-  back : Face d c
-  back = record { side = sym (sides-turned c d can.opposite.0); n201 = sym can.opposite.1 }
+  abbrev both : Bool
+  both = both_call ds w
+
+  ran : Ran service tei few c d p q face back rt ru false ds w 4
+  ran = runs service tei few c d p q face back rt ru ds called false w 4 (inl (record { both = begun; is = refl }))
+
+  pub begun-up : IsStill last → AreUp service tei c d p q (told_first service tei both) last
+  begun-up still = up-still service tei few c d p q face back rt ru both last ran.weight ran.goes still
+
+  pub begun-comes : ComesThrough service tei (turns ds w) both last
+  begun-comes =
+      let so_far = told-so_far service tei few c d p q face back rt ru both last ran.weight ran.goes in
+      let all = λ (still : IsStill last). up-told service tei (told_first service tei both) c d p q last (begun-up still) still in
+      record {
+        turns = few-turns both (turns ds w) ran.weight (granted_of w) (granted_of last) ran.price;
+        near = (so_far.near, λ still. (all still).near);
+        far = (so_far.far, λ still. (all still).far);
+      }
+
+-- So it is of two cards that have just begun.
+pub faces : (c d : Config) → AreOpposite c d → Face c d
+faces c d opposite = record { side = sym opposite.0; n201 = opposite.1 }
+
+pub faces-back : (c d : Config) → AreOpposite c d → Face d c
+faces-back c d opposite = record { side = sym (sides-turned c d opposite.0); n201 = sym opposite.1 }
+
+module _ (service : Service) (c d : Config) (line other tei : ℕ) (ds : List StepAt) (can : CanCall c line d other tei) (called : All (IsCall service tei) ds) where
+  abbrev its_wire : Wire
+  its_wire = calling service tei c line d other
 
   rt : IsInRange (terms c service tei)
   rt = terms_in_range c can.near.0 service tei can.terminal
@@ -164,33 +192,14 @@ module _ (service : Service) (c d : Config) (line other tei : ℕ) (ds : List St
   ru : IsInRange (terms d service tei)
   ru = terms_in_range d can.far.0 service tei can.terminal
 
-  abbrev w : Wire
-  w = calling service tei c line d other
+  begun : Both service tei c d 0 0 unheard unheard its_wire (end (terms c service tei) asked []) (end (terms d service tei) fresh [])
+  begun = record { near = calls service tei c can.near.0 can.terminal line can.near.1; far = answers service tei d can.far.0 can.terminal other can.far.1 }
 
-  abbrev last : Wire
-  last = doing_all ds w
+  pub still-up : IsStill (doing_all ds its_wire) → AreUp service tei c d 0 0 (told_first service tei (both_call ds its_wire)) (doing_all ds its_wire)
+  still-up still = begun-up service tei can.terminal c d 0 0 (faces c d can.opposite) (faces-back c d can.opposite) rt ru its_wire begun ds called still
 
-  abbrev both : Bool
-  both = both_call ds w
-
-  ran : Ran service tei can.terminal c d 0 0 face back rt ru false ds w 4
-  ran =
-      let begun : Both service tei c d 0 0 unheard unheard w (end (terms c service tei) asked []) (end (terms d service tei) fresh []) =
-      record { near = calls service tei c can.near.0 can.terminal line can.near.1; far = answers service tei d can.far.0 can.terminal other can.far.1 } in
-      runs service tei can.terminal c d 0 0 face back rt ru ds called false w 4 (inl (record { both = begun; is = refl }))
-
-  pub still-up : IsStill last → AreUp service tei c d 0 0 (told_first service tei both) last
-  still-up still = up-still service tei can.terminal c d 0 0 face back rt ru both last ran.weight ran.goes still
-
-  comes : ComesThrough service tei (turns ds w) both last
-  comes =
-      let so_far = told-so_far service tei can.terminal c d 0 0 face back rt ru both last ran.weight ran.goes in
-      let all = λ (still : IsStill last). up-told service tei (told_first service tei both) c d 0 0 last (still-up still) still in
-      record {
-        turns = few-turns both (turns ds w) ran.weight (granted_of w) (granted_of last) ran.price;
-        near = (so_far.near, λ still. (all still).near);
-        far = (so_far.far, λ still. (all still).far);
-      }
+  comes : ComesThrough service tei (turns ds its_wire) (both_call ds its_wire) (doing_all ds its_wire)
+  comes = begun-comes service tei can.terminal c d 0 0 (faces c d can.opposite) (faces-back c d can.opposite) rt ru its_wire begun ds called
 
 pub calls-come-through : CallsComeThrough
 calls-come-through service c d line other tei ds can called = comes service c d line other tei ds can called

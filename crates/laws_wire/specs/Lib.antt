@@ -12,6 +12,7 @@ pub mod Arriving
 pub mod Answering
 pub mod Settling
 pub mod Ending
+pub mod Terminals
 pub mod Worked
 pub mod BothWorked
 pub mod WorkedLosing
@@ -25,3 +26,4 @@ pub mod WorkedReports
 pub mod WorkedImpatient
 pub mod WorkedEnding
 pub mod WorkedBroken
+pub mod WorkedTerminals

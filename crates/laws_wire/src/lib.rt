@@ -13,6 +13,7 @@
 //!   end;
 //! - `Counted`: how often T200 may expire. `Resting`: how many turns there are at most;
 //! - `Facing`: two cards that face each other by links in state 7;
+//! - `Terminals`: a terminal that asks the network for a TEI, and a call after that;
 //! - `Worked..`: worked values that compute.
 //!
 //! What a card does at an event is the machine of `model_card`, of frames. The laws of two links are those of
@@ -25,7 +26,8 @@
 //! busy, while data is asked for on and on (while an end is heard to be busy T200 of the other runs on). That all
 //! arrives with no expiry if nothing is lost, no I-frame comes to a busy end, and each of its reports finds a place to
 //! wait (without that it is false: `specs/WorkedReports`). Losses if both ends call, with other requests, links or
-//! lines, or from elsewhere than nothing. That a given T200 is long enough.
+//! lines, or from elsewhere than nothing. Losses and expiries of T202 while a terminal asks for a TEI. That a given T200
+//! is long enough.
 #![tactic(auto)]
 
 mod answering;
@@ -33,6 +35,7 @@ mod arriving;
 mod laws;
 mod resting;
 mod settling;
+mod terminals;
 
 pub use answering::{a_call_ends, a_call_with_losses_comes_through};
 pub use arriving::it_arrives_under_traffic;
@@ -42,3 +45,4 @@ pub use laws::{
 };
 pub use resting::{rounds_come_to_rest, turns_come_to_an_end};
 pub use settling::a_call_with_losses_comes_to_rest;
+pub use terminals::a_terminal_comes_through;

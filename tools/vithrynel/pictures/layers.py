@@ -31,12 +31,14 @@ def layer_3(draw: Drawing) -> None:
     draw.box(150, 24, 730, 46, "on-violet", "violet", round=9)
     draw.text(515, 52, "layer 3: call control and packet mode", "ink", 14.5, anchor="middle", bold=True)
     upright(draw, 216, 70, 142, IN)
-    draw.text(230, 94, "requests: establish, release, data, unit data, busy,", IN, 12.5)
-    draw.text(230, 111, "ready, deactivate, down; assign, check, remove, disown a TEI", IN, 12.5)
-    draw.text(230, 128, "each is accepted, or refused and nothing changes", "soft", 12.5)
+    draw.text(230, 87, "requests: establish, release, data, unit data, busy,", IN, 12.5)
+    draw.text(230, 102, "ready, deactivate, down; assign, check, remove, disown,", IN, 12.5)
+    draw.text(230, 117, "verify a TEI, ask for one", IN, 12.5)
+    draw.text(230, 132, "each is accepted, or refused and nothing changes", "soft", 12.5)
     upright(draw, 610, 142, 70, OUT)
-    draw.text(624, 94, "notes: link established, released, data,", OUT, 12.5)
-    draw.text(624, 111, "error; TEI assigned, removed, doubled", OUT, 12.5)
+    draw.text(624, 87, "notes: link established, released, data,", OUT, 12.5)
+    draw.text(624, 102, "error; TEI assigned, removed, doubled,", OUT, 12.5)
+    draw.text(624, 117, "denied, unassigned, all to be removed", OUT, 12.5)
 
 
 def card(draw: Drawing) -> None:

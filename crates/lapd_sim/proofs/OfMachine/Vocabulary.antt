@@ -56,9 +56,9 @@ pub use Rattle.lapd_sim.specs.machine.Replies.{TranscriptsAreReplies, line_momen
 pub use Rattle.lapd_sim.specs.machine.Script.{Fault, Played, after_bench, after_reading, after_scene, faulty, is_too_long, not_begun, one_more, played, unless_faulty}
 pub use Rattle.lapd_sim.specs.machine.Setup.{Setup, begun, happened, taken_at, terminal_at, with_terminal}
 pub use Rattle.lapd_sim.specs.machine.Steps.{Pulls, Scene, after_coming, after_in, after_pull, after_rx, after_timers, after_wait, at_expiry, at_line, can_come, downs, due_by, expired, expiries, for_frames, for_octets, held, last_moment, moment_from, octet_in, octets_at, is_heard_as, one_pull, pulls, reply_text, request_for, teis_on, time_until, until, with_card, with_event, with_events}
-pub use Rattle.lapd_sim.specs.machine.Steps.{with_timers, without_card}
+pub use Rattle.lapd_sim.specs.machine.Steps.{lengths_of, with_timers, without_card}
 pub use Rattle.lapd_sim.specs.machine.Waits.{AllLater, WaitsLeaveNothingDue}
-pub use Rattle.lapd_sim.specs.machine.Within.{ScriptsStayWithin, bound_of}
+pub use Rattle.lapd_sim.specs.machine.Within.{ScriptsStayWithin, bound_of, terminal_bound}
 pub use Rattle.lapd_frame.specs.declared.services.Service.TheVariants.{Call, Packet}
 pub use Rattle.model_timed.proofs.Orders.{all-run, in-order, lengths-stay}
 pub use Rattle.model_timed.specs.Clock.{Clock, at_moment, next_moment, obey, obeyed, without_first}
@@ -68,5 +68,6 @@ pub use Rattle.model_card.specs.Card.{Card}
 pub use Rattle.model_card.specs.ports.Card.{OctetCard}
 pub use Rattle.model_card.specs.ports.Sound.{IsSoundOctetCard}
 pub use Rattle.model_line.specs.Came.{came, cause_of}
-pub use Rattle.model_line.specs.Request.{Deactivate, Down, Request}
+pub use Rattle.model_line.specs.Line.{is_terminal}
+pub use Rattle.model_line.specs.Request.{AskTei, Deactivate, Down, Request}
 pub use Rattle.std.specs.Option.{option_map_or}

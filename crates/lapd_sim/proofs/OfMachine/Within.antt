@@ -1,6 +1,8 @@
 -- What a script's card stores is within its bound, as it is after every list of events.
-use Rattle.lapd_sim.proofs.OfMachine.Vocabulary.{◌≡◌, ℕ, ◌+◌, ◌*◌, ◌≤◌, ◌<◌, List, [], ◌∷◌, take, Option, Some, None, refl, sym, ap, ◌∙◌, subst, arith, All-nil, All-cons, All-head, All-tail, All-take, Config, IsInRange, CardKind, Octets, Frames, Setup, Board, Event, after, fresh, after_all, IsAtLine, AreAtLines, held, script_events, HasRun, bound_of, ScriptsStayWithin, option_map_or}
+use Rattle.lapd_sim.proofs.OfMachine.Vocabulary.{◌≡◌, ℕ, ◌+◌, ◌*◌, ◌≤◌, ◌<◌, List, [], ◌∷◌, take, Option, Some, None, refl, sym, ap, ◌∙◌, subst, arith, All-nil, All-cons, All-head, All-tail, All-take, Config, IsInRange, CardKind, Octets, Frames, Setup, Board, Event, after, fresh, after_all, IsAtLine, AreAtLines, held, script_events, HasRun, bound_of, ScriptsStayWithin, option_map_or, Bool, true}
+use Rattle.lapd_sim.proofs.OfMachine.Vocabulary.{false, cond, is_terminal, terminal_bound}
 use Rattle.lapd_sim.proofs.OfMachine.Vocabulary.{after_is_sound, Card, config_after, OctetCard, IsSoundOctetCard, What, of_octets, of_frames, octets_after, frames_after}
+use Rattle.lapd_script.specs.Bound.{bound}
 use Rattle.model_card.proofs.Stored as cards_stored
 use Rattle.model_card.specs.Event as frames
 use Rattle.model_card.specs.Run as runs
@@ -62,11 +64,17 @@ fits-fresh Frames c ranged = record { config = refl; sound = (ports_sound.cards_
 as-bound : (lines a b rest : ℕ) → lines * b + rest + lines * a ≡ lines * (a + b) + rest
 as-bound lines a b rest = omega arith
 
+bound-by : (c : Config) (of_terminal : Bool)
+    → c.lines * (8 * c.control * c.terminals + cond of_terminal (8 * (c.terminals + 1)) (32 + 12)) + c.slots * c.n201 + c.lines * (2 * c.n201 + 10)
+    ≡ cond of_terminal (terminal_bound c.lines c.terminals c.control c.slots c.n201) (bound c.lines c.terminals c.control c.slots c.n201)
+bound-by c true = as-bound c.lines (2 * c.n201 + 10) (8 * c.control * c.terminals + 8 * (c.terminals + 1)) (c.slots * c.n201) ∙ ap (λ n. c.lines * n + c.slots * c.n201) (omega arith)
+bound-by c false = as-bound c.lines (2 * c.n201 + 10) (8 * c.control * c.terminals + (32 + 12)) (c.slots * c.n201) ∙ ap (λ n. c.lines * n + c.slots * c.n201) (omega arith)
+
 bound-is : (c : Config) → octet_stored.limit c ≡ bound_of c
-bound-is c = as-bound c.lines (2 * c.n201 + 10) (8 * c.control * c.terminals + 32 + 12) (c.slots * c.n201) ∙ ap (λ n. c.lines * n + c.slots * c.n201) (omega arith)
+bound-is c = bound-by c (is_terminal c)
 
 less : (c : Config) → card_stored.limit c ≤ bound_of c
-less c = omega (arith, bound-is c)
+less c = subst (λ n. card_stored.limit c ≤ n) (bound-is c) (omega arith)
 
 held-few : (b : Board) → Fits b → held b ≤ bound_of b.config
 unfolding octet_runs.after_all runs.after_all
@@ -75,7 +83,7 @@ held-few b f = go b.kind f.sound
     go : (kind : CardKind) → SoundAs kind b.card → held (record b { kind = kind }) ≤ bound_of b.config
     go Octets s =
         let few = ports_stored.stored_within_limit b.card [] s (All-nil (octet_runs.IsAtLine b.card)) in
-        subst (λ c. octet_stored.stored b.card ≤ bound_of c) f.config (omega (arith, few, bound-is b.card.card.config))
+        subst (λ c. octet_stored.stored b.card ≤ bound_of c) f.config (subst (λ n. octet_stored.stored b.card ≤ n) (bound-is b.card.card.config) few)
     go Frames s =
         let few = cards_stored.stored_within_limit.now b.card.card s in
         subst (λ c. card_stored.stored b.card.card ≤ bound_of c) f.config (omega (arith, few, less b.card.card.config))

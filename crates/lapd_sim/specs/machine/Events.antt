@@ -3,6 +3,7 @@ use Rattle.std.specs.Prelude.{◌≡◌, ℕ, zero, suc, ◌+◌, List, [], ◌�
 use Rattle.model_line.specs.declared.config.Config.{Config}
 use Rattle.model_bits.specs.Stream.{dropped}
 use Rattle.model_line.specs.Came.{cause_of}
+use Rattle.model_line.specs.Request.{AskTei}
 use Rattle.model_line.specs.Sound.{IsInRange}
 use Rattle.model_card.specs.Event as frames
 use Rattle.model_card.specs.Run as runs
@@ -41,6 +42,7 @@ meant_events (line.into number octets) s = coming_events s.setup.board.kind numb
 meant_events (line.failed number fault) s = at number (hears (dropped (cause_of fault))) ∷ []
 meant_events (line.next number) s = at number next ∷ []
 meant_events (line.down number) s = downs number (teis_on number s.setup.board)
+meant_events (line.ask_tei number) s = at number (request AskTei) ∷ []
 meant_events (line.pull number count) s = replicate count (at number pull)
 meant_events (line.wait milliseconds) s = events_until (s.setup.clock.now + milliseconds) s
 meant_events (line.ask number tei what octets) s = at number (request (request_for what tei octets)) ∷ []

@@ -6,6 +6,7 @@ use Rattle.model_bits.specs.Bits.{low_bits}
 use Rattle.lapd_frame.specs.Reading.{reading, header_of, control_of, unnumbered_of}
 use Rattle.lapd_frame.specs.Senders.{exchanged, reading as read_by}
 use Rattle.lapd_tei.specs.Events as teis
+use Rattle.lapd_terminal.specs.Events as terminals
 use Rattle.model_line.specs.Machine as lines
 use Rattle.model_card.specs.ports.Card as cards
 use Rattle.lapd_sim.specs.machine.Board as boards
@@ -55,3 +56,14 @@ in_frames : transcript (codes "frames 1 8 7 8 4 4 64 260 3\nassign 0 64\nin 0 00
     ≡ codes "0 establish-indication 64\n0 frame 008173\n0 nothing\n0 dropped fcs\n0 dropped short\n"
 unfolding boards.reply cards.after cards.answer cards.meant lines.after lines.answer lines.takes_slot exchanged read_by sapi_fault reading header_of control_of unnumbered_of teis.course teis.refusal low_bits decode_pairs encode_with digits
 in_frames = refl
+
+-- a terminal: it asks for a TEI and establishes its link, answers a check, and its TEI is removed
+terminal_called : transcript (codes "frames 1 8 7 8 4 4 64 260 3 user 4660\nask 0\nnext 0\nin 0 FEFF030F12340281\nestablish 0 64\nnext 0\nin 0 FEFF030F00000481\nnext 0\nin 0 FEFF030F00000681\n")
+    ≡ codes "0 frame FCFF030F123401FF\n0 assigned 64\n0 frame 00817F\n0 frame FCFF030F295D0581\n0 removed 64\n0 release-indication 64\n"
+unfolding boards.reply cards.after cards.answer cards.meant lines.after lines.answer lines.takes_slot exchanged read_by sapi_fault reading header_of control_of unnumbered_of terminals.course teis.refusal low_bits decode_pairs encode_with digits
+terminal_called = refl
+
+-- nobody answers: three requests, of which the newest takes the place of one that waits
+terminal_unassigned : transcript (codes "frames 1 8 7 8 4 4 64 260 3 user 4660\nask 0\nwait 2000\nnext 0\nwait 4000\nnext 0\n") ≡ codes "0 frame FCFF030F295D01FF\n0 unassigned 127\n0 nothing\n"
+unfolding boards.reply cards.after cards.answer cards.meant lines.after lines.answer lines.takes_slot exchanged read_by sapi_fault reading header_of control_of unnumbered_of terminals.course teis.refusal low_bits decode_pairs encode_with digits
+terminal_unassigned = refl

@@ -274,6 +274,7 @@ module _ (c : Config) (service : Service) (tei place : ℕ) (ranged : IsInRange 
         let here_same : x.timer ≡ timers.T203 service tei = same ∙ (λ i. timers.T203 (e.0 i) (e.1 i)) in
         goes-with (timers.T203 of by) (subst (λ t. Then c service tei place ranged lengths rate S M (happens (port.expiry t) (gone a))) (λ i. timers.T203 (sym e.0 i) (sym e.1 i)) (t203-then here_same))
     by-timer timers.T201 same ours = absurd (true≢false (sym ours))
+    by-timer timers.T202 same ours = absurd (true≢false (sym ours))
 
     pub fell-goes : Goes S M a (falls a x)
     fell-goes = by-timer x.timer refl (first-of (RunsOurs service tei) a.clock.running a.clock.now x h.but.ours is)

@@ -114,6 +114,7 @@ module _ (c : Config) (service : Service) (tei : ℕ) (ranged : IsInRange c) (le
             let e = own-same service tei of by ours in
             subst (λ t. Then (port.expiry t) s) (λ i. timers.T203 (sym e.0 i) (sym e.1 i)) (expired-kept (timers.T203 service tei) T203 (λ l. refl))
         by-timer timers.T201 ours = absurd (true≢false (sym ours))
+        by-timer timers.T202 ours = absurd (true≢false (sym ours))
 
       all-asked-kept : (rs : List Request) (a : TimedEndpoint) (h : EndsAt a.at) → Kept a.at h → All (IsOfLink service tei) rs → (k : EndsAt (fold asks a rs).at) → Kept (fold asks a rs).at k
       all-asked-kept [] a h x all k = kept-same a.at h k x

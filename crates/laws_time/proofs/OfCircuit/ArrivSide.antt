@@ -1,6 +1,6 @@
 -- What layer 3 asks at an end of the clocked circuit, and what falls due there, is done at the station for which it stands, where T200 is
 -- long enough.
-use Rattle.std.proofs.Common.{arith, ◌≡◌, ℕ, zero, suc, ◌+◌, ◌*◌, ◌≤◌, ◌<◌, ◌==◌, ◌||◌, ◌&&◌, Bool, true, false, List, [], ◌∷◌, ◌++◌, length, Option, Some, None, refl, sym, ap, ◌∙◌, subst, All}
+use Rattle.std.proofs.Common.{arith, ◌≡◌, ℕ, zero, suc, ◌+◌, ◌*◌, ◌≤◌, ◌<◌, ◌==◌, ◌||◌, ◌&&◌, Bool, true, false, List, [], ◌∷◌, length, Option, Some, None, refl, sym, ap, ◌∙◌, subst, All}
 use Rattle.std.specs.Prelude.{fold}
 use Rattle.std.specs.Option.{option_map_or}
 use Rattle.std.proofs.lemmas.List.Elements.{All-nil, All-cons, All-head, All-tail}
@@ -228,6 +228,7 @@ module _ (service : Service) (tei : ℕ) (c : Config) (ranged : IsInRange c) (d 
         subst (λ t. IsFair (falls_so t).at.told → After x (falls_so t)) (λ i. timers.T200 (sym own.0 i) (sym own.1 i)) (t200-fell (same ∙ (λ i. timers.T200 (own.0 i) (own.1 i)))) fair
     by-timer (timers.T203 of by) same ours fair = let own = own-same service tei of by ours in fell-with (timers.T203 of by) same own tt
     by-timer timers.T201 same ours fair = absurd (cc ours)
+    by-timer timers.T202 same ours fair = absurd (cc ours)
 
     pub falls-one : IsFair (falls a e).at.told → After x (falls a e)
     falls-one = by-timer e.timer refl (first-of (RunsOurs service tei) a.clock.running a.clock.now e h.ok.but.ours falls_now)

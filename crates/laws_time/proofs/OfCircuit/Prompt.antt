@@ -5,7 +5,7 @@ use Rattle.std.proofs.lemmas.Bool.{le-ltb}
 use Rattle.std.proofs.Math.Nat.{div-le_of_le-mul, mul-div-le}
 use Rattle.std.proofs.lemmas.Nat.{le-div}
 use Rattle.lapd_clock.specs.InOrder.{IsInOrder, put_in_order}
-use Rattle.lapd_clock.specs.Timer.{Timer, T200, T203, T201, Order, Start, Stop, Lengths, AreInRange, duration}
+use Rattle.lapd_clock.specs.Timer.{Timer, T200, T203, T201, T202, Order, Start, Stop, Lengths, AreInRange, duration}
 use Rattle.lapd_clock.specs.Timers.{Expiry, is_before, is_of, without}
 use Rattle.lapd_clock.proofs.First.{no_earlier}
 use Rattle.lapd_clock.proofs.Ordered.{All-filter, All-put_in_order, IsInOrder-put_in_order, IsInOrder-filter}
@@ -16,6 +16,7 @@ pub long : (ls : Lengths) → AreInRange ls → (timer : Timer) → 1 ≤ durati
 long ls r (T200 service tei) = r.t200
 long ls r (T203 service tei) = r.t203
 long ls r T201 = r.t201
+long ls r T202 = r.t202
 
 -- What holds of the timers that run holds of those that run after orders, if it holds of each that is started.
 pub all-obeyed : (P : Expiry → Type 0) (line : ℕ) (c : Clock) (orders : List Order) → ((timer : Timer) → P (record { moment = c.now + duration c.lengths timer; line = line; timer = timer }))

@@ -21,7 +21,7 @@ use Rattle.laws_wire.specs.Worked.{user, network}
 use Rattle.laws_time.specs.circuit.Clocked.{Clocked, Beat, plain, after, endpoint, fall_due, notes_at, contents_at}
 
 abbrev pub lengths : Lengths
-lengths = record { t200 = 16; t203 = 1000; t201 = 16 }
+lengths = record { t200 = 16; t203 = 1000; t201 = 16; t202 = 32 }
 
 abbrev pub begins : Clocked
 begins = record { near = endpoint user 0 lengths 0 0; far = endpoint network 0 lengths 0 0; beats = 0 }
@@ -88,7 +88,7 @@ nearly_lost = refl
 
 -- The line is dead, and T200 runs for four milliseconds: the release is told as it falls due for the second time, at 8.
 abbrev short : Lengths
-short = record { t200 = 4; t203 = 1000; t201 = 4 }
+short = record { t200 = 4; t203 = 1000; t201 = 4; t202 = 8 }
 
 abbrev dies : List Beat
 dies = asks_deaf ∷ replicate 8 deaf

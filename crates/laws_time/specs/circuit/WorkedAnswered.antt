@@ -29,7 +29,7 @@ its_line = record {
   far_line = 0;
   tei = 0;
   service = Call;
-  lengths = record { t200 = 73; t203 = 20; t201 = 73 };
+  lengths = record { t200 = 73; t203 = 20; t201 = 73; t202 = 146 };
   rate = 1;
   way = 0;
 }

@@ -1,5 +1,6 @@
 -- What answers a poll, SABME or DISC is heard within a number of pulls: the law.
-use Rattle.laws_trace.proofs.Vocabulary.{◌≡◌, ℕ, ◌+◌, ◌<◌, ◌≤◌, All, List, ◌++◌, map, sym, ap, ◌∙◌, subst, Service, Config, IsInRange, control_text, link_at, link_count, line_at, all-left, all-right, Card, OctetCard, OfEachLine, octets_given, refines, port_at, meant_all, outgoing_of, ports_fresh as fresh, PortsEvent as Event, PortsAreAtLines as AreAtLines, ports_after_all as after_all, octets_are}
+use Rattle.laws_trace.proofs.Vocabulary.{◌≡◌, ℕ, ◌+◌, ◌<◌, ◌≤◌, All, List, ◌++◌, map, sym, ap, ◌∙◌, subst, Service, Config, IsInRange, control_text, link_at, link_count, line_at, all-left, all-right, Card, OctetCard, OfEachLine, octets_given, refines, port_at, meant_all, outgoing_of, ports_fresh as fresh, PortsEvent as Event, PortsAreAtLines as AreAtLines, ports_after_all as after_all}
+use Rattle.laws_trace.proofs.Vocabulary.{octets_are}
 use Rattle.laws_trace.proofs.Vocabulary.{config_stays, most_frames_before}
 use Rattle.model_card.specs.Card as cards
 use Rattle.model_card.specs.Event as frames

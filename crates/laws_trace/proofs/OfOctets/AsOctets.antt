@@ -2,7 +2,7 @@
 use Rattle.laws_trace.proofs.Vocabulary.{◌≡◌, ℕ, ◌%◌, ◌<◌, cond, List, [], ◌∷◌, ◌++◌, map, refl, sym, ap, ◌∙◌, arith, All, filter, map-append, All-head, All-tail, Address, Side, Parts, spelling, reading-again, Config, head, as_octets, Control, head_of, IsSpelled, is_unit, own_side, Sender, side_spelling, renamed, exchanged-small}
 use Rattle.model_card.proofs.OfPorts.AsOctets.{as_many, exact}
 use Rattle.laws_trace.proofs.Reading.{carries_unit}
-use Rattle.std.specs.Prelude.{IsTrue, length}
+use Rattle.std.specs.Prelude.{IsTrue}
 use Rattle.lapd_frame.specs.Grammar.{row, takes}
 use Rattle.lapd_frame.specs.Senders.{Spells}
 use Rattle.laws_trace.proofs.Vocabulary.{subst}

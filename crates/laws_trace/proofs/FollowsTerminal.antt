@@ -1,0 +1,232 @@
+-- What the observer of a terminal's line knows of it is what its TEI management has, and what is due by an event is what that
+-- tells.
+use Rattle.laws_trace.proofs.Vocabulary.{◌≡◌, ℕ, ◌+◌, ◌*◌, ◌/◌, ◌%◌, ◌==◌, ◌&&◌, Bool, true, false, cond, not, List, [], ◌∷◌, Option, Some, None, refl, sym, ap, ◌∙◌, arith, fold, filter, list_any, is_some, nat_le, nat_lt, option_map, free_place}
+use Rattle.std.specs.Prelude.{option_to_list}
+use Rattle.lapd_frame.specs.declared.notes.Note.{Note}
+use Rattle.lapd_frame.specs.declared.notes.Note.TheVariants as notes
+use Rattle.lapd_frame.specs.declared.timers.Order.{Order}
+use Rattle.lapd_frame.specs.declared.timers.Order.TheVariants.{Stop}
+use Rattle.lapd_frame.specs.declared.timers.Timer.TheVariants.{T202}
+use Rattle.lapd_tei.specs.Table as table
+use Rattle.lapd_terminal.specs.declared.outcome.News.TheVariants as news
+use Rattle.lapd_terminal.specs.declared.procedure.Procedure.{Procedure}
+use Rattle.lapd_terminal.specs.declared.procedure.Procedure.TheVariants.{Asking, Verifying}
+use Rattle.lapd_terminal.specs.Machine.{Terminal}
+use Rattle.lapd_terminal.specs.Messages.{heard_in, heard_of_type}
+use Rattle.lapd_terminal.specs.Rows as rows
+use Rattle.lapd_terminal.specs.Words as words
+use Rattle.lapd_terminal.specs.Words.{Course, begun, end_procedure, end_verifying_of, nothing_happens, unserved}
+use Rattle.model_line.specs.Effect.{note_of, order_of}
+use Rattle.laws_trace.specs.ManagingTerminal as seen
+use Rattle.laws_trace.specs.ManagingTerminal.{OfTerminal}
+use Rattle.laws_trace.proofs.TerminalTables.{IsOnce, filter-same, any-same, response-same, response-for-same, verified-same, request-same, verify-same, on-same, free-same, comes-same, leaves-same}
+
+-- A terminal as its observer has it, with what an event under way has told; and after one that is served.
+abbrev pub as_known : Terminal → List Note → List Order → OfTerminal
+as_known t notes orders =
+    record { places = t.places; number = t.number; procedure = t.procedure; owed = t.waiting; notes = notes; orders = orders; begins = []; granted = None }
+
+abbrev pub shown : Course → OfTerminal
+shown x = as_known x.now (option_to_list (option_map note_of x.told.news)) (option_to_list (option_map order_of x.told.order))
+
+abbrev pub served : Course → Option OfTerminal
+served x = cond x.told.unserved None (Some (shown x))
+
+abbrev pub known : Terminal → OfTerminal
+known t = shown (begun t)
+
+-- Each word of the rows is one of the observer.
+over-is : (x : Course) → seen.over (shown x) ≡ shown (end_procedure x)
+over-is x = ap (λ owed. record (shown x) { procedure = None; owed = owed; orders = Stop T202 ∷ [] }) (filter-same seen.is_response words.is_response response-same x.now.waiting)
+
+verified-is : (tei : ℕ) (x : Course) → seen.verified tei (shown x) ≡ shown (end_verifying_of tei x)
+verified-is tei x = ap (λ b. cond b (seen.over (shown x)) (shown x)) (verified-same tei x.now.procedure) ∙ go (words.is_verified tei x.now.procedure)
+  where
+    go : (b : Bool) → cond b (seen.over (shown x)) (shown x) ≡ shown ((cond b end_procedure nothing_happens) x)
+    go true = over-is x
+    go false = refl
+
+without-is : (tei : ℕ) (x : Course) → IsOnce tei x.now.places → seen.without tei (shown x) ≡ shown (words.leave tei x)
+without-is tei x once =
+    ap (λ places. record (shown x) { places = places; owed = filter (λ message. not (seen.is_response_for tei message)) x.now.waiting }) (leaves-same tei x.now.places once)
+    ∙ ap (λ owed. record (shown (words.leave tei x)) { owed = owed })
+    (filter-same (λ message. not (seen.is_response_for tei message)) (words.is_other tei) (λ message. ap not (response-for-same tei message)) x.now.waiting)
+
+ended-once : (tei : ℕ) (x : Course) → IsOnce tei x.now.places → IsOnce tei (end_verifying_of tei x).now.places
+ended-once tei x once = go (words.is_verified tei x.now.procedure)
+  where
+    go : (b : Bool) → IsOnce tei ((cond b end_procedure nothing_happens) x).now.places
+    go true = once
+    go false = once
+
+pub leaves-is : (tei : ℕ) (x : Course) → IsOnce tei x.now.places → seen.leaves tei (shown x) ≡ shown (rows.take_off tei x)
+leaves-is tei x once = ap (seen.without tei) (verified-is tei x) ∙ without-is tei (end_verifying_of tei x) (ended-once tei x once)
+
+removed-is : (tei : ℕ) (x : Course) → IsOnce tei x.now.places → seen.removed tei (shown x) ≡ shown (rows.removed tei x)
+removed-is tei x once = ap (λ (k : OfTerminal). record k { notes = notes.Removed tei ∷ [] }) (leaves-is tei x once)
+
+pub asks-is : (attempts : ℕ) (x : Course) → seen.asks attempts (shown x) ≡ shown (words.ask attempts x)
+asks-is attempts x = ap (λ owed. record (shown (words.ask attempts x)) { owed = owed }) (request-same x.now.number x.now.waiting)
+
+pub verifies-is : (tei attempts : ℕ) (x : Course) → seen.verifies tei attempts (shown x) ≡ shown (words.verify tei attempts x)
+verifies-is tei attempts x = ap (λ owed. record (shown (words.verify tei attempts x)) { owed = owed }) (verify-same tei x.now.waiting)
+
+responds-is : (tei : ℕ) (x : Course) → seen.responds (shown x) tei ≡ shown (words.respond tei x)
+responds-is tei x =
+    ap (λ b. cond b (shown x) (shown (words.send_response tei x))) (any-same (seen.is_response_for tei) (words.is_response_of tei) (response-for-same tei) x.now.waiting)
+    ∙ go (list_any (words.is_response_of tei) x.now.waiting)
+  where
+    go : (b : Bool) → cond b (shown x) (shown (words.send_response tei x)) ≡ shown ((cond b nothing_happens (words.send_response tei)) x)
+    go true = refl
+    go false = refl
+
+abbrev answered : OfTerminal → ℕ → OfTerminal
+answered k tei = seen.responds (seen.verified tei k) tei
+
+answer-is : (tei : ℕ) (x : Course) → answered (shown x) tei ≡ shown (rows.answer tei x)
+answer-is tei x = ap (λ k. seen.responds k tei) (verified-is tei x) ∙ responds-is tei (end_verifying_of tei x)
+
+answers-are : (teis : List ℕ) (x : Course) → fold answered (shown x) teis ≡ shown (fold rows.answered x teis)
+answers-are [] x = refl
+answers-are (tei ∷ teis) x = ap (λ k. fold answered k teis) (answer-is tei x) ∙ answers-are teis (rows.answer tei x)
+
+-- An answer is served.
+answer-served : (tei : ℕ) (x : Course) → x.told.unserved ≡ false → (rows.answer tei x).told.unserved ≡ false
+answer-served tei x h = responded (end_verifying_of tei x) (ended (words.is_verified tei x.now.procedure))
+  where
+    ended : (b : Bool) → ((cond b end_procedure nothing_happens) x).told.unserved ≡ false
+    ended true = h
+    ended false = h
+
+    responded : (y : Course) → y.told.unserved ≡ false → (words.respond tei y).told.unserved ≡ false
+    responded y served = go (words.is_answered tei y.now)
+      where
+        go : (b : Bool) → ((cond b nothing_happens (words.send_response tei)) y).told.unserved ≡ false
+        go true = served
+        go false = served
+
+answers-served : (teis : List ℕ) (x : Course) → x.told.unserved ≡ false → (fold rows.answered x teis).told.unserved ≡ false
+answers-served [] x h = h
+answers-served (tei ∷ teis) x h = answers-served teis (rows.answer tei x) (answer-served tei x h)
+
+-- What a terminal does by a message is known to be done, and is not served where nothing is.
+module _ (t : Terminal) (once : (tei : ℕ) → IsOnce tei t.places) where
+  abbrev k : OfTerminal
+  k = known t
+
+  check-is : (teis : List ℕ) → seen.by_check teis k ≡ served (rows.checked teis (begun t))
+  check-is [] = refl
+  check-is (tei ∷ teis) =
+      ap Some (answers-are (tei ∷ teis) (begun t))
+      ∙ sym (ap (λ b. cond b None (Some (shown (fold rows.answered (begun t) (tei ∷ teis))))) (answers-served (tei ∷ teis) (begun t) refl))
+
+  is-served : (tei : ℕ) → (rows.removed tei (begun t)).told.unserved ≡ false
+  is-served tei = go (words.is_verified tei t.procedure)
+    where
+      go : (b : Bool) → (words.leave tei ((cond b end_procedure nothing_happens) (begun t))).told.unserved ≡ false
+      go true = refl
+      go false = refl
+
+  remove-is : (teis : List ℕ) → seen.by_remove teis k ≡ served (rows.removed_each teis (begun t))
+  remove-is [] = refl
+  remove-is (tei ∷ []) = ap Some (removed-is tei (begun t) (once tei)) ∙ sym (ap (λ b. cond b None (Some (shown (rows.removed tei (begun t))))) (is-served tei))
+  remove-is (tei ∷ other ∷ teis) = refl
+
+  named-is : (action : ℕ) → seen.named action k ≡ table.named action t.places
+  named-is action = ap (λ b. cond (action == 127) (table.teis_on t.places) (cond b (action ∷ []) [])) (on-same action t.places)
+
+  -- an assignment
+  abbrev got : ℕ → OfTerminal
+  got tei = record (seen.over k) { places = seen.with_tei tei t.places; notes = notes.Assigned tei ∷ [] }
+
+  got-is : (tei place : ℕ) → free_place t.places ≡ Some place → got tei ≡ shown (words.note (news.Assigned tei) (end_procedure (words.join tei place (begun t))))
+  got-is tei place free =
+      ap (λ places. record (seen.over k) { places = places; notes = notes.Assigned tei ∷ [] }) (comes-same tei place t.places free)
+      ∙ ap (λ (x : OfTerminal). record x { notes = notes.Assigned tei ∷ [] }) (over-is (words.join tei place (begun t)))
+
+  takes-if : (tei : ℕ) (may : Bool) (o : Option ℕ) → free_place t.places ≡ o
+      → cond (may && is_some o) (Some (got tei)) None ≡ served ((cond may (rows.take_at tei o) unserved) (begun t))
+  takes-if tei false o free = refl
+  takes-if tei true None free = refl
+  takes-if tei true (Some place) free = ap Some (got-is tei place free)
+
+  own-if : (tei : ℕ) (same : Bool)
+      → cond (same && (rows.is_assignable tei t.places && is_some (free_place t.places))) (Some (got tei)) None ≡ served ((cond same (rows.take_tei tei) unserved) (begun t))
+  own-if tei false = refl
+  own-if tei true = takes-if tei (rows.is_assignable tei t.places) (free_place t.places) refl
+
+  may-come : (tei : ℕ) → seen.may_come tei k ≡ (rows.is_assignable tei t.places && is_some (free_place t.places))
+  may-come tei =
+      ap (λ b. nat_le 64 tei && nat_le tei 126 && not b && list_any seen.is_free t.places) (on-same tei t.places)
+      ∙ ap (λ b. nat_le 64 tei && nat_le tei 126 && not (table.is_on tei t.places) && b) (free-same t.places)
+      ∙ all-four (nat_le 64 tei) (nat_le tei 126) (not (table.is_on tei t.places)) (is_some (free_place t.places))
+    where
+      all-four : (a b d e : Bool) → (a && b && d && e) ≡ ((a && b && d) && e)
+      all-four a b d e = grind arith
+
+  assigned-is : (ri tei : ℕ) (o : Option Procedure) → seen.by_assigned ri tei o k ≡ served (rows.assigned ri tei o (begun t))
+  assigned-is ri tei None = ap (λ b. cond b (Some (seen.verifies tei 1 k)) None) (on-same tei t.places) ∙ go (table.is_on tei t.places)
+    where
+      go : (b : Bool) → cond b (Some (seen.verifies tei 1 k)) None ≡ served ((cond b (words.verify tei 1) unserved) (begun t))
+      go true = ap Some (verifies-is tei 1 (begun t))
+      go false = refl
+  assigned-is ri tei (Some (Asking own attempts)) =
+      ap (λ b. cond (own == ri && b) (Some (got tei)) None) (may-come tei) ∙ own-if tei (own == ri)
+  assigned-is ri tei (Some (Verifying on attempts)) = refl
+
+  denied-is : (ri : ℕ) (o : Option Procedure) → seen.by_denied ri o k ≡ served (rows.denied ri o (begun t))
+  denied-is ri None = refl
+  denied-is ri (Some (Asking own attempts)) = go (own == ri)
+    where
+      go : (b : Bool) → cond b (Some (record k { notes = notes.Denied ∷ [] })) None ≡ served ((cond b (words.note news.Denied) unserved) (begun t))
+      go true = refl
+      go false = refl
+  denied-is ri (Some (Verifying on attempts)) = refl
+
+  -- any message
+  by-both : {X Y : Type 0} (P : X → Y → Type 0) (b : Bool) (u v : X) (x y : Y) → P u x → P v y → P (cond b u v) (cond b x y)
+  by-both P true u v x y h j = h
+  by-both P false u v x y h j = j
+
+  otherwise : {X Y : Type 0} (P : X → Y → Type 0) (b : Bool) (u v : X) (x y : Y) → P u x → P v y → P (cond (not b) v u) (cond b x y)
+  otherwise P true u v x y h j = h
+  otherwise P false u v x y h j = j
+
+  abbrev of_type : ℕ → ℕ → ℕ → Option OfTerminal
+  of_type type ri action =
+      cond (type == 2) (seen.by_assigned ri action t.procedure k)
+      (cond (type == 3 && action == 127) (seen.by_denied ri t.procedure k)
+      (cond (type == 4) (seen.by_check (seen.named action k) k) (cond (type == 6) (seen.by_remove (seen.named action k) k) None)))
+
+  by-type : (type ri action : ℕ) → of_type type ri action ≡ served (rows.serve (heard_of_type type ri action) (begun t))
+  by-type type ri action =
+      by-both (λ d o. d ≡ served (rows.serve o (begun t))) (type == 2) _ _ _ _ (assigned-is ri action t.procedure)
+      (by-both (λ d o. d ≡ served (rows.serve o (begun t))) (type == 3 && action == 127) _ _ _ _ (denied-is ri t.procedure)
+      (by-both (λ d o. d ≡ served (rows.serve o (begun t))) (type == 4) _ _ _ _
+      (ap (λ teis. seen.by_check teis k) (named-is action) ∙ check-is (table.named action t.places))
+      (by-both (λ d o. d ≡ served (rows.serve o (begun t))) (type == 6) _ _ _ _
+      (ap (λ teis. seen.by_remove teis k) (named-is action) ∙ remove-is (table.named action t.places)) refl)))
+
+  pub message-is : (info : List ℕ) → seen.by_message info k ≡ served (rows.serve (heard_in info) (begun t))
+  message-is [] = refl
+  message-is (entity ∷ []) = refl
+  message-is (entity ∷ high ∷ []) = refl
+  message-is (entity ∷ high ∷ low ∷ []) = refl
+  message-is (entity ∷ high ∷ low ∷ type ∷ []) = refl
+  message-is (entity ∷ high ∷ low ∷ type ∷ last ∷ []) =
+      otherwise (λ d o. d ≡ served (rows.serve o (begun t))) (entity == 0x0F && last % 2 == 1) _ _ _ _ (by-type type (256 * high + low) (last / 2)) refl
+  message-is (entity ∷ high ∷ low ∷ type ∷ last ∷ sixth ∷ more) = refl
+
+  -- T202 runs out.
+  pub expiry-is : (o : Option Procedure) → seen.ran_out o k ≡ shown (rows.expire_procedure o (begun t))
+  expiry-is None = refl
+  expiry-is (Some (Asking ri attempts)) = go (nat_lt attempts 3)
+    where
+      go : (b : Bool) → cond b (seen.asks (attempts + 1) k) (record (seen.over k) { notes = notes.Unassigned ∷ [] }) ≡ shown ((cond b (words.ask (attempts + 1)) rows.give_up_asking) (begun t))
+      go true = asks-is (attempts + 1) (begun t)
+      go false = ap (λ (x : OfTerminal). record x { notes = notes.Unassigned ∷ [] }) (over-is (begun t))
+  expiry-is (Some (Verifying tei attempts)) = go (nat_lt attempts 2)
+    where
+      go : (b : Bool) → cond b (seen.verifies tei (attempts + 1) k) (seen.removed tei k) ≡ shown ((cond b (words.verify tei (attempts + 1)) (rows.removed tei)) (begun t))
+      go true = verifies-is tei (attempts + 1) (begun t)
+      go false = removed-is tei (begun t) (once tei)

@@ -189,8 +189,9 @@ typedef struct lapd_config {
     uint16_t n201;       /* octets of an information field at most: 8 to 260 (clause 5.9.3) */
     uint16_t n200;       /* how often a command is repeated: 0 to 10 (clause 5.9.2) */
     uint16_t side;       /* which side of its lines the card is: LAPD_NETWORK, LAPD_USER or LAPD_TERMINAL */
-    uint16_t seed;       /* of a terminal: its first reference number, 0 to 65,535, from a source of random numbers; the
-                            network tells terminals that ask by these numbers alone. Of the other sides it is not read */
+    uint16_t seed;       /* of a terminal: its first reference number, 0 to 65,535, from a source of random numbers. By these
+                            numbers alone the network tells terminals apart that ask. Each line begins with it, so no two
+                            lines of a card may share a bus. Of the other sides it is not read */
     uint16_t sapi;       /* the SAPI of the second service, LAPD_PACKET: 1 to 62; 0 means 16 (clause 3.3.3) */
 } lapd_config;
 

@@ -24,7 +24,7 @@ static void fail(const char *what, u32 one, u32 other) {
 }
 
 /* The stack begins at STACK and goes down to 0; the lower half of it is filled. */
-enum { STACK = 8192, FILL = 0xA5 };
+enum { STACK = 9216, FILL = 0xA5 };
 
 static machine *filled(u64 heap) {
     machine *instance = new_machine(heap);

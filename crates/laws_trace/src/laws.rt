@@ -151,12 +151,12 @@ pub fn what_is_given_is_due()
 /// has a call of its own. This holds once there are enough calls, whatever else happens and whatever was lost. The TEI
 /// stays on the line, to an observer, and the link is not deactivated.
 ///
-/// There have to be more calls than frames that the configuration lets go before. These are four messages of TEI
-/// management, and all unit data that may wait. (At a trunk's end there is no message; at a terminal there may be one
-/// more than its line may have TEIs.) Beside these there are one frame of every link for each other control frame that
-/// the link has room for, and one of each other link. Each message of TEI management and each unit data that comes
-/// meanwhile counts, too. So with eight terminals, 4 unit data and 4 control frames 72 calls are enough on the network's
-/// side, if none of these comes (Q.921 clauses 5.5.1.2, 5.5.3.2, 5.6.2 to 5.6.7, 5.7 and 5.8.1, and profile).
+/// There have to be more calls than frames that the configuration lets go before. First are all messages of TEI
+/// management that may wait: four, and at a terminal one more than its line may have TEIs. (At a trunk's end none does.)
+/// Then there are all unit data that may wait, one frame of every link for each other control frame that the link has
+/// room for, and one of each other link. Each message of TEI management and each unit data that comes meanwhile counts,
+/// too. So with eight terminals, 4 unit data and 4 control frames 72 calls are enough on the network's side, if none of
+/// these comes (Q.921 clauses 5.5.1.2, 5.5.3.2, 5.6.2 to 5.6.7, 5.7 and 5.8.1, and profile).
 pub fn answers_are_given()
     ensures { Always QueueIsSent }
 {}

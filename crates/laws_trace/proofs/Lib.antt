@@ -136,3 +136,5 @@ pub mod OffersOfLink
 pub mod FramesAreDue
 pub mod UnitsAreFor
 pub mod OfOctets
+pub mod AskingSteps
+pub mod AskingEnds

@@ -46,16 +46,16 @@ breaks_by t (request r) = breaks t r
 breaks_by t other = false
 
 -- A step that leaves both.
-record IsSame (t u : OfTerminal) : Type 0 where
-  notes : u.notes ≡ t.notes
-  asking : asking_of u.procedure ≡ asking_of t.procedure
+pub record IsSame (t u : OfTerminal) : Type 0 where
+  pub notes : u.notes ≡ t.notes
+  pub asking : asking_of u.procedure ≡ asking_of t.procedure
 
 verifying-is : (tei : ℕ) (o : Option Procedure) → is_verified tei o ≡ true → asking_of o ≡ None
 verifying-is tei None is = absurd (true≢false (sym is))
 verifying-is tei (Some (Asking ri n)) is = absurd (true≢false (sym is))
 verifying-is tei (Some (Verifying on n)) is = refl
 
-verified-same : (tei : ℕ) (t : OfTerminal) → IsSame t (verified tei t)
+pub verified-same : (tei : ℕ) (t : OfTerminal) → IsSame t (verified tei t)
 verified-same tei t = go (is_verified tei t.procedure) refl
   where
     go : (b : Bool) → is_verified tei t.procedure ≡ b → IsSame t (cond b (over t) t)
@@ -72,7 +72,7 @@ responds-same tei t = go (list_any (is_response_for tei) t.owed)
 along : {t u v : OfTerminal} → IsSame t u → IsSame u v → IsSame t v
 along h j = record { notes = j.notes ∙ h.notes; asking = j.asking ∙ h.asking }
 
-answers-same : (teis : List ℕ) (t : OfTerminal) → IsSame t (fold (λ t tei. responds (verified tei t) tei) t teis)
+pub answers-same : (teis : List ℕ) (t : OfTerminal) → IsSame t (fold (λ t tei. responds (verified tei t) tei) t teis)
 answers-same [] t = record { notes = refl; asking = refl }
 answers-same (tei ∷ teis) t =
     along (along (verified-same tei t) (responds-same tei (verified tei t))) (answers-same teis (responds (verified tei t) tei))

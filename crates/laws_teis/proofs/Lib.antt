@@ -1,0 +1,10 @@
+-- Lemmas.
+pub mod Lists
+pub mod NetworkSteps
+pub mod Frames
+pub mod TerminalSteps
+pub mod Waiting
+pub mod NetworkHolds
+pub mod TerminalHolds
+pub mod Runs
+pub mod Law

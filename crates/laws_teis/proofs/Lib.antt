@@ -6,5 +6,6 @@ pub mod TerminalSteps
 pub mod Waiting
 pub mod NetworkHolds
 pub mod TerminalHolds
+pub mod Seen
 pub mod Runs
 pub mod Law

@@ -30,7 +30,7 @@ module _ (b : Bus) (can : CanMeet b) (n : Network) (t : Terminal) (way : List (L
   missed_now = missed ++ filter is_missed n.made
 
   abbrev pub network_now : Network
-  network_now = with_teis d n
+  network_now = with_teis (λ tei. is_on tei d) d n
 
   abbrev old : Known
   old = known n missed

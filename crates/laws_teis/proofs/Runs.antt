@@ -19,7 +19,7 @@ use Rattle.model_line.specs.Taken.{own_side}
 use Rattle.model_card.specs.Card.{Card, fresh}
 use Rattle.model_card.specs.Event.{Event, at}
 use Rattle.model_card.specs.Machine.{answer}
-use Rattle.model_card.specs.Run.{after_all, IsAtLine, AreAtLines}
+use Rattle.model_card.specs.Run.{after_all, moments, IsAtLine, AreAtLines}
 use Rattle.laws_trace.specs.LinkFrames.{reads}
 use Rattle.laws_trace.specs.Managing as managing
 use Rattle.laws_trace.specs.Managing.{Managed, nothing_due, none_on, due, led, managed_after, octets_of, own_of, at_terminal}
@@ -33,16 +33,8 @@ use Rattle.laws_teis.proofs.Frames.{AreNone, begins-one, begins-none}
 use Rattle.laws_teis.proofs.NetworkSteps.{Table, Queue, Changes, same-table, event-so, IsOther}
 use Rattle.laws_teis.proofs.NetworkHolds.{kept, given-up, called-none, called-one}
 use Rattle.laws_teis.proofs.TerminalHolds.{grows, lost, no-frame, comes, terminal_now}
+use Rattle.laws_teis.proofs.Seen.{network-teis, network-then, terminal-then}
 use Rattle.laws_teis.proofs.Waiting.{Holds, removal}
-
--- The observers of a run are those of its events.
-led-teis : (c : Config) (number : ℕ) (n : Network) (events : List Event) → (fold (network_led c number) n events).teis ≡ fold (led c number) n.teis events
-led-teis c number n [] = refl
-led-teis c number n (e ∷ events) = led-teis c number (network_led c number n e) events ∙ ap (λ w. fold (led c number) w events) (go (e.line == number))
-  where
-    go : (x : Bool) → (cond x (with_teis (due c e.what n.teis) n) n).teis ≡ cond x (due c e.what n.teis) n.teis
-    go true = refl
-    go false = refl
 
 module _ (b : Bus) (can : CanMeet b) where
   abbrev c : Config
@@ -68,7 +60,7 @@ module _ (b : Bus) (can : CanMeet b) where
 
     abbrev Then : line_event.Event → Type 0
     Then what =
-        Holds b (with_teis (due c what w) n) t (way ++ frame_in (a what)) (missed ++ filter (λ r. gives_up r.tei what w || leaves_untold r.tei w (due c what w)) n.made)
+        Holds b (with_teis (λ tei. managing.is_on tei (due c what w)) (due c what w) n) t (way ++ frame_in (a what)) (missed ++ filter (λ r. gives_up r.tei what w || leaves_untold r.tei w (due c what w)) n.made)
 
     begins-so : (what : line_event.Event) → filter (reads (own_side c) (λ (f : Parts). f.address.sapi == 63)) (frame_in (a what)) ≡ map (message_text c) (due c what w).begins
     begins-so what =
@@ -126,7 +118,7 @@ module _ (b : Bus) (can : CanMeet b) where
     -- One of the card.
     abbrev ThenOf : Event → Bool → Type 0
     ThenOf e x =
-        Holds b (cond x (with_teis (due c e.what w) n) n) t (way ++ cond x (frame_in (answer e (after_all (fresh c) events))) [])
+        Holds b (cond x (with_teis (λ tei. managing.is_on tei (due c e.what w)) (due c e.what w) n) n) t (way ++ cond x (frame_in (answer e (after_all (fresh c) events))) [])
         (missed ++ filter (λ r. x && (gives_up r.tei e.what w || leaves_untold r.tei w (due c e.what w))) n.made)
 
     pub any-event : (e : Event) (x : Bool) → (e.line == b.number) ≡ x → ThenOf e x
@@ -137,26 +129,24 @@ module _ (b : Bus) (can : CanMeet b) where
   -- A run.
   pub record Runs (p : Past) : Type 0 where
     pub all : AreAtLines (fresh c) p.at_network
+    pub there : AreAtLines (fresh b.terminal) p.at_terminal
     pub holds : Holds b (network_of b p) (terminal_after b.terminal b.line p.at_terminal) p.way p.missed
 
   abbrev known_terminal : Past → Terminal
   known_terminal p = terminal_after b.terminal b.line p.at_terminal
 
-  network-then : (p : Past) (e : Event) → network_after c b.number (p.at_network ++ e ∷ []) ≡ network_led c b.number (network_of b p) e
-  network-then p e = fold-append (network_led c b.number) (record { teis = none_on; made = []; hold = [] }) p.at_network (e ∷ [])
-
-  terminal-then : (p : Past) (e : Event) → terminal_after b.terminal b.line (p.at_terminal ++ e ∷ []) ≡ terminal_led b.terminal b.line (known_terminal p) e
-  terminal-then p e = fold-append (terminal_led b.terminal b.line) (record { teis = none_on; given = [] }) p.at_terminal (e ∷ [])
-
   step-so : (p : Past) (step : Step) → IsThere b step → Runs p → Runs (doing b p step)
   step-so p (network e) there runs = record {
     all = All-append (IsAtLine (fresh c)) p.at_network (e ∷ []) runs.all (All-cons (IsAtLine (fresh c)) e [] there (All-nil (IsAtLine (fresh c))));
-    holds = subst (λ n. Holds b n (known_terminal p) (acting b (network e) p).way (doing b p (network e)).missed) (sym (network-then p e))
-        (any-event (network_of b p) (known_terminal p) p.way p.missed runs.holds p.at_network runs.all
-        (led-teis c b.number (record { teis = none_on; made = []; hold = [] }) p.at_network) e (e.line == b.number) refl);
+    holds = subst (λ n. Holds b n (known_terminal p) (acting b (network e) p).way (doing b p (network e)).missed) (sym (network-then c b.number can.network can.number p.at_network e runs.all there))
+        (any-event (network_of b p) (known_terminal p) p.way p.missed runs.holds p.at_network runs.all (network-teis c b.number p.at_network) e (e.line == b.number) refl);
+    there = runs.there;
   }
   step-so p (terminal e) there runs = go (e.line == b.line) (is_heard e.what) refl refl
     where
+      more-there : (e : Event) → e.line < b.terminal.lines → AreAtLines (fresh b.terminal) (p.at_terminal ++ e ∷ [])
+      more-there e within = All-append (IsAtLine (fresh b.terminal)) p.at_terminal (e ∷ []) runs.there (All-cons (IsAtLine (fresh b.terminal)) e [] within (All-nil (IsAtLine (fresh b.terminal))))
+
       n : Network
       n = network_of b p
 
@@ -164,17 +154,19 @@ module _ (b : Bus) (can : CanMeet b) where
       ys = missing b (terminal e) p
 
       go : (x y : Bool) → (e.line == b.line) ≡ x → is_heard e.what ≡ y → Runs (record (cond (x && y) p (record p { at_terminal = p.at_terminal ++ e ∷ [] })) { missed = p.missed ++ ys })
-      go true true is heard = record { all = runs.all; holds = grows b can n (known_terminal p) p.way p.missed ys runs.holds }
+      go true true is heard = record { all = runs.all; there = runs.there; holds = grows b can n (known_terminal p) p.way p.missed ys runs.holds }
       go true false is other = record {
         all = runs.all;
+        there = more-there e there;
         holds = subst (λ t. Holds b n t p.way (p.missed ++ ys))
-            (sym (terminal-then p e ∙ ap (λ x. cond x (terminal_now b can n (known_terminal p) e.what) (known_terminal p)) is))
+            (sym (terminal-then b.terminal b.line can.terminal can.line p.at_terminal e runs.there there ∙ ap (λ x. cond x (terminal_now b can n (known_terminal p) e.what) (known_terminal p)) is))
             (grows b can n (terminal_now b can n (known_terminal p) e.what) p.way p.missed ys (no-frame b can n (known_terminal p) e.what p.way p.missed other runs.holds));
       }
       go false y is heard = record {
         all = runs.all;
+        there = more-there e there;
         holds = subst (λ t. Holds b n t p.way (p.missed ++ ys))
-            (sym (terminal-then p e ∙ ap (λ x. cond x (terminal_now b can n (known_terminal p) e.what) (known_terminal p)) is))
+            (sym (terminal-then b.terminal b.line can.terminal can.line p.at_terminal e runs.there there ∙ ap (λ x. cond x (terminal_now b can n (known_terminal p) e.what) (known_terminal p)) is))
             (grows b can n (known_terminal p) p.way p.missed ys runs.holds);
       }
   step-so p receives there runs = go p.way runs.holds
@@ -186,15 +178,16 @@ module _ (b : Bus) (can : CanMeet b) where
       ys = missing b receives p
 
       go : (way : List (List ℕ)) → Holds b n (known_terminal p) way p.missed → Runs (record (received b way (record p { way = way })) { missed = p.missed ++ ys })
-      go [] h = record { all = runs.all; holds = grows b can n (known_terminal p) [] p.missed ys h }
+      go [] h = record { all = runs.all; there = runs.there; holds = grows b can n (known_terminal p) [] p.missed ys h }
       go (x ∷ more) h =
           let e = at b.line (hears (came b.terminal.n201 x)) in record {
             all = runs.all;
+            there = All-append (IsAtLine (fresh b.terminal)) p.at_terminal (e ∷ []) runs.there (All-cons (IsAtLine (fresh b.terminal)) e [] can.line (All-nil (IsAtLine (fresh b.terminal))));
             holds = subst (λ t. Holds b n t more (p.missed ++ ys))
-                (sym (terminal-then p e ∙ ap (λ y. cond y (terminal_now b can n (known_terminal p) e.what) (known_terminal p)) (eq-eqb b.line b.line refl)))
+                (sym (terminal-then b.terminal b.line can.terminal can.line p.at_terminal e runs.there can.line ∙ ap (λ y. cond y (terminal_now b can n (known_terminal p) e.what) (known_terminal p)) (eq-eqb b.line b.line refl)))
                 (grows b can n (terminal_now b can n (known_terminal p) e.what) more p.missed ys (comes b can n (known_terminal p) x more p.missed h));
           }
-  step-so p loses there runs = record { all = runs.all; holds = go p.way runs.holds }
+  step-so p loses there runs = record { all = runs.all; there = runs.there; holds = go p.way runs.holds }
     where
       n : Network
       n = network_of b p
@@ -210,8 +203,10 @@ module _ (b : Bus) (can : CanMeet b) where
   none-there (suc k) = none-there k
 
   pub begins-runs : Runs begun
+  unfolding moments
   begins-runs = record {
     all = All-nil (IsAtLine (fresh c));
+    there = All-nil (IsAtLine (fresh b.terminal));
     holds = record {
       held = λ r is. absurd is;
       on = λ r is. absurd is;

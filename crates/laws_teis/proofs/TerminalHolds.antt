@@ -10,7 +10,7 @@ use Rattle.laws_trace.specs.Managing.{Managed, is_on, due, own_of}
 use Rattle.laws_trace.specs.ManagingTerminal as terminal
 use Rattle.laws_trace.specs.ManagingTerminal.{OfTerminal, teis_of, by_event, by_message}
 use Rattle.laws_teis.specs.Bus.{Bus, Network, message_in, is_removal, is_heard}
-use Rattle.laws_teis.specs.Assignments.{Terminal, CanMeet, IsIn, taken_by, taken}
+use Rattle.laws_teis.specs.Assignments.{Terminal, CanMeet, IsIn, taken_by, taken, with_given}
 use Rattle.laws_teis.proofs.Frames.{is_assigned, assigned-few}
 use Rattle.laws_teis.proofs.Lists.{in-left, in-right, in-either, in-filter, in-filtered, or-cases}
 use Rattle.laws_teis.proofs.TerminalSteps.{takes, message-takes, removal-takes-off, frame-is, other-takes, then_own, due-so}
@@ -79,7 +79,7 @@ module _ (b : Bus) (can : CanMeet b) (n : Network) (t : Terminal) where
     d = due b.terminal e w
 
     abbrev pub terminal_now : Terminal
-    terminal_now = record { teis = d; given = filter (λ r. is_on r.tei d) (t.given ++ taken b.terminal w d) }
+    terminal_now = with_given (λ tei. is_on tei d) b.terminal d d.notes t
 
     module _ (same_on : w.on ≡ teis_of (own_of b.terminal w).places) where
       abbrev u : OfTerminal
@@ -88,12 +88,12 @@ module _ (b : Bus) (can : CanMeet b) (n : Network) (t : Terminal) where
       own-now : d.on ≡ teis_of (own_of b.terminal d).places
       own-now = let due = due-so b.terminal can.own w same_on e in due.on ∙ ap teis_of (sym due.places)
 
-      taken-is : taken b.terminal w d ≡ takes (own_of b.terminal w) u
+      taken-is : taken b.terminal w d.notes ≡ takes (own_of b.terminal w) u
       taken-is = ap (flat_map (λ note. taken_by note (own_of b.terminal w).procedure)) (due-so b.terminal can.own w same_on e).notes
 
       given-now : (r : Remembered) → IsIn r terminal_now.given → (IsIn r t.given ⊎ IsIn r (takes (own_of b.terminal w) u)) × (is_on r.tei d ≡ true)
       given-now r is =
-          let parts = in-filtered (λ r. is_on r.tei d) r (t.given ++ taken b.terminal w d) is in
+          let parts = in-filtered (λ r. is_on r.tei d) r (t.given ++ taken b.terminal w d.notes) is in
           (in-either r t.given (takes (own_of b.terminal w) u) (subst (λ xs. IsIn r (t.given ++ xs)) taken-is parts.0), parts.1)
 
     -- It hears nothing.

@@ -9,31 +9,40 @@ use Rattle.lapd_terminal.specs.declared.procedure.Procedure.TheVariants.{Asking,
 use Rattle.model_line.specs.declared.config.Config.{Config}
 use Rattle.model_line.specs.Line.{is_terminal}
 use Rattle.model_line.specs.Sound.{IsInRange}
+use Rattle.laws_line.specs.Heard.{notes_of}
+use Rattle.model_card.specs.Card.{fresh}
 use Rattle.model_card.specs.Event.{Event}
+use Rattle.model_card.specs.Machine.{after}
+use Rattle.model_card.specs.Run.{Moment, moments}
 use Rattle.laws_trace.specs.Managing.{Managed, is_on, none_on, due, own_of}
-use Rattle.laws_teis.specs.Bus.{Bus, Past, Step, network, terminal, receives, loses, network_of, removal_comes, past_of}
+use Rattle.laws_teis.specs.Bus.{Bus, Past, Step, network, terminal, receives, loses, network_of, removal_comes, past_of, is_there}
 
--- The TEIs on the terminal's line that it was assigned, each with the reference number by which it asked for it (Q.921 clause 5.3.2).
--- One that management has put there is none of them.
+-- The TEIs on the terminal's line that are told as assigned, each with the reference number by which it was asked for (Q.921 clause
+-- 5.3.2). One that management has put there is none of them.
 pub record Terminal : Type 0 where
   pub teis : Managed
   pub given : List Remembered
 
+abbrev pub asked_by : Option Procedure → ℕ
+asked_by (Some (Asking ri attempts)) = ri
+asked_by other = 0
+
 abbrev pub taken_by : Note → Option Procedure → List Remembered
-taken_by (Assigned tei) (Some (Asking ri attempts)) = record { ri = ri; tei = tei } ∷ []
+taken_by (Assigned tei) procedure = record { ri = asked_by procedure; tei = tei } ∷ []
 taken_by note procedure = []
 
-abbrev pub taken : Config → Managed → Managed → List Remembered
-taken c was now = flat_map (λ note. taken_by note (own_of c was).procedure) now.notes
+abbrev pub taken : Config → Managed → List Note → List Remembered
+taken c was notes = flat_map (λ note. taken_by note (own_of c was).procedure) notes
 
-abbrev pub terminal_led : Config → ℕ → Terminal → Event → Terminal
-terminal_led c line t e =
-    let now = due c e.what t.teis in
-    if e.line == line then record { teis = now; given = filter (λ r. is_on r.tei now) (t.given ++ taken c t.teis now) }
-    else t
+abbrev pub with_given : (ℕ → Bool) → Config → Managed → List Note → Terminal → Terminal
+with_given stays c now notes t = record { teis = now; given = filter (λ r. stays r.tei) (t.given ++ taken c t.teis notes) }
+
+abbrev pub terminal_led : Config → ℕ → Terminal → Moment → Terminal
+terminal_led c line t m =
+    if m.event.line == line then with_given (λ tei. is_there line tei (after m.event m.card)) c (due c m.event.what t.teis) (notes_of m.answer) t else t
 
 abbrev pub terminal_after : Config → ℕ → List Event → Terminal
-terminal_after c line events = fold (terminal_led c line) (record { teis = none_on; given = [] }) events
+terminal_after c line events = fold (terminal_led c line) (record { teis = none_on; given = [] }) (moments (fresh c) events)
 
 abbrev pub given_to : Bus → Past → List Remembered
 given_to b p = (terminal_after b.terminal b.line p.at_terminal).given

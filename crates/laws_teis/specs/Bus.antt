@@ -1,7 +1,8 @@
 -- A network's line and a terminal's line on one bus: what happened at either, and the frames in transit to the terminal.
-use Rattle.std.specs.Prelude.{ℕ, ◌+◌, ◌*◌, ◌==◌, ◌&&◌, ◌||◌, not, Bool, true, false, List, [], ◌∷◌, ◌++◌, length, map, filter, take, drop, fold, if◌then◌else◌}
+use Rattle.std.specs.Prelude.{ℕ, ◌+◌, ◌*◌, ◌==◌, ◌&&◌, ◌||◌, not, Bool, true, false, List, [], ◌∷◌, ◌++◌, length, map, filter, take, drop, fold, is_some, if◌then◌else◌}
 use Rattle.std.specs.List.{list_any}
 use Rattle.std.specs.Option.{option_map_or}
+use Rattle.lapd_frame.specs.declared.services.Service.TheVariants.{Call}
 use Rattle.lapd_frame.specs.Grammar.{Parts}
 use Rattle.lapd_tei.specs.declared.messages.Message.{Message}
 use Rattle.lapd_tei.specs.declared.messages.Message.TheVariants.{IdentityRemove}
@@ -11,10 +12,10 @@ use Rattle.model_line.specs.Came.{came}
 use Rattle.model_line.specs.Event as line_event
 use Rattle.model_line.specs.Event.{hears, request}
 use Rattle.model_line.specs.Request.{Down}
-use Rattle.model_card.specs.Card.{fresh}
+use Rattle.model_card.specs.Card.{Card, fresh, state}
 use Rattle.model_card.specs.Event.{Event, at}
-use Rattle.model_card.specs.Machine.{answer}
-use Rattle.model_card.specs.Run.{after_all}
+use Rattle.model_card.specs.Machine.{after, answer}
+use Rattle.model_card.specs.Run.{Moment, moments, after_all}
 use Rattle.laws_trace.specs.LinkFrames.{frame_of}
 use Rattle.laws_trace.specs.Managing.{Managed, is_on, none_on, due, octets_of}
 use Rattle.laws_trace.specs.ManagingTerminal.{is_message}
@@ -28,6 +29,10 @@ pub record Bus : Type 0 where
   pub terminal : Config
   pub line : ℕ
 
+-- Whether a TEI is on a line, as `Card::state` tells.
+abbrev pub is_there : ℕ → ℕ → Card → Bool
+is_there number tei card = is_some (state number Call tei card)
+
 -- An assignment is a reference number, and the TEI that is assigned by it. The network has made it if it remembers it, and the TEI
 -- was not on the line before. It holds while the TEI is on the line (Q.921 clause 5.3.2).
 pub record Network : Type 0 where
@@ -38,16 +43,17 @@ pub record Network : Type 0 where
 abbrev pub newly_made : Managed → Managed → List Remembered
 newly_made was now = filter (λ r. not (is_on r.tei was)) now.held
 
-abbrev pub with_teis : Managed → Network → Network
-with_teis now n =
+abbrev pub with_teis : (ℕ → Bool) → Managed → Network → Network
+with_teis stays now n =
     let new = newly_made n.teis now in
-    record { teis = now; made = n.made ++ new; hold = filter (λ r. is_on r.tei now) (n.hold ++ new) }
+    record { teis = now; made = n.made ++ new; hold = filter (λ r. stays r.tei) (n.hold ++ new) }
 
-abbrev pub network_led : Config → ℕ → Network → Event → Network
-network_led c number n e = if e.line == number then with_teis (due c e.what n.teis) n else n
+abbrev pub network_led : Config → ℕ → Network → Moment → Network
+network_led c number n m =
+    if m.event.line == number then with_teis (λ tei. is_there number tei (after m.event m.card)) (due c m.event.what n.teis) n else n
 
 abbrev pub network_after : Config → ℕ → List Event → Network
-network_after c number events = fold (network_led c number) (record { teis = none_on; made = []; hold = [] }) events
+network_after c number events = fold (network_led c number) (record { teis = none_on; made = []; hold = [] }) (moments (fresh c) events)
 
 -- What has happened: the events of the network's card and of the terminal's; the frames in transit to the terminal, the oldest
 -- first, which the network's line has sent; and the assignments whose removal the terminal has missed.

@@ -137,3 +137,5 @@ pub mod OffersOfLink
 pub mod FramesAreDue
 pub mod UnitsAreFor
 pub mod OfOctets
+pub mod AskingSteps
+pub mod AskingEnds

@@ -2,6 +2,7 @@
 
 ghost use Rattle.laws_trace.specs.Sapis.{ServicesHaveTheirSapis};
 ghost use Rattle.laws_trace.specs.Trace.{Always};
+ghost use Rattle.laws_trace.specs.AskingEnds.{AskingEnds};
 ghost use Rattle.laws_trace.specs.AnswersAreGiven.{AnswersAreSent, QueueIsSent};
 ghost use Rattle.laws_trace.specs.AnswersSuit.{AnswersSuit};
 ghost use Rattle.laws_trace.specs.Configurations.{RangesAreServed};
@@ -229,6 +230,14 @@ pub fn nothing_is_lost_in_vain()
 /// (Q.921 clauses 4.1.1.5, 5.3.1 to 5.3.5, 5.9.4 and 5.9.7, annex B and profile.)
 pub fn teis_are_managed()
     ensures { Always TeisAreManaged }
+{}
+
+/// Asking for a TEI ends. From a granted request of a terminal's management on, whatever its line hears, one result is
+/// told: that a TEI is assigned, or that none is. It is told after the third expiry of T202 at the latest. A further
+/// request is granted only after it. If the line is down, asking is over without a result (Q.921 clauses 5.3.2, 5.3.2.1
+/// and 5.9.4, annex B, and profile).
+pub fn asking_ends()
+    ensures { Always AskingEnds }
 {}
 
 /// Timers are timely. Whatever happened to a card, the answer to an event of a line orders for the timers of a link

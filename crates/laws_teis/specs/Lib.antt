@@ -1,0 +1,3 @@
+-- A network's line and a terminal's on one bus, and the laws of their TEIs.
+pub mod Bus
+pub mod Assignments

@@ -1,12 +1,15 @@
 -- Contents that an answer delivers have at most N201 octets.
-use Rattle.lapd_c.proofs.Vocabulary.{◌≡◌, ℕ, ◌≤◌, Answer, Card, OctetCard, option_map, Bool, true, false, List, length, Option, None, nat_lt, refl, sym, subst, arith, leb-true, ltb-false, and_parts, option_or, option_map_or, Control, Ui, State, Terms, Refusal, Arrived, eligible_of, information_in, Link, Course, begun, by_bit, leave_unserved, deliver_unit, delivered-at_once, Fits, FitsEvent}
+use Rattle.lapd_c.proofs.Vocabulary.{◌≡◌, ℕ, ◌≤◌, Answer, Card, OctetCard, option_map, Bool, true, false, cond, List, length, Option, None, nat_lt, refl, sym, subst, arith, leb-true, ltb-false, and_parts, option_or, option_map_or, Control, Ui, State, Terms, Refusal, Arrived, eligible_of, information_in, Link, Course, begun, by_bit, leave_unserved, deliver_unit, delivered-at_once, Fits, FitsEvent}
 use Rattle.lapd_c.proofs.Vocabulary.{Kept, frame_row, event_row, Change, Config, hears, expiry, request, next, nothing, told_of_management, of_link, of_change, of_management, of_aim, without_units, event_aims, Effect, Line, unless_refused_told, refusal, Service, contents_or_none, contents_in, ContentsFit}
 use Rattle.std.proofs.Common.{Some}
 use Rattle.model_link.specs.Events as link
 use Rattle.model_link.specs.Machine as links
 use Rattle.lapd_tei.specs.Events as teis
-use Rattle.lapd_tei.specs.Machine as tei
-use Rattle.model_line.specs.Event.{Event}
+use Rattle.lapd_tei.specs.declared.outcome.Change.TheVariants.{Gained, Left}
+use Rattle.lapd_terminal.specs.Events as terminals
+use Rattle.model_line.specs.Effect.{at_a_terminal, of_network, of_terminal, of_terminal_if, told_of_terminal}
+use Rattle.model_line.specs.Event.{Event, LineTold}
+use Rattle.model_line.specs.Line.{is_terminal, terminal_in, with_terminal}
 use Rattle.model_line.specs.Machine.{aim_of, answer}
 use Rattle.model_card.specs.Event as frames
 use Rattle.model_card.specs.Machine.{answer as frames_answer}
@@ -80,18 +83,37 @@ module _ (c : Config) (l : Line) where
   link-small : (service : Service) (tei place : ℕ) (e : link.Event) → IsSmall c.n201 (of_link c service tei place e l).told.contents
   link-small service tei place e = grind (arith, either_small, delivered-small, units-small)
 
-  change-small : (o : Option Change) (t : tei.TeiTold) → IsSmall c.n201 (of_change c o (told_of_management t) l).told.contents
-  change-small o t = grind arith
-
+-- TEI management tells no contents, whatever the side
 module _ (c : Config) where
+  change-small : (o : Option Change) (t : LineTold) (l : Line) → IsSmall c.n201 t.contents → IsSmall c.n201 (of_change c o t l).told.contents
+  change-small None t l h = h
+  change-small (Some (Gained tei place)) t l h = h
+  change-small (Some (Left tei place)) t l h = h
+
+  network-small : (e : teis.Event) (l : Line) → IsSmall c.n201 (of_network c e l).told.contents
+  network-small e l = let t = teis.told e l.management in change-small t.change (told_of_management t) (record l { management = teis.after e l.management }) (omega arith)
+
+  terminal-small : (e : terminals.Event) (l : Line) → IsSmall c.n201 (of_terminal c e l).told.contents
+  terminal-small e l =
+      let t = terminals.told e (terminal_in l) in
+      change-small t.change (told_of_terminal t) (with_terminal (terminals.after e (terminal_in l)) l) (omega arith)
+
+  terminal_if-small : (o : Option terminals.Event) (l : Line) → IsSmall c.n201 (of_terminal_if c o l).told.contents
+  terminal_if-small None l = omega arith
+  terminal_if-small (Some e) l = terminal-small e l
+
+  side-small : (b : Bool) (e : teis.Event) (l : Line) → IsSmall c.n201 (cond b (of_terminal_if c (at_a_terminal e) l) (of_network c e l)).told.contents
+  side-small true e l = terminal_if-small (at_a_terminal e) l
+  side-small false e l = network-small e l
+
   management-small : (e : teis.Event) (l : Line) → IsSmall c.n201 (of_management c e l).told.contents
-  management-small e l = change-small c (record l { management = teis.after e l.management }) (teis.told e l.management).change (teis.told e l.management)
+  management-small e l = side-small (is_terminal c) e l
 
   aim-small : (l : Line) (e : Event) → IsSmall c.n201 (of_aim c (aim_of c e l) l).told.contents
   aim-small l e =
       event_aims c l (λ takes aim. IsSmall c.n201 (of_aim c aim l).told.contents) (λ takes. omega arith) (λ cause. omega arith)
       (λ parts service to. to.size) (λ service tei place e at. link-small c l service tei place e) (λ e range. management-small e l)
-      (λ unit is few. omega arith) (management-small teis.down (without_units l)) e
+      (λ e proper. terminal-small e l) (λ unit is few. omega arith) (management-small teis.down (without_units l)) e
 
   answered-small : (o : Option Refusal) (x : Effect) → IsSmall c.n201 x.told.contents → IsSmall c.n201 (contents_in (unless_refused_told o x))
   answered-small None x h = h

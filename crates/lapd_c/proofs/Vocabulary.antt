@@ -1,5 +1,5 @@
 -- The words with which the proofs of this crate speak, from where they are defined.
-pub use Rattle.std.proofs.Common.{Bool, IfOk, IfSome, IsSome, List, None, Ok, Option, Result, [], ap, arith, drop, false, inl, inr, length, lit<, nat_lt, not, refl, subst, suc, sym, true, ℕ, ◌&&◌, ◌*◌, ◌++◌, ◌+◌, ◌-◌, ◌<◌, ◌∙◌, ◌∷◌, ◌≡◌, ◌≤◌}
+pub use Rattle.std.proofs.Common.{Bool, cond, IfOk, IfSome, IsSome, List, None, Ok, Option, Result, [], ap, arith, drop, false, inl, inr, length, lit<, nat_lt, not, refl, subst, suc, sym, true, ℕ, ◌&&◌, ◌*◌, ◌++◌, ◌+◌, ◌-◌, ◌<◌, ◌∙◌, ◌∷◌, ◌≡◌, ◌≤◌}
 pub use Rattle.std.proofs.lemmas.Bool.{and_parts, cases_lt, eqb-true, false≢true, leb-true, ltb-false}
 pub use Rattle.std.proofs.lemmas.Option.{none-some}
 pub use Rattle.std.proofs.raw_atomic.Walks.{leaves, proved_at}

@@ -29,8 +29,8 @@ abbrev pub plain_due : ℕ × Timer → PlainDue
 plain_due due = record { line = due.0; timer = plain_timer due.1 }
 
 -- How long timers are to run.
-abbrev pub lengths_given : ℕ → ℕ → ℕ → Lengths
-lengths_given t200 t203 t201 = record { t200 = t200; t203 = t203; t201 = t201 }
+abbrev pub lengths_given : ℕ → ℕ → ℕ → ℕ → Lengths
+lengths_given t200 t203 t201 t202 = record { t200 = t200; t203 = t203; t201 = t201; t202 = t202 }
 
 -- An order, or what is wrong with it, for a timer of a line at a moment: what is answered, and the clock after it.
 abbrev pub latest : ℕ

@@ -8,9 +8,13 @@ use Rattle.model_line.specs.Config.{first_fault}
 use Rattle.lapd_c.specs.Statuses.{bad_side, field_status}
 use Rattle.lapd_c.specs.declared.plain.config.PlainConfig.{PlainConfig}
 
--- The side: 0 the network's, else the user's.
+-- The side: 0 the network's, else the user's. Of the latter 1 is a trunk's end, and 2 a terminal.
 abbrev pub side_in : ℕ → Side
 side_in side = if side == 0 then Network else User
+
+-- A terminal alone has a first reference number (Q.921 clause 5.3.2).
+abbrev pub seed_in : ℕ → ℕ → Option ℕ
+seed_in side seed = if side == 2 then Some seed else None
 
 -- The SAPI of the second service: 16 where 0 is given.
 abbrev pub sapi_in : ℕ → ℕ
@@ -30,11 +34,12 @@ config_in p = record {
   n200 = p.n200;
   side = side_in p.side;
   sapi = sapi_in p.sapi;
+  seed = seed_in p.side p.seed;
 }
 
--- The status of a start where a field is out of range: that of the first; the side, which is 0 or 1, comes last.
+-- The status of a start where a field is out of range: that of the first; the side, which is 0 to 2, comes last.
 abbrev pub side_fault : PlainConfig → Option ℕ
-side_fault p = if nat_lt 1 p.side then Some bad_side else None
+side_fault p = if nat_lt 2 p.side then Some bad_side else None
 
 abbrev pub config_fault : PlainConfig → Option ℕ
 config_fault p = option_or (option_map field_status (first_fault (config_in p))) (side_fault p)

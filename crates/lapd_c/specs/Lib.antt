@@ -56,7 +56,7 @@ pub use Rattle.lapd_c.specs.Answers.{octet_of, ShowsAnswer, ShowsReply}
 pub use Rattle.lapd_c.specs.Calls.{Begins, FramesWithLine, fresh, HasBegun, IsCall, IsCallAt, IsCardStart, IsFramesCall, IsOctetsCall, IsReopened, IsTimedStart, IsUntimedCall, OctetsWithLine, refusal_at, UntimedWithLine, WithLine}
 pub use Rattle.lapd_c.specs.Starts.{IsStart}
 pub use Rattle.lapd_c.specs.Cards.{card_of, FramesStand, IsHandle, kind_in, marks_at, OctetsStand, served_card, HandleStands}
-pub use Rattle.lapd_c.specs.Config.{config_fault, config_in, sapi_in, side_in}
+pub use Rattle.lapd_c.specs.Config.{config_fault, config_in, sapi_in, seed_in, side_in}
 pub use Rattle.lapd_c.specs.Counted.{counters_at, Counts, CountsMeaning}
 pub use Rattle.lapd_c.specs.Counters.{plain_counters}
 pub use Rattle.lapd_c.specs.Exchange.{Exchanged, ExchangedIn, is_exchange, OrdersLast, tells_nothing, step_event, steps_made, with_step}

@@ -12,7 +12,8 @@ use Rattle.lapd_c.specs.declared.plain.notes.PlainNote.{PlainNote}
 abbrev pub of_link : ℕ → Service → ℕ → PlainNote
 of_link number service tei = record { note = number; service = sapi_of service; tei = tei; error = 0 }
 
--- A TEI that TEI management assigned, or that left the line, is no service's; its note has 0 there.
+-- A TEI that TEI management assigned, or that left the line, is no service's; its note has 0 there. So has one that is about no
+-- TEI of its own, which names 127.
 abbrev pub plain_note : Note → PlainNote
 plain_note (note.EstablishIndication service tei) = of_link 1 service tei
 plain_note (note.EstablishConfirm service tei) = of_link 2 service tei
@@ -25,6 +26,9 @@ plain_note (note.Assigned tei) = of_link 8 Call tei
 plain_note (note.Removed tei) = of_link 9 Call tei
 plain_note (note.Doubled tei) = of_link 10 Call tei
 plain_note (note.Xid service tei) = of_link 11 service tei
+plain_note note.Denied = of_link 12 Call 127
+plain_note note.Unassigned = of_link 13 Call 127
+plain_note note.RemoveAll = of_link 14 Call 127
 
 abbrev pub cause_number : Option Cause → ℕ
 cause_number None = 0

@@ -2,7 +2,7 @@
 use Rattle.std.specs.Prelude.{ℕ, ◌==◌, nat_le, Bool, ◌&&◌, List, [], ◌∷◌, Result, Ok, Err, if◌then◌else◌}
 use Rattle.lapd_frame.specs.declared.services.Service.{Service}
 use Rattle.model_line.specs.declared.requests.Request as rust
-use Rattle.model_line.specs.Request.{Request, request_of, Establish, Release, Data, Unit, Assign, Remove, Check, Disown, SetBusy, ClearBusy, Deactivate, Down}
+use Rattle.model_line.specs.Request.{Request, request_of, Establish, Release, Data, Unit, Assign, Remove, Check, Disown, AskTei, VerifyTei, SetBusy, ClearBusy, Deactivate, Down}
 use Rattle.lapd_c.specs.Services.{service_in}
 use Rattle.lapd_c.specs.Statuses.{wrong_request, wrong_length}
 
@@ -25,14 +25,16 @@ of_service number tei contents service =
     else if number == 9 then without_contents (ClearBusy service tei) contents
     else if number == 10 then without_contents (Deactivate service tei) contents
     else if number == 11 then without_contents Down contents
-    else without_contents (Disown tei) contents
+    else if number == 12 then without_contents (Disown tei) contents
+    else if number == 13 then without_contents AskTei contents
+    else without_contents (VerifyTei tei) contents
 
 abbrev pub with_service : ℕ → ℕ → List ℕ → Result Service ℕ → Result Request ℕ
 with_service number tei contents (Err wrong) = Err wrong
 with_service number tei contents (Ok service) = of_service number tei contents service
 
 abbrev pub is_request : ℕ → Bool
-is_request number = nat_le 1 number && nat_le number 12
+is_request number = nat_le 1 number && nat_le number 14
 
 abbrev pub request_in : ℕ → ℕ → ℕ → List ℕ → Result Request ℕ
 request_in number sapi tei contents =

@@ -5,7 +5,7 @@ use Rattle.lapd_frame.specs.declared.services.Service.{Service}
 use Rattle.lapd_frame.specs.declared.timers.Order.{Order}
 use Rattle.lapd_frame.specs.declared.timers.Order.TheVariants.{Start, Stop}
 use Rattle.lapd_frame.specs.declared.timers.Timer.{Timer}
-use Rattle.lapd_frame.specs.declared.timers.Timer.TheVariants.{T200, T203, T201}
+use Rattle.lapd_frame.specs.declared.timers.Timer.TheVariants.{T200, T203, T201, T202}
 use Rattle.lapd_frame.specs.Services.{sapi_of}
 use Rattle.lapd_c.specs.declared.plain.timers.PlainOrder.{PlainOrder}
 use Rattle.lapd_c.specs.declared.plain.timers.PlainLengths.{PlainLengths}
@@ -17,6 +17,7 @@ abbrev pub plain_timer : Timer → PlainTimer
 plain_timer (T200 service tei) = record { timer = 1; service = sapi_of service; tei = tei }
 plain_timer (T203 service tei) = record { timer = 2; service = sapi_of service; tei = tei }
 plain_timer T201 = record { timer = 3; service = 0; tei = 0 }
+plain_timer T202 = record { timer = 4; service = 0; tei = 0 }
 
 abbrev pub plain_order : Order → PlainOrder
 plain_order (Start timer) = record { order = 1; timer = plain_timer timer }
@@ -40,6 +41,7 @@ timer_in p =
     if p.timer == 1 then timer_of_link T200 (link_in p.service p.tei)
     else if p.timer == 2 then timer_of_link T203 (link_in p.service p.tei)
     else if p.timer == 3 then Ok T201
+    else if p.timer == 4 then Ok T202
     else Err wrong_timer
 
 -- The order that numbers name, or what is wrong.
@@ -55,4 +57,4 @@ order_in p =
 
 -- How long timers run.
 abbrev pub lengths_in : PlainLengths → Lengths
-lengths_in p = record { t200 = p.t200; t203 = p.t203; t201 = p.t201 }
+lengths_in p = record { t200 = p.t200; t203 = p.t203; t201 = p.t201; t202 = p.t202 }

@@ -10,10 +10,10 @@ ghost use Rattle.lapd_c.specs.Clocks.{clock_of, IsCall, IsHandle, plain_due, ord
 use crate::clock_slot::ClockSlot;
 use crate::lend::{or_answer, within};
 use crate::plain::{
-    NO_CLOCK, NO_MEMORY, NO_PLACE, NO_TIMER, OK, PlainConfig, PlainDue, PlainOrder, SECOND_START,
-    WRONG_TIME,
+    NO_CLOCK, NO_MEMORY, NO_PLACE, NO_TIMER, OK, PlainConfig, PlainDue, PlainLengths, PlainOrder,
+    SECOND_START, WRONG_TIME,
 };
-use lapd_clock::{Clock, Lengths};
+use lapd_clock::Clock;
 use model_line::Config;
 use std::alloc::Global;
 use std::mem::replace;
@@ -110,23 +110,30 @@ fn started(alloc: Global, config: Config) -> Option<Box<Clock>>
     Box::new(alloc, clock).ok()
 }
 
-/// Has timers that are started from now on run so many milliseconds: T200, T203 and T201, each 1 to 3,600,000.
+/// Has timers that are started from now on run so many milliseconds: T200, T203, T201 and T202, each 1 to 3,600,000.
 #[unsafe(no_mangle)]
 pub extern "C" fn lapd_clock_set_lengths(
     handle: &mut ClockHandle,
     t200: u32,
     t203: u32,
     t201: u32,
+    t202: u32,
 ) -> u32
     requires { IsHandle handle.old }
     ensures call { IsCall handle.old handle.new result }
-    ensures out_of_range { IfSome (first_out_of_range (lengths_given t200 t203 t201)) (λ _. IfSome (clock_of handle.old)
+    ensures out_of_range { IfSome (first_out_of_range (lengths_given t200 t203 t201 t202)) (λ _. IfSome (clock_of handle.old)
         (λ _. (result ≡ status.wrong_time) × (clock_of handle.new ≡ clock_of handle.old))) }
-    ensures set { first_out_of_range (lengths_given t200 t203 t201) ≡ None → IfSome (clock_of handle.old)
-        (λ c. (result ≡ status.ok) × (clock_of handle.new ≡ Some (with_lengths (lengths_given t200 t203 t201) c))) }
+    ensures set { first_out_of_range (lengths_given t200 t203 t201 t202) ≡ None → IfSome (clock_of handle.old)
+        (λ c. (result ≡ status.ok) × (clock_of handle.new ≡ Some (with_lengths (lengths_given t200 t203 t201 t202) c))) }
 {
     let clock = or_answer!(handle.clock(), NO_CLOCK);
-    let lengths = or_answer!(Lengths::new(t200, t203, t201).ok(), WRONG_TIME);
+    let lengths = PlainLengths {
+        t200,
+        t203,
+        t201,
+        t202,
+    };
+    let lengths = or_answer!(lengths.read());
     clock.set_lengths(lengths);
     OK
 }

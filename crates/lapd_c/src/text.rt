@@ -16,16 +16,16 @@ const MOST: usize = 1028;
 pub extern "C" fn lapd_frame_text(octets: &[u8], side: u16, text: &mut [u8]) -> u32
     ensures untold { result ≢ status.ok → text.new ≡ text.old }
     ensures too_long { 1028 < length octets.now → result ≡ status.wrong_length }
-    ensures wrong_side { length octets.now ≤ 1028 → 1 < side → result ≡ status.bad_side }
-    ensures no_room { length octets.now ≤ 1028 → side ≤ 1 → length text.old < length (told_text (side_in side) octets.now)
+    ensures wrong_side { length octets.now ≤ 1028 → 2 < side → result ≡ status.bad_side }
+    ensures no_room { length octets.now ≤ 1028 → side ≤ 2 → length text.old < length (told_text (side_in side) octets.now)
         → result ≡ status.wrong_length }
-    ensures told { length octets.now ≤ 1028 → side ≤ 1 → length (told_text (side_in side) octets.now) ≤ length text.old
+    ensures told { length octets.now ≤ 1028 → side ≤ 2 → length (told_text (side_in side) octets.now) ≤ length text.old
         → (result ≡ status.ok) × IsPutIn true (told_text (side_in side) octets.now) text.old text.new }
 {
     if octets.len() > MOST {
         return WRONG_LENGTH;
     }
-    if side > 1 {
+    if side > 2 {
         return BAD_SIDE;
     }
     if write_text(side_in(side), octets, text) {

@@ -1,7 +1,7 @@
 //! The configuration of a card.
 
 ghost use Rattle.std.specs.Prelude.{◌≡◌, ◌<◌, None, Ok, Err, IfSome, IfOk, IfErr};
-ghost use Rattle.lapd_c.specs.{first_fault, config_in, side_in, sapi_in, config_fault};
+ghost use Rattle.lapd_c.specs.{first_fault, config_in, side_in, seed_in, sapi_in, config_fault};
 
 use crate::plain::statuses::{BAD_SIDE, field_status};
 use lapd_frame::Side;
@@ -31,8 +31,10 @@ pub struct PlainConfig {
     pub n201: u16,
     /// How often a command is repeated: 0 to 10.
     pub n200: u16,
-    /// Which side of its lines the card is: 0 the network's, 1 the user's.
+    /// Which side of its lines the card is: 0 the network's, 1 the user's at a trunk's end, 2 a terminal.
     pub side: u16,
+    /// Of a terminal the first reference number of each line: any; not looked at otherwise.
+    pub seed: u16,
     /// The SAPI of the second service: 1 to 62; 0 is 16.
     pub sapi: u16,
 }
@@ -42,6 +44,13 @@ pub fn side_in(side: u16) -> Side
     ensures { result ≡ side_in side }
 {
     if side == 0 { Side::Network } else { Side::User }
+}
+
+/// The first reference number, of a terminal alone.
+fn seed_in(side: u16, seed: u16) -> Option<u16>
+    ensures { result ≡ seed_in side seed }
+{
+    if side == 2 { Some(seed) } else { None }
 }
 
 /// The SAPI of the second service: 16 where 0 is given.
@@ -76,10 +85,11 @@ impl PlainConfig {
             n200: self.n200,
             side: side_in(self.side),
             sapi: sapi_in(self.sapi),
+            seed: seed_in(self.side, self.seed),
         };
         match config.fault() {
             Some(field) => Err(field_status(field)),
-            None if self.side > 1 => Err(BAD_SIDE),
+            None if self.side > 2 => Err(BAD_SIDE),
             None => Ok(config),
         }
     }

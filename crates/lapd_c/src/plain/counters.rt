@@ -10,7 +10,7 @@ use lapd_count::Counters;
 #[derive(Clone, Copy)]
 pub struct PlainCounters {
     /// Each at its place, which `include/lapd.h` has by name.
-    pub values: [u64; 76],
+    pub values: [u64; 79],
 }
 
 impl PlainCounters {

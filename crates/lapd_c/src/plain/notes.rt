@@ -3,18 +3,18 @@
 ghost use Rattle.std.specs.Prelude.{◌≡◌};
 ghost use Rattle.lapd_c.specs.Notes.{plain_note, cause_number, of_link};
 
-use lapd_frame::{Note, Service};
+use lapd_frame::{GROUP, Note, Service};
 use model_bits::Cause;
 
 /// A note, by its number. That of a link names its service by its SAPI, and its TEI; that of an error has its letter.
 #[repr(C)]
 #[derive(Clone, Copy)]
 pub struct PlainNote {
-    /// 1 to 11, in the order of [`Note`].
+    /// 1 to 14, as `include/lapd.h` has them by name.
     pub note: u8,
     /// 0 or 16; 0 where the note is of both services.
     pub service: u8,
-    /// The TEI that it is about.
+    /// The TEI that it is about; 127 if it names none.
     pub tei: u8,
     /// The letter of an error, in ASCII; otherwise 0.
     pub error: u8,
@@ -42,6 +42,9 @@ impl PlainNote {
             Note::Removed(tei) => of_link(9, Service::Call, tei),
             Note::Doubled(tei) => of_link(10, Service::Call, tei),
             Note::Xid(service, tei) => of_link(11, service, tei),
+            Note::Denied => of_link(12, Service::Call, GROUP),
+            Note::Unassigned => of_link(13, Service::Call, GROUP),
+            Note::RemoveAll => of_link(14, Service::Call, GROUP),
         }
     }
 }

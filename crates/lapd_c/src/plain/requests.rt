@@ -19,7 +19,7 @@ pub fn request_in(request: u8, service: u8, tei: u8, contents: &[u8]) -> Result<
     ensures read { read_of result ≡ request_in request service tei contents.now }
     ensures wrong { IfErr result (λ wrong. 10 < wrong) }
 {
-    if request == 0 || request > 12 {
+    if request == 0 || request > 14 {
         return Err(WRONG_REQUEST);
     }
     let service = service_in(service)?;
@@ -41,6 +41,8 @@ pub fn request_in(request: u8, service: u8, tei: u8, contents: &[u8]) -> Result<
         9 => Request::ClearBusy(service, tei),
         10 => Request::Deactivate(service, tei),
         11 => Request::Down,
-        _ => Request::Disown(tei),
+        12 => Request::Disown(tei),
+        13 => Request::AskTei,
+        _ => Request::VerifyTei(tei),
     })
 }

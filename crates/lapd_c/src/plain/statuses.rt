@@ -47,7 +47,7 @@ pub const WRONG_CAUSE: u32 = 27;
 /// No frame of the line waits to be sent.
 pub const NO_FRAME: u32 = 28;
 
-/// A side that is neither 0 nor 1: of a start whose configuration has all else in range, and of a frame's text.
+/// A side that is none of 0, 1 and 2: of a start whose configuration has all else in range, and of a frame's text.
 pub const BAD_SIDE: u32 = 43;
 /// The SAPI of the second service is out of range.
 pub const BAD_SAPI: u32 = 44;

@@ -9,11 +9,11 @@ use crate::plain::statuses::{WRONG_ORDER, WRONG_TEI, WRONG_TIME, WRONG_TIMER, se
 use lapd_clock::Lengths;
 use lapd_frame::{LAST_TEI, Order, Service, Timer};
 
-/// A timer of a line. That of a link names its service by its SAPI, and its TEI; T201 has 0 in both.
+/// A timer of a line. That of a link names its service by its SAPI, and its TEI; T201 and T202 have 0 in both.
 #[repr(C)]
 #[derive(Clone, Copy)]
 pub struct PlainTimer {
-    /// 1 is T200, 2 is T203, 3 is T201.
+    /// 1 is T200, 2 is T203, 3 is T201, 4 is T202.
     pub timer: u8,
     /// 0 or 16.
     pub service: u8,
@@ -41,6 +41,8 @@ pub struct PlainLengths {
     pub t203: u32,
     /// Of each line: 1 to 3,600,000.
     pub t201: u32,
+    /// Of each line of a terminal: 1 to 3,600,000, at the other sides, too.
+    pub t202: u32,
 }
 
 impl PlainLengths {
@@ -54,7 +56,9 @@ impl PlainLengths {
         ensures read { first_out_of_range (lengths_in self.now) ≡ None → IsOkAnd result (λ lengths. lengths_of lengths ≡ lengths_in self.now) }
         ensures wrong { IfErr result (λ wrong. wrong ≡ 21) }
     {
-        Lengths::new(self.t200, self.t203, self.t201).map_err(|_| WRONG_TIME)
+        Lengths::new(self.t200, self.t203, self.t201)
+            .and_then(|lengths| lengths.with_t202(self.t202))
+            .map_err(|_| WRONG_TIME)
     }
 }
 
@@ -77,12 +81,13 @@ impl PlainTimer {
         let (service, tei) = match timer {
             Timer::T200(service, tei) => (service.sapi(), tei),
             Timer::T203(service, tei) => (service.sapi(), tei),
-            Timer::T201 => (0, 0),
+            Timer::T201 | Timer::T202 => (0, 0),
         };
         self.timer = match timer {
             Timer::T200(..) => 1,
             Timer::T203(..) => 2,
             Timer::T201 => 3,
+            Timer::T202 => 4,
         };
         self.service = service;
         self.tei = tei;
@@ -107,6 +112,7 @@ impl PlainTimer {
                 Ok(Timer::T203(service, tei))
             }
             3 => Ok(Timer::T201),
+            4 => Ok(Timer::T202),
             _ => Err(WRONG_TIMER),
         }
     }

@@ -13,6 +13,9 @@ use Rattle.lapd_c.proofs.card.start_timed.Goals as goal
 pub returns-clause-fault : goal.returns-clause-fault
 returns-clause-fault c _ = none-wrong _ (config_fault c.args.config.now) c.read.result c.in-Ok.value c.read.ensures.fault c.in-Ok.is
 
+pub returns-in-None-started-clause-fault : goal.returns-in-None-started-clause-fault
+returns-in-None-started-clause-fault c _ = none-wrong _ (config_fault c.args.config.now) c.read.result c.in-Ok.value c.read.ensures.fault c.in-Ok.is
+
 pub returns-clause-begun : goal.returns-clause-begun
 returns-clause-begun c _ =
     subst (HasBegun (fresh c.args.kind (config_in c.args.config.now))) (sym c.put.ensures.card)

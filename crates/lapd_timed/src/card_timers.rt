@@ -113,6 +113,22 @@ impl CardTimers {
         true
     }
 
+    /// The time is now this moment, if it may be, and none is due then, as is known without a look. Whether it is so; if not,
+    /// nothing changes.
+    #[inline(always)]
+    pub fn pass(&mut self, moment: u64) -> bool
+        ensures passed { result ≡ true → (m : Card) (c : Clock) → TimersStand self.old m c
+            → (c.now ≤ moment) × (moment < 2 ^ 63) × (due (at_moment moment c) ≡ None) × TimersStand self.new m (at_moment moment c) }
+        ensures stays { result ≡ false → self.new ≡ self.old }
+        ensures lines { self.new.lines ≡ self.old.lines }
+        ensures terminals { self.new.terminals ≡ self.old.terminals }
+    {
+        if !self.moments.is_early(moment) {
+            return false;
+        }
+        self.go_to(moment)
+    }
+
     /// Takes out the timer that is due first, and answers it with its line; none if none is due, and then nothing changes.
     /// Its expiry is then to be handed to the card, and the orders of the answer to be carried out.
     ///
@@ -129,14 +145,6 @@ impl CardTimers {
         ensures none { IfNone result (self.new ≡ self.old) }
     {
         self.moments.due(self.moment)
-    }
-
-    /// Whether none is due, as is known without a look. Otherwise [`CardTimers::due`] tells.
-    #[inline(always)]
-    pub fn is_early(&self) -> bool
-        ensures { result ≡ true → (m : Card) (c : Clock) → TimersStand self.now m c → due c ≡ None }
-    {
-        self.moments.is_early(self.moment)
     }
 
     /// The moment, in milliseconds, of the timer that falls due first, due or not, and `None` if no timer runs.

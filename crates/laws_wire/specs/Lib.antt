@@ -9,6 +9,7 @@ pub mod Counted
 pub mod Facing
 pub mod Resting
 pub mod Arriving
+pub mod Expiring
 pub mod Answering
 pub mod Settling
 pub mod Ending

@@ -50,6 +50,7 @@ pub mod Lively
 pub mod Often
 pub mod OftenHeard
 pub mod OftenRun
+pub mod OftenMoves
 pub mod LooseUp
 pub mod UaBefore
 pub mod UaCalled

@@ -51,6 +51,7 @@ pub mod Often
 pub mod OftenHeard
 pub mod OftenRun
 pub mod OftenMoves
+pub mod ExpiringMet
 pub mod LooseUp
 pub mod UaBefore
 pub mod UaCalled

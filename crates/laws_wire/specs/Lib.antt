@@ -21,6 +21,7 @@ pub mod WorkedRecovering
 pub mod WorkedCounted
 pub mod WorkedResting
 pub mod WorkedArriving
+pub mod WorkedExpiring
 pub mod WorkedAnswering
 pub mod WorkedSettling
 pub mod WorkedReports

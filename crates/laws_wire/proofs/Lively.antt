@@ -1,6 +1,7 @@
 -- Where T200 runs in state 7 something is not acknowledged, at an end whose other is not taken for busy: after what it hears, and after an
 -- offer.
-use Rattle.laws_wire.proofs.Vocabulary.{arith, ◌≡◌, ℕ, ◌<◌, ◌≤◌, Bool, true, false, cond, IsTrue, List, [], ◌∷◌, Some, refl, ap, sym, ◌∙◌, ◌⊎◌, inl, inr, true≢false, nat_lt, lt-ltb, ltb-true, ltb-false, eq-eqb, eqb-true, Seq, Control, Information, ReceiveReady, Reject, State, Established, TimerRecovery, T200, T203, ControlFrame, Terms, Link, is_multiple_frame, Course, offer, Option, None, length, ◌then◌, code_J, code_O, begun, Step, c-7, c-8, runs, named, named-within, NoAlien, kind_of}
+use Rattle.laws_wire.proofs.Vocabulary.{arith, ◌≡◌, ℕ, ◌<◌, ◌≤◌, Bool, true, false, cond, IsTrue, List, [], ◌∷◌, Some, refl, ap, sym, ◌∙◌, ◌⊎◌, inl, inr, true≢false, nat_lt, lt-ltb, ltb-true, ltb-false, eq-eqb, eqb-true, Seq, Control, Information, ReceiveReady, Reject, State, Established, TimerRecovery, T200, T203, ControlFrame, Terms, Link, is_multiple_frame, Course, offer, Option, None, length}
+use Rattle.laws_wire.proofs.Vocabulary.{◌then◌, code_J, code_O, begun, Step, c-7, c-8, runs, named, named-within, NoAlien, kind_of}
 use Rattle.model_link.specs.Established.{acknowledged_in_7, acknowledged_by_information_in_7, acknowledged_by_rej_in_7, frame_in_7}
 use Rattle.model_link.specs.MultipleFrame
 use Rattle.model_link.specs.TimerRecovery.{acknowledged_in_8, frame_in_8}

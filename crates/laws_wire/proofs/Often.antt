@@ -1,5 +1,6 @@
 -- How often T200 of an end runs out once nothing more is lost: the first time, and then once for each content at most that it sent.
-use Rattle.laws_wire.proofs.Vocabulary.{◌≡◌, ℕ, ◌+◌, ◌≤◌, ◌<◌, Bool, true, false, cond, IsTrue, List, [], ◌∷◌, ◌++◌, refl, sym, ap, subst, ◌∙◌, ◌⊎◌, inl, inr, arith, true≢false, Some, Parts, Seq, seq, State, Established, TimerRecovery, LinkTimer, T203, received, expired, Link, is_multiple_frame, is_running, LinkEndpoint, with_link, with_sent, frames_of, named-within, frame-taken, Means, Rising, rising-low, named-number, course, offer, answer-says}
+use Rattle.laws_wire.proofs.Vocabulary.{◌≡◌, ℕ, ◌+◌, ◌≤◌, ◌<◌, Bool, true, false, cond, IsTrue, List, [], ◌∷◌, ◌++◌, refl, sym, ap, subst, ◌∙◌, ◌⊎◌, inl, inr, arith, true≢false, Some, Parts, Seq, seq, State, Established, TimerRecovery, LinkTimer, T203, received, expired, Link, is_multiple_frame, is_running, LinkEndpoint, with_link, with_sent, frames_of, named-within, frame-taken, Means, Rising}
+use Rattle.laws_wire.proofs.Vocabulary.{rising-low, named-number, course, offer, answer-says}
 use Rattle.laws_wire.proofs.Vocabulary.{is_recovering, Heard, Flow, offer-goes, heard, line, Longer, line-longer, NoAlien, Kind, numbered, enquiry, answer, report, rejection, alien, kind_of, kinds_of, kinds-append, tally, one_enquiry, one_answer, Calm, Every, T200, frame, after, line_of}
 use Rattle.laws_link.proofs.OfTwo.Going.{Gives, Offered}
 use Rattle.laws_link.specs.two.Timely.{IsTimely}

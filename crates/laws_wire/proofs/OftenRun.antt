@@ -1,5 +1,6 @@
 -- A call from nothing, in which nothing is lost any more from some time on: how often T200 of either end runs out since.
-use Rattle.laws_wire.proofs.Vocabulary.{◌≡◌, ℕ, ◌+◌, ◌≤◌, true, false, ◌&&◌, Bool, cond, IsTrue, List, [], ◌∷◌, ◌++◌, length, map, drop, refl, sym, ap, subst, ◌∙◌, ◌⊎◌, inl, inr, true≢false, arith, All, All-head, All-tail, Service, Timer, Parts, TimerRecovery, LinkTimer, T203, is_multiple_frame, LinkEndpoint, with_link, with_sent, Config, LineTold, request, awaits_answer, CanRepeat, length-map, length-append, length-take-le, all_told}
+use Rattle.laws_wire.proofs.Vocabulary.{◌≡◌, ℕ, ◌+◌, ◌≤◌, true, false, ◌&&◌, Bool, cond, IsTrue, List, [], ◌∷◌, ◌++◌, length, map, drop, refl, sym, ap, subst, ◌∙◌, ◌⊎◌, inl, inr, true≢false, arith, All, All-head, All-tail, Service, Timer, Parts, TimerRecovery, LinkTimer, T203, is_multiple_frame, LinkEndpoint, with_link, with_sent, Config, LineTold, request, awaits_answer, CanRepeat, length-map}
+use Rattle.laws_wire.proofs.Vocabulary.{length-append, length-take-le, all_told}
 use Rattle.laws_wire.proofs.Vocabulary.{T200, line_of, rising-low, flows-low, Data, Endpoint, Wire, happens, EndStep, requests, expires, sends, receives, loses, acting, turned, StepAt, at_near, at_far, doing, doing_all, calling, confirmed, indicated, data_told, heard_in, IsRoughTalkOf, IsRoughTalk, IsTimelyOf, IsTimely, StayTimely, LosesNothing, runs_t200, is_t200}
 use Rattle.laws_wire.proofs.Vocabulary.{near_asks, far_asks, offer-goes, expired, timer_T200, timer_T203, two_ends_with_first_of, two_ends_without_first}
 use Rattle.laws_link.specs.two.Timely as two_links

@@ -8,8 +8,8 @@ ghost use Rattle.model_card.specs.ports.Port.{told};
 use crate::replies::Reply;
 use crate::sink::{Sink, SinkFailed};
 use arrayvec::ArrayVec;
+use lapd_frame::MOST_N201;
 use lapd_line::Report;
-use model_line::MOST_N201;
 use std::alloc::{AllocError, Global};
 
 /// The longest contents that a frame delivers.

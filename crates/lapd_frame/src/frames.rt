@@ -6,6 +6,9 @@ ghost use Rattle.lapd_frame.specs.{Side, address_field, row, parts_of, spelling,
 use crate::addresses::{Address, Side};
 use crate::controls::Control;
 
+/// The greatest number of octets that an information field may be allowed (N201, Q.921 clause 5.9.3).
+pub const MOST_N201: u16 = 260;
+
 /// A frame between its flags, without the frame check (Q.921 clause 2). Its information is lent.
 #[derive(Clone, Copy, PartialEq, Eq, Debug)]
 pub struct Frame<'a> {

@@ -5,7 +5,7 @@
 //!
 //! - `addresses`: `Side`, who sent a frame, and its `Address`; the SAPI `MANAGEMENT`, the TEIs `LAST_TEI` and `GROUP`.
 //! - `controls`: `Control`, what kind of frame it is, a variant for each row of table 5.
-//! - `frames`: `Frame`, the whole of it, with its information lent.
+//! - `frames`: `Frame`, the whole of it, with its information lent; `MOST_N201`, how much of it there may be.
 //! - `faults`, `headers`, `reading`: `read`, from octets to a frame or the first `ReadFault`; `is_short`; `octet_at`.
 //! - `overlong`: `read_long`, what the first four octets tell of a frame that is too long to keep.
 //! - `writing`: `write`, from a frame to octets.
@@ -41,7 +41,7 @@ mod writing;
 pub use addresses::{Address, GROUP, LAST_TEI, MANAGEMENT, Side};
 pub use controls::Control;
 pub use faults::ReadFault;
-pub use frames::Frame;
+pub use frames::{Frame, MOST_N201};
 pub use headers::is_short;
 pub use laws::{one_spelling, senders_agree};
 pub use notes::{ErrorCode, Note};

@@ -1,6 +1,8 @@
 -- What is heard, by whom it is for.
-use Rattle.lapd_line.proofs.Vocabulary.{management_of, arith, ◌≡◌, ℕ, Bool, true, false, not, ◌&&◌, nat_le, ◌==◌, ◌≤◌, List, [], ◌∷◌, Option, Some, None, Err, length, drop, sym, ap, ◌∙◌, cond, subst, eqb-true, drop_of_length-le, Address, Side, Note, Service, ShortList, Parts, service_of, listed, Unserved, Control, ReadFault, Management, Owned, Store, Config, LineTold, Line, addressed, at_place, to_service}
-use Rattle.lapd_line.proofs.Vocabulary.{group_tei, drop_for, message_of, aim_of_long, aim_of_reading, Aim, at_none, at_management, of_aim, group_told, told_of_ui, told_of_group, told_at, managed_at, at_side, is_network, is_terminal, serves_messages, dropped, Network, User, Call, refl, ◌||◌, Addressee, LinkLayer, BareReport, addressee, of_service, aim_at, is_ui, message_at, group_service, LayerStands, Serves, always, told_in, IsClear}
+use Rattle.lapd_line.proofs.Vocabulary.{management_of, arith, ◌≡◌, ℕ, Bool, true, false, not, ◌&&◌, nat_le, ◌==◌, ◌≤◌, List, [], ◌∷◌, Option, Some, None, Err, length, drop, sym, ap, ◌∙◌, cond, subst, eqb-true, drop_of_length-le, Address, Side, Note, Service, ShortList, Parts, service_of, listed, Unserved, Control, ReadFault, Management, Owned, Store, Config, LineTold, Line, addressed, at_place}
+use Rattle.lapd_line.proofs.Vocabulary.{to_service}
+use Rattle.lapd_line.proofs.Vocabulary.{group_tei, drop_for, message_of, aim_of_long, aim_of_reading, Aim, at_none, at_management, of_aim, group_told, told_of_ui, told_of_group, told_at, managed_at, at_side, is_network, is_terminal, serves_messages, dropped, Network, User, Call, refl, ◌||◌, Addressee, LinkLayer, BareReport, addressee, of_service, aim_at, is_ui, message_at, group_service}
+use Rattle.lapd_line.proofs.Vocabulary.{LayerStands, Serves, always, told_in, IsClear}
 use Rattle.lapd_frame.specs.declared.notes.Note.TheVariants as notes
 use Rattle.model_link.specs.Events as link
 use Rattle.lapd_tei.specs.Events as teis

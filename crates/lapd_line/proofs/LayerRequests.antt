@@ -1,5 +1,6 @@
 -- Requests, and why they are refused.
-use Rattle.lapd_line.proofs.Vocabulary.{management_of, ◌≡◌, ℕ, ◌+◌, ◌||◌, Bool, true, false, not, ◌≤◌, nat_lt, List, [], ◌∷◌, length, Option, Some, None, refl, sym, ap, subst, ◌∙◌, cond, arith, option_map_or, ltb-false, none-some, prefix_len, list_any, Refusal, BadTei, NoLink, WrongState, Service, serves, Terms, Places, is_on, place_of, IsAt, is_on-at, place_of-is, Config, Line, has_tei, link_of, link_in}
+use Rattle.lapd_line.proofs.Vocabulary.{management_of, ◌≡◌, ℕ, ◌+◌, ◌||◌, Bool, true, false, not, ◌≤◌, nat_lt, List, [], ◌∷◌, length, Option, Some, None, refl, sym, ap, subst, ◌∙◌, cond, arith, option_map_or, ltb-false, none-some, prefix_len, list_any, Refusal, BadTei, NoLink, WrongState, Service, serves, Terms, Places, is_on, place_of, IsAt, is_on-at, place_of-is, Config, Line, has_tei, link_of}
+use Rattle.lapd_line.proofs.Vocabulary.{link_in}
 use Rattle.lapd_line.proofs.Vocabulary.{place_in, terms, link_number, with_link, refusal, Establish, Release, Data, SetBusy, ClearBusy, Assign, Remove, Check, Owned, Store, Link, told_with, at_link, of_aim, told_of_link, at_requested, Marks, LinkLayer, BareReport, LayerStands, Standing, Serves, Sets, TellsOf, HasTerms, Refuses, machine_at, told_in, link_refusal, management_refusal, Deactivate}
 use Rattle.lapd_line.proofs.Vocabulary.{AskTei, Disown, Managing, Own, Request, VerifyTei, has_management, is_network, is_terminal, is_terminals, own_of, terminal_with}
 use Rattle.model_link.specs.Events as link

@@ -1,5 +1,6 @@
 -- TEI management of either kind: what its answers are to the machine of a line.
-use Rattle.lapd_line.proofs.Vocabulary.{◌≡◌, ℕ, true, false, cond, List, [], Option, Some, None, option_map, refl, sym, ap, subst, ◌∙◌, Config, Line, Own, Management, Aim, at_management, at_terminal, of_aim, of_change, of_network, of_terminal, of_terminal_if, at_a_terminal, told_of_management, told_of_terminal, is_terminal, terminal_in, terminal_with, with_terminal, nothing, IsProper, IsOfSide, aim_sound, TeiOutcome, told_of, changes_are_told, message_taken, with_message, with_own_message}
+use Rattle.lapd_line.proofs.Vocabulary.{◌≡◌, ℕ, true, false, cond, List, [], Option, Some, None, option_map, refl, sym, ap, subst, ◌∙◌, Config, Line, Own, Management, Aim, at_management, at_terminal, of_aim, of_change, of_network, of_terminal, of_terminal_if, at_a_terminal, told_of_management, told_of_terminal, is_terminal, terminal_in, terminal_with, with_terminal, nothing, IsProper, IsOfSide}
+use Rattle.lapd_line.proofs.Vocabulary.{aim_sound, TeiOutcome, told_of, changes_are_told, message_taken, with_message, with_own_message}
 use Rattle.lapd_tei.specs.Events as teis
 use Rattle.lapd_tei.specs.Laws as tei_laws
 use Rattle.lapd_tei.specs.Laws.{Moves}

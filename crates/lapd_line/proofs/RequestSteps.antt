@@ -1,6 +1,7 @@
 -- A request of a line: what its arms say as one refusal, and what the line makes of it.
 use Rattle.lapd_line.proofs.Vocabulary.{◌≡◌, ℕ, Bool, true, false, List, [], ◌∷◌, ◌++◌, Option, Some, None, Result, IfErr, OnOk, refl, sym, ap, subst, ◌∙◌, cond, Refusal, Service, Owned, Store, Config, told, after, answer, unless_refused, unless_refused_told, Aim, of_aim, Row, first_that_holds, bad_tei, bad_tei_or_group, no_link, no_link_nor_group, wrong_state, too_long, queue_full}
-use Rattle.lapd_line.proofs.Vocabulary.{unit_queue_full, pool_full, refusal, Request, request_of, Establish, Release, Data, Unit, Assign, Remove, Check, Disown, AskTei, VerifyTei, SetBusy, ClearBusy, Deactivate, Down, aim_of_request, at_requested, LinkRequest, link_refusal, FrameLine, LinkLayer, BareReport, Serves, bare_shown, told_beside, answer_shown, told_shown, Leads, config_of, LayerStands, IfErr-weaker}
+use Rattle.lapd_line.proofs.Vocabulary.{unit_queue_full, pool_full, refusal, Request, request_of, Establish, Release, Data, Unit, Assign, Remove, Check, Disown, AskTei, VerifyTei, SetBusy, ClearBusy, Deactivate, Down, aim_of_request, at_requested, LinkRequest, link_refusal, FrameLine, LinkLayer, BareReport, Serves, bare_shown, told_beside, answer_shown, told_shown, Leads, config_of, LayerStands}
+use Rattle.lapd_line.proofs.Vocabulary.{IfErr-weaker}
 use Rattle.model_line.specs.Event as line_event
 use Rattle.model_line.specs.Line as machine
 use Rattle.model_line.specs.declared.requests.Request as asking

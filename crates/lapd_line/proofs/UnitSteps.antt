@@ -1,5 +1,6 @@
 -- Unit data that is asked to be sent: why it is refused, and where it waits.
-use Rattle.lapd_line.proofs.Vocabulary.{management_of, ◌≡◌, ℕ, ◌≤◌, ◌<◌, ◌==◌, ◌&&◌, ◌||◌, Bool, true, false, not, nat_lt, nat_le, cond, List, [], ◌∷◌, ◌++◌, length, Option, Some, None, refl, sym, ap, subst, ◌∙◌, arith, ltb-false, leb-false, map-append, length-map, Refusal, BadTei, NoLink, TooLong, QueueFull, PoolFull, Service, Owned, Holds, pairs_of, Store, SameLimits, with_contents, used_slots, Keeps-put}
+use Rattle.lapd_line.proofs.Vocabulary.{management_of, ◌≡◌, ℕ, ◌≤◌, ◌<◌, ◌==◌, ◌&&◌, ◌||◌, Bool, true, false, not, nat_lt, nat_le, cond, List, [], ◌∷◌, ◌++◌, length, Option, Some, None, refl, sym, ap, subst, ◌∙◌, arith, ltb-false, leb-false, map-append, length-map, Refusal, BadTei, NoLink, TooLong, QueueFull, PoolFull, Service, Owned, Holds, pairs_of, Store, SameLimits, with_contents, used_slots}
+use Rattle.lapd_line.proofs.Vocabulary.{Keeps-put}
 use Rattle.lapd_line.proofs.Vocabulary.{Places, is_on, place_of, place_of-is, is_on-at, Config, nothing, Line, UnitData, at_units, of_aim, refusal, unit_contents, last_unit_tei, IsProper, aim_sound, unit_tei, LinkLayer, BareReport, QueuedUnit, LayerStands, Standing, Serves, always, told_in, UnitRing, AreFor, messages_of, unit_pairs, slot_of, with_newest}
 use Rattle.std.specs.Option.{is_some}
 use Rattle.lapd_store.specs.Store.{IsFree}

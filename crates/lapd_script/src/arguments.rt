@@ -5,7 +5,7 @@ ghost use Rattle.lapd_script.specs.{job, seen, limits_of, job_or_none, texts};
 
 use crate::jobs::{Job, Limits};
 use crate::values::number;
-use model_line::MOST_N201;
+use lapd_frame::MOST_N201;
 
 /// What these words ask for, and `None` if they ask for nothing that there is.
 pub fn job<'a>(words: &[&'a str]) -> Option<Job<'a>>

@@ -4,7 +4,7 @@ ghost use Rattle.std.specs.Prelude.{◌≡◌, ℕ, ◌+◌, ◌<◌, ◌↔◌,
 ghost use Rattle.lapd_seq.specs.declared.numbers.Seq.{Seq};
 ghost use Rattle.lapd_seq.specs.Circle.{distance_of, AreNumbers, IsValid, IsNamed, named};
 
-use crate::numbers::Seq;
+use crate::numbers::{MODULUS, Seq};
 
 /// How many steps upwards, each to the next number, lead from `from` to `to`: 0 to 127.
 pub fn distance(from: Seq, to: Seq) -> u8
@@ -15,7 +15,7 @@ pub fn distance(from: Seq, to: Seq) -> u8
     // From V(A) it leads to the plain number that an N(R) names.
     ensures named { (vs : Seq) (a s n : ℕ) → AreNumbers from vs a s → IsNamed a s to n → a + result ≡ n }
 {
-    (128 + to.value - from.value) % 128
+    (MODULUS + to.value - from.value) % MODULUS
 }
 
 /// Whether an N(R) is valid: `V(A) <= N(R) <= V(S)`, counted upwards from V(A) (Q.921 clauses

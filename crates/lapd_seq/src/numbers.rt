@@ -2,6 +2,9 @@
 
 ghost use Rattle.std.specs.Prelude.{◌<◌};
 
+/// How many sequence numbers there are (Q.921 clause 3.5.2.1).
+pub(crate) const MODULUS: u8 = 128;
+
 /// A sequence number: N(S) or N(R) of a frame, or one of the variables V(S), V(A) and V(R) (Q.921
 /// clauses 3.5.2.1 to 3.5.2.6). Sequence numbers have no order: after 127 comes 0.
 #[derive(Clone, Copy, PartialEq, Eq, Hash, Debug)]
@@ -37,7 +40,7 @@ impl Seq {
         ensures plain { (n : ℕ) → self ≡ seq n → result ≡ seq (n + 1) }
     {
         Seq {
-            value: (self.value + 1) % 128,
+            value: (self.value + 1) % MODULUS,
         }
     }
 }

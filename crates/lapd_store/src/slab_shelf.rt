@@ -4,12 +4,13 @@ ghost use Rattle.slab.specs.Slab.{get, slab_len, HasRoomFor, Updates};
 
 use crate::{Shelf, Slot, StartFault};
 use arrayvec::ArrayVec;
+use lapd_frame::MOST_N201;
 use slab::Slab;
 use std::alloc::Global;
 use std::marker::Model;
 
-// The longest information field: the default of N201 (Q.921 clause 5.9.3).
-const WIDEST: usize = 260;
+// The longest information field.
+const WIDEST: usize = MOST_N201 as usize;
 
 /// A shelf that keeps each message in an octet vector of its own, and the vectors in a slab.
 ///

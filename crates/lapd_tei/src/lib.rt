@@ -8,7 +8,7 @@
 //! - `remembered`: the latest assignments, for requests that come again.
 //! - `check`: the check of a TEI that runs.
 //! - `queue`: the messages that wait to be sent.
-//! - `messages`, `heard`: the messages of the network and of the terminals.
+//! - `messages`, `heard`: the messages of the network and of the terminals; what both kinds say, `ENTITY` and `NO_TEI`.
 //! - `laws`: what holds of the table of events itself.
 //!
 //! The events and their effects stand in `specs/Rows.antt` and `specs/Events.antt`, one equation for each row, and in
@@ -36,7 +36,7 @@ pub use laws::{
     changes_are_told, disowned_is_nobodys, down_gives_up, lowest_is_assigned, one_more_waits,
     orders_follow_the_check, sound_throughout, unserved_changes_nothing,
 };
-pub use messages::Message;
+pub use messages::{ENTITY, Message, NO_TEI};
 pub use outcome::{Change, TeiOutcome};
 pub use remembered::Remembered;
 pub use table::Table;

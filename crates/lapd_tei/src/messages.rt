@@ -5,11 +5,11 @@ ghost use Rattle.lapd_tei.specs.Messages.{action_of, information_of, frame_of, t
 
 use lapd_frame::{Address, Control, Frame, GROUP, MANAGEMENT, Side, write};
 
-/// The entity identifier of TEI management, and the Ai that names no TEI: any will do, or there is none to be had
-/// (Q.921 clause 5.3.1).
-pub(crate) const ENTITY: u8 = 0x0F;
+/// The entity identifier of TEI management (Q.921 clause 5.3.1).
+pub const ENTITY: u8 = 0x0F;
 
-pub(crate) const NO_TEI: u8 = 127;
+/// The Ai that names no TEI of its own: any will do, each is meant, or there is none to be had (Q.921 clause 5.3.1).
+pub const NO_TEI: u8 = GROUP;
 
 /// A message of TEI management that the network sends to the terminals of a line (Q.921 clause
 /// 5.3.1, table 8).

@@ -1,5 +1,6 @@
 -- By how many the messages that wait rise.
-use Rattle.lapd_terminal.proofs.Vocabulary.{◌≡◌, ℕ, ◌+◌, ◌≤◌, Bool, true, false, cond, count_by-le-length, max, List, [], ◌∷◌, ◌++◌, length, length-append, length-filter, length-set, filter, fold, position, Option, Some, None, subst, sym, arith, list_any, Terminal, Procedure, Message, IdentityCheckResponse, IdentityRequest, IdentityVerify, is_other, is_response, is_verified, is_verify, is_request, put_at, with_verify}
+use Rattle.lapd_terminal.proofs.Vocabulary.{◌≡◌, ℕ, ◌+◌, ◌≤◌, Bool, true, false, cond, count_by-le-length, max, List, [], ◌∷◌, ◌++◌, length, length-append, length-filter, length-set, filter, fold, position, Option, Some, None, subst, sym, arith, list_any, Terminal, Procedure, Message, IdentityCheckResponse, IdentityRequest, IdentityVerify, is_other, is_response, is_verified, is_verify, is_request}
+use Rattle.lapd_terminal.proofs.Vocabulary.{put_at, with_verify}
 use Rattle.lapd_terminal.proofs.Walk.{OfEvents, of_event}
 use Rattle.lapd_terminal.specs.Words.{Course, begun, ◌then◌, end_procedure, end_verifying_of, is_answered, leave, nothing_happens, respond, send_response}
 use Rattle.lapd_terminal.specs.Rows.{answer, answered, end_if_any, take_off, withdraw_all}

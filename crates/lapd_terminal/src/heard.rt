@@ -3,7 +3,7 @@
 ghost use Rattle.std.specs.Prelude.{◌≡◌};
 ghost use Rattle.lapd_terminal.specs.Messages.{heard_in};
 
-use crate::messages::{ENTITY, NO_TEI};
+use lapd_tei::{ENTITY, NO_TEI};
 
 /// A message of TEI management that the network sends (Q.921 clause 5.3.1, table 8).
 #[derive(Clone, Copy)]

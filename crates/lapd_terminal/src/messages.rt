@@ -4,18 +4,8 @@ ghost use Rattle.std.specs.Prelude.{◌≡◌, ◌<◌};
 ghost use Rattle.lapd_terminal.specs.Messages.{action_of, information_of, frame_of, type_of};
 ghost use Rattle.lapd_terminal.specs.Words.{is_request, is_verify, is_response, is_response_of};
 
-use lapd_frame::{Address, Control, Frame, Side, write};
-
-/// The SAPI of layer 2 management (Q.921 clause 3.3.3), and the TEI of the group (clause 3.3.4.1).
-const MANAGEMENT: u8 = 63;
-
-const GROUP: u8 = 127;
-
-/// The entity identifier of TEI management, and the Ai that names no TEI of its own: any will do, or each is meant
-/// (Q.921 clause 5.3.1).
-pub(crate) const ENTITY: u8 = 0x0F;
-
-pub(crate) const NO_TEI: u8 = 127;
+use lapd_frame::{Address, Control, Frame, GROUP, MANAGEMENT, Side, write};
+use lapd_tei::{ENTITY, NO_TEI};
 
 /// A message of TEI management that a terminal sends to the network (Q.921 clause 5.3.1, table 8).
 #[derive(Clone, Copy, PartialEq, Eq, Debug)]

@@ -5,12 +5,9 @@ ghost use Rattle.lapd_transcript.specs.{cause_name, letter_of, suffix, Puts, on,
 
 use crate::output::Page;
 use crate::streams::{Put, Target};
-use lapd_frame::{ErrorCode, Note, Service};
+use lapd_frame::{ErrorCode, GROUP, Note, Service};
 use lapd_text::decimal;
 use model_bits::Cause;
-
-/// What notes of no TEI, or of all, name: the TEI of the group.
-const NO_TEI: u8 = 127;
 
 impl<T: Target> Page<'_, T> {
     /// What an event on a line brought: its notes, then why it dropped a frame, then how many frames it lost. `contents`
@@ -81,9 +78,9 @@ impl<T: Target> Page<'_, T> {
             Note::Assigned(tei) => self.put_of_tei(line, b"assigned", tei),
             Note::Removed(tei) => self.put_of_tei(line, b"removed", tei),
             Note::Doubled(tei) => self.put_of_tei(line, b"doubled", tei),
-            Note::Denied => self.put_of_tei(line, b"denied", NO_TEI),
-            Note::Unassigned => self.put_of_tei(line, b"unassigned", NO_TEI),
-            Note::RemoveAll => self.put_of_tei(line, b"remove-all", NO_TEI),
+            Note::Denied => self.put_of_tei(line, b"denied", GROUP),
+            Note::Unassigned => self.put_of_tei(line, b"unassigned", GROUP),
+            Note::RemoveAll => self.put_of_tei(line, b"remove-all", GROUP),
             Note::Xid(service, tei) => self.put_of_link(line, b"xid", service, tei),
         }
     }

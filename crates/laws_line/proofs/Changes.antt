@@ -1,5 +1,6 @@
 -- What every step of TEI management is, of whatever side, with what it notes.
-use Rattle.laws_line.proofs.Vocabulary.{◌≡◌, ℕ, Bool, true, false, cond, List, [], ◌∷◌, Option, Some, None, IfSome, refl, sym, subst, ap, ◌∙◌, arith, option_map, option_to_list, Note, Moves, Change, Management, IsSoundTable, Config, Line, LineTold, Own, Effect, nothing, is_terminal, terminal_in, of_change, of_management, of_network, of_terminal, of_terminal_if, at_a_terminal, note_of, told_of_management, told_of_terminal, IsSound, IsOfSide, IsUnused}
+use Rattle.laws_line.proofs.Vocabulary.{◌≡◌, ℕ, Bool, true, false, cond, List, [], ◌∷◌, Option, Some, None, IfSome, refl, sym, subst, ap, ◌∙◌, arith, option_map, option_to_list, Note, Moves, Change, Management, IsSoundTable, Config, Line, LineTold, Own, Effect, nothing, is_terminal, terminal_in, of_change, of_management, of_network, of_terminal, of_terminal_if, at_a_terminal, note_of}
+use Rattle.laws_line.proofs.Vocabulary.{told_of_management, told_of_terminal, IsSound, IsOfSide, IsUnused}
 use Rattle.laws_line.proofs.Vocabulary.{TeiEvent, tei_told, tei_after, Terminal, TerminalEvent, terminal_told, terminal_after, TerminalNews, IsOwnEvent}
 use Rattle.laws_line.proofs.Vocabulary.{is_some, Order, Follows, order_of, t201_follows}
 use Rattle.lapd_frame.specs.declared.notes.Note.TheVariants as notes

@@ -1,5 +1,6 @@
 -- What is heard is to TEI management: nothing, or what a UI to the group brings.
-use Rattle.laws_line.proofs.Vocabulary.{arith, ◌≡◌, ℕ, Bool, List, Option, Result, Ok, refl, Cause, Address, Network, Control, ReadFault, Long, Service, Parts, reading, Config, Aim, at_none, at_link, at_management, Line, drop_for, to_service, addressed, message_of, aim_of_reading, unless_at_link, aim_of_long, heard_side, aim_of_heard, group_told, IsToGroup, ServesMessages, eqb-true, cond, true, false, inl, inr, sym, subst, User, Side, is_terminal, at_side, dropped, at_terminal, at_units, at_no_link, Unserved, TeiEvent, ◌&&◌, and_parts, side_aims}
+use Rattle.laws_line.proofs.Vocabulary.{arith, ◌≡◌, ℕ, Bool, List, Option, Result, Ok, refl, Cause, Address, Network, Control, ReadFault, Long, Service, Parts, reading, Config, Aim, at_none, at_link, at_management, Line, drop_for, to_service, addressed, message_of, aim_of_reading, unless_at_link, aim_of_long, heard_side, aim_of_heard, group_told, IsToGroup, ServesMessages, eqb-true, cond, true}
+use Rattle.laws_line.proofs.Vocabulary.{false, inl, inr, sym, subst, User, Side, is_terminal, at_side, dropped, at_terminal, at_units, at_no_link, Unserved, TeiEvent, ◌&&◌, and_parts, side_aims}
 use Rattle.laws_line.proofs.Vocabulary.{link_received, LinkReceived, stream_frame, StreamEvent, message}
 use Rattle.model_line.specs.Sides.{managed_at}
 

@@ -3,7 +3,8 @@ use Rattle.laws_line.proofs.Vocabulary.{arith, ◌≡◌, ℕ, Bool, true, false
 use Rattle.laws_line.proofs.Vocabulary.{long_reading, service_of, reading-found, Terms, LinkTimer, IsOwn, Link, is_data, is_unit, notes-own, event-tells, contents_heard, unit_heard, delivered-was-heard, event-unit, within-is, place_of-is, Config, hears, request, next, nothing, Aim, at_none, at_link, at_management, of_aim, at_timer, aim_of_expiry, Line, place_in, link_in, terms}
 use Rattle.laws_line.proofs.Vocabulary.{unless_refused_told, drop_for, management_sapi, to_service, addressed, message_of, aim_of_reading, aim_of_long, heard_side, aim_of_heard, group_told, IsToGroup, side_aims, Request, Establish, at_requested, at_deactivated, aim_of_request, IsInRange, sound_in, All, T200, T203, Event, expiry, answer, unless_refused, group_tei, at_place, refusal, IsSound, IsTo}
 use Rattle.laws_line.proofs.Vocabulary.{contents_in, is_data_of, is_unit_of, IsHeard, link_undefined, link_overlong, LinkReceived, link_received, LinkEstablish, link_expired, link_frame, link_requested, LinkRequest, link_wrong_size, LinkEvent, link_told, stream_overlong, bits_dropped, stream_frame, StreamEvent, tei_expiry, TeiEvent}
-use Rattle.laws_line.proofs.Vocabulary.{Release, Data, Unit, SetBusy, ClearBusy, Deactivate, Assign, Remove, Check, Disown, AskTei, VerifyTei, Down, LinkRelease, LinkData, LinkSetBusy, LinkClearBusy, assigning, remove, check, disown, asking, verifying, message, at_units, Control, T202, LineTold, Change, TerminalEvent, terminal_told, terminal_after, terminal_expiry, terminal_in, with_terminal, without_units, is_terminal, at_a_terminal, at_no_link, at_terminal, of_change, of_management, of_network, of_terminal, of_terminal_if, told_of_management, told_of_terminal, tei_told, tei_after, down as line_down}
+use Rattle.laws_line.proofs.Vocabulary.{Release, Data, Unit, SetBusy, ClearBusy, Deactivate, Assign, Remove, Check, Disown, AskTei, VerifyTei, Down, LinkRelease, LinkData, LinkSetBusy, LinkClearBusy, assigning, remove, check, disown, asking, verifying, message, at_units, Control, T202, LineTold, Change, TerminalEvent, terminal_told, terminal_after, terminal_expiry, terminal_in, with_terminal}
+use Rattle.laws_line.proofs.Vocabulary.{without_units, is_terminal, at_a_terminal, at_no_link, at_terminal, of_change, of_management, of_network, of_terminal, of_terminal_if, told_of_management, told_of_terminal, tei_told, tei_after, down as line_down}
 use Rattle.model_link.specs.Sound as link_sound
 use Rattle.laws_line.proofs.Told.{its-own}
 use Rattle.laws_line.proofs.Hearing.{sapi-is}

@@ -10,7 +10,8 @@ use Rattle.lapd_terminal.specs.Events as terminals
 use Rattle.lapd_terminal.specs.Laws as terminal_laws
 use Rattle.lapd_terminal.specs.Words.{Course}
 use Rattle.lapd_terminal.proofs.Served.{leads}
-use Rattle.laws_line.proofs.Vocabulary.{Bool, cond, ◌&&◌, ◌∙◌, Ok, Unserved, User, Network, Side, Control, Parts, reading, heard_side, addressed, message_of, aim_of_reading, at_side, link_frame, stream_frame, dropped, at_none, at_terminal, at_a_terminal, of_network, of_terminal as effect_of_terminal, of_terminal_if, told_of_terminal, Effect, LineTold, Own, Management, is_terminal, terminal_in, with_terminal, IsOfSide, ServesMessages, IsOfTerminal, IsManagedThere, line_of_terminal as of_terminal, T202, AskTei, VerifyTei}
+use Rattle.laws_line.proofs.Vocabulary.{Bool, cond, ◌&&◌, ◌∙◌, Ok, Unserved, User, Network, Side, Control, Parts, reading, heard_side, addressed, message_of, aim_of_reading, at_side, link_frame, stream_frame, dropped, at_none, at_terminal, at_a_terminal, of_network, of_terminal as effect_of_terminal, of_terminal_if, told_of_terminal, Effect, LineTold, Own, Management, is_terminal, terminal_in}
+use Rattle.laws_line.proofs.Vocabulary.{with_terminal, IsOfSide, ServesMessages, IsOfTerminal, IsManagedThere, line_of_terminal as of_terminal, T202, AskTei, VerifyTei}
 use Rattle.model_line.specs.Sides.{managed_at}
 use Rattle.model_line.proofs.Managed.{idle_course}
 use Rattle.laws_line.proofs.Alone.{is-alone}

@@ -14,8 +14,8 @@ use crate::frame_events::FrameEvent;
 use crate::frame_replies::{FrameReply, SentFrame};
 use crate::frame_sink::FrameSink;
 use lapd_card::{BareReport, FrameCard, Report, Request, SinkFailed, SinkFault};
+use lapd_frame::MOST_N201;
 use lapd_store::Shelf;
-use model_line::MOST_N201;
 
 /// The octets of the longest frame without its check: four, and the greatest N201 of a configuration.
 const LONGEST: usize = MOST_N201 as usize + 4;

@@ -1,5 +1,6 @@
 -- What comes of it that a line is down.
-use Rattle.model_line.proofs.Vocabulary.{◌≡◌, Bool, true, false, cond, List, [], ◌∷◌, ◌++◌, Option, None, Some, option_map, refl, sym, subst, ap, ◌∙◌, arith, All-nil, Config, nothing, Effect, Order, order_of, Procedure, at_no_link, of_aim, of_change, of_network, of_terminal, without_units, Line, Own, is_terminal, Management, stop_of, down_gives_up, IsOfSide, IsSound, IsUnitData, tei_down, terminal_down}
+use Rattle.model_line.proofs.Vocabulary.{◌≡◌, Bool, true, false, cond, List, [], ◌∷◌, ◌++◌, Option, None, Some, option_map, refl, sym, subst, ap, ◌∙◌, arith, All-nil, Config, nothing, Effect, Order, order_of, Procedure, at_no_link, of_aim, of_change, of_network, of_terminal, without_units, Line, Own, is_terminal, Management, stop_of, down_gives_up, IsOfSide, IsSound, IsUnitData, tei_down}
+use Rattle.model_line.proofs.Vocabulary.{terminal_down}
 use Rattle.std.specs.Prelude.{option_to_list}
 use Rattle.lapd_terminal.specs.Words as terminals
 use Rattle.lapd_terminal.proofs.GivenUp.{given_up as terminal_given_up}

@@ -1,5 +1,6 @@
 -- By how much an event raises what a line sends and may still send.
-use Rattle.model_line.proofs.Vocabulary.{◌≡◌, ℕ, ◌+◌, ◌*◌, ◌≤◌, Bool, true, false, max, Option, Some, None, is_some, refl, sym, subst, ap, cond, arith, Service, Refusal, T200, T203, LinkTimer, Management, expire_check, Config, Event, hears, expiry, request, one, may_send, rejects_aimed, is_accepted, is_given, at_timer, aim_of_expiry, runs_at, Rises, Line, place_in, link_in, terms, after, answer, unless_refused}
+use Rattle.model_line.proofs.Vocabulary.{◌≡◌, ℕ, ◌+◌, ◌*◌, ◌≤◌, Bool, true, false, max, Option, Some, None, is_some, refl, sym, subst, ap, cond, arith, Service, Refusal, T200, T203, LinkTimer, Management, expire_check, Config, Event, hears, expiry, request, one, may_send, rejects_aimed, is_accepted, is_given, at_timer, aim_of_expiry, runs_at, Rises, Line, place_in, link_in, terms, after, answer}
+use Rattle.model_line.proofs.Vocabulary.{unless_refused}
 use Rattle.model_line.proofs.Vocabulary.{unless_refused_told, aim_of_heard, at_management, at_terminal, is_terminal, of_change, of_management, of_network, of_terminal, of_terminal_if, told_of_terminal, with_terminal, of_aim, refusal, Request, aim_of_request, IsInRange, IsSound, TeiEvent, Procedure, terminal_expiry, tei_refusal, tei_course, tei_expiry}
 use Rattle.model_link.specs.Requests as requests
 use Rattle.model_link.specs.declared.timers.LinkTimer.TheVariants as link_timer

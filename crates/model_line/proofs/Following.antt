@@ -1,5 +1,6 @@
 -- A caller that obeys the orders of a line's answers runs the timers that the line runs.
-use Rattle.model_line.proofs.Vocabulary.{◌≡◌, ◌≢◌, ℕ, ◌+◌, ◌*◌, ◌<◌, ◌==◌, ◌&&◌, Bool, true, false, is_some, List, ◌++◌, length, get_or, set, Option, Some, None, refl, ap, sym, ◌∙◌, subst, arith, length-set, eq-eqb, true≢false, cases_eq, get_or-set_same, get_or-set_other, none-some, Service, Call, Packet, same_service, is_same, Order, Terms, Timer, T201, T202, LinkTimer, Link, obeyed, runs, timer_at}
+use Rattle.model_line.proofs.Vocabulary.{◌≡◌, ◌≢◌, ℕ, ◌+◌, ◌*◌, ◌<◌, ◌==◌, ◌&&◌, Bool, true, false, is_some, List, ◌++◌, length, get_or, set, Option, Some, None, refl, ap, sym, ◌∙◌, subst, arith, length-set, eq-eqb, true≢false, cases_eq, get_or-set_same, get_or-set_other, none-some, Service, Call, Packet, same_service, is_same, Order, Terms, Timer, T201, T202, LinkTimer, Link, obeyed, runs}
+use Rattle.model_line.proofs.Vocabulary.{timer_at}
 use Rattle.model_line.proofs.Vocabulary.{Management, IsAt, IsSoundTable, place_of, at-off, at-within, place_of-is, Config, runs_at, is_running, Line, Own, link_number, link_in, terms, with_link, eqb-true, T200, T203, fresh, IsSound, link_cleared, link_told}
 use Rattle.model_line.proofs.Numbers.{place_at-number, service_at-number, number_within}
 use Rattle.lapd_tei.specs.Laws as tei_laws

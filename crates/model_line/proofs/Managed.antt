@@ -1,6 +1,7 @@
 -- What every step of TEI management is, of whatever side: the walk over both tables is made once here.
 use Rattle.model_line.proofs.Vocabulary.{◌≡◌, ℕ, ◌+◌, ◌≤◌, Bool, true, false, cond, is_some, List, [], length, max, Option, Some, None, IfSome, option_map, refl, sym, subst, ap, ◌∙◌, arith, none-some, Service, Order, T201, T202, LinkTimer, obeyed, Follows, Moves, Change, Management, Cause, Unserved, IsSoundTable, told_brief, t201_follows, expired_t201_follows}
-use Rattle.model_line.proofs.Vocabulary.{Config, Line, LineTold, Own, Effect, nothing, is_terminal, terminal_in, terminal_with, of_change, of_management, of_network, of_terminal, of_terminal_if, at_a_terminal, change_at_terminal, change_if, change_of, with_terminal, note_of, told_of_management, told_of_terminal, order_of, unserved_cause, IsSound, IsOfSide, IsUnused, TeiEvent, tei_told, tei_after, Terminal, TerminalEvent, TerminalTold, T202Order, terminal_told, terminal_after, terminal_course}
+use Rattle.model_line.proofs.Vocabulary.{Config, Line, LineTold, Own, Effect, nothing, is_terminal, terminal_in, terminal_with, of_change, of_management, of_network, of_terminal, of_terminal_if, at_a_terminal, change_at_terminal, change_if, change_of, with_terminal, note_of, told_of_management, told_of_terminal, order_of, unserved_cause, IsSound, IsOfSide, IsUnused, TeiEvent, tei_told, tei_after}
+use Rattle.model_line.proofs.Vocabulary.{Terminal, TerminalEvent, TerminalTold, T202Order, terminal_told, terminal_after, terminal_course}
 use Rattle.std.specs.Prelude.{option_to_list}
 use Rattle.lapd_tei.specs.Laws as tei_laws
 use Rattle.lapd_tei.specs.Sound as tei

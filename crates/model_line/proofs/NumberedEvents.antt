@@ -1,5 +1,6 @@
 -- Each event of a line is what a link's numbers say of it.
-use Rattle.model_line.proofs.Vocabulary.{arith, ◌≡◌, ℕ, zero, suc, ◌<◌, Bool, true, false, cond, List, [], ◌∷◌, get_or, set, Option, Some, None, refl, sym, true≢false, Link, fresh, offer-keeps-r, transfer-goes-on, Config, Event, hears, expiry, request, next, gave, Refusal, refusal, refused, unless_refused, unless_refused_told, of_aim, aim_of_request, arrived_aimed, arrived, restarts_aimed, restarts, delivered, Line, link_at, terms, service_at, link_count, after, answer, takes_slot, aim_of_heard}
+use Rattle.model_line.proofs.Vocabulary.{arith, ◌≡◌, ℕ, zero, suc, ◌<◌, Bool, true, false, cond, List, [], ◌∷◌, get_or, set, Option, Some, None, refl, sym, true≢false, Link, fresh, offer-keeps-r, transfer-goes-on, Config, Event, hears, expiry, request, next, gave, Refusal, refusal, refused, unless_refused, unless_refused_told, of_aim, aim_of_request, arrived_aimed, arrived, restarts_aimed}
+use Rattle.model_line.proofs.Vocabulary.{restarts, delivered, Line, link_at, terms, service_at, link_count, after, answer, takes_slot, aim_of_heard}
 use Rattle.model_line.proofs.Vocabulary.{aim_of_expiry, Aim, Taken, taken, line_of, next_of, option_map, option_map_or, IsSound, offer, link_after, aim_of}
 use Rattle.model_line.proofs.AimsSound.{IsProper}
 use Rattle.model_line.proofs.Numbered.{Part, brings_none, none_at, HasNoContents, aim_parts}

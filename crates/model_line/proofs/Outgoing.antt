@@ -1,5 +1,6 @@
 -- A message of TEI management that goes out, of whatever side.
-use Rattle.model_line.proofs.Vocabulary.{◌≡◌, ℕ, ◌+◌, Bool, true, false, cond, List, [], ◌∷◌, length, drop, slice_get, Option, Some, None, option_map, IfSome, refl, sym, subst, ap, ◌∙◌, arith, length-drop, slice_get_cases, sound-after_offer, Management, Message, frame_of, Config, Line, Own, is_terminal, terminal_in, Taken, with_message, with_own_message, IsOfSide, IsSound, IsUnused, OwnMessage, own_frame_of}
+use Rattle.model_line.proofs.Vocabulary.{◌≡◌, ℕ, ◌+◌, Bool, true, false, cond, List, [], ◌∷◌, length, drop, slice_get, Option, Some, None, option_map, IfSome, refl, sym, subst, ap, ◌∙◌, arith, length-drop, slice_get_cases, sound-after_offer, Management, Message, frame_of, Config, Line, Own, is_terminal, terminal_in, Taken, with_message, with_own_message, IsOfSide, IsSound, IsUnused, OwnMessage}
+use Rattle.model_line.proofs.Vocabulary.{own_frame_of}
 use Rattle.lapd_tei.specs.Events as teis
 use Rattle.lapd_tei.specs.Sound as tei
 use Rattle.lapd_terminal.specs.Events as terminals

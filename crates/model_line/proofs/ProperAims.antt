@@ -1,6 +1,7 @@
 -- What holds of each aim that events can have holds of the aim of every event.
 use Rattle.model_line.proofs.Vocabulary.{arith, ◌≡◌, ℕ, ◌<◌, Bool, true, false, ◌&&◌, not, List, length, Option, Some, None, is_some, Result, Ok, Err, cond, ltb-false, leb-false, Cause, Unserved, Address, ReadFault, BadExtension, Undefined, WrongSize, Short, Refusal, Service, Timer, Parts, reading, LinkTimer, place_of-is, IsAt, Config, Event, hears, expiry, request, next, nothing, Line, UnitData}
-use Rattle.model_line.proofs.Vocabulary.{place_in, takes_slot, Request, Aim, at_none, at_link, at_management, at_terminal, at_units, at_no_link, drop_for, to_service, addressed, message_of, aim_of_reading, unless_at_link, heard_side, aim_of_heard, group_told, IsToGroup, at_timer, aim_of_expiry, at_requested, at_deactivated, aim_of_request, carries_contents, refusal, unless_refused, IsUnitData, LinkReceived}
+use Rattle.model_line.proofs.Vocabulary.{place_in, takes_slot, Request, Aim, at_none, at_link, at_management, at_terminal, at_units, at_no_link, drop_for, to_service, addressed, message_of, aim_of_reading, unless_at_link, heard_side, aim_of_heard, group_told, IsToGroup, at_timer, aim_of_expiry, at_requested, at_deactivated, aim_of_request, carries_contents, refusal, unless_refused, IsUnitData}
+use Rattle.model_line.proofs.Vocabulary.{LinkReceived}
 use Rattle.model_line.proofs.Vocabulary.{LinkRequest, link_expired, link_received, link_requested, LinkEvent, link_undefined, link_wrong_size, link_cleared, link_frame, LinkData, TeiEvent, tei_message, tei_expiry, TerminalEvent, terminal_expiry, StreamEvent, stream_frame, dropped, overlong, aim_of}
 use Rattle.lapd_frame.specs.declared.overlong.Long.{Long}
 use Rattle.lapd_frame.specs.Senders.{long_reading}

@@ -1,5 +1,6 @@
 -- An expiry starts at most one timer.
-use Rattle.model_line.proofs.Vocabulary.{◌≡◌, ℕ, ◌≤◌, true, false, cond, List, [], ◌∷◌, ◌++◌, length, Option, Some, None, refl, arith, Service, Call, Packet, Order, Start, Stop, Timer, one-start, orders_for, starts, Terms, LinkTimer, told_brief, Change, Gained, Left, Config, expiry, aim_of_expiry, orders_in, Line, link_in, terms, answer, told_of_management, told_of_terminal, of_link, of_change, of_management, of_network, of_terminal, of_terminal_if, of_aim, order_of, is_terminal, terminal_in, with_terminal, LineTold, link_expired}
+use Rattle.model_line.proofs.Vocabulary.{◌≡◌, ℕ, ◌≤◌, true, false, cond, List, [], ◌∷◌, ◌++◌, length, Option, Some, None, refl, arith, Service, Call, Packet, Order, Start, Stop, Timer, one-start, orders_for, starts, Terms, LinkTimer, told_brief, Change, Gained, Left, Config, expiry, aim_of_expiry, orders_in, Line, link_in, terms, answer, told_of_management, told_of_terminal, of_link, of_change}
+use Rattle.model_line.proofs.Vocabulary.{of_management, of_network, of_terminal, of_terminal_if, of_aim, order_of, is_terminal, terminal_in, with_terminal, LineTold, link_expired}
 use Rattle.model_line.proofs.Vocabulary.{link_cleared, tei_told, tei_after, tei_expiry, terminal_told, terminal_after, terminal_expiry}
 use Rattle.model_link.specs.Machine as links
 use Rattle.model_line.proofs.Managed.{one_at_most}

@@ -1,5 +1,6 @@
 -- A sound line holds at most so many octets, and at most N201 octets in each slot.
-use Rattle.model_line.proofs.Vocabulary.{ℕ, zero, suc, ◌+◌, ◌*◌, ◌≤◌, ◌<◌, Bool, true, false, cond, ap, List, length, arith, sum_by, All, range_with_len, All-drop, sum_by-le, sum_by-cons, Network, queue_of, IsWaitingFrame, ControlFrame, Terms, Config, Line, link_count, service_at, terms, link_at, is_terminal, terminal_in, IsOfSide, IsSound, held_by_link, held_in, slots_by_link, slots_of, total_length, unit_length, octets_by_link, stored_in}
+use Rattle.model_line.proofs.Vocabulary.{ℕ, zero, suc, ◌+◌, ◌*◌, ◌≤◌, ◌<◌, Bool, true, false, cond, ap, List, length, arith, sum_by, All, range_with_len, All-drop, sum_by-le, sum_by-cons, Network, queue_of, IsWaitingFrame, ControlFrame, Terms, Config, Line, link_count, service_at, terms, link_at, is_terminal, terminal_in, IsOfSide, IsSound, held_by_link, held_in, slots_by_link, slots_of}
+use Rattle.model_line.proofs.Vocabulary.{total_length, unit_length, octets_by_link, stored_in}
 use Rattle.model_line.proofs.Vocabulary.{rises_held}
 use Rattle.lapd_frame.specs.Grammar.{spelling}
 use Rattle.model_link.specs.Link.{frame_of}

@@ -1,5 +1,6 @@
 -- Sums over the parts of a line, and by how much an event of a part raises them.
-use Rattle.model_line.proofs.Vocabulary.{◌≡◌, ℕ, zero, suc, ◌+◌, ◌≤◌, ◌<◌, Bool, true, false, cond, List, [], ◌∷◌, length, get_or, set, Option, Some, None, refl, ap, ◌∙◌, arith, length-append, length-set, sum_by, range_with_len, cases_lt, get_or-set_same, get_or-set_other, get_or-replicate, get_or_past, length-replicate, sum_by-cons, Service, Call, Packet, Link, fresh, Moves, Management, IsAt, Change, Gained, Left, at-within, Config}
+use Rattle.model_line.proofs.Vocabulary.{◌≡◌, ℕ, zero, suc, ◌+◌, ◌≤◌, ◌<◌, Bool, true, false, cond, List, [], ◌∷◌, length, get_or, set, Option, Some, None, refl, ap, ◌∙◌, arith, length-append, length-set, sum_by, range_with_len, cases_lt, get_or-set_same, get_or-set_other, get_or-replicate, get_or_past, length-replicate, sum_by-cons, Service, Call, Packet, Link, fresh, Moves, Management, IsAt}
+use Rattle.model_line.proofs.Vocabulary.{Change, Gained, Left, at-within, Config}
 use Rattle.model_line.proofs.Vocabulary.{LineTold, Line, Own, fresh_line, link_number, link_count, service_at, link_in, terms, Aim, at_none, at_link, at_management, at_terminal, at_units, at_no_link, without_units, of_link, of_change, of_management, of_terminal, of_aim, IsInRange, IsSound, IsUnitData, All-nil, sum_of_links, LinkEvent, link_after, TeiEvent, TerminalEvent, tei_down}
 use Rattle.model_link.specs.Sound as link_sounds
 use Rattle.lapd_tei.specs.Laws as tei_laws

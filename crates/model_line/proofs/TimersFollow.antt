@@ -1,6 +1,7 @@
 -- A caller that obeys the orders runs the timers that a line runs: each event of the line.
 use Rattle.model_line.proofs.Vocabulary.{◌≡◌, ℕ, zero, suc, Bool, false, arith, eq-eqb, is_some, List, get_or, replicate, Option, Some, None, refl, ap, sym, ◌∙◌, subst, inl, inr, option_map_or, none-some, Service, Order, Timer, T201, T202, LinkTimer, Link, obeyed, IsTimed, Given, timer_at, Terms, is_same, Management, Change, Gained, Left}
-use Rattle.model_line.proofs.Vocabulary.{place_of-is, Config, request, gave, hears, next, at_link, at_management, at_terminal, Effect, LineTold, Own, of_change, of_aim, at_timer, is_running, orders_in, Line, link_number, service_at, place_at, place_in, link_at, link_in, terms, with_link, fresh_line, aim_of_heard, Taken, with_unit, taken, next_of, line_of, Request, at_requested, at_deactivated, aim_of_request}
+use Rattle.model_line.proofs.Vocabulary.{place_of-is, Config, request, gave, hears, next, at_link, at_management, at_terminal, Effect, LineTold, Own, of_change, of_aim, at_timer, is_running, orders_in, Line, link_number, service_at, place_at, place_in, link_at, link_in, terms, with_link, fresh_line, aim_of_heard, Taken, with_unit, taken, next_of, line_of, Request, at_requested, at_deactivated}
+use Rattle.model_line.proofs.Vocabulary.{aim_of_request}
 use Rattle.model_line.proofs.Vocabulary.{Down, without_units, at_no_link, option_map, eqb-true, T200, T203, Event, expiry, after, answer, IsSound, runs_then, link_offer, link_received, link_expired, link_requested, LinkRequest, link_cleared, LinkEvent, link_given, link_told, link_after, StreamEvent, tei_down, tei_message, tei_expiry, TeiEvent, TerminalEvent, terminal_expiry, runs_at}
 use Rattle.model_line.proofs.AimsSound.{IsProper}
 use Rattle.model_line.proofs.ProperAims.{heard_aims, request_proper}

@@ -6,11 +6,8 @@ ghost use Rattle.model_line.specs.Heard.{heard_side};
 ghost use Rattle.model_line.specs.Line.{is_terminal};
 ghost use Rattle.model_line.specs.Taken.{own_side};
 
-use lapd_frame::{Sender, Side};
+use lapd_frame::{MOST_N201, Sender, Side};
 use std::fmt;
-
-/// The greatest number of octets that an information field may be allowed (N201, Q.921 clause 5.9.3).
-pub const MOST_N201: u16 = 260;
 
 /// The greatest window, modulo 128, and so the most contents that a link keeps (Q.921 clause 5.9.5; profile).
 const MOST_K: u16 = 127;

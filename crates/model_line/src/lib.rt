@@ -9,7 +9,7 @@
 //!
 //! The code of a line stands above, in another crate. Here are the plain types that it shares with the definitions:
 //!
-//! - `config`: `Config`, the sizes and limits of a card; `MOST_N201`, the greatest of one.
+//! - `config`: `Config`, the sizes and limits of a card.
 //! - `requests`: `Request`, what layer 3 and management ask of a line.
 //! - `faults`: `Fault`, what a controller of a line's flags, stuffed 0s and checks tells in place of a frame. What that, and a
 //!   frame that it brings, are heard as stands in `Came`.
@@ -19,6 +19,6 @@ mod config;
 mod faults;
 mod requests;
 
-pub use config::{Config, Field, MOST_N201};
+pub use config::{Config, Field};
 pub use faults::Fault;
 pub use requests::Request;

@@ -8,8 +8,7 @@ use crate::plain::links::service_at;
 use crate::plain::notes::{PlainNote, cause_number};
 use crate::plain::timers::PlainOrder;
 use lapd_card::BareReport;
-use lapd_frame::{Note, Order, ShortList};
-use model_line::MOST_N201;
+use lapd_frame::{MOST_N201, Note, Order, ShortList};
 
 /// The most octets of contents that a configuration allows.
 const MOST_OCTETS: usize = MOST_N201 as usize;
@@ -40,7 +39,7 @@ pub struct PlainReport {
     /// The orders, in order.
     pub orders: [PlainOrder; 4],
     /// The contents.
-    pub contents: [u8; 260],
+    pub contents: [u8; MOST_OCTETS],
     /// Of the next frame: 1 if another frame waits on its line; otherwise 0.
     pub more: u8,
     /// 1 if a link that was refused contents has room again; otherwise 0.

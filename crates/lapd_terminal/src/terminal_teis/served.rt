@@ -12,12 +12,11 @@ use super::TerminalTeis;
 use super::words::left;
 use crate::outcome::{News, T202Order, TerminalOutcome};
 use crate::procedure::Procedure;
+use lapd_frame::LAST_TEI;
 use lapd_tei::Change;
 
-// The TEIs that the network assigns (clause 3.3.4.2).
+// The lowest TEI that the network assigns (clause 3.3.4.2).
 const LOWEST: u8 = 64;
-
-const HIGHEST: u8 = 126;
 
 // How often a TEI is asked for (N202, clause 5.9.4), and how often a verify is sent (clause 5.3.5).
 const MOST_REQUESTS: u8 = 3;
@@ -51,7 +50,7 @@ impl TerminalTeis {
     fn take_tei(&mut self, tei: u8) -> TerminalOutcome
         ensures led { led_to self.new result ≡ take_tei tei (begun self.old) }
     {
-        if tei < LOWEST || tei > HIGHEST || self.table.is_on(tei) {
+        if tei < LOWEST || tei > LAST_TEI || self.table.is_on(tei) {
             return TerminalOutcome::unserved();
         }
         let Some(place) = self.table.free_place() else {

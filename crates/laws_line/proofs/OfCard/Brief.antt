@@ -1,5 +1,6 @@
 -- What laws of whole runs say in brief.
-use Rattle.laws_line.proofs.Vocabulary.{arith, ⊎_elim, ◌≡◌, ◌≢◌, ℕ, List, Option, Some, None, refl, ap, ◌∙◌, get_or-set_other, Config, next, Line, link_number, link_count, link_at, Taken, taken, Card, line_at, IsAtLine, AreAtLines, moment_of, each_moment, has_lines, line_sound, fresh as fresh_link, IsOneEvent, IsOfPart, line_of_link as of_link, line_of_management as of_management, line_of_terminal as of_terminal, of_units}
+use Rattle.laws_line.proofs.Vocabulary.{arith, ⊎_elim, ◌≡◌, ◌≢◌, ℕ, List, Option, Some, None, refl, ap, ◌∙◌, get_or-set_other, Config, next, Line, link_number, link_count, link_at, Taken, taken, Card, line_at, IsAtLine, AreAtLines, moment_of, each_moment, has_lines, line_sound, fresh as fresh_link, IsOneEvent, IsOfPart, line_of_link as of_link, line_of_management as of_management}
+use Rattle.laws_line.proofs.Vocabulary.{line_of_terminal as of_terminal, of_units}
 use Rattle.laws_line.proofs.Vocabulary.{of_group, of_down, of_next, IsIdle, IsOwed, contents_of_link, CardEvent as Event, card_after as after, card_answer as answer, CardIsSound as IsSound, LinksStay, LeavesOthers, OthersStay, TellsCause, CausesAreTold}
 use Rattle.model_line.specs.Event as line_event
 use Rattle.model_line.specs.Machine as lines

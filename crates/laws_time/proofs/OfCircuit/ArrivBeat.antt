@@ -1,9 +1,8 @@
 -- A beat of the clocked circuit is done on a wire of frames, and T200 is long enough there.
-use Rattle.std.proofs.Common.{arith, ◌≡◌, ℕ, ◌+◌, ◌*◌, ◌/◌, ◌≤◌, ◌<◌, Bool, true, false, cond, List, [], ◌∷◌, ◌++◌, length, drop, Option, Some, None, refl, sym, ap, ◌∙◌, subst, All}
+use Rattle.std.proofs.Common.{arith, ◌≡◌, ℕ, ◌+◌, ◌*◌, ◌/◌, ◌≤◌, Bool, true, false, List, [], ◌∷◌, length, drop, Option, refl, sym, ap, subst, All}
 use Rattle.std.specs.Prelude.{fold}
 use Rattle.std.specs.Option.{unwrap_or}
 use Rattle.lapd_frame.specs.declared.services.Service.{Service}
-use Rattle.model_bits.specs.Stream as stream
 use Rattle.model_link.specs.TwoEnds.{Endpoint as LinkEndpoint}
 use Rattle.model_line.specs.Event as line
 use Rattle.model_line.specs.Event.{LineTold}
@@ -20,24 +19,23 @@ use Rattle.laws_wire.specs.Timely.{is_final}
 use Rattle.laws_wire.specs.Wire as wire
 use Rattle.laws_wire.specs.Wire.{Endpoint as FrameEndpoint, Wire, sends, turned}
 use Rattle.laws_wire.proofs.Standing.{StationStands}
-use Rattle.laws_order.specs.circuit.Circuit.{Endpoint as OctetEndpoint, port_of}
-use Rattle.laws_order.specs.circuit.Circuit as circuit
-use Rattle.laws_order.proofs.OfCircuit.AsFrames.{as_station, if_meant}
+use Rattle.laws_order.specs.circuit.Circuit.{port_of}
+use Rattle.laws_order.proofs.OfCircuit.AsFrames.{as_station}
 use Rattle.laws_order.proofs.OfCircuit.Projected.{port-after, heard-way}
 use Rattle.laws_order.proofs.OfCircuit.Ran.{Ran, within-ports}
-use Rattle.laws_time.specs.circuit.Clocked.{TimedEndpoint, Clocked, Beat, happens, asks, hears, without_first_octet, comes_to, gone, beat, fall_due}
+use Rattle.laws_time.specs.circuit.Clocked.{TimedEndpoint, Clocked, Beat, happens, asks, hears, comes_to, gone, beat, fall_due}
 use Rattle.laws_time.specs.circuit.LongEnough.{Line, IsTalk, IsClearAt, IsFrame, answered_in}
 use Rattle.laws_time.proofs.OfCircuit.ArrivAs.{station, heard_of, due-becomes, undue-becomes}
 use Rattle.laws_time.proofs.OfCircuit.ArrivFair.{IsFair}
 use Rattle.laws_time.proofs.OfCircuit.ArrivHeard.{Hears, hears-so}
 use Rattle.laws_time.proofs.OfCircuit.ArrivOpen.{parts, are-own, stands, has-none}
 use Rattle.laws_time.proofs.OfCircuit.ArrivPath.{Path, path-none, path-both, path-one, path-turned}
-use Rattle.laws_time.proofs.OfCircuit.ArrivSide.{Stood, After, IsBoth, all-comes, fair-happens}
+use Rattle.laws_time.proofs.OfCircuit.ArrivSide.{Stood, After, all-comes, fair-happens}
 use Rattle.laws_time.proofs.OfCircuit.ArrivWay.{Going, going-with, before-long, pulled-way}
 use Rattle.laws_time.proofs.OfCircuit.Beats.{at-moment, Gone}
 use Rattle.laws_time.proofs.OfCircuit.Ends.{at_time}
 use Rattle.laws_time.proofs.OfCircuit.LongEnough.{Pair, by_now, long-ago, near-in-all, far-in-all, in-all, near-low, near-high, far-low, far-high, soon, near-gone, far-gone}
-use Rattle.laws_time.proofs.OfCircuit.Standing.{Ends, bare}
+use Rattle.laws_time.proofs.OfCircuit.Standing.{bare}
 use Rattle.laws_time.proofs.OfCircuit.Under.{EndOk}
 
 -- A pull, at an end and at its station.

@@ -1,6 +1,5 @@
 -- The circuit begins as a call on a wire, as soon as it is asked for.
-use Rattle.std.proofs.Common.{◌≡◌, ℕ, ◌/◌, ◌<◌, ◌≤◌, List, [], ◌∷◌, ◌++◌, length, drop, refl, sym, ap, ◌∙◌, subst, All}
-use Rattle.std.specs.Prelude.{fold}
+use Rattle.std.proofs.Common.{◌≡◌, ℕ, ◌/◌, ◌<◌, ◌≤◌, List, [], ◌∷◌, ◌++◌, length, drop, sym, ap, subst, All}
 use Rattle.std.proofs.lemmas.List.Elements.{All-nil, All-head, All-tail}
 use Rattle.std.proofs.lemmas.List.Sums.{fold-append}
 use Rattle.lapd_clock.specs.Timer.{Lengths, AreInRange}
@@ -9,8 +8,6 @@ use Rattle.model_line.specs.Event.{LineTold}
 use Rattle.model_line.specs.Request.{Request, Establish, Assign}
 use Rattle.model_line.specs.Sound.{IsInRange}
 use Rattle.model_line.specs.declared.config.Config.{Config}
-use Rattle.model_card.specs.ports.Port as port
-use Rattle.model_card.specs.ports.Port.{Port}
 use Rattle.model_timed.specs.Clock.{obeyed, stopped}
 use Rattle.laws_wire.specs.Call as call
 use Rattle.laws_wire.specs.Wire as wire
@@ -22,7 +19,7 @@ use Rattle.laws_order.proofs.OfCircuit.Projected.{asked-way}
 use Rattle.laws_order.proofs.OfCircuit.Ran.{Ran}
 use Rattle.lapd_frame.specs.declared.services.Service.{Service}
 use Rattle.laws_time.specs.circuit.Arriving.{calls, AreAsked, IsIdle as AsksNothing}
-use Rattle.laws_time.specs.circuit.Clocked.{TimedEndpoint, Clocked, Beat, hears, without_first_octet, comes_to, gone, beat, after, flags, endpoint}
+use Rattle.laws_time.specs.circuit.Clocked.{TimedEndpoint, Clocked, Beat, hears, comes_to, gone, beat, after, flags, endpoint}
 use Rattle.laws_time.specs.circuit.LongEnough.{Line, IsFit, IsTalk, IsOfLink, IsClearAt, begins, asked}
 unfoldable use Rattle.laws_time.specs.circuit.LongEnough.{AreClear}
 use Rattle.laws_time.proofs.OfCircuit.ArrivAs.{station, heard_of}
@@ -32,7 +29,6 @@ use Rattle.laws_time.proofs.OfCircuit.ArrivRun.{Reached, IsFairBoth, first-going
 use Rattle.laws_time.proofs.OfCircuit.ArrivWay.{Going, going-with}
 use Rattle.laws_time.proofs.OfCircuit.Beats.{Gone}
 use Rattle.laws_time.proofs.OfCircuit.Began.{port-is, none-ordered}
-use Rattle.laws_time.proofs.OfCircuit.Ends.{at_time}
 use Rattle.laws_time.proofs.OfCircuit.InTime.{PairNow, near_card, far_card, pair-begins}
 use Rattle.laws_time.proofs.OfCircuit.LongEnough.{pair-then, near-comes, far-comes, near-gone, far-gone, by_now}
 

@@ -1,6 +1,5 @@
 -- Lemmas.
 pub mod Vocabulary
-pub mod MachineLaws
 pub mod Asked
 pub mod Told
 pub mod Silence
@@ -14,7 +13,6 @@ pub mod Managing
 pub mod Tied
 pub mod Happening
 pub mod Alone
-pub mod GivingUp
 pub mod Readings
 pub mod TeiNotes
 pub mod Noting
@@ -24,11 +22,9 @@ pub mod Causing
 pub mod Changes
 pub mod Grouping
 pub mod Parts
-pub mod Noted
 pub mod Going
 pub mod Exact
 pub mod Draining
-pub mod GoingDown
 pub mod Bounds
 pub mod Leaving
 pub mod InRounds

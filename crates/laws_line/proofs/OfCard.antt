@@ -1,5 +1,4 @@
 -- Lemmas.
-pub mod MachineLaws
 pub mod Spelling
 pub mod Hearing
 pub mod TimersRun
@@ -9,5 +8,4 @@ pub mod InOrder
 pub mod Amid
 pub mod Wherever
 pub mod GoingOut
-pub mod GoingDown
 pub mod Brief

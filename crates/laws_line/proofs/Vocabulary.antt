@@ -155,15 +155,12 @@ pub use Rattle.laws_link.specs.two.Waits.{Goes, GoesWhole, HasNothingToSend}
 unfoldable pub use Rattle.laws_link.specs.two.Waits.{after_offers}
 pub use Rattle.laws_line.specs.Among.{go_first}
 unfoldable pub use Rattle.laws_line.specs.Among.{after_events}
-pub use Rattle.laws_line.specs.Deactivated.{DeactivationsGiveUp, stopped}
 pub use Rattle.laws_line.specs.Drains.{IsIdling, control_text, frames_before, frames_to_go, link_to_go, most_frames, most_frames_before, most_messages, to_go_at_link, way_round}
 unfoldable pub use Rattle.laws_line.specs.Drains.{after_takes}
-pub use Rattle.laws_line.specs.GoesDown.{GivesUp, IsDown, LinesGoDown, TakeDown, takes_down}
+pub use Rattle.laws_line.specs.GoesDown.{GivesUp}
 pub use Rattle.laws_line.specs.Heard.{IsHeard, IsMalformed, IsNotedOnce, IsOneEvent as IsOneHeard, IsTo, IsToManagement, IsTooLong, OnlyTells, contents_in, is_data_of, is_unit_of, notes_of, tells_contents}
 pub use Rattle.laws_line.specs.Knowledge.{is_up_of, taken_for_up, up_by_note}
 pub use Rattle.laws_line.specs.Loss.{IsMoved}
-pub use Rattle.laws_line.specs.Machine.{LinesRise, LinesStaySound}
-pub use Rattle.laws_line.specs.Noted.{NotesItsOwn, noted_coming, noted_leaving}
 pub use Rattle.laws_line.specs.OneEvent.{IsAlone, IsGranted, IsManaged, IsManagedThere, IsOfPart, IsOneEvent, SaysNothing, noted_behind, of_down, of_group, of_link as line_of_link, of_management as line_of_management, of_next, of_terminal as line_of_terminal, of_units}
 pub use Rattle.laws_line.specs.Requests.{deactivates, of_link as requests_of_link}
 pub use Rattle.laws_line.specs.Served.{HasNoMessage, HasNothing, IsIdle, IsItsTurn, IsOfLink, IsOwed, IsServed, IsSilent, IsSilentAt, TurnStays, UnitsWait, contents_of_link, unit_asked, units_behind}
@@ -177,8 +174,6 @@ pub use Rattle.laws_line.specs.WorkedPolled.{asked, before_poll, call_link, one_
 pub use Rattle.laws_line.specs.WorkedSabme.{before_sabme}
 pub use Rattle.laws_line.specs.card.Among.{AreAmong, IsIdleAmong}
 pub use Rattle.laws_line.specs.card.Brief.{CausesAreTold, LeavesOthers, LinksStay, OthersStay, TellsCause}
-pub use Rattle.laws_line.specs.card.GoesDown.{LinesGoDown as LineLinesGoDown, happens_at}
-pub use Rattle.laws_line.specs.card.Machine.{CardsAreReached}
 pub use Rattle.laws_line.specs.card.OneEvent.{IsOneEventIn}
 pub use Rattle.laws_line.specs.card.Promises.{HasOneEvent, RunsWhatIsNeeded}
 pub use Rattle.laws_line.specs.card.PromisesOfTakes.{CallsComeToAnEnd, IsNotDeactivated, WaitingIsTaken, Wherever, is_deactivated_at}

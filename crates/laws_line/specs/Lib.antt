@@ -10,9 +10,6 @@ pub mod Steady
 pub mod GoesDown
 pub mod OneEvent
 pub mod Knowledge
-pub mod Noted
-pub mod Machine
-pub mod Deactivated
 pub mod Laws
 pub mod WorkedWords
 pub mod WorkedLine
@@ -27,7 +24,6 @@ pub mod WorkedLinks
 pub mod WorkedDown
 pub mod WorkedMessages
 pub mod WorkedTerminal
-pub mod WorkedNoted
 pub mod Drains
 pub mod Among
 pub mod WorkedDrains

@@ -55,7 +55,6 @@ pub use Rattle.laws_line.specs.Drains.{frames_before, frames_to_go, most_frames,
 pub use Rattle.laws_line.specs.Frames.{lost_in}
 pub use Rattle.laws_line.specs.GoesDown.{GivesUp}
 pub use Rattle.laws_line.specs.Heard.{IsNotedOnce, contents_in, is_data_of, is_unit_of, notes_of}
-pub use Rattle.laws_line.specs.Noted.{noted_coming, noted_ending, noted_leaving}
 pub use Rattle.laws_line.specs.OneEvent.{SaysNothing, noted_behind}
 pub use Rattle.laws_line.specs.Served.{HasNothing, units_asked}
 pub use Rattle.laws_line.specs.card.Among.{AreAmong}

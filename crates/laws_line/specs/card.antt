@@ -2,7 +2,6 @@
 pub mod OneEvent
 pub mod Promises
 pub mod Timers
-pub mod Machine
 pub mod Laws
 pub mod WorkedCard
 pub mod Worked
@@ -10,7 +9,6 @@ pub mod WorkedTimers
 pub mod Among
 pub mod PromisesOfTakes
 pub mod WaitingIsHeard
-pub mod GoesDown
 pub mod Brief
 pub mod WorkedBroken
 pub mod WorkedClauses

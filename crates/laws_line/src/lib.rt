@@ -6,14 +6,13 @@
 //! of these laws and of the proofs above. `Share` is what an event is to the contents of one link, and `Loss` how layer
 //! 3 learns that a link keeps nothing. `Served` is what a call for the next frame takes, `Heard` what comes of what is
 //! heard, and `Frames` which frames are told as lost. `Steady` and `Requests` say which events are those of a link, and
-//! `OneEvent` that one part has each and nothing else changes. `Deactivated` and `GoesDown` are of a line that is down.
-//! `Timers` says which timers are needed and run, `Knowledge` what notes tell, and `Noted` all that an answer notes.
-//! `Turns` says whose turn it is, and `Short` how short answers are. The laws are `Laws` and `Machine`, and worked
-//! values of them and of the machine `Worked*`. `Drains` and `Among` say what a line comes to with calls for the next
-//! frame, or with other events between them. Their bounds are numbers of calls, and speak of no time. Each law is the
-//! contract of a call that does nothing.
+//! `OneEvent` that one part has each and nothing else changes. `GoesDown` is of a line that is down. `Timers` says
+//! which timers are needed and run, and `Knowledge` what notes tell. `Turns` says whose turn it is, and `Short` how
+//! short answers are. The law is in `Laws`, and worked values of it and of the machine are in `Worked*`. `Drains` and
+//! `Among` say what a line comes to with calls for the next frame, or with other events between them. Their bounds are
+//! numbers of calls, and speak of no time. Each law is the contract of a call that does nothing.
 //!
-//! - `machine`, `laws`, `notes`, `progress`, `turns`: the laws.
+//! - `laws`, `progress`, `turns`: the laws.
 //! - `card`: laws of a whole card.
 //!
 //! # Open
@@ -24,13 +23,9 @@
 
 pub mod card;
 mod laws;
-mod machine;
-mod notes;
 mod progress;
 mod turns;
 
 pub use laws::one_event;
-pub use machine::{deactivations_give_up, lines_go_down, lines_rise, lines_stay_sound};
-pub use notes::nothing_else_is_noted;
 pub use progress::takes_come_to_an_end;
 pub use turns::answers_are_short;

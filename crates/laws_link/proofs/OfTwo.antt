@@ -33,9 +33,7 @@ pub mod HeardRows
 pub mod Meeting
 pub mod Going
 pub mod StayingUp
-pub mod TimelyRuns
 pub mod PremisesMet
-pub mod TimelyMet
 pub mod BusyMet
 pub mod EndedMet
 pub mod AnyOrder

@@ -89,8 +89,7 @@ pub use Rattle.laws_link.specs.two.Needed.{HasItsTimer, IsCalmIn, needed_in}
 pub use Rattle.laws_link.specs.two.OwnBusy.{GetsThrough, IsBusyItself, IsDropped, IsUpAndIdle, with_far_busy, with_near_busy}
 pub use Rattle.laws_link.specs.two.Rounds.{HasArrived, HasUnsent, IsReady, IsTaken}
 unfoldable pub use Rattle.laws_link.specs.two.Rounds.{rounds}
-pub use Rattle.laws_link.specs.two.Timely.{CanRecover, IsNoneOpen, IsTimelyStep, IsTimelyStepAt, is_answer, is_enquiry}
-unfoldable pub use Rattle.laws_link.specs.two.Timely.{StayTimely}
+pub use Rattle.laws_link.specs.two.Timely.{IsNoneOpen, IsTimelyStep, is_answer, is_enquiry}
 pub use Rattle.laws_link.specs.two.Waits.{GoesWhole, HasNothingToSend}
 unfoldable pub use Rattle.laws_link.specs.two.Waits.{after_offers}
 pub use Rattle.laws_link.specs.two.WorkedAnyOrder.{settled, settling}
@@ -98,4 +97,3 @@ pub use Rattle.laws_link.specs.two.WorkedBusyOver.{kept}
 pub use Rattle.laws_link.specs.two.WorkedEnds.{both, mended}
 pub use Rattle.laws_link.specs.two.WorkedOwnBusy.{busy_cut_off, busy_losing, far_dropped, near_dropped}
 pub use Rattle.laws_link.specs.two.WorkedRounds.{asked, cut_off, losing}
-pub use Rattle.laws_link.specs.two.WorkedTimely.{answered_at_last}

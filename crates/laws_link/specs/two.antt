@@ -17,5 +17,4 @@ pub mod WorkedAnyOrder
 pub mod WorkedUntimely
 pub mod Ahead
 pub mod Timely
-pub mod WorkedTimely
 pub mod WorkedHolding

@@ -28,5 +28,5 @@ pub use following::{flags_follow, frames_follow, notes_follow, states_follow};
 pub use sending::requests_take_effect;
 pub use two::{
     arrives_in_any_order, busy_ends_are_heard, busy_ends_recover, busy_is_heeded, contents_arrive,
-    kept_contents_arrive, links_stay_up, losses_are_recovered, stay_up_while_ahead,
+    kept_contents_arrive, losses_are_recovered, stay_up_while_ahead,
 };

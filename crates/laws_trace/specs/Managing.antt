@@ -172,7 +172,7 @@ of_terminal w t =
     record w { on = teis_of t.places; own = Some t; notes = t.notes; orders = t.orders; begins = map terminal.octets_of t.begins; granted = t.granted }
 
 abbrev pub own_of : Config → Managed → OfTerminal
-own_of c w = terminal.none_due (unwrap_or w.own (own_on c))
+own_of c w = record (unwrap_or w.own (own_on c)) { notes = []; orders = []; begins = []; granted = None }
 
 abbrev pub at_terminal : Config → Event → Managed → Managed
 at_terminal c e w = option_map_or (of_terminal w) (terminal.by_event c e (own_of c w)) w

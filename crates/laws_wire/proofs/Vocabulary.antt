@@ -68,7 +68,7 @@ pub use Rattle.laws_link.proofs.OfTwo.Reached.{Sane, sane-doing}
 pub use Rattle.laws_link.proofs.OfTwo.Recovery.{all-recovered, free-recovered}
 pub use Rattle.laws_link.proofs.OfTwo.Shapes.{enquiry_with}
 pub use Rattle.laws_link.proofs.OfTwo.Staying.{offer-stays, request-stays, timer-stays}
-pub use Rattle.laws_link.proofs.OfTwo.StayingUp.{Flows, acted-flows, not-enquiry}
+pub use Rattle.laws_link.proofs.OfTwo.StayingUp.{Flows, acted-flows, flows-low, not-enquiry}
 pub use Rattle.laws_link.proofs.OfTwo.Together.{done-up, same-after}
 pub use Rattle.laws_link.proofs.OfTwo.Trains.{Behind, Beyond, Calm, Every, Kind, alien, answer, calm-rise, enquiry, every-push, kind_of, kinds-append, kinds_of, numbered, one_answer, one_enquiry, one_rejection, rejection, report, tally, tally-push}
 pub use Rattle.laws_link.proofs.OfTwo.Waiting.{nothing-given, nothing-to_send, silent-stays}
@@ -171,7 +171,6 @@ pub use Rattle.lapd_frame.specs.Faults.{is_short}
 pub use Rattle.laws_line.specs.Drains.{to_go_at_link}
 pub use Rattle.laws_link.proofs.EachRow.{each-row}
 pub use Rattle.laws_link.proofs.OfTwo.HeedingEvents.{heeds-after}
-pub use Rattle.laws_link.proofs.OfTwo.TimelyRuns.{flows-low}
 pub use Rattle.laws_wire.specs.BothWorked.{both_send}
 pub use Rattle.laws_wire.specs.WorkedAnswering.{loses_ua}
 pub use Rattle.laws_wire.specs.WorkedCounted.{ua_is_lost}

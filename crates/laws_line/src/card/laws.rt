@@ -1,7 +1,6 @@
 //! What a card does, over whole runs. Each law is the contract of a call that does nothing. If its comment names a
 //! field of `Promises` (crate `laws_promises`), the comment of the field says it in words.
 
-ghost use Rattle.laws_line.specs.card.GoesDown.{LinesGoDown};
 ghost use Rattle.laws_line.specs.card.Laws.{OneEvent, OthersAreLeft, CausesTold};
 
 /// In every moment one part of one line has one event, and all else is as it was. Some are an event of a link, which
@@ -21,14 +20,6 @@ pub fn one_event()
 /// In every moment all lines stay as they are but that of the event, and of its links all but one: `others_stay`.
 pub fn others_stay()
     ensures { OthersAreLeft }
-{}
-
-/// A line goes down, whatever happens at the other lines meanwhile. Let all that happens at it be that it is down, and
-/// that each link of a TEI on it is deactivated, in any order, each once or more often. Then nothing waits on it, and
-/// the next call for a frame gives none. Each link is in state 4, as one that begins; no timer is needed; and the TEIs
-/// stay (Q.921 annex B, persistent deactivation).
-pub fn lines_go_down()
-    ensures { LinesGoDown }
 {}
 
 /// Of what is heard and is no frame all that is answered is why it is none. Of a frame of TEI management on the user's

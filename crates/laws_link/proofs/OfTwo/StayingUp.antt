@@ -2,7 +2,7 @@
 use Rattle.laws_link.proofs.Vocabulary.{◌≡◌, ℕ, ◌+◌, ◌≤◌, Bool, true, false, IsTrue, List, [], ◌∷◌, ◌++◌, refl, sym, ap, subst, ◌∙◌, inl, inr, arith, All, drop, All-head, All-tail, Control, Parts, State, TimerRecovery, LinkTimer, ControlFrame, Terms, Link, is_multiple_frame, Request, frame, received, expired, requested, offer, Course, Endpoint, EndStep, requests, expires, sends, receives, loses}
 use Rattle.laws_link.proofs.Vocabulary.{with_link, with_first_of, frame_given, acting, IsUp, rising-low, frames_of, line_of, Joined, IsNotRelease, is_enquiry, is_answer, IsNoneOpen, IsTimelyStep, after, course, given_of, is_running}
 use Rattle.laws_link.proofs.OfTwo.Trains.{Kind, enquiry, report, kind_of, kinds_of, tally, one_enquiry, one_answer, one_rejection, every-push, behind-push}
-use Rattle.laws_link.proofs.OfTwo.Flow.{most, Flow, there-calm, there-enquiry, there-information, there-tail, few-more}
+use Rattle.laws_link.proofs.OfTwo.Flow.{most, Flow, flow-low, there-calm, there-enquiry, there-information, there-tail, few-more}
 use Rattle.laws_link.proofs.OfTwo.Effects.{is_recovering}
 use Rattle.laws_link.proofs.OfTwo.HeardRows.{heard}
 use Rattle.laws_link.proofs.OfTwo.Meeting.{line, Longer, line-longer, flow-at, is-no-alien, sender-kept, sender-went, sender-hears, receiver-kept, receiver-went, receiver-hears}
@@ -34,6 +34,9 @@ module _ (asked : Bool → Control → Bool) (one : Kind → ℕ) (w : (b : Bool
 -- One direction between two ends.
 abbrev pub Flows : Endpoint → Endpoint → Type 0
 Flows n m = Flow n.link.s m.link.r (is_recovering n.link.state) m.link.rejecting (line n.terms n.way n.link.waiting) (line m.terms m.way m.link.waiting)
+
+pub flows-low : (n m : Endpoint) → Flows n m → m.link.r ≤ n.link.s
+flows-low n m h = flow-low n.link.s m.link.r (is_recovering n.link.state) m.link.rejecting (line n.terms n.way n.link.waiting) (line m.terms m.way m.link.waiting) h
 
 module _ (n m : Endpoint) (h : Joined n m) (f : Flows n m) (g : Flows m n) where
   abbrev own : List Kind

@@ -1,11 +1,11 @@
 -- A T200 that is long enough: it expires in state 8 only where no enquiry of this end is open (Q.921 clause 5.6.7).
-use Rattle.std.specs.Prelude.{◌≡◌, ◌<◌, Bool, true, false, ◌&&◌, not, List, [], ◌∷◌, All}
+use Rattle.std.specs.Prelude.{◌≡◌, Bool, true, false, ◌&&◌, not, All}
 use Rattle.lapd_frame.specs.declared.controls.Control.{Control}
 use Rattle.lapd_frame.specs.declared.controls.Control.TheVariants.{ReceiveReady, ReceiveNotReady, Reject}
 use Rattle.model_link.specs.declared.states.State.TheVariants.{TimerRecovery}
 use Rattle.model_link.specs.declared.timers.LinkTimer.{LinkTimer}
 use Rattle.model_link.specs.Machine.{is_running}
-use Rattle.model_link.specs.TwoEnds.{Endpoint, Ends, Step, requests, expires, sends, receives, loses, StepAt, at_near, at_far, doing}
+use Rattle.model_link.specs.TwoEnds.{Endpoint, Step, requests, expires, sends, receives, loses}
 use Rattle.laws_link.specs.two.Ahead.{IsNotRelease, CanRepeat}
 
 -- The P or F bit of a supervisory frame.
@@ -42,20 +42,3 @@ IsTimelyStep (expires timer) n m = CanRepeat timer n × IsTimely timer n m
 IsTimelyStep sends n m = Unit {0}
 IsTimelyStep receives n m = Unit {0}
 IsTimelyStep loses n m = Unit {0}
-
-abbrev pub IsTimelyStepAt : StepAt → Ends → Type 0
-IsTimelyStepAt (at_near act) e = IsTimelyStep act e.near e.far
-IsTimelyStepAt (at_far act) e = IsTimelyStep act e.far e.near
-
--- So it is at each step.
-unfoldable pub StayTimely : List StepAt → Ends → Type 0
-StayTimely [] e = Unit {0}
-StayTimely (d ∷ ds) e = IsTimelyStepAt d e × StayTimely ds (doing d e)
-
--- What is asked of such links for the law of recovery: an enquiry can be repeated, own busy is off, and nothing waits or is
--- on its way.
-pub record CanRecover (n : Endpoint) : Type 0 where
-  pub repeats : n.link.state ≡ TimerRecovery → n.link.repeats < n.terms.n200
-  pub own_busy : n.link.own_busy ≡ false
-  pub waiting : n.link.waiting ≡ []
-  pub way : n.way ≡ []

@@ -6,12 +6,11 @@ ghost use Rattle.model_link.specs.Link.{Link, fresh};
 ghost use Rattle.model_link.specs.Events.{Event};
 ghost use Rattle.model_link.specs.Machine.{after, after_all};
 ghost use Rattle.model_link.specs.Timed.{IsTimed};
-ghost use Rattle.laws_link.specs.two.Ahead.{IsAhead, StayAhead};
+ghost use Rattle.laws_link.specs.two.Ahead.{StayAhead};
 ghost use Rattle.laws_link.specs.two.CutOff.{IsCutOff, CanRecoverFrom, HasMissing, with_t200_expired};
 ghost use Rattle.laws_link.specs.two.Heeds.{Heeds};
 ghost use Rattle.model_link.specs.TwoEnds.{Ends, StepAt, doing_all, Begins, StayUp, Agree};
 ghost use Rattle.laws_link.specs.two.Rounds.{rounds, IsReady, IsTaken, HasUnsent, HasArrived};
-ghost use Rattle.laws_link.specs.two.Timely.{StayTimely, CanRecover};
 
 /// A busy terminal is asked again. In states 7 and 8 a link that takes its terminal for busy runs T200, whatever
 /// happened to it since its TEI came to the line. So when T200 expires it asks, and the answer tells whether the
@@ -75,8 +74,8 @@ pub fn losses_are_recovered()
 /// states 7 and 8, and so have delivered exactly the first contents that the other accepted.
 ///
 /// So three things alone lead two links out of states 7 and 8: a release, repeats that are used up, and a V(S) that
-/// went back too far. The last takes a T200 that is too short (`specs/WorkedUntimely`). A timely T200 rules it out:
-/// [`links_stay_up`].
+/// went back too far. The last takes a T200 that is too short (`specs/WorkedUntimely`). A T200 that is long enough rules
+/// it out (`what_is_lost_arrives` of `laws_wire`).
 pub fn stay_up_while_ahead()
     ensures up { (ds : List StepAt) (e : Ends) → Begins e.near → Begins e.far → e.near.terms.n201 ≡ e.far.terms.n201 → StayAhead ds e →
         StayUp ds e }
@@ -84,37 +83,4 @@ pub fn stay_up_while_ahead()
         Agree (doing_all ds e).near (doing_all ds e).far }
     ensures far { (ds : List StepAt) (e : Ends) → Begins e.near → Begins e.far → e.near.terms.n201 ≡ e.far.terms.n201 → StayAhead ds e →
         Agree (doing_all ds e).far (doing_all ds e).near }
-{}
-
-/// Two links stay up if T200 is long enough. They have the same N201, and begin with an establishment. Layer 3 asks for
-/// anything except a release. Frames are lost, as long as the others keep their order. Timers expire as long as an
-/// enquiry can be repeated and T200 is timely. It is timely if in state 8 it expires only while no enquiry of this end
-/// and no response with F=1 of the other waits or is in transit (a lost one is not).
-///
-/// Then both stay in states 7 and 8, and neither's V(S) is ever below the other's V(R). So each has delivered exactly
-/// the first contents that the other accepted, in order and none twice (Q.921 clauses 5.6.4 and 5.6.7).
-///
-/// Wherever such a run has led them, losses are recovered (`recovered_near`, `recovered_far`). Nothing waits or is in
-/// transit, neither is busy itself, and each can repeat an enquiry. T200 expires if it runs, and nothing more is lost.
-/// If neither has more than u contents that were not received, u + 3 rounds suffice.
-///
-/// That T200 has to be timely is needed: in the run of `specs/WorkedUntimely` it is not, and contents are delivered
-/// twice.
-pub fn links_stay_up()
-    ensures up { (ds : List StepAt) (e : Ends) → Begins e.near → Begins e.far → e.near.terms.n201 ≡ e.far.terms.n201 → StayTimely ds e →
-        StayUp ds e }
-    ensures ahead { (ds : List StepAt) (e : Ends) → Begins e.near → Begins e.far → e.near.terms.n201 ≡ e.far.terms.n201 → StayTimely ds e →
-        IsAhead (doing_all ds e) }
-    ensures near { (ds : List StepAt) (e : Ends) → Begins e.near → Begins e.far → e.near.terms.n201 ≡ e.far.terms.n201 → StayTimely ds e →
-        Agree (doing_all ds e).near (doing_all ds e).far }
-    ensures far { (ds : List StepAt) (e : Ends) → Begins e.near → Begins e.far → e.near.terms.n201 ≡ e.far.terms.n201 → StayTimely ds e →
-        Agree (doing_all ds e).far (doing_all ds e).near }
-    ensures recovered_near { (ds : List StepAt) (u : ℕ) (e : Ends) → Begins e.near → Begins e.far → IsTimed e.near.link → IsTimed e.far.link →
-        e.near.terms.n201 ≡ e.far.terms.n201 → StayTimely ds e → CanRecover (doing_all ds e).near → CanRecover (doing_all ds e).far →
-        HasMissing u (doing_all ds e).near (doing_all ds e).far → HasMissing u (doing_all ds e).far (doing_all ds e).near →
-        HasArrived (doing_all ds e).near.link.contents (rounds (u + 3) (with_t200_expired (doing_all ds e))).near (rounds (u + 3) (with_t200_expired (doing_all ds e))).far }
-    ensures recovered_far { (ds : List StepAt) (u : ℕ) (e : Ends) → Begins e.near → Begins e.far → IsTimed e.near.link → IsTimed e.far.link →
-        e.near.terms.n201 ≡ e.far.terms.n201 → StayTimely ds e → CanRecover (doing_all ds e).near → CanRecover (doing_all ds e).far →
-        HasMissing u (doing_all ds e).near (doing_all ds e).far → HasMissing u (doing_all ds e).far (doing_all ds e).near →
-        HasArrived (doing_all ds e).far.link.contents (rounds (u + 3) (with_t200_expired (doing_all ds e))).far (rounds (u + 3) (with_t200_expired (doing_all ds e))).near }
 {}

@@ -25,7 +25,5 @@ mod laws;
 mod own_busy;
 
 pub use any_order::arrives_in_any_order;
-pub use laws::{
-    busy_is_heeded, contents_arrive, links_stay_up, losses_are_recovered, stay_up_while_ahead,
-};
+pub use laws::{busy_is_heeded, contents_arrive, losses_are_recovered, stay_up_while_ahead};
 pub use own_busy::{busy_ends_are_heard, busy_ends_recover, kept_contents_arrive};

@@ -1,5 +1,5 @@
 -- What begins on a line are frames.
-use Rattle.std.specs.Prelude.{◌≡◌, ℕ, ◌==◌, ◌||◌, Bool, true, List, [], All, is_some}
+use Rattle.std.specs.Prelude.{◌≡◌, ℕ, ◌==◌, ◌||◌, true, List, [], All, is_some}
 use Rattle.model_bits.specs.StreamLaws.{HasOctets}
 use Rattle.model_bits.specs.StuffingLaws.{AreOctets}
 use Rattle.lapd_frame.specs.Grammar.{Parts}

@@ -27,7 +27,7 @@ use Rattle.model_line.specs.Sides.{managed_at}
 use Rattle.model_line.proofs.Drops.{heard_leaves}
 use Rattle.model_link.specs.Requests.{release_in}
 use Rattle.model_link.specs.Machine.{told_of_clearing}
-use Rattle.laws_trace.specs.CausesAreTold.{CausesAreTold, by_address, by_fault, by_frame, by_long, cause_due, hears_messages, serves, serves_information, unless}
+use Rattle.laws_trace.specs.CausesAreTold.{CausesAreTold, by_address, by_fault, by_frame, by_long, cause_due, serves, serves_information, unless}
 use Rattle.laws_trace.specs.Managing.{is_on, manages}
 use Rattle.laws_trace.proofs.CausesOfSide.{Serves, down-quiet, managed-quiet, named, own-quiet, serves-known}
 use Rattle.laws_trace.proofs.Known.{knows-now}
@@ -120,7 +120,7 @@ module _ (c : Config) (l : Line) (w : Managed) (states : Service → ℕ → ℕ
     is_told = is_some (service_of f.address.sapi) && is_unit_taken c f.address.tei w f
 
     abbrev its_message : Bool
-    its_message = hears_messages c f && serves_information c w f.info
+    its_message = (is_ui f.control && (manages c.side || (is_terminal c && f.address.command))) && serves_information c w f.info
 
     -- where the frame is of no unit data for the group
     module _ (alone : is_for_group c f ≡ false) where
@@ -223,7 +223,7 @@ module _ (c : Config) (l : Line) (s : IsSoundLine c l) (w : Managed) (states : S
       go true for =
           let to = group-to c f for (service_of f.address.sapi) refl in
           ap cause_in (group-read c l f octets to.0 s is to.1).answer_is
-          ∙ sym (ap (λ b. cond b None (by_address w states (serves f.control) (hears_messages c f && serves_information c w f.info) f.address)) (group-told c f w for))
+          ∙ sym (ap (λ b. cond b None (by_address w states (serves f.control) ((is_ui f.control && (manages c.side || (is_terminal c && f.address.command))) && serves_information c w f.info) f.address)) (group-told c f w for))
       go false alone = ap (λ r. named c l (aim_of_reading c l r)) is ∙ frames c l w states agree served f alone ∙ by-due c l w states agree served f alone
 
   cause-is : (e : line_event.Event) → cause_after e ≡ cause_due c w states e

@@ -14,14 +14,26 @@ use Rattle.model_bits.specs.declared.heard.Cause.{Cause}
 use Rattle.model_line.specs.Event as line_event
 use Rattle.model_line.specs.Effect.{at_a_terminal, at_terminal, of_network, of_terminal_if, told_of_terminal, unserved_cause, without_units}
 use Rattle.model_line.specs.Line.{is_terminal, terminal_in, with_terminal}
-use Rattle.laws_trace.specs.CausesAreTold.{serves_information, serves_message, unless}
+use Rattle.laws_trace.specs.CausesAreTold.{serves_information, unless}
 use Rattle.laws_trace.specs.Managing.{own_of}
 use Rattle.laws_trace.specs.ManagingTerminal as seen
-use Rattle.laws_trace.proofs.Follows.{as_seen}
+use Rattle.laws_trace.proofs.Follows.{as_seen, asked, seen_check}
 use Rattle.laws_trace.proofs.Known.{Knows}
 use Rattle.laws_trace.proofs.ManagingTables.{AreOn}
 use Rattle.laws_trace.proofs.TerminalTables.{IsOnce}
 use Rattle.laws_trace.proofs.ServedByTerminal.{own-serves, others-served, is_message as is_own_message}
+use Rattle.std.specs.Option.{option_and_then}
+use Rattle.laws_trace.proofs.Vocabulary.{message_served, responded, checks, option_map}
+
+-- What is served by its kind: the first always, the second and the third if something comes of it.
+by-kind : {X : Type 0} (f : Option X → Bool) (a b e : Option X) (first second third may : Bool) (x y : Managed) (o : Option Managed)
+    → f a ≡ false → f b ≡ not (is_some o) → f e ≡ not may → f None ≡ true
+    → f (cond first a (cond second b (cond third e None))) ≡ not (is_some (cond first (Some x) (cond second o (cond (third && may) (Some y) None))))
+by-kind f a b e true second third may x y o fa fb fe fn = fa
+by-kind f a b e false true third may x y o fa fb fe fn = fb
+by-kind f a b e false false true true x y o fa fb fe fn = fe
+by-kind f a b e false false true false x y o fa fb fe fn = fe
+by-kind f a b e false false false may x y o fa fb fe fn = fn
 
 -- What TEI management serves.
 module _ (on : List ℕ) (m : Management) (h : AreOn on m.places) where
@@ -42,27 +54,32 @@ module _ (on : List ℕ) (m : Management) (h : AreOn on m.places) where
       go true = refl
       go false = assigns ri (rows.remembered_in ri m.remembered)
 
-  responds : (tei : ℕ) (o : Option Check) → (rows.respond tei o (tei_begun m)).told.unserved ≡ not (option_map_or (λ (check : Check). check.tei == tei) o false)
+  responds : (tei : ℕ) (o : Option Check) → (rows.respond tei o (tei_begun m)).told.unserved ≡ not (is_some (option_and_then (responded tei w) (option_map seen_check o)))
   responds tei o = grind arith
 
   verifies : (tei : ℕ) → (rows.verify tei (tei_begun m)).told.unserved ≡ not (may_check tei w)
   verifies tei = rw (h.same tei) (grind arith)
 
   -- by its type
-  by-type : (type ri action : ℕ)
-      → (rows.serve (heard_of_type type ri action) (tei_begun m)).told.unserved
-      ≡ not ((type == 1 && action == 127) || (type == 5 && option_map_or (λ (check : Checked). check.tei == action) w.check false) || (type == 7 && may_check action w))
-  by-type type ri action = grind (arith, requests, responds, verifies)
+  module _ (c : Config) where
+    by-type : (type ri action : ℕ)
+        → (rows.serve (heard_of_type type ri action) (tei_begun m)).told.unserved
+        ≡ not (is_some (cond (type == 1 && action == 127) (Some (asked c ri w)) (cond (type == 5) (option_and_then (responded action w) w.check) (cond (type == 7 && may_check action w) (Some (checks action None w)) None))))
+    by-type type ri action =
+        by-kind (λ o. (rows.serve o (tei_begun m)).told.unserved) _ _ _ (type == 1 && action == 127) (type == 5) (type == 7) (may_check action w) _ _ _
+        (requests ri) (responds action m.check) (verifies action) refl
 
-  message-serves : (info : List ℕ) → (rows.serve (heard_in info) (tei_begun m)).told.unserved ≡ not (serves_message w info)
-  message-serves (a ∷ high ∷ low ∷ type ∷ last ∷ []) = go (a == 0x0F && last % 2 == 1)
-    where
-      go : (b : Bool)
-          → (rows.serve (cond b (heard_of_type type (256 * high + low) (last / 2)) None) (tei_begun m)).told.unserved
-          ≡ not (b && ((type == 1 && last / 2 == 127) || (type == 5 && option_map_or (λ (check : Checked). check.tei == last / 2) w.check false) || (type == 7 && may_check (last / 2) w)))
-      go true = by-type type (256 * high + low) (last / 2)
-      go false = refl
-  message-serves info = grind arith
+    message-serves : (info : List ℕ) → (rows.serve (heard_in info) (tei_begun m)).told.unserved ≡ not (is_some (message_served c w info))
+    message-serves (a ∷ high ∷ low ∷ type ∷ last ∷ []) = go (a == 0x0F && last % 2 == 1)
+      where
+        go : (b : Bool)
+            → (rows.serve (cond b (heard_of_type type (256 * high + low) (last / 2)) None) (tei_begun m)).told.unserved
+            ≡ not (is_some (cond (not b) None
+            (cond (type == 1 && last / 2 == 127) (Some (asked c (256 * high + low) w))
+            (cond (type == 5) (option_and_then (responded (last / 2) w) w.check) (cond (type == 7 && may_check (last / 2) w) (Some (checks (last / 2) None w)) None)))))
+        go true = by-type type (256 * high + low) (last / 2)
+        go false = refl
+    message-serves info = grind arith
 
 -- A request of management, the expiry of T201, and that the line is down, are served.
 abbrev is_message : TeiEvent → Bool
@@ -112,8 +129,23 @@ unserved-named served unserved is = grind arith
 abbrev pub Serves : Config → Line → Managed → Type 0
 Serves c l w = (info : List ℕ) → named c l (at_management (tei_message info)) ≡ unless (serves_information c w info)
 
-message-same : (w : Managed) (info : List ℕ) → serves_message (nothing_due w) info ≡ serves_message w info
-message-same w info = grind arith
+response-same : (tei : ℕ) (w : Managed) (o : Option Checked)
+    → is_some (option_and_then (responded tei (nothing_due w)) o) ≡ is_some (option_and_then (responded tei w) o)
+response-same tei w o = grind arith
+
+served-same : (well asks responds checks : Bool) (x x' y y' : Managed) (o o' : Option Managed) → is_some o ≡ is_some o'
+    → is_some (cond (not well) None (cond asks (Some x) (cond responds o (cond checks (Some y) None))))
+    ≡ is_some (cond (not well) None (cond asks (Some x') (cond responds o' (cond checks (Some y') None))))
+served-same false asks responds checks x x' y y' o o' e = refl
+served-same true true responds checks x x' y y' o o' e = refl
+served-same true false true checks x x' y y' o o' e = e
+served-same true false false true x x' y y' o o' e = refl
+served-same true false false false x x' y y' o o' e = refl
+
+message-same : (c : Config) (w : Managed) (info : List ℕ) → is_some (message_served c (nothing_due w) info) ≡ is_some (message_served c w info)
+message-same c w (a ∷ high ∷ low ∷ type ∷ last ∷ []) =
+    served-same (a == 0x0F && last % 2 == 1) (type == 1 && last / 2 == 127) (type == 5) (type == 7 && may_check (last / 2) w) _ _ _ _ _ _ (response-same (last / 2) w w.check)
+message-same c w info = grind arith
 
 pub serves-known : (c : Config) (l : Line) (w : Managed) → IsSoundLine c l → Knows c w l → Serves c l w
 unfolding tei_course tei_refusal
@@ -125,11 +157,11 @@ serves-known c l w s knows info =
 
     go : (b : Bool) → is_terminal c ≡ b
         → cond b (terminal_told (terminals.message info) (terminal_in l)).unserved (tei_told (tei_message info) l.management).unserved
-        ≡ not (cond b (is_some (seen.by_message info (own_of c w))) (serves_message w info))
+        ≡ not (cond b (is_some (seen.by_message info (own_of c w))) (is_some (message_served c w info)))
     go true is = own-serves (terminal_in l) once info ∙ ap (λ t. not (is_some (seen.by_message info t))) (sym (knows.terminal is))
     go false net =
-        message-serves w.on l.management knows.on info
-        ∙ ap not (ap (λ (u : Managed). serves_message u info) (sym (knows.network net)) ∙ message-same w info)
+        message-serves w.on l.management knows.on c info
+        ∙ ap not (ap (λ (u : Managed). is_some (message_served c u info)) (sym (knows.network net)) ∙ message-same c w info)
 
 -- What management asks for, and an expiry, name none.
 module _ (c : Config) (l : Line) where

@@ -84,8 +84,8 @@ module _ (w : Managed) (there : (r : Remembered) → IsIn r w.held → is_on r.t
     still = λ r is. is-still r (in-either r w.held (new ∷ []) (in-dropped (length w.held - 3) r (w.held ++ new ∷ []) is));
     known = λ r is was. is-known r was (in-either r w.held (new ∷ []) (in-dropped (length w.held - 3) r (w.held ++ new ∷ []) is));
     alone = λ r s is other off away.
-    sym (is-new r off (in-either r w.held (new ∷ []) (in-dropped (length w.held - 3) r (w.held ++ new ∷ []) is)))
-    ∙ is-new s away (in-either s w.held (new ∷ []) (in-dropped (length w.held - 3) s (w.held ++ new ∷ []) other));
+        sym (is-new r off (in-either r w.held (new ∷ []) (in-dropped (length w.held - 3) r (w.held ++ new ∷ []) is)))
+        ∙ is-new s away (in-either s w.held (new ∷ []) (in-dropped (length w.held - 3) s (w.held ++ new ∷ []) other));
   }
     where
       new : Remembered
@@ -147,11 +147,11 @@ module _ (w : Managed) (there : (r : Remembered) → IsIn r w.held → is_on r.t
   leaves-table : (tei : ℕ) (u : Managed) → u.on ≡ filter (λ on. not (on == tei)) w.on → u.held ≡ filter (λ (r : Remembered). not (r.tei == tei)) w.held → Table w u
   leaves-table tei u on held = record {
     still = λ r is.
-    let was = in-filtered (λ (r : Remembered). not (r.tei == tei)) r w.held (subst (IsIn r) held is) in
-    ap (λ on. list_any (λ x. x == r.tei) on) on ∙ other-on tei r.tei was.1 (there r was.0);
+        let was = in-filtered (λ (r : Remembered). not (r.tei == tei)) r w.held (subst (IsIn r) held is) in
+        ap (λ on. list_any (λ x. x == r.tei) on) on ∙ other-on tei r.tei was.1 (there r was.0);
     known = λ r is was. (in-filtered (λ (r : Remembered). not (r.tei == tei)) r w.held (subst (IsIn r) held is)).0;
     alone = λ r s is other off away.
-    absurd (true≢false (sym (there r (in-filtered (λ (r : Remembered). not (r.tei == tei)) r w.held (subst (IsIn r) held is)).0) ∙ off));
+        absurd (true≢false (sym (there r (in-filtered (λ (r : Remembered). not (r.tei == tei)) r w.held (subst (IsIn r) held is)).0) ∙ off));
   }
 
   leaves-owed : (tei : ℕ) → (leaves tei w).owed ≡ w.owed

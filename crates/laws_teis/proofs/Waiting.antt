@@ -73,9 +73,9 @@ module _ (b : Bus) where
     made-covered k held holds is_made [] after made = tt
     made-covered k held holds is_made (m ∷ ms) after made = (
       λ r is.
-      let so = assigned-so r m (sym (ap (is_assigned r) (message-read b can m)) ∙ is) in
-      let there : IsIn r held = subst (IsMade held) so made.0 in
-      record { made = is_made r (holds r there); covered = inl (holds r there) },
+          let so = assigned-so r m (sym (ap (is_assigned r) (message-read b can m)) ∙ is) in
+          let there : IsIn r held = subst (IsMade held) so made.0 in
+          record { made = is_made r (holds r there); covered = inl (holds r there) },
       made-covered k held holds is_made ms after made.1,
     )
 

@@ -120,14 +120,11 @@ both_have_it = refl
 abbrev second : Remembered
 second = record { ri = 0x4321; tei = 64 }
 
-abbrev reassigned : List Step → List Step
-reassigned then_ = network (on_0 (Remove 64)) ∷ sends ∷ request_comes 0x43 0x21 ∷ sends ∷ then_
-
 abbrev of_first : List Step
-of_first = assigned ++ reassigned (loses ∷ loses ∷ [])
+of_first = assigned ++ network (on_0 (Remove 64)) ∷ sends ∷ loses ∷ request_comes 0x43 0x21 ∷ sends ∷ loses ∷ []
 
 abbrev of_second : List Step
-of_second = request_comes 0x12 0x34 ∷ sends ∷ reassigned (asks ∷ receives ∷ receives ∷ receives ∷ [])
+of_second = request_comes 0x12 0x34 ∷ sends ∷ network (on_0 (Remove 64)) ∷ sends ∷ request_comes 0x43 0x21 ∷ sends ∷ asks ∷ receives ∷ receives ∷ receives ∷ []
 
 one_network : (known_after of_first).at_network ≡ (past_of (bus 0x4321) of_second).at_network
 unfolding moments after_all lines.after lines.answer lines.takes_slot teis.course teis.refusal terminals.course exchanged read_by reading header_of control_of unnumbered_of

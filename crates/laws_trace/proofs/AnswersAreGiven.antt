@@ -10,7 +10,7 @@ use Rattle.laws_line.specs.card.Among.{AreAmong}
 unfoldable use Rattle.laws_line.specs.card.PromisesOfTakes.{StaysAt, come_first_at}
 use Rattle.laws_line.specs.card.PromisesOfTakes.{IsNotDeactivated, is_deactivated_at}
 use Rattle.laws_trace.specs.NoLossInVain.{puts_by}
-use Rattle.laws_trace.specs.AnswersAreGiven.{texts, priority_waiting, sent_during, QueueIsSent, AnswersAreSent}
+use Rattle.laws_trace.specs.AnswersAreGiven.{texts, priority_waiting, QueueIsSent, AnswersAreSent}
 unfoldable use Rattle.laws_trace.specs.AnswersAreGiven.{Stays, priority_added}
 use Rattle.laws_line.specs.Among as at_line
 use Rattle.laws_trace.proofs.Addressed.{at-some-place}
@@ -184,7 +184,7 @@ module _ (c : Config) (number : ℕ) (ranged : IsInRange c) (within : number < c
           (subst (λ (d : Config). All (λ (e : Event). e.line < d.lines) behind) (sym (config-stays (fresh c) before)) (all-right (IsAtLine (fresh c)) before behind all))
           [] behind refl number link tei few some link-stays link-up less
 
-      pub given-in-order : most_frames_before c + priority_added c number before behind < takes_of number behind → AreAmong (texts c service tei (outgoing_of c service tei number before).waiting) (sent_during c number before behind)
+      pub given-in-order : most_frames_before c + priority_added c number before behind < takes_of number behind → AreAmong (texts c service tei (outgoing_of c service tei number before).waiting) (frames_given number (moments (after_all (fresh c) before) behind))
       unfolding AreTaken
       given-in-order enough =
           let so : AreTaken c = subst AreTaken (config-stays (fresh c) before) taken in

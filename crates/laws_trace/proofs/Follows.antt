@@ -1,12 +1,19 @@
 -- What the observer of a line knows of its TEIs is what TEI management has, and what is due by an event is what that tells.
 use Rattle.laws_trace.proofs.Vocabulary.{◌≡◌, ℕ, ◌+◌, ◌*◌, ◌/◌, ◌%◌, ◌==◌, ◌&&◌, Bool, true, false, cond, not, List, [], ◌∷◌, length, drop, ◌++◌, length-append, Option, Some, None, IfSome, option_map, option_map_or, refl, sym, ap, ◌∙◌, subst, arith, eq-eqb, filter, is_some, nat_lt, find, range_with_len, leb-true, leb-false, Management, Remembered, Period, First, Second, Message}
 use Rattle.laws_trace.proofs.Vocabulary.{IdentityAssigned}
-use Rattle.laws_trace.proofs.Vocabulary.{IdentityDenied, IdentityRemove, heard_of_type, heard_in, IsSoundCheck, free_place, free_tei-is, Config, eqb-true, ltb-true, ltb-false, Removed, Doubled, Check, TeiCourse as Course, tei_begun as begun, by_message, Checked, Managed, nothing_due, owes, gives, asked, leaves, over, checks, may_check, responded, ran_out, managing_is_on as is_on, is_of_teis}
+use Rattle.laws_trace.proofs.Vocabulary.{IdentityDenied, IdentityRemove, heard_of_type, heard_in, IsSoundCheck, free_place, free_tei-is, Config, eqb-true, ltb-true, ltb-false, Removed, Doubled, Check, TeiCourse as Course, tei_begun as begun, Checked, Managed, nothing_due, owes, gives, leaves, over, checks, may_check, responded, ran_out, managing_is_on as is_on, is_of_teis}
 use Rattle.laws_trace.proofs.Vocabulary.{is_of_line, begin_check, end_check, leave, lose_one, no_room, send, unserved, tei_with_message as with_message, false_from_ne_true}
 use Rattle.lapd_tei.specs.Rows as rows
 use Rattle.lapd_tei.specs.Sound.{IsSound}
 use Rattle.lapd_tei.specs.Table as table
+use Rattle.laws_trace.specs.Managing.{free_tei}
+use Rattle.laws_trace.proofs.ManagingNotes.{by_message}
 use Rattle.laws_trace.proofs.ManagingTables.{AreOn, free-fewer, none-free, comes-on, leaves-on}
+use Rattle.std.specs.Option.{option_and_then, unwrap_or}
+
+-- A terminal asks for a TEI.
+abbrev pub asked : Config → ℕ → Managed → Managed
+asked c ri w = gives ri (find (λ (r : Remembered). r.ri == ri) w.held) (free_tei c w) w
 
 -- A check, as it is seen.
 abbrev pub is_second : Period → Bool
@@ -90,7 +97,7 @@ module _ (on : List ℕ) (m : Management) (h : AreOn on m.places) (order : IfSom
         subst (λ b. Leads (record (owes (IdentityRemove tei) (left b tei)) { notes = Doubled tei ∷ [] }) (rows.doubled tei (begun m))) (sym (own-check tei check is own))
         (record { notes = refl; orders = refl; lost = refl; begins = refl; granted = refl; follows = record { is = refl; on = leaves-on on m.places h tei s.table; order = tt } })
 
-    responds-so : Leads (responded tei w (seen_check check)) (rows.respond tei (Some check) (begun m))
+    responds-so : Leads (unwrap_or (responded tei w (seen_check check)) w) (rows.respond tei (Some check) (begun m))
     responds-so = grind (arith, there, eqb-true, leb-true, leb-false, eq-eqb, doubles, none-due)
 
   -- T201 runs out.
@@ -194,17 +201,20 @@ module _ (on : List ℕ) (m : Management) (h : AreOn on m.places) (order : IfSom
     otherwise : {X Y : Type 0} (P : X → Y → Type 0) (b : Bool) (u v : X) (x y : Y) → P u x → P v y → P (cond (not b) v u) (cond b x y)
     otherwise P b u v x y h k = grind arith
 
-    verifies : (action : ℕ) (b : Bool) → Leads (cond (b && may_check action w) (checks action None w) w) (rows.serve (cond b (heard_of_type 7 0 action) None) (begun m))
+    verifies : (action : ℕ) (b : Bool) → Leads (unwrap_or (cond (b && may_check action w) (Some (checks action None w)) None) w) (rows.serve (cond b (heard_of_type 7 0 action) None) (begun m))
     verifies action b = grind (arith, is_some, begins-check, none-due)
 
     by-type-leads : (type ri action : ℕ)
-        → Leads (cond (type == 1 && action == 127) (asked c ri w) (cond (type == 5) (option_map_or (responded action w) w.check w) (cond (type == 7 && may_check action w) (checks action None w) w)))
+        → Leads
+        (unwrap_or
+        (cond (type == 1 && action == 127) (Some (asked c ri w)) (cond (type == 5) (option_and_then (responded action w) w.check) (cond (type == 7 && may_check action w) (Some (checks action None w)) None)))
+        w)
         (rows.serve (heard_of_type type ri action) (begun m))
     by-type-leads type ri action =
-        by-both (λ d o. Leads d (rows.serve o (begun m))) (type == 1 && action == 127) _ _ _ _ (request-leads c places ri)
-        (by-both (λ d o. Leads d (rows.serve o (begun m))) (type == 5) _ _ _ _ (grind (arith, option_map, none-due, responds-so)) (verifies action (type == 7)))
+        by-both (λ d o. Leads (unwrap_or d w) (rows.serve o (begun m))) (type == 1 && action == 127) _ _ _ _ (request-leads c places ri)
+        (by-both (λ d o. Leads (unwrap_or d w) (rows.serve o (begun m))) (type == 5) _ _ _ _ (grind (arith, option_map, none-due, responds-so)) (verifies action (type == 7)))
 
     pub serve-leads : (info : List ℕ) → Leads (by_message c w info) (rows.serve (heard_in info) (begun m))
     serve-leads (a ∷ high ∷ low ∷ type ∷ last ∷ []) =
-        otherwise (λ d o. Leads d (rows.serve o (begun m))) (a == 0x0F && last % 2 == 1) _ _ _ _ (by-type-leads type (256 * high + low) (last / 2)) none-due
+        otherwise (λ d o. Leads (unwrap_or d w) (rows.serve o (begun m))) (a == 0x0F && last % 2 == 1) _ _ _ _ (by-type-leads type (256 * high + low) (last / 2)) none-due
     serve-leads info = grind (arith, none-due)

@@ -1,7 +1,7 @@
 -- What is due of TEI management by one event of a line of the network's side, or of a trunk's end, is what its answer shows, and
 -- the observer follows it.
 use Rattle.laws_trace.proofs.Vocabulary.{◌≡◌, ℕ, true, false, cond, List, [], ◌∷◌, ◌++◌, map, take, drop, filter, Option, Some, None, IfSome, refl, sym, ap, ◌∙◌, subst, append-nil, true≢false, inl, inr, option_map_or, filter-append, Timer, Management, Message, Config, Aim, at_management, of_aim, hears, expiry, next, Line}
-use Rattle.laws_trace.proofs.Vocabulary.{aim_of_heard, Taken, taken, line_of, heard_aims, IsOwed, IsIdle, contents_of_link, served, TimerT200 as T200, TimerT203 as T203, T201, message_frame as frame_of, information_of, Event, told, line_after as after, answer, IsSound, Managed, by_message, managing_by_event as by_event, is_of_teis, received, StreamEvent, tei_message, TeiEvent}
+use Rattle.laws_trace.proofs.Vocabulary.{aim_of_heard, Taken, taken, line_of, heard_aims, IsOwed, IsIdle, contents_of_link, served, TimerT200 as T200, TimerT203 as T203, T201, message_frame as frame_of, information_of, Event, told, line_after as after, answer, IsSound, Managed, managing_by_event as by_event, is_of_teis, received, StreamEvent, tei_message, TeiEvent}
 use Rattle.laws_trace.proofs.Vocabulary.{tei_refusal, tei_course, tei_told, tei_after, told_of_management}
 use Rattle.lapd_frame.specs.declared.timers.Timer.TheVariants.{T202}
 use Rattle.lapd_tei.specs.declared.messages.Message.TheVariants.{IdentityAssigned, IdentityDenied, IdentityCheckRequest, IdentityRemove}
@@ -18,7 +18,7 @@ use Rattle.laws_trace.specs.Managing.{octets_of}
 use Rattle.laws_trace.specs.TeisAreManaged.{message_text}
 use Rattle.laws_trace.proofs.Follows.{Follows, Leads, InOrder, as_seen, serve-leads, expire-leads}
 use Rattle.laws_trace.proofs.ManagingTables.{AreOn}
-use Rattle.laws_trace.proofs.ManagingNotes.{none-of-teis, Cases, is_management, message_in, message-is-read, heard-cases, Behind, behind}
+use Rattle.laws_trace.proofs.ManagingNotes.{by_message, none-of-teis, Cases, is_management, message_in, message-is-read, heard-cases, Behind, behind}
 use Rattle.laws_trace.proofs.ReadAgain.{message-text}
 use Rattle.laws_trace.proofs.Tracked.{OfSide, Tracks, Shows, IsQuiet, IsUnmanaged, none-granted, none-aims, link-aims, unmanaged-shows, timer-shows, is_managed, managed_of, one-or-none, first-goes, message-is, unit-is, link-is, next-shows}
 

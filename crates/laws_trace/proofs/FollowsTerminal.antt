@@ -46,7 +46,10 @@ verified-is tei x = ap (λ b. cond b (seen.over (shown x)) (shown x)) (verified-
     go true = over-is x
     go false = refl
 
-without-is : (tei : ℕ) (x : Course) → IsOnce tei x.now.places → seen.without tei (shown x) ≡ shown (words.leave tei x)
+abbrev without : ℕ → OfTerminal → OfTerminal
+without tei t = record t { places = seen.without_tei tei t.places; owed = filter (λ message. not (seen.is_response_for tei message)) t.owed }
+
+without-is : (tei : ℕ) (x : Course) → IsOnce tei x.now.places → without tei (shown x) ≡ shown (words.leave tei x)
 without-is tei x once =
     ap (λ places. record (shown x) { places = places; owed = filter (λ message. not (seen.is_response_for tei message)) x.now.waiting }) (leaves-same tei x.now.places once)
     ∙ ap (λ owed. record (shown (words.leave tei x)) { owed = owed })
@@ -60,7 +63,7 @@ ended-once tei x once = go (words.is_verified tei x.now.procedure)
     go false = once
 
 pub leaves-is : (tei : ℕ) (x : Course) → IsOnce tei x.now.places → seen.leaves tei (shown x) ≡ shown (rows.take_off tei x)
-leaves-is tei x once = ap (seen.without tei) (verified-is tei x) ∙ without-is tei (end_verifying_of tei x) (ended-once tei x once)
+leaves-is tei x once = ap (without tei) (verified-is tei x) ∙ without-is tei (end_verifying_of tei x) (ended-once tei x once)
 
 removed-is : (tei : ℕ) (x : Course) → IsOnce tei x.now.places → seen.removed tei (shown x) ≡ shown (rows.removed tei x)
 removed-is tei x once = ap (λ (k : OfTerminal). record k { notes = notes.Removed tei ∷ [] }) (leaves-is tei x once)
@@ -155,7 +158,7 @@ module _ (t : Terminal) (once : (tei : ℕ) → IsOnce tei t.places) where
   own-if tei false = refl
   own-if tei true = takes-if tei (rows.is_assignable tei t.places) (free_place t.places) refl
 
-  may-come : (tei : ℕ) → seen.may_come tei k ≡ (rows.is_assignable tei t.places && is_some (free_place t.places))
+  may-come : (tei : ℕ) → (nat_le 64 tei && nat_le tei 126 && not (seen.is_on tei k) && list_any seen.is_free k.places) ≡ (rows.is_assignable tei t.places && is_some (free_place t.places))
   may-come tei =
       ap (λ b. nat_le 64 tei && nat_le tei 126 && not b && list_any seen.is_free t.places) (on-same tei t.places)
       ∙ ap (λ b. nat_le 64 tei && nat_le tei 126 && not (table.is_on tei t.places) && b) (free-same t.places)

@@ -1,8 +1,8 @@
 -- Which aims of a line are none of TEI management, and that what a line tells behind what TEI management tells changes nothing.
 use Rattle.laws_trace.proofs.Vocabulary.{arith, ◌≡◌, ℕ, ◌&&◌, Bool, true, false, cond, List, [], ◌∷◌, ◌++◌, Option, Some, None, refl, sym, ap, ◌∙◌, append-nil, append_assoc, option_map_or, ◌⊎◌, All, filter, Result, Ok, All-nil, All-cons, All-head, All-tail, All-append, filter-append, ReadFault, Note, Call, Packet, Parts, Change, Left, Link, Terms, notes-own, Config, Aim}
-use Rattle.laws_trace.proofs.Vocabulary.{at_management, of_change, Line, link_in, terms, aim_of_reading, aim_of_heard, manages, line_of_link as of_link, result_ok, frame_of, Managed, by_message, is_of_teis, is_of_line, link_told as told, LinkEvent, cleared, StreamEvent, tei_message}
+use Rattle.laws_trace.proofs.Vocabulary.{at_management, of_change, Line, link_in, terms, aim_of_reading, aim_of_heard, manages, line_of_link as of_link, result_ok, frame_of, Managed, message_served, is_of_teis, is_of_line, link_told as told, LinkEvent, cleared, StreamEvent, tei_message}
 use Rattle.model_link.proofs.OwnNotes.{IsOwn}
-use Rattle.std.specs.Option.{option_and_then}
+use Rattle.std.specs.Option.{option_and_then, unwrap_or}
 use Rattle.laws_trace.specs.ManagingTerminal as seen
 use Rattle.laws_trace.specs.ManagingTerminal.{OfTerminal, is_message}
 use Rattle.laws_trace.proofs.Vocabulary.{LineTold}
@@ -75,6 +75,10 @@ message_by c (Some f) = cond (heeds c f) (Some f.info) None
 
 abbrev pub message_in : Config → StreamEvent → Option (List ℕ)
 message_in c e = message_by c (frame_of c e)
+
+-- What an observer knows after a message of a terminal.
+abbrev pub by_message : Config → Managed → List ℕ → Managed
+by_message c w info = unwrap_or (message_served c w info) w
 
 pub message-is-read : (c : Config) (w : Managed) (e : StreamEvent) → is_terminal c ≡ false → option_map_or (by_frame c w) (frame_of c e) w ≡ option_map_or (by_message c w) (message_in c e) w
 message-is-read c w e net = go (frame_of c e)

@@ -1,5 +1,5 @@
 -- What is seen of the control frames of a link in a moment, by what the observer knows.
-use Rattle.laws_trace.proofs.Vocabulary.{arith, ◌≡◌, ℕ, Bool, true, false, cond, refl, managing_by_event, List, [], Option, Some, None, ap, ◌∙◌, option_map_or, none-some, Service, Parts, ControlFrame, Config, hears, request, Answer, is_granted, eqb-true, Request, frame_of, its_frame, Managed, due, by_message, nothing_due, Observed, by_event, observer_by_request as by_request, is_up}
+use Rattle.laws_trace.proofs.Vocabulary.{arith, ◌≡◌, ℕ, Bool, true, false, cond, refl, managing_by_event, List, [], Option, Some, None, ap, ◌∙◌, option_map_or, none-some, Service, Parts, ControlFrame, Config, hears, request, Answer, is_granted, eqb-true, Request, frame_of, its_frame, Managed, due, nothing_due, Observed, by_event, observer_by_request as by_request, is_up}
 use Rattle.laws_trace.proofs.Vocabulary.{seen, and-false, cond_both, StreamEvent}
 use Rattle.laws_trace.proofs.DeliveriesWatched.{busy_asked}
 use Rattle.std.specs.Option.{option_and_then}
@@ -7,7 +7,7 @@ use Rattle.model_line.specs.Line.{is_terminal}
 use Rattle.laws_trace.specs.Managing.{at_terminal, of_terminal, own_of}
 use Rattle.laws_trace.specs.ManagingTerminal as seen
 use Rattle.laws_trace.specs.ManagingTerminal.{OfTerminal}
-use Rattle.laws_trace.proofs.ManagingNotes.{message_by, message_in, message-is-read, message-is-read-there}
+use Rattle.laws_trace.proofs.ManagingNotes.{by_message, message_by, message_in, message-is-read, message-is-read-there}
 use Rattle.laws_trace.proofs.ObservedControls.{stays-down}
 use Rattle.laws_trace.proofs.Standing.{standing}
 use Rattle.laws_trace.proofs.StandingOfLink.{calm}

@@ -39,15 +39,12 @@ Stays c line service tei past [] = is_on tei (managed_after c line past) ≡ tru
 Stays c line service tei past (e ∷ later) =
     (is_on tei (managed_after c line past) ≡ true) × ((e.line == line && deactivates service tei e.what) ≡ false) × Stays c line service tei (past ++ e ∷ []) later
 
--- The control frames that wait on a link, oldest first, to an observer; their octets; and the frames that begin during `later`.
+-- The control frames that wait on a link, oldest first, to an observer; and their octets.
 abbrev pub queue : Config → ℕ → Service → ℕ → List Event → List ControlFrame
 queue c line service tei past = (outgoing_of c service tei line past).waiting
 
 abbrev pub texts : Config → Service → ℕ → List ControlFrame → List (List ℕ)
 texts c service tei fs = map (λ (f : ControlFrame). text c service tei f.command f.control []) fs
-
-abbrev pub sent_during : Config → ℕ → List Event → List Event → List (List ℕ)
-sent_during c line past later = frames_given line (moments (after_all (fresh c) past) later)
 
 -- What an event makes due joins the end of the queue, if its answer tells no frame as lost, whatever the card.
 pub record JoinsQueue (c : Config) (line : ℕ) (service : Service) (tei : ℕ) (past : List Event) (event : line_event.Event) : Type 0 where
@@ -69,4 +66,4 @@ QueueIsSent c events line =
     events ≡ past ++ later →
     Stays c line service tei past later →
     most_frames_before c + priority_added c line past later < takes_of line later →
-    AreAmong (texts c service tei (queue c line service tei past)) (sent_during c line past later)
+    AreAmong (texts c service tei (outgoing_of c service tei line past).waiting) (frames_given line (moments (after_all (fresh c) past) later))

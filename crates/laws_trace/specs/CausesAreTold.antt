@@ -1,5 +1,5 @@
 -- Why what is heard is dropped: the causes that answers name.
-use Rattle.std.specs.Prelude.{◌≡◌, ℕ, ◌/◌, ◌%◌, ◌==◌, ◌&&◌, ◌||◌, Bool, true, false, List, [], ◌∷◌, Option, Some, None, is_some, IfSome, Result, Ok, Err, if◌then◌else◌}
+use Rattle.std.specs.Prelude.{◌≡◌, ℕ, ◌==◌, ◌&&◌, ◌||◌, Bool, true, false, List, Option, Some, None, is_some, IfSome, Result, Ok, Err, if◌then◌else◌}
 use Rattle.std.specs.Option.{option_map_or}
 use Rattle.model_bits.specs.Stream as stream
 use Rattle.model_bits.specs.declared.heard.Cause.{Cause}
@@ -23,8 +23,8 @@ use Rattle.model_line.specs.Heard.{heard_side}
 use Rattle.model_line.specs.Line.{is_terminal}
 use Rattle.model_card.specs.Event.{Event}
 use Rattle.laws_trace.specs.Deliveries.{is_unit_taken}
-use Rattle.laws_trace.specs.Managing.{Checked, Managed, is_on, may_check, managed_after, manages, own_of}
-use Rattle.laws_trace.specs.ManagingTerminal.{by_message}
+use Rattle.laws_trace.specs.Managing.{Managed, by_message, is_on, managed_after, manages, own_of}
+use Rattle.laws_trace.specs.ManagingTerminal as terminal
 use Rattle.laws_trace.specs.Observer.{view_of, moment_of}
 use Rattle.laws_trace.specs.Trace.{is_up}
 use Rattle.laws_trace.specs.Units.{is_ui}
@@ -40,22 +40,10 @@ serves (Ui p) state = false
 serves (Dm f) state = is_up state || (f && (state == 5 || state == 6))
 serves other state = is_up state
 
--- TEI management of the network's side serves three messages of a terminal (clause 5.3.1, table 8), as `by_message` has them: it asks
--- for any TEI; it answers a check of its TEI, while that runs; and it asks for a check of a TEI that may be checked (profile).
-abbrev pub serves_message : Managed → List ℕ → Bool
-serves_message w (entity ∷ high ∷ low ∷ type ∷ last ∷ []) =
-    (entity == 0x0F && last % 2 == 1)
-    && ((type == 1 && last / 2 == 127) || (type == 5 && option_map_or (λ (check : Checked). check.tei == last / 2) w.check false) || (type == 7 && may_check (last / 2) w))
-serves_message w other = false
-
--- Of a terminal it serves the messages of the network by which something comes to happen to it (`by_message` of a terminal), and no
--- others (profile).
+-- TEI management serves the messages by which something comes to happen to it (`by_message`), and no others: on the network's side
+-- those of a terminal, and at a terminal those of the network (clause 5.3.1, table 8, and profile).
 abbrev pub serves_information : Config → Managed → List ℕ → Bool
-serves_information c w info = if is_terminal c then is_some (by_message info (own_of c w)) else serves_message w info
-
--- They come in UI frames, and at a terminal in commands. A trunk's end serves none (clause 5.3.1 and profile).
-abbrev pub hears_messages : Config → Parts → Bool
-hears_messages c f = is_ui f.control && (manages c.side || (is_terminal c && f.address.command))
+serves_information c w info = if is_terminal c then is_some (terminal.by_message info (own_of c w)) else is_some (by_message c w info)
 
 -- A frame is by its address for TEI management, which has SAPI 63 and the TEI of the group; or for the link of a service with a
 -- TEI on the line, in its state; or for none, by its SAPI, and else by its TEI (clauses 2.9, 3.3.3, 3.3.4 and 5.3.1).
@@ -68,7 +56,8 @@ by_address w states served is_message a =
     else option_map_or (λ service. if is_on a.tei w then unless (served (states service a.tei)) else Some Tei) (service_of a.sapi) (Some Sapi)
 
 -- One that the grammar does not have is served in states 7 and 8 (clauses 2.9, 3.3.1 and 5.8.5). So is an I-frame that was too long
--- to keep; such a UI, and such an XID, is not (profile).
+-- to keep; such a UI, and such an XID, is not (profile). Messages of TEI management come in UI frames, and at a terminal in commands. A
+-- trunk's end serves none (clause 5.3.1 and profile).
 abbrev pub by_fault : (Address → Option Cause) → ReadFault → Option Cause
 by_fault malformed BadExtension = Some Extension
 by_fault malformed (Undefined a) = malformed a
@@ -78,7 +67,7 @@ by_fault malformed Short = Some Unserved
 abbrev pub by_frame : Config → Managed → (Service → ℕ → ℕ) → Result Parts ReadFault → Option Cause
 by_frame c w states (Ok f) =
     if is_some (service_of f.address.sapi) && is_unit_taken c f.address.tei w f then None
-    else by_address w states (serves f.control) (hears_messages c f && serves_information c w f.info) f.address
+    else by_address w states (serves f.control) ((is_ui f.control && (manages c.side || (is_terminal c && f.address.command))) && serves_information c w f.info) f.address
 by_frame c w states (Err fault) = by_fault (by_address w states is_up false) fault
 
 abbrev pub by_long : Managed → (Service → ℕ → ℕ) → Result Long ReadFault → Option Cause

@@ -35,19 +35,12 @@ is_unit_for c tei w f = is_ui f.control && (is_on tei w || (not (manages c.side)
 abbrev pub is_unit_taken : Config → ℕ → Managed → Parts → Bool
 is_unit_taken c tei w f = is_unit_for c tei w f && nat_le (length f.info) c.n201
 
--- What the answer tells layer 3 of this link: data; unit data.
-abbrev pub tells_data : Service → ℕ → Answer → Bool
-tells_data service tei a = list_any (is_data_of service tei) (notes_of a)
-
-abbrev pub tells_unit_data : Service → ℕ → Answer → Bool
-tells_unit_data service tei a = list_any (is_unit_of service tei) (notes_of a)
-
 -- By the frame that came for this link, if one came, exactly what is due is told: data by an I-frame that the link takes, unit
 -- data by a UI. What is told are the contents of that frame, and they are told once.
 pub record TellsWhatIsDue (c : Config) (service : Service) (tei : ℕ) (was : View) (frame : Option Parts) (a : Answer) : Type 0 where
-  pub data_told : tells_data service tei a ≡ option_map_or (is_taken c was.link) frame false
-  pub unit_told : tells_unit_data service tei a ≡ option_map_or (is_unit_taken c tei was.teis) frame false
-  pub contents : (tells_data service tei a || tells_unit_data service tei a) ≡ true → contents_in a ≡ option_map (λ (f : Parts). f.info) frame
+  pub data_told : list_any (is_data_of service tei) (notes_of a) ≡ option_map_or (is_taken c was.link) frame false
+  pub unit_told : list_any (is_unit_of service tei) (notes_of a) ≡ option_map_or (is_unit_taken c tei was.teis) frame false
+  pub contents : (list_any (is_data_of service tei) (notes_of a) || list_any (is_unit_of service tei) (notes_of a)) ≡ true → contents_in a ≡ option_map (λ (f : Parts). f.info) frame
   pub once : count_by tells_contents (notes_of a) ≡ length (option_to_list (contents_in a))
 
 -- At every event of the line, for every link, by what an observer knew before.

@@ -1,5 +1,5 @@
 -- What begins on a line are frames.
-use Rattle.std.specs.Prelude.{◌≡◌, ℕ, ◌==◌, ◌||◌, Bool, true, List, [], All, is_some}
+use Rattle.std.specs.Prelude.{◌≡◌, ℕ, ◌==◌, ◌||◌, true, List, [], All, is_some}
 use Rattle.model_bits.specs.StreamLaws.{HasOctets}
 use Rattle.model_bits.specs.StuffingLaws.{AreOctets}
 use Rattle.lapd_frame.specs.Grammar.{Parts}
@@ -17,11 +17,8 @@ use Rattle.laws_trace.specs.Trace.{Seen, heard, granted, trace_of, frames_begun}
 
 -- Each is one that the grammar has, as that of the card's side, of a service or of TEI management (Q.921 clauses 2, 3
 -- and 3.3.3).
-abbrev pub is_of_use : ℕ → Bool
-is_of_use sapi = sapi == 63 || is_some (service_of sapi)
-
 abbrev pub IsSpelled : Config → List ℕ → Type 0
-IsSpelled c octets = (parts : Parts) × Spells (own_side c) parts octets × (is_of_use parts.address.sapi ≡ true)
+IsSpelled c octets = (parts : Parts) × Spells (own_side c) parts octets × ((parts.address.sapi == 63 || is_some (service_of parts.address.sapi)) ≡ true)
 
 abbrev pub FramesAreRead : Config → List Event → ℕ → Type 0
 FramesAreRead c events number = All (IsSpelled c) (frames_given number (moments (fresh c) events))

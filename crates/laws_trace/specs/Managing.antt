@@ -2,7 +2,7 @@
 -- terminals say, what management asks for, and T201. Of a terminal's line it is what `OfTerminal` says.
 use Rattle.std.specs.Prelude.{ℕ, ◌==◌, ◌&&◌, ◌||◌, not, nat_lt, nat_le, Bool, true, false, List, [], ◌∷◌, ◌++◌, ◌+◌, ◌-◌, ◌*◌, ◌/◌, ◌%◌, length, map, take, drop, filter, fold, Option, Some, None, is_some, if◌then◌else◌}
 use Rattle.std.specs.List.{list_any, find, range_with_len}
-use Rattle.std.specs.Option.{option_map_or, unwrap_or}
+use Rattle.std.specs.Option.{option_and_then, option_map_or, unwrap_or}
 use Rattle.lapd_frame.specs.declared.addresses.Side.{Side}
 use Rattle.lapd_frame.specs.declared.addresses.Side.TheVariants.{Network, User}
 use Rattle.lapd_frame.specs.declared.notes.Note.{Note}
@@ -78,9 +78,6 @@ gives ri None (Some tei) w =
     owes (IdentityAssigned ri tei) (record w { on = tei ∷ w.on; held = drop (length w.held - 3) (w.held ++ record { ri = ri; tei = tei } ∷ []); notes = Assigned tei ∷ [] })
 gives ri None None w = owes (IdentityDenied ri) w
 
-abbrev pub asked : Config → ℕ → Managed → Managed
-asked c ri w = gives ri (find (λ (r : Remembered). r.ri == ri) w.held) (free_tei c w) w
-
 -- The terminals with a TEI are asked whether they are there, and T201 runs (clause 5.3.3.2): where management asks for it, or
 -- a terminal, of a TEI on the line, while no check runs (clauses 5.3.3 and 5.3.5); and once more.
 abbrev pub may_check : ℕ → Managed → Bool
@@ -100,11 +97,11 @@ leaves tei w =
     { on = filter (λ on. not (on == tei)) w.on; held = filter (λ (r : Remembered). not (r.tei == tei)) w.held }
 
 -- A second answer says that two terminals have the TEI, which is removed (clauses 5.3.3.2 and 5.3.4).
-abbrev pub responded : ℕ → Managed → Checked → Managed
+abbrev pub responded : ℕ → Managed → Checked → Option Managed
 responded tei w check =
-    if not (check.tei == tei) then w
-    else if check.answered then record (owes (IdentityRemove tei) (leaves tei w)) { notes = Doubled tei ∷ [] }
-    else record w { check = Some (record check { answered = true }) }
+    if not (check.tei == tei) then None
+    else if check.answered then Some (record (owes (IdentityRemove tei) (leaves tei w)) { notes = Doubled tei ∷ [] })
+    else Some (record w { check = Some (record check { answered = true }) })
 
 -- As T201 runs out, they are asked once more; and then the check is over, and where none answered, the TEI leaves, of
 -- which no terminal is told (clause 5.3.3.2 and profile).
@@ -115,15 +112,16 @@ ran_out w check =
 
 -- What a terminal says, in the information of a UI frame to the group, with SAPI 63: in octets 0F, Ri with its high octet
 -- first, the type, and Ai with 1 as its extension bit (clause 5.3.1, its figure and table 8). It asks for any TEI, Ai 127, by
--- an Ri, as others ask for none (profile); it answers that it has a TEI; or it asks for a check of one.
-abbrev pub by_message : Config → Managed → List ℕ → Managed
+-- an Ri, as others ask for none (profile); it answers that it has a TEI; or it asks for a check of one. None is a message that is not
+-- served.
+abbrev pub by_message : Config → Managed → List ℕ → Option Managed
 by_message c w (entity ∷ high ∷ low ∷ type ∷ last ∷ []) =
-    if not (entity == 0x0F && last % 2 == 1) then w
-    else if type == 1 && last / 2 == 127 then asked c (256 * high + low) w
-    else if type == 5 then option_map_or (responded (last / 2) w) w.check w
-    else if type == 7 && may_check (last / 2) w then checks (last / 2) None w
-    else w
-by_message c w other = w
+    if not (entity == 0x0F && last % 2 == 1) then None
+    else if type == 1 && last / 2 == 127 then Some (gives (256 * high + low) (find (λ (r : Remembered). r.ri == 256 * high + low) w.held) (free_tei c w) w)
+    else if type == 5 then option_and_then (responded (last / 2) w) w.check
+    else if type == 7 && may_check (last / 2) w then Some (checks (last / 2) None w)
+    else None
+by_message c w other = None
 
 -- A trunk's end manages no TEI: it serves no message, and removes, checks and disowns none (profile).
 abbrev pub manages : Side → Bool
@@ -131,7 +129,7 @@ manages Network = true
 manages User = false
 
 abbrev pub by_frame : Config → Managed → Parts → Managed
-by_frame c w f = if manages c.side && is_message f then by_message c w f.info else w
+by_frame c w f = if manages c.side && is_message f then unwrap_or (by_message c w f.info) w else w
 
 -- What management asks for, and whether it is granted (clauses 4.1.1.5, 5.3.3 and 5.3.4). A trunk's end neither removes a TEI, nor
 -- checks one, nor disowns one (profile), and only a terminal asks for one or has it verified. A TEI that is disowned is not on the line, and terminals that use it are to
@@ -172,7 +170,7 @@ of_terminal w t =
     record w { on = teis_of t.places; own = Some t; notes = t.notes; orders = t.orders; begins = map terminal.octets_of t.begins; granted = t.granted }
 
 abbrev pub own_of : Config → Managed → OfTerminal
-own_of c w = terminal.none_due (unwrap_or w.own (own_on c))
+own_of c w = record (unwrap_or w.own (own_on c)) { notes = []; orders = []; begins = []; granted = None }
 
 abbrev pub at_terminal : Config → Event → Managed → Managed
 at_terminal c e w = option_map_or (of_terminal w) (terminal.by_event c e (own_of c w)) w

@@ -33,19 +33,8 @@ pub record OfTerminal : Type 0 where
 
 -- As a line begins. The first reference number is the seed (profile).
 abbrev pub own_on : Config → OfTerminal
-own_on c = record {
-  places = replicate c.terminals None;
-  number = unwrap_or c.seed 0 % 65536;
-  procedure = None;
-  owed = [];
-  notes = [];
-  orders = [];
-  begins = [];
-  granted = None;
-}
-
-abbrev pub none_due : OfTerminal → OfTerminal
-none_due t = record t { notes = []; orders = []; begins = []; granted = None }
+own_on c =
+    record { places = replicate c.terminals None; number = unwrap_or c.seed 0 % 65536; procedure = None; owed = []; notes = []; orders = []; begins = []; granted = None }
 
 -- The TEIs on the line, by place; and those of them that an Ai names: each by 127, or this one (clause 5.3.1, table 8).
 abbrev pub teis_of : List (Option ℕ) → List ℕ
@@ -113,11 +102,9 @@ abbrev pub verified : ℕ → OfTerminal → OfTerminal
 verified tei t = if is_verified tei t.procedure then over t else t
 
 -- A TEI leaves the line (clause 5.3.4): verifying of it is over, and a check response for it is withdrawn (profile).
-abbrev pub without : ℕ → OfTerminal → OfTerminal
-without tei t = record t { places = without_tei tei t.places; owed = filter (λ message. not (is_response_for tei message)) t.owed }
-
 abbrev pub leaves : ℕ → OfTerminal → OfTerminal
-leaves tei t = without tei (verified tei t)
+leaves tei t =
+    let on = verified tei t in record on { places = without_tei tei on.places; owed = filter (λ message. not (is_response_for tei message)) on.owed }
 
 abbrev pub removed : ℕ → OfTerminal → OfTerminal
 removed tei t = record (leaves tei t) { notes = Removed tei ∷ [] }
@@ -125,13 +112,12 @@ removed tei t = record (leaves tei t) { notes = Removed tei ∷ [] }
 -- A TEI is assigned (clause 5.3.2). It comes to the line if the terminal asks for one by this Ri, it is one that the network assigns
 -- (64 to 126, clause 3.3.4.2), it is not on the line, and a place is free. One that is on the line was assigned to another terminal:
 -- verifying it begins, unless a procedure runs (clause 5.3.4.2 and profile).
-abbrev pub may_come : ℕ → OfTerminal → Bool
-may_come tei t = nat_le 64 tei && nat_le tei 126 && not (is_on tei t) && list_any is_free t.places
-
 abbrev pub by_assigned : ℕ → ℕ → Option Procedure → OfTerminal → Option OfTerminal
 by_assigned ri tei None t = if is_on tei t then Some (verifies tei 1 t) else None
 by_assigned ri tei (Some (Asking own attempts)) t =
-    if own == ri && may_come tei t then Some (record (over t) { places = with_tei tei t.places; notes = Assigned tei ∷ [] }) else None
+    if own == ri && (nat_le 64 tei && nat_le tei 126 && not (is_on tei t) && list_any is_free t.places)
+    then Some (record (over t) { places = with_tei tei t.places; notes = Assigned tei ∷ [] })
+    else None
 by_assigned ri tei (Some (Verifying on attempts)) t = None
 
 -- It is denied one (clause 5.3.2). Management is told, and the terminal goes on asking (profile).

@@ -58,8 +58,7 @@ orders_due c service tei was now what =
 abbrev pub is_timer_of : Service → ℕ → Timer → Bool
 is_timer_of service tei (timers.T200 of by) = is_own service tei of by
 is_timer_of service tei (timers.T203 of by) = is_own service tei of by
-is_timer_of service tei timers.T201 = false
-is_timer_of service tei timers.T202 = false
+is_timer_of service tei other = false
 
 abbrev pub is_order_of : Service → ℕ → Order → Bool
 is_order_of service tei (Start timer) = is_timer_of service tei timer

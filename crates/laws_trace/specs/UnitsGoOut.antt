@@ -3,10 +3,7 @@ use Rattle.std.specs.Prelude.{◌≡◌, ℕ, ◌==◌, ◌&&◌, not, true, fal
 use Rattle.std.specs.List.{list_any}
 use Rattle.lapd_frame.specs.declared.controls.Control.TheVariants.{Ui}
 use Rattle.lapd_frame.specs.declared.senders.Sender.{Sender}
-use Rattle.lapd_frame.specs.declared.services.Service.{Service}
 use Rattle.lapd_frame.specs.Grammar.{Parts}
-use Rattle.lapd_frame.specs.Senders.{spelling}
-use Rattle.lapd_frame.specs.Services.{sapi_of}
 use Rattle.model_line.specs.declared.config.Config.{Config}
 use Rattle.model_line.specs.Event as line_event
 use Rattle.model_line.specs.Event.{request, next, Answer}
@@ -17,6 +14,7 @@ use Rattle.model_card.specs.Card.{fresh}
 use Rattle.model_card.specs.Event.{Event}
 use Rattle.model_card.specs.Run.{Moment, moments}
 use Rattle.laws_line.specs.Share.{is_granted}
+use Rattle.laws_trace.specs.FramesAreDue.{text}
 use Rattle.laws_trace.specs.LinkFrames.{reads}
 use Rattle.laws_trace.specs.Observer.{moment_of}
 use Rattle.laws_trace.specs.Trace.{frame_in, IsFront}
@@ -26,15 +24,11 @@ use Rattle.laws_trace.specs.Units.{is_ui}
 abbrev pub is_unit : Sender → List ℕ → Bool
 is_unit sender = reads sender (λ (f : Parts). is_ui f.control && not (f.address.sapi == 63))
 
--- The frame of unit data: a UI command with P=0, with its service and its TEI, and the contents whole (clauses 3.6.5 and 5.2.2).
-abbrev pub unit_text : Config → Service → ℕ → List ℕ → List ℕ
-unit_text c service tei contents =
-    spelling (own_side c) (record { address = record { sapi = sapi_of service; command = true; tei = tei }; control = Ui false; info = contents })
-
--- The frames of the unit data that waits, oldest first: from when it is granted until it begins, or the line is down, when what
+-- The frame of unit data is a UI command with P=0, with its service and its TEI, and the contents whole (clauses 3.6.5 and 5.2.2).
+-- Those of the unit data that waits, oldest first: from when it is granted until it begins, or the line is down, when what
 -- waits is given up (annex B, persistent deactivation).
 abbrev pub waits : Config → line_event.Event → Answer → List (List ℕ) → List (List ℕ)
-waits c (request (asked.Unit service tei contents)) a units = if is_granted a then units ++ unit_text c service tei contents ∷ [] else units
+waits c (request (asked.Unit service tei contents)) a units = if is_granted a then units ++ text c service tei true (Ui false) contents ∷ [] else units
 waits c (request Down) a units = if is_granted a then [] else units
 waits c next a units = drop (length (filter (is_unit (own_side c)) (frame_in a))) units
 waits c other a units = units

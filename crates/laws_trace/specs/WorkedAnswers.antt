@@ -1,5 +1,5 @@
 -- Worked values: a poll and SABME that are answered as the law has it, and answers that are missing.
-use Rattle.std.specs.Prelude.{◌≡◌, ◌+◌, ◌<◌, List, [], ◌∷◌, ◌++◌, true, refl}
+use Rattle.std.specs.Prelude.{◌≡◌, ℕ, ◌+◌, ◌<◌, List, [], ◌∷◌, ◌++◌, true, refl}
 use Rattle.std.proofs.Common.{arith}
 use Rattle.model_bits.specs.Stream as stream
 use Rattle.lapd_frame.specs.declared.controls.Control.TheVariants.{ReceiveReady}
@@ -14,15 +14,17 @@ use Rattle.model_line.specs.Event as line_event
 use Rattle.model_line.specs.Event.{hears}
 use Rattle.model_line.specs.Machine as lines
 use Rattle.model_line.specs.Request.{Assign, Unit}
+use Rattle.model_line.specs.declared.config.Config.{Config}
+use Rattle.model_card.specs.Card.{fresh}
 use Rattle.model_card.specs.Event.{Event, at}
 use Rattle.model_card.specs.Run.{moments, after_all}
-use Rattle.model_card.specs.Takes.{takes_of}
+use Rattle.model_card.specs.Takes.{takes_of, frames_given}
 use Rattle.laws_line.specs.Drains.{most_frames_before}
 use Rattle.laws_line.specs.Frames.{lost_in}
 use Rattle.laws_line.specs.WorkedPolled.{small}
 use Rattle.laws_line.specs.card.Among.{AreAmong}
 use Rattle.laws_line.specs.card.Worked.{on_0}
-use Rattle.laws_trace.specs.AnswersAreGiven.{Stays, JoinsQueue, priority_added, queue, texts, sent_during}
+use Rattle.laws_trace.specs.AnswersAreGiven.{Stays, JoinsQueue, priority_added, queue, texts}
 use Rattle.laws_trace.specs.NoLossInVain.{puts_by}
 use Rattle.laws_trace.specs.Observer.{moment_of}
 use Rattle.laws_trace.specs.WorkedUnits.{calls}
@@ -55,6 +57,10 @@ rr_due = refl
 none_lost : lost_in (moment_of small up 0 poll).answer ≡ 0
 unfolding after_all lines.after lines.answer lines.takes_slot teis.course teis.refusal seq distance_of named exchanged read_by reading header_of control_of unnumbered_of supervisory_of
 none_lost = refl
+
+-- The frames that begin meanwhile.
+abbrev sent_during : Config → ℕ → List Event → List Event → List (List ℕ)
+sent_during c line past later = frames_given line (moments (after_all (fresh c) past) later)
 
 tei_stays : Stays small 0 Call 64 polled (calls 9)
 unfolding Stays teis.course teis.refusal exchanged read_by reading header_of control_of unnumbered_of supervisory_of

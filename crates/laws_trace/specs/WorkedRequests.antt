@@ -23,7 +23,7 @@ use Rattle.laws_trace.specs.Managing.{managed_after}
 use Rattle.laws_trace.specs.NoSlotIsLost.{slots_taken}
 use Rattle.laws_trace.specs.Observer.{in_state, moment_of}
 use Rattle.laws_trace.specs.Outgoing.{outgoing_of}
-use Rattle.laws_trace.specs.RefusalsAreTold.{why_not}
+use Rattle.laws_trace.specs.RefusalsAreTold.{first_reason, reasons}
 use Rattle.laws_trace.specs.RequestsTakeEffect.{Effect, effect, deactivated, of_tei}
 
 -- What the table has for a request of a link behind events, while a slot is free; and what the card answers.
@@ -155,7 +155,7 @@ ended = refl
 
 -- Of other requests: a check is refused while one goes on, and not while none does; and unit data of a TEI that is not on the line.
 abbrev refused_for : List Event → Request → Option Refusal
-refused_for events r = why_not usual events 0 (managed_after usual 0 events) r
+refused_for events r = first_reason (reasons usual events 0 (managed_after usual 0 events) r)
 
 goes_on : refused_for (on ++ on_0 (Check 64) ∷ []) (Check 64) ≡ Some CheckRunning
 goes_on = refl

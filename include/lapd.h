@@ -189,8 +189,9 @@ typedef struct lapd_config {
     uint16_t n201;       /* octets of an information field at most: 8 to 260 (clause 5.9.3) */
     uint16_t n200;       /* how often a command is repeated: 0 to 10 (clause 5.9.2) */
     uint16_t side;       /* which side of its lines the card is: LAPD_NETWORK, LAPD_USER or LAPD_TERMINAL */
-    uint16_t seed;       /* of a terminal: its first reference number, 0 to 65,535, from a source of random numbers; the
-                            network tells terminals that ask by these numbers alone. Of the other sides it is not read */
+    uint16_t seed;       /* of a terminal: its first reference number, 0 to 65,535, from a source of random numbers. By these
+                            numbers alone the network tells terminals apart that ask. Each line begins with it, so no two
+                            lines of a card may share a bus. Of the other sides it is not read */
     uint16_t sapi;       /* the SAPI of the second service, LAPD_PACKET: 1 to 62; 0 means 16 (clause 3.3.3) */
 } lapd_config;
 
@@ -793,8 +794,8 @@ LAPD_INLINE_STATUS lapd_assign(lapd_card *card, uint32_t line, uint8_t tei, lapd
     return lapd_request_with(card, line, LAPD_ASSIGN, LAPD_CALL, tei, LAPD_NULL, 0, report);
 }
 
-/* Takes the TEI from the line (MDL-REMOVE request). The network's side sends a message then; a terminal sends none and tells
- * none, and stops verifying this TEI. LAPD_REFUSED_WRONG_SIDE: of LAPD_USER. */
+/* Takes the TEI from the line (MDL-REMOVE request). The network's side sends a message then. A terminal sends none, is not told
+ * LAPD_REMOVED, and stops verifying this TEI. LAPD_REFUSED_WRONG_SIDE: of LAPD_USER. */
 LAPD_INLINE_STATUS lapd_remove(lapd_card *card, uint32_t line, uint8_t tei, lapd_report *report) {
     return lapd_request_with(card, line, LAPD_REMOVE, LAPD_CALL, tei, LAPD_NULL, 0, report);
 }
@@ -826,7 +827,8 @@ LAPD_INLINE_STATUS lapd_ask_tei(lapd_card *card, uint32_t line, lapd_report *rep
 /*
  * A terminal asks the network to check a TEI of its own, which another terminal may have, too (clause 5.3.5). A check request
  * of the network for it ends this, and the terminal answers it. If none comes until T202 has expired twice, the TEI leaves
- * the line: LAPD_REMOVED. A terminal verifies by itself when it hears that a TEI of its own is assigned, unless it asks.
+ * the line: LAPD_REMOVED. A terminal verifies by itself when it hears that a TEI of its own is assigned, unless it asks or
+ * verifies already.
  * LAPD_REFUSED_WRONG_SIDE: the card is no terminal. LAPD_REFUSED_BAD_TEI: the TEI is over 126. LAPD_REFUSED_NO_LINK: it is
  * not on the line. LAPD_REFUSED_CHECK_RUNNING: the terminal asks for a TEI, or verifies one.
  */

@@ -49,7 +49,7 @@ RUNS = {
     'all_is_told_in_beats': 'laws_order circuit/Worked', 'a_call_comes_to_rest': 'laws_order circuit/WorkedDamaged',
     'told_in_order': 'laws_wire WorkedLosing',
     'rounds_come_to_rest': 'laws_wire WorkedResting', 'what_is_lost_arrives': 'laws_wire WorkedRecovering',
-    'expiries_are_counted': 'laws_wire WorkedCounted',
+    'expiries_are_counted': 'laws_wire WorkedCounted', 'expiries_come_to_an_end': 'laws_wire WorkedExpiring',
     'a_call_with_losses_comes_through': 'laws_wire WorkedAnswering',
     'a_call_with_losses_comes_to_rest': 'laws_wire WorkedSettling', 'a_call_ends': 'laws_wire WorkedEnding',
     'delivered_in_order': 'laws_order Worked', 'delivered_though_damaged': 'laws_order circuit/WorkedDamaged',

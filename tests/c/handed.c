@@ -24,7 +24,7 @@ static void fail(const char *what, u32 one, u32 other) {
 }
 
 /* The stack begins at STACK and goes down to 0; the lower half of it is filled. */
-enum { STACK = 8192, FILL = 0xA5 };
+enum { STACK = 9216, FILL = 0xA5 };
 
 static machine *filled(u64 heap) {
     machine *instance = new_machine(heap);
@@ -120,7 +120,7 @@ static void octets(void) {
         memcpy(other->data + at, one->data + at, length);
         u32 cut = LAPD_MOST_FRAME + 1;
         are_same("a frame", one, other, w2c_lapd_frame(one, HANDLE, 0, at, cut, REPORT), w2c_lapd_frame(other, HANDLE, 0, at, length, REPORT));
-        u8 request = (u8)(round % 5 ? LAPD_DATA : below(13)), service = (u8)(round % 7 ? LAPD_CALL : below(20));
+        u8 request = (u8)(round % 5 ? LAPD_DATA : below(15)), service = (u8)(round % 7 ? LAPD_CALL : below(20));
         u32 line = round % 11 == 0, a, b;
         cut = LAPD_MOST_OCTETS + 1;
         a = w2c_lapd_request(one, HANDLE, line, request, service, 64, at, cut, REPORT);

@@ -104,8 +104,39 @@ static bool is_as_said(void) {
            && lapd_card_octets_timed(&four) == 166448 && lapd_card_octets_frames_timed(&four) == 163168;
 }
 
+static uint16_t random_number(void) {
+    return 0x1234;
+}
+
+/* As the page has it. */
+static uint32_t terminal_starts(void) {
+    lapd_config phone = basic;
+    phone.terminals = 1;
+    phone.side = LAPD_TERMINAL;
+    phone.seed = random_number();            /* of a source of random numbers */
+    uint32_t status = lapd_card_start_frames_timed(&card, &phone, &lengths);
+    if (status == LAPD_OK)
+        status = time_is(now());             /* T202 runs from then on */
+    if (status == LAPD_OK)
+        status = told(lapd_ask_tei(&card, 0, &report));
+    return status;
+}
+
+/* A terminal that starts so has its request to send, and T202 runs from its first moment on. */
+static bool terminal_asks(void) {
+    uint64_t moment = 0;
+    uint32_t line;
+    time_now = 5000;
+    bool is_started = terminal_starts() == LAPD_OK && lapd_next_moment(&card, &moment) == LAPD_OK && moment == now() + lengths.t202
+                      && lapd_next_waiting(&card, 0, &line) == LAPD_OK && lapd_card_free(&card) == LAPD_OK;
+    time_now = 0;
+    return is_started;
+}
+
 int main(void) {
     if (!is_as_said())
         return fail("docs/EMBEDDING.md says otherwise of its configurations");
+    if (!terminal_asks())
+        return fail("a terminal does not start as docs/EMBEDDING.md shows");
 #include PAGE
 }

@@ -16,7 +16,7 @@
 
 #ifndef MOST
 #define MOST 2048
-#define MOST_OF_START 4096
+#define MOST_OF_START 6144
 #define MOST_OF_TEXT MOST
 #endif
 

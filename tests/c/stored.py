@@ -52,7 +52,7 @@ def play_all(build, turned):
         return
     own = {name: (it.text, it.wanted()) for name, it in worked().items()}
     kept = {name: own[name] for name, it in worked().items() if not changes_lengths(it)}
-    check(f"{build.name}: scripts at cards with their own timers", max(100, len(own) - 5) < len(kept) < len(own), len(kept))
+    check(f"{build.name}: scripts at cards with their own timers", max(100, len(own) - 10) < len(kept) < len(own), len(kept))
     ways = [("", [play], own), (", at a card with its own timers", [play, "--timed"], kept)]
     if not build.is_brief:
         of_kept = {name: it for name, it in turned.of.items() if name in kept}

@@ -141,7 +141,7 @@ def one_file(portable, folder):
     if tool("portable", again):
         for name in ("lapd.c", "lapd.h", "lapd_checked.h", "lapd_memory.h", "README"):
             check(f"{name} is the same when made again", read(f"{again}/{name}") == read(f"{portable.folder}/{name}"), "another file")
-    check("the size of lapd.c", os.path.getsize(f"{portable.folder}/lapd.c") <= 1500000, os.path.getsize(f"{portable.folder}/lapd.c"))
+    check("the size of lapd.c", os.path.getsize(f"{portable.folder}/lapd.c") <= 1700000, os.path.getsize(f"{portable.folder}/lapd.c"))
     rows = [it.split() for it in run(["nm", f"{folder}/portable.o"]).stdout.decode().splitlines()]
     there = {it[-1] for it in rows if len(it) == 3 and it[-2].isupper()}
     asked = {it[-1] for it in rows if len(it) == 2 and it[0] == "U"}

@@ -126,7 +126,7 @@ static fault read_card(const word *words, size_t count, bool for_frames, command
     count -= has_sapi ? 2 : 0;
     const word *sapi = &words[count + 1];
     size_t user = user_among(words, count);
-    const word *seed = &words[count - 1];
+    const word *seed = &words[user + 1];
     read->user = user < count;
     read->terminal = user + 2 == count;
     count = user;

@@ -55,8 +55,8 @@ def has_menu(page: Page, scripts: List[Played]) -> Iterator[str]:
     """The menu has each subject, and what it offers is played without a fault."""
     page.open()
     groups = page.browser.value("[...document.querySelectorAll('#menu optgroup')].map((it) => it.label)")
-    wanted = ["Conversations", "Recovery", "TEI management", "Hostile terminals", "Both ends of a trunk"]
-    if groups[:5] != wanted:
+    wanted = ["Conversations", "Recovery", "TEI management", "A terminal", "Hostile terminals", "Both ends of a trunk"]
+    if groups[: len(wanted)] != wanted:
         yield f"subjects {groups}"
     by_name = {it.name: it for it in scripts}
     names = page.browser.value("[...document.querySelectorAll('#menu option')].map((it) => it.value).filter(Boolean)")

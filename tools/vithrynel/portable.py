@@ -34,7 +34,7 @@ MOST = {"lapd_frame": numbers()["LAPD_MOST_FRAME"] + 1, "lapd_request": numbers(
 RUN, REPORT = 256, -(-structs()["lapd_report"].octets // 16) * 16
 # Octets of stack in a machine's memory, where C's own has the rest; calls were seen to take less than half, and one that takes
 # more ends the program, as the stack lies at the memory's beginning.
-STACK = 8192
+STACK = 9216
 WIDTH = {"uint8_t": 8, "uint16_t": 16, "uint32_t": 32, "uint64_t": 64, "size_t": 64}
 LOADS = {8: "i32_load8_u", 16: "i32_load16_u", 32: "i32_load", 64: "i64_load"}
 STORES = {8: "i32_store8", 16: "i32_store16", 32: "i32_store", 64: "i64_store"}

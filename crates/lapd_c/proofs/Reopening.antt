@@ -108,6 +108,17 @@ settled_answered (Some timers) new old (line_event.told t) is s = grind arith
 settled_answered (Some timers) new old (line_event.refused why) is s = s
 settled_answered (Some timers) new old (line_event.gave next) is s = s
 
+-- orders alone, of which a card that keeps its own timers shows none
+pub orders_seen_by : (timed : Bool) (r : PlainReport) (orders : List Order) (a : line_event.Answer) → line_event.told (record line_event.nothing { orders = orders }) ≡ a
+    → Shows r (record line_event.nothing { orders = orders_by timed orders }) → ShowsAnswer r (seen_by timed a)
+orders_seen_by false r orders a is s = subst (ShowsAnswer r) is s
+orders_seen_by true r orders a is s = subst (λ a. ShowsAnswer r (seen_by true a)) is s
+
+pub orders_shown : (r old : PlainReport) (own timed : Bool) (orders : List Order) → r ≡ with_reopened r old → timed ≡ own → Shows old (record line_event.nothing { orders = orders_by timed orders })
+    → Shows r (record line_event.nothing { orders = orders_by own orders })
+orders_shown r old own timed orders is same s =
+    subst (λ b. Shows r (record line_event.nothing { orders = orders_by b orders })) same (still_answered r old (line_event.told (record line_event.nothing { orders = orders_by timed orders })) is s)
+
 pub settled_pulled : (timers : Option CardTimers) (new old : PlainReport) (begun more : Bool) (orders : List Order) → new ≡ settled timers new old → ShowsPull old begun more orders
     → ShowsPull new begun more (orders_by (is_some timers) orders)
 settled_pulled None new old begun more orders is s = still_pulled new old begun more orders is s

@@ -32,12 +32,12 @@ pub extern "C" fn lapd_frame(
     ensures counted { FramesWithLine line handle.old (λ m. Counts (frame_comes line octets.now m) m (counters_at handle.old) (counters_at handle.new)) }
     ensures reopened { IsReopened line handle.old handle.new result report.new }
 {
-    lend!(kept of handle, Frames(card), line);
+    // It stands before all else, so that it is cleared once.
     let mut told = BareReport::nothing();
+    lend!(kept of handle, Frames(card), line);
     if card.frame(line, octets, &mut told) {
         // Mostly it leads to nothing but orders, and then nothing else is looked for.
-        report.show_orders(&told.orders);
-        kept.settle(line, told.orders(), report);
+        kept.settle_orders(line, &told.orders, report);
         return OK;
     }
     report.show(&told, card.contents(line, octets, &told));

@@ -7,8 +7,8 @@ ghost use Rattle.model_card.specs.Event.{Event};
 ghost use Rattle.model_card.specs.Machine.{after};
 ghost use Rattle.model_timed.specs.Clock.{Clock, obeyed};
 ghost use Rattle.model_timed.specs.Frames.{orders_at};
-ghost use Rattle.lapd_c.specs.Kept.{LedTo, AreLeftIn, TimersStandIn, settled};
-ghost use Rattle.lapd_c.specs.{first_fault, AreMarked, AreUnmarked, MarksBecome, marks_of, IsFirstOpen, TellsReopened, WaitsFor, is_open, is_there, waits_on, waits_there, with_reopened};
+ghost use Rattle.lapd_c.specs.Kept.{LedTo, AreLeftIn, TimersStandIn, orders_by, settled};
+ghost use Rattle.lapd_c.specs.{listed, nothing, Shows, first_fault, AreMarked, AreUnmarked, MarksBecome, marks_of, IsFirstOpen, TellsReopened, WaitsFor, is_open, is_there, waits_on, waits_there, with_reopened};
 ghost use Rattle.model_card.specs.Card as machine;
 ghost use Rattle.lapd_card.specs.FrameCard.{line_count};
 ghost use Rattle.lapd_card.specs.Kinds.{Machine, card_in, AnyStands, FrameCardStands};
@@ -17,7 +17,7 @@ use crate::link_marks::LinkMarks;
 use crate::plain::{PlainReport, service_at};
 use crate::refused::Refused;
 use lapd_card::{AnyCard, FrameCard};
-use lapd_frame::Order;
+use lapd_frame::{Order, ShortList};
 use lapd_store::RawShelf;
 use lapd_timed::CardTimers;
 use model_line::Config;
@@ -75,7 +75,51 @@ impl KeptCard {
         self.tell_reopened(line, report);
     }
 
+    /// Ends a call of a line whose event led to nothing but orders, and shows them: as a report that shows the orders, and then
+    /// [`KeptCard::settle`], but if the card keeps its own timers none is written.
+    #[inline(always)]
+    pub(crate) fn settle_orders(
+        &mut self,
+        line: usize,
+        orders: &ShortList<Order>,
+        report: &mut PlainReport,
+    )
+        ensures card { self.new.card ≡ self.old.card }
+        ensures shown { Shows report.new (record nothing { orders = orders_by (is_some self.old.timers) (listed orders.now) }) }
+        ensures tells { (m : Machine) → AnyStands self.old.card m → line < (card_in m).config.lines
+            → TellsReopened line (card_in m) self.old.refused self.new.refused report.new }
+        ensures untimed { self.old.timers ≡ None → self.new.timers ≡ None }
+        ensures there { is_some self.new.timers ≡ is_some self.old.timers }
+        // So of each event at that line of which these are the orders, and that led the card to where it is.
+        ensures timed { (e : Event) (m : Card) (c : Clock) → LedTo self.old.card line e m → listed orders.now ≡ orders_at e m
+            → AreLeftIn e self.old.timers m c → TimersStandIn self.new.timers (after e m) (obeyed line (orders_at e m) c) }
+    {
+        if self.timers.is_some() {
+            report.show_nothing();
+            self.carry_out_list(line, orders);
+        } else {
+            report.show_orders(orders);
+        }
+        self.tell_reopened(line, report);
+    }
+
+    // Carries out the orders of a report, if the card keeps its own timers.
+    #[inline(always)]
+    fn carry_out_list(&mut self, line: usize, orders: &ShortList<Order>)
+        ensures card { self.new.card ≡ self.old.card }
+        ensures refused { self.new.refused ≡ self.old.refused }
+        ensures there { is_some self.new.timers ≡ is_some self.old.timers }
+        ensures timed { (e : Event) (m : Card) (c : Clock) → LedTo self.old.card line e m → listed orders.now ≡ orders_at e m
+            → AreLeftIn e self.old.timers m c → TimersStandIn self.new.timers (after e m) (obeyed line (orders_at e m) c) }
+    {
+        let frames = self.card.frames();
+        if let Some(timers) = &mut self.timers {
+            timers.obey_list(frames, line, orders);
+        }
+    }
+
     // Carries out the orders of an answer, if the card keeps its own timers. Mostly there is none.
+    #[inline(always)]
     fn carry_out(&mut self, line: usize, orders: &[Order])
         ensures card { self.new.card ≡ self.old.card }
         ensures refused { self.new.refused ≡ self.old.refused }

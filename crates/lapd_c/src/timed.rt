@@ -53,6 +53,51 @@ pub extern "C" fn lapd_fall_due(handle: &mut CardHandle, now: u64, report: &mut 
         TellsReopened x.line (card_in (after (at x.line (expiry x.timer)) m)) (marks_at handle.old) (marks_at handle.new) report.new) }
 {
     lend!(kept of handle);
+    if let Some(timers) = &mut kept.timers {
+        if timers.pass(now) {
+            return NO_TIMER;
+        }
+    }
+    fall_due(handle, now, report)
+}
+
+// The same, where something may be due or the moment is refused. It stands apart, since mostly nothing is due.
+#[cold]
+#[inline(never)]
+fn fall_due(handle: &mut CardHandle, now: u64, report: &mut PlainReport) -> u32
+    requires { IsHandle handle.old }
+    ensures call { IsCall handle.old handle.new result }
+    ensures kind { kind_in handle.new ≡ kind_in handle.old }
+    ensures untold { result ≢ status.ok → report.new ≡ report.old }
+    // A card keeps its own timers after it where it did before; that of one whose timers are the caller's is refused.
+    ensures timed { is_timed handle.new ≡ is_timed handle.old }
+    ensures wrong_card { is_timed handle.old ≡ false
+        → (card_of handle.old ≡ None) ⊎ ((result ≡ status.wrong_card) × (card_of handle.new ≡ card_of handle.old)) }
+    // A moment before the last one, or after the latest, is refused, and nothing changes.
+    ensures wrong_time { (m : Machine) (c : Clock) → HandleStands handle.old m → TimersStandIn (timers_of handle.old) (card_in m) c
+        → (now < c.now) ⊎ (2 ^ 63 ≤ now) → (result ≡ status.wrong_time) × (card_of handle.new ≡ card_of handle.old) }
+    // Else the time is now: nothing is due, and the first timer that runs falls due later;
+    ensures none { (m : Machine) (c : Clock) → HandleStands handle.old m → TimersStandIn (timers_of handle.old) (card_in m) c
+        → c.now ≤ now → now < 2 ^ 63 → due (at_moment now c) ≡ None
+        → (result ≡ status.no_timer) × HandleStands handle.new m × TimersStandIn (timers_of handle.new) (card_in m) (at_moment now c)
+        × IfSome (next_moment (at_moment now c)) (λ first. now < first)
+        × (marks_at handle.new ≡ marks_at handle.old) × (counters_at handle.new ≡ counters_at handle.old) }
+    // or what is due first falls due.
+    ensures due { (m : Machine) (c : Clock) → HandleStands handle.old m → TimersStandIn (timers_of handle.old) (card_in m) c
+        → c.now ≤ now → now < 2 ^ 63 → IfSome (due (at_moment now c)) (λ x.
+        (result ≡ status.ok) × (report.new.line ≡ x.line)
+        × ShowsAnswer report.new (without_orders (answer (at x.line (expiry x.timer)) m))
+        × HandleStands handle.new (after (at x.line (expiry x.timer)) m)
+        × TimersStandIn (timers_of handle.new) (card_in (after (at x.line (expiry x.timer)) m))
+        (obeyed x.line (orders_at (at x.line (expiry x.timer)) (card_in m)) (without_first (at_moment now c)))) }
+    ensures counted { (m : Machine) (c : Clock) → HandleStands handle.old m → TimersStandIn (timers_of handle.old) (card_in m) c
+        → c.now ≤ now → now < 2 ^ 63
+        → IfSome (due (at_moment now c)) (λ x. Counts (at x.line (expiry x.timer)) (card_in m) (counters_at handle.old) (counters_at handle.new)) }
+    ensures reopened { (m : Machine) (c : Clock) → HandleStands handle.old m → TimersStandIn (timers_of handle.old) (card_in m) c
+        → c.now ≤ now → now < 2 ^ 63 → IfSome (due (at_moment now c)) (λ x.
+        TellsReopened x.line (card_in (after (at x.line (expiry x.timer)) m)) (marks_at handle.old) (marks_at handle.new) report.new) }
+{
+    lend!(kept of handle);
     let Some(timers) = &mut kept.timers else {
         return WRONG_CARD;
     };

@@ -9,9 +9,9 @@ use Rattle.std.specs.List.{between}
 use Rattle.std.proofs.lemmas.Nat.{div-mul-add}
 use Rattle.std.proofs.Math.Nat.{div-mul-le_self, lt-div-mul-add}
 use Rattle.lapd_clock.specs.Timer.{T201}
-use Rattle.lapd_clock.proofs.First.{no_earlier}
+use Rattle.lapd_clock.proofs.First.{before_itself, no_earlier}
 use Rattle.lapd_moments.specs.Bounds.{IsLead, AreBounded, IsFoundFirst, IsFoundAt, IsFirstOfLine}
-use Rattle.lapd_moments.specs.Places.{expiry_of, expiries_of, place_before, nothing, at, AreNotBefore, AreOfLines, AreIdleSoFar, AreFirstPlaces, IsFirstUntil}
+use Rattle.lapd_moments.specs.Places.{expiry_of, expiries_of, place_before, nothing, AreNotBefore, AreOfLines, AreIdleSoFar, AreFirstPlaces, IsFirstUntil}
 use Rattle.lapd_moments.specs.declared.lead.Lead.{Lead}
 use Rattle.lapd_moments.specs.declared.place.Place.{Place}
 use Rattle.lapd_moments.proofs.Laid.{in_lines, before_end}
@@ -161,11 +161,11 @@ of-line each line place r ps its is within cut first =
 not_less : (a b : ℕ) → nat_lt a b ≡ false → b ≤ a
 not_less a b h = grind (arith, nat_tests)
 
-is_less : (a b : ℕ) → nat_lt a b ≡ true → a < b
+pub is_less : (a b : ℕ) → nat_lt a b ≡ true → a < b
 is_less a b h = grind (arith, nat_tests)
 
 -- no place of a line is before its bound
-some-lead : Lead
+abbrev pub some-lead : Lead
 some-lead = record { place = 0; others = 0; used = 0 }
 
 bound-of : (each : ℕ) (bounds : List ℕ) (leads : List Lead) (ps : List Place) → AreBounded each bounds leads ps → (i : ℕ) (d : Place) → i < length ps → slice_index bounds (i / each) ≤ (get_or ps i d).moment
@@ -191,6 +191,24 @@ first-at each line place bounds leads ps h there first d =
   where
     same : {a b : ℕ} → b ≤ a → a ≤ b → a ≡ b
     same low high = omega (arith, low, high)
+
+-- that which leads is the first of its line, if no other falls due at its moment
+pub lead-first : (each line : ℕ) (bounds : List ℕ) (leads : List Lead) (ps : List Place) (d : Lead) → AreBounded each bounds leads ps → line < length bounds → slice_index bounds line < (get_or leads line d).others
+    → IsFirstOfLine (get_or leads line d).place each line ps
+lead-first each line bounds leads ps e h there alone = record {
+  low = led.low;
+  high = led.high;
+  none_before = λ k d low high. elim (cases_eq k l.place) [
+    | inl is ↦ subst (λ n. place_before (get_or ps n d) (get_or ps l.place d) ≡ false) (sym is) (before_itself (expiry_of (get_or ps l.place d)))
+    | inr apart ↦ rest_behind (expiry_of (get_or ps l.place d)) (expiry_of (get_or ps k d)) (omega (arith, alone, led.is d, led.others_late k d low high apart))
+  ];
+}
+  where
+    l : Lead
+    l = get_or leads line e
+
+    led : IsLead (line * each) each (slice_index bounds line) l ps
+    led = h.led line e there
 
 -- so that of the line with the least bound is the first of all
 later_line : (e z : Expiry) → e.moment ≤ z.moment → e.line < z.line → is_before z e ≡ false

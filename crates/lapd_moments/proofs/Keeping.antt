@@ -7,7 +7,7 @@ use Rattle.std.specs.List.{between}
 use Rattle.lapd_moments.specs.Bounds.{IsEarliest, IsLead, AreBounded, AreKept}
 use Rattle.lapd_moments.specs.declared.lead.Lead.{Lead}
 use Rattle.lapd_moments.specs.declared.place.Place.{Place}
-use Rattle.lapd_moments.proofs.Standing.{set_later}
+use Rattle.lapd_moments.proofs.Standing.{no_sooner, set_later}
 use Rattle.lapd_moments.proofs.Bounds.{IsOfLine, of-its-line, line-there, line-within, own-line, its-line, changed}
 
 -- ---- which place is the earliest, one after the other
@@ -22,12 +22,9 @@ earliest-one ps some = record {
     zero-is : {i : ℕ} → i < 1 → 0 ≡ i
     zero-is there = omega (arith, there)
 
-module _ (ps : List Place) (n first others : ℕ) (u v : Place) (within : n < length ps) (h : IsEarliest n first others ps) where
-  its : (d : Place) → (get_or ps n d).moment ≡ (get_or ps n u).moment
+module _ (ps : List Place) (n first others : ℕ) (u : Place) (within : n < length ps) (h : IsEarliest n first others ps) (m : ℕ) (least_is : (d : Place) → (get_or ps first d).moment ≡ m) where
+  pub its : (d : Place) → (get_or ps n d).moment ≡ (get_or ps n u).moment
   its d = ap (λ (q : Place). q.moment) (get_or_default ps n d u within)
-
-  least : (d : Place) → (get_or ps first d).moment ≡ (get_or ps first v).moment
-  least d = ap (λ (q : Place). q.moment) (get_or_default ps first d v (omega (arith, within, h.within)))
 
   last : {i : ℕ} → i < n + 1 → n ≤ i → (d : Place) → (get_or ps i d).moment ≡ (get_or ps n u).moment
   last there from d = ap (λ k. (get_or ps k d).moment) (same there from) ∙ its d
@@ -36,15 +33,15 @@ module _ (ps : List Place) (n first others : ℕ) (u v : Place) (within : n < le
       same there from = omega (arith, there, from)
 
   -- one more is earlier than all
-  pub earlier : (get_or ps n u).moment < (get_or ps first v).moment → IsEarliest (n + 1) n (get_or ps first v).moment ps
-  earlier less = record {
+  pub earlier : (r : ℕ) → (get_or ps n u).moment < m → r ≤ m → IsEarliest (n + 1) n r ps
+  earlier r less small = record {
     within = omega arith;
     least = λ i d e there. elim (cases_lt i n) [
-      | inl before ↦ omega (arith, less, its e, least d, h.least i d d before)
+      | inl before ↦ omega (arith, less, its e, least_is d, h.least i d d before)
       | inr from ↦ omega (arith, its e, last there from d)
     ];
     others_late = λ i d there apart. elim (cases_lt i n) [
-      | inl before ↦ omega (arith, least d, h.least i d d before)
+      | inl before ↦ omega (arith, small, least_is d, h.least i d d before)
       | inr from ↦ absurd (apart (same there from))
     ];
   }
@@ -53,12 +50,12 @@ module _ (ps : List Place) (n first others : ℕ) (u v : Place) (within : n < le
       same there from = omega (arith, there, from)
 
   -- or it is one of the others
-  pub later : (r : ℕ) → (get_or ps first v).moment ≤ (get_or ps n u).moment → r ≤ others → r ≤ (get_or ps n u).moment → IsEarliest (n + 1) first r ps
+  pub later : (r : ℕ) → m ≤ (get_or ps n u).moment → r ≤ others → r ≤ (get_or ps n u).moment → IsEarliest (n + 1) first r ps
   later r more less own = record {
     within = omega (arith, h.within);
     least = λ i d e there. elim (cases_lt i n) [
       | inl before ↦ h.least i d e before
-      | inr from ↦ omega (arith, more, least e, last there from d)
+      | inr from ↦ omega (arith, more, least_is e, last there from d)
     ];
     others_late = λ i d there apart. elim (cases_lt i n) [
       | inl before ↦ omega (arith, less, h.others_late i d before apart)
@@ -244,13 +241,14 @@ module _ (not_before each line : ℕ) (bounds : List ℕ) (leads : List Lead) (p
     | inr after ↦ absurd (runs (ap (λ (q : Place). q.moment) at_it ∙ led.rest l.place u after led.high))
   ]
 
-  pub restarted : (after moment : ℕ) → after ≤ not_before → after ≤ moment → moment ≤ l.others → (u.moment ≡ never → ⊥)
-      → AreKept after each (set bounds line moment) leads (set ps l.place (record u { moment = moment }))
-  restarted after moment less sooner late runs =
+  pub restarted : (moment : ℕ) → u.moment ≤ moment → moment ≤ l.others → (u.moment ≡ never → ⊥)
+      → AreKept not_before each (set bounds line moment) leads (set ps l.place (record u { moment = moment }))
+  restarted moment later late runs =
       let p : Place = record u { moment = moment } in
+      let soon_at : not_before ≤ (get_or ps l.place u).moment = no_sooner not_before ps l.place u place-there h.none_before in
       let still = leads-still (line * each) each (slice_index bounds line) l.place l.used l ps p led led.low led.high (line-within each line bounds leads ps h.bounded there-too) (omega arith) (is-used runs) led.fit refl late in
       record {
         bounded = subst (λ ls. AreBounded each (set bounds line moment) ls (set ps l.place p)) (set-own leads line l l_is)
             (changed each line l.place moment bounds leads l ps p h.bounded place-there line-at of-this-line still);
-        none_before = set_later after not_before ps l.place p less sooner h.none_before;
+        none_before = set_later not_before not_before ps l.place p (omega arith) (omega (arith, later, soon_at, ap (λ (q : Place). q.moment) at_it)) h.none_before;
       }

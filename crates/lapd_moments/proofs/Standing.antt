@@ -51,6 +51,11 @@ pub sooner : (m n : ℕ) (es : List Expiry) → m ≤ n → AreNotBefore n es �
 sooner m n [] less h = tt
 sooner m n (e ∷ es) less h = (omega (arith, less, h.0), sooner m n es less h.1)
 
+pub no_sooner : (m : ℕ) (ps : List Place) (i : ℕ) (d : Place) → i < length ps → AreNotBefore m (expiries_of ps) → m ≤ (get_or ps i d).moment
+no_sooner m [] i d within h = absurd (omega (arith, within))
+no_sooner m (p ∷ ps) zero d within h = h.0
+no_sooner m (p ∷ ps) (suc i) d within h = no_sooner m ps i d (omega (arith, within)) h.1
+
 pub set_later : (m n : ℕ) (ps : List Place) (i : ℕ) (p : Place) → m ≤ n → m ≤ p.moment → AreNotBefore n (expiries_of ps) → AreNotBefore m (expiries_of (set ps i p))
 set_later m n [] i p less own h = tt
 set_later m n (q ∷ qs) zero p less own h = (own, sooner m n (expiries_of qs) less h.1)

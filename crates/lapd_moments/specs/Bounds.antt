@@ -32,9 +32,6 @@ pub record AreBounded (each : ℕ) (bounds : List ℕ) (leads : List Lead) (ps :
   pub same : length leads ≡ length bounds
   pub led : (line : ℕ) (d : Lead) → line < length bounds → IsLead (line * each) each (slice_index bounds line) (get_or leads line d) ps
 
-abbrev pub AreBounds : ℕ → List ℕ → List Place → Type 0
-AreBounds each bounds ps = (leads : List Lead) × AreBounded each bounds leads ps
-
 -- And no timer falls due before the moment that is kept of all.
 pub record AreKept (not_before each : ℕ) (bounds : List ℕ) (leads : List Lead) (ps : List Place) : Type 0 where
   pub bounded : AreBounded each bounds leads ps

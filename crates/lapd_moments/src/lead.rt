@@ -109,15 +109,14 @@ fn earliest(places: &[Place]) -> (usize, u64)
     ensures { IsEarliest (length places.now) result.0 result.1 places.now }
 {
     let mut first = 0;
+    let mut least = places[0].moment;
     let mut others = NEVER;
     for place in 1..places.len() {
         let moment = places[place].moment;
-        let least = places[first].moment;
+        others = others.min(least.max(moment));
         if moment < least {
-            others = least;
+            least = moment;
             first = place;
-        } else {
-            others = others.min(moment);
         }
     }
     (first, others)

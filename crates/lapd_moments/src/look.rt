@@ -3,17 +3,25 @@
 ghost use Rattle.std.specs.Prelude.{◌≡◌, ◌+◌, ◌*◌, ◌<◌, ◌≤◌, nat_lt, length, IfSome, IfNone};
 ghost use Rattle.std.specs.List.{IsFirstBest};
 ghost use Rattle.lapd_clock.specs.Firsts.{never};
-ghost use Rattle.lapd_moments.specs.Bounds.{AreBounds, IsFoundAt, IsFirstOfLine};
+ghost use Rattle.lapd_moments.specs.Bounds.{AreBounded, IsFoundAt, IsFirstOfLine};
 ghost use Rattle.lapd_moments.specs.Places.{expiries_of, AreNotBefore};
 
+use crate::lead::Lead;
 use crate::place::{Place, first_place};
 
 /// Looks for the place that falls due first, if it does so until `end`. It answers a moment before which no timer falls due,
-/// and the place that falls due then: it is one of the line with the least bound.
-pub(crate) fn look(bounds: &[u64], places: &[Place], each: usize, end: u64) -> (u64, Option<usize>)
+/// and the place that falls due then: it is one of the line with the least bound. It is the place that leads there, unless
+/// another may fall due at the same moment: then all places of the line are looked through.
+pub(crate) fn look(
+    bounds: &[u64],
+    leads: &[Lead],
+    places: &[Place],
+    each: usize,
+    end: u64,
+) -> (u64, Option<usize>)
     requires end { end < never }
     requires some { 1 ≤ length bounds.now }
-    requires bounded { AreBounds each bounds.now places.now }
+    requires bounded { AreBounded each bounds.now leads.now places.now }
     ensures moment { AreNotBefore result.0 (expiries_of places.now) }
     ensures none { IfNone result.1 (end < result.0) }
     ensures first { IfSome result.1 (λ place. IsFoundAt place result.0 end places.now) }
@@ -22,6 +30,10 @@ pub(crate) fn look(bounds: &[u64], places: &[Place], each: usize, end: u64) -> (
     let bound = bounds[line];
     if end < bound {
         return (bound, None);
+    }
+    let lead = leads[line];
+    if bound < lead.others {
+        return (bound, Some(lead.place));
     }
     (bound, Some(first_of_line(places, each, line)))
 }
@@ -32,8 +44,11 @@ fn least(bounds: &[u64]) -> usize
     ensures { IsFirstBest nat_lt bounds.now (length bounds.now) result }
 {
     let mut least = 0;
+    let mut least_bound = bounds[0];
     for line in 1..bounds.len() {
-        if bounds[line] < bounds[least] {
+        let bound = bounds[line];
+        if bound < least_bound {
+            least_bound = bound;
             least = line;
         }
     }

@@ -1,6 +1,6 @@
 //! The moments of all timers of a card.
 
-ghost use Rattle.std.specs.Prelude.{◌≡◌, ◌+◌, ◌*◌, ◌<◌, ◌≤◌, true, false, length, IfSome, IfNone, IfOk};
+ghost use Rattle.std.specs.Prelude.{◌≡◌, ◌+◌, ◌*◌, ◌<◌, ◌≤◌, true, false, None, length, IfSome, IfNone, IfOk};
 ghost use Rattle.lapd_clock.specs.Timers.{first_due, first_moment};
 ghost use Rattle.lapd_clock.specs.Firsts.{never};
 ghost use Rattle.lapd_moments.specs.Places.{timers_in, with_timer, without_timer, AreNotBefore, IsFirstUntil, IsRestarted, IsTaken, RunsAt, is_nowhere};
@@ -104,7 +104,7 @@ impl Moments {
     }
 
     /// Starts a timer of a line anew, and answers whether it did. It does so only if the timer runs, falls due first of its
-    /// line, and still does so then. Otherwise nothing changes.
+    /// line, and still does so then, and no earlier. Otherwise nothing changes.
     #[inline(always)]
     pub fn restart(&mut self, line: usize, timer: Timer, moment: u64) -> bool
         ensures done { result ≡ true → IsRestarted line timer moment self.old self.new }
@@ -115,12 +115,14 @@ impl Moments {
         }
         let lead = self.leads[line];
         let leading = &mut self.places[lead.place];
-        if leading.moment == NEVER || moment > lead.others || !leading.is(timer) {
+        if leading.moment == NEVER || moment < leading.moment {
+            return false;
+        }
+        if moment > lead.others || !leading.is(timer) {
             return false;
         }
         leading.moment = moment;
         self.bounds[line] = moment;
-        self.not_before = self.not_before.min(moment);
         true
     }
 
@@ -141,6 +143,14 @@ impl Moments {
         ensures none { IfNone result (is_nowhere line timer self.now) }
     {
         running_place(&self.places, line, timer)
+    }
+
+    /// Whether no timer has fallen due until now, as is known without a look. Otherwise [`Moments::due`] tells.
+    #[inline(always)]
+    pub fn is_early(&self, now: u64) -> bool
+        ensures { result ≡ true → first_due (timers_in self.now) now ≡ None }
+    {
+        now < self.not_before
     }
 
     /// Takes out the timer that falls due first, and answers it with its line, if its moment is not later than `now`.
@@ -190,7 +200,7 @@ impl Moments {
         if self.bounds.is_empty() {
             return None;
         }
-        let (moment, place) = look(&self.bounds, &self.places, self.each, end);
+        let (moment, place) = look(&self.bounds, &self.leads, &self.places, self.each, end);
         self.not_before = moment;
         place
     }

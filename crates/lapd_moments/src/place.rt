@@ -44,10 +44,20 @@ impl Place {
     }
 
     /// Whether it is the place of this timer.
+    #[inline(always)]
     pub fn is(&self, timer: Timer) -> bool
         ensures { result ≡ is_same self.now.timer timer }
     {
-        self.timer == timer
+        match timer {
+            Timer::T200(service, tei) => {
+                matches!(self.timer, Timer::T200(its, at) if at == tei && its == service)
+            }
+            Timer::T203(service, tei) => {
+                matches!(self.timer, Timer::T203(its, at) if at == tei && its == service)
+            }
+            Timer::T201 => matches!(self.timer, Timer::T201),
+            Timer::T202 => matches!(self.timer, Timer::T202),
+        }
     }
 }
 

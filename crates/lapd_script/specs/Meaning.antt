@@ -4,6 +4,7 @@ use Rattle.lapd_script.specs.declared.kind.FaultKind.{FaultKind}
 use Rattle.lapd_transcript.specs.declared.counters.CounterGroup.{CounterGroup}
 use Rattle.lapd_script.specs.declared.command.Asked.{Asked}
 use Rattle.lapd_script.specs.declared.command.CardKind.{CardKind}
+use Rattle.lapd_script.specs.declared.command.Durations.{Durations}
 use Rattle.model_line.specs.declared.faults.Fault.{Fault}
 use Rattle.model_line.specs.declared.config.Config.{Config}
 use Rattle.lapd_script.specs.declared.command.Command.{Command}
@@ -30,8 +31,8 @@ pub data Meaning : Type 0 where
   pull : ℕ → ℕ → Meaning
   -- so many milliseconds pass
   wait : ℕ → Meaning
-  -- T200, T203, T201 and T202 run so many milliseconds from now on
-  timers : ℕ → ℕ → ℕ → ℕ → Meaning
+  -- T200, T203, T201 and T202 run so long from now on
+  timers : Durations → Meaning
   -- what the card holds is shown
   stored : Meaning
   -- what was counted of the line is shown, of these counters
@@ -51,7 +52,7 @@ meant buffer (Down line) = down line
 meant buffer (AskTei line) = ask_tei line
 meant buffer (Pull line count) = pull line count
 meant buffer (Wait milliseconds) = wait milliseconds
-meant buffer (Timers t200 t203 t201 t202) = timers t200 t203 t201 t202
+meant buffer (Timers durations) = timers durations
 meant buffer Stored = stored
 meant buffer (Counters line group) = counters line group
 meant buffer (Ask line tei what count) = ask line tei what (take count buffer)

@@ -4,6 +4,7 @@ use Rattle.lapd_frame.specs.declared.addresses.Side.TheVariants.{User, Network}
 use Rattle.lapd_script.specs.declared.kind.FaultKind.{FaultKind}
 use Rattle.lapd_script.specs.declared.kind.FaultKind.TheVariants.{UnknownWord, BadNumberOfWords}
 use Rattle.model_line.specs.declared.config.Config.{Config}
+use Rattle.lapd_script.specs.declared.command.Durations.{Durations}
 use Rattle.lapd_script.specs.declared.word.Word.{Word}
 use Rattle.lapd_script.specs.declared.word.Word.TheVariants.{Card, Rx, In, Failed, Next, Down, AskTei, Pull, Wait, Timers, Stored, Counters, Ask}
 use Rattle.lapd_script.specs.Words.{words_of, no_words, one_word, two_words, three_words}
@@ -106,22 +107,22 @@ card_numbers words =
     else side_numbers words
 
 -- how many milliseconds a timer runs: one to those of an hour
-abbrev pub length_of : List ℕ → Result ℕ FaultKind
-length_of word = number 1 3600000 word
+abbrev pub duration : List ℕ → Result ℕ FaultKind
+duration word = number 1 3600000 word
 
--- T200, T203 and T201, and T202, which is two seconds if it is left out (clause 5.9.7)
-abbrev pub four_lengths : List ℕ → List ℕ → List ℕ → Result ℕ FaultKind → Result (ℕ × ℕ × ℕ × ℕ) FaultKind
-four_lengths t200 t203 t201 fourth = do
-  t200 ← length_of t200
-  t203 ← length_of t203
-  t201 ← length_of t201
+-- T200, T203 and T201, and T202, which runs two seconds if it is left out (clause 5.9.7)
+abbrev pub four_durations : List ℕ → List ℕ → List ℕ → Result ℕ FaultKind → Result Durations FaultKind
+four_durations t200 t203 t201 fourth = do
+  t200 ← duration t200
+  t203 ← duration t203
+  t201 ← duration t201
   t202 ← fourth
-  Ok (t200, t203, t201, t202)
+  Ok (record { t200 = t200; t203 = t203; t201 = t201; t202 = t202 })
 
-abbrev pub lengths : List (List ℕ) → Result (ℕ × ℕ × ℕ × ℕ) FaultKind
-lengths (t200 ∷ t203 ∷ t201 ∷ []) = four_lengths t200 t203 t201 (Ok 2000)
-lengths (t200 ∷ t203 ∷ t201 ∷ t202 ∷ []) = four_lengths t200 t203 t201 (length_of t202)
-lengths _ = Err BadNumberOfWords
+abbrev pub durations : List (List ℕ) → Result Durations FaultKind
+durations (t200 ∷ t203 ∷ t201 ∷ []) = four_durations t200 t203 t201 (Ok 2000)
+durations (t200 ∷ t203 ∷ t201 ∷ t202 ∷ []) = four_durations t200 t203 t201 (duration t202)
+durations _ = Err BadNumberOfWords
 
 -- what each first word takes after it
 abbrev pub read_as : Word → List (List ℕ) → Result Meaning FaultKind
@@ -165,8 +166,8 @@ read_as Wait words = do
   milliseconds ← number 0 3600000 word
   Ok (wait milliseconds)
 read_as Timers words = do
-  lengths ← lengths words
-  Ok (timers lengths.0 lengths.1 lengths.2 lengths.3)
+  durations ← durations words
+  Ok (timers durations)
 read_as Stored words = do
   none ← no_words words
   Ok stored

@@ -110,10 +110,10 @@ pulls = refl
 an_hour : read (codes "wait 3600000") ≡ Ok (wait 3600000)
 an_hour = refl
 
-slow_timers : read (codes "timers 12000 60000 1000") ≡ Ok (timers 12000 60000 1000 2000)
+slow_timers : read (codes "timers 12000 60000 1000") ≡ Ok (timers (record { t200 = 12000; t203 = 60000; t201 = 1000; t202 = 2000 }))
 slow_timers = refl
 
-four_timers : read (codes "timers 12000 60000 1000 03") ≡ Ok (timers 12000 60000 1000 3)
+four_timers : read (codes "timers 12000 60000 1000 03") ≡ Ok (timers (record { t200 = 12000; t203 = 60000; t201 = 1000; t202 = 3 }))
 four_timers = refl
 
 two_timers : read (codes "timers 12000 60000") ≡ Err BadNumberOfWords

@@ -42,6 +42,19 @@ pub enum CardKind {
     Frames,
 }
 
+/// How many milliseconds timers run, 1 to 3,600,000 each.
+#[derive(Clone, Copy)]
+pub struct Durations {
+    /// T200.
+    pub t200: u32,
+    /// T203.
+    pub t203: u32,
+    /// T201.
+    pub t201: u32,
+    /// T202.
+    pub t202: u32,
+}
+
 /// What a line of a script says. `line` is the number of a line of the card, from 0, and `octets` how many octets HEX
 /// stands for.
 #[derive(Clone, Copy)]
@@ -79,14 +92,9 @@ pub enum Command {
     },
     /// `wait MS`: so many milliseconds pass, at most 3,600,000.
     Wait(u32),
-    /// `timers T200 T203 T201 T202`: from now on timers that are started run so many milliseconds, 1 to 3,600,000 each. In
-    /// the line T202 is 2,000 if it is left out.
-    Timers {
-        t200: u32,
-        t203: u32,
-        t201: u32,
-        t202: u32,
-    },
+    /// `timers T200 T203 T201 T202`: from now on timers that are started run so long. In the line T202 is 2,000 if it is left
+    /// out.
+    Timers(Durations),
     /// `stored`: shows what the card holds.
     Stored,
     /// `counters LINE`, `messages LINE`: shows what was counted of the line.

@@ -33,7 +33,7 @@ mod word;
 mod words;
 
 pub use arguments::job;
-pub use command::{Asked, CardKind, Command};
+pub use command::{Asked, CardKind, Command, Durations};
 pub use fault_lines::{refuse, refuse_digits, refuse_words};
 pub use faults::{LineFault, PlayFault};
 pub use jobs::{Job, Limits};

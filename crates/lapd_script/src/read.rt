@@ -1,9 +1,9 @@
 //! Reads a line of a script.
 
 ghost use Rattle.std.specs.Prelude.{◌≡◌, ◌*◌, ◌/◌, ◌≤◌, ℕ, List, [], ◌∷◌, take, drop, length, codes, bytes_eq, All, Ok, Err, IfOk, MatchResult};
-ghost use Rattle.lapd_script.specs.{texts, rx, into, meant_by, IsCounted, read, read_words, read_as, four_lengths, length_of, lengths, card_numbers, for_sapi, for_terminal, for_user, is_user, more_numbers, nine_numbers, side_numbers, ten_numbers, three_numbers, Rx, In, Failed, Pull, Ask};
+ghost use Rattle.lapd_script.specs.{texts, rx, into, meant_by, IsCounted, read, read_words, read_as, duration, durations, four_durations, card_numbers, for_sapi, for_terminal, for_user, is_user, more_numbers, nine_numbers, side_numbers, ten_numbers, three_numbers, Rx, In, Failed, Pull, Ask};
 
-use crate::command::{Asked, Command};
+use crate::command::{Asked, Command, Durations};
 use crate::kind::FaultKind;
 use crate::values::{cause, number, octet, octets, short};
 use crate::word::Word;
@@ -73,15 +73,7 @@ fn read_as(word: Word, words: &[&[u8]], room: &mut [u8]) -> Result<Command, Faul
         Word::AskTei => Ok(Command::AskTei(short(one(words)?)?)),
         Word::Pull => pull(words),
         Word::Wait => Ok(Command::Wait(number(0, 3_600_000, one(words)?)?)),
-        Word::Timers => {
-            let (t200, t203, t201, t202) = lengths(words)?;
-            Ok(Command::Timers {
-                t200,
-                t203,
-                t201,
-                t202,
-            })
-        }
+        Word::Timers => Ok(Command::Timers(durations(words)?)),
         Word::Stored => {
             none(words)?;
             Ok(Command::Stored)
@@ -161,31 +153,36 @@ fn ask(what: Asked, words: &[&[u8]], room: &mut [u8]) -> Result<Command, FaultKi
     })
 }
 
-/// T200, T203 and T201, and T202, which is two seconds if it is left out.
-fn lengths(words: &[&[u8]]) -> Result<(u32, u32, u32, u32), FaultKind>
-    ensures read { result ≡ lengths (texts words.now) }
+/// How long T200, T203 and T201 run, and T202, which runs two seconds if it is left out.
+fn durations(words: &[&[u8]]) -> Result<Durations, FaultKind>
+    ensures read { result ≡ durations (texts words.now) }
 {
     match words {
-        [t200, t203, t201] => four_lengths(t200, t203, t201, Ok(2_000)),
-        [t200, t203, t201, t202] => four_lengths(t200, t203, t201, length(t202)),
+        [t200, t203, t201] => four_durations(t200, t203, t201, Ok(2_000)),
+        [t200, t203, t201, t202] => four_durations(t200, t203, t201, duration(t202)),
         _ => Err(FaultKind::BadNumberOfWords),
     }
 }
 
-fn four_lengths(
+fn four_durations(
     t200: &[u8],
     t203: &[u8],
     t201: &[u8],
     t202: Result<u32, FaultKind>,
-) -> Result<(u32, u32, u32, u32), FaultKind>
-    ensures { result ≡ four_lengths t200.now t203.now t201.now t202 }
+) -> Result<Durations, FaultKind>
+    ensures { result ≡ four_durations t200.now t203.now t201.now t202 }
 {
-    Ok((length(t200)?, length(t203)?, length(t201)?, t202?))
+    Ok(Durations {
+        t200: duration(t200)?,
+        t203: duration(t203)?,
+        t201: duration(t201)?,
+        t202: t202?,
+    })
 }
 
 /// How long a timer runs: a millisecond to an hour.
-fn length(word: &[u8]) -> Result<u32, FaultKind>
-    ensures { result ≡ length_of word.now }
+fn duration(word: &[u8]) -> Result<u32, FaultKind>
+    ensures { result ≡ duration word.now }
 {
     number(1, 3_600_000, word)
 }

@@ -1,15 +1,15 @@
 //! What a setup begins with, and what the words of a script ask of it.
 
 ghost use Rattle.std.specs.Prelude.{◌≡◌, [], vec_len, replicate, None, Some, IfOk, IfErr};
-ghost use Rattle.lapd_clock.specs.Given.{lengths_of};
+ghost use Rattle.lapd_clock.specs.Given as given;
 ghost use Rattle.lapd_clock.specs.Timer.{first_out_of_range};
-ghost use Rattle.lapd_sim.specs.{config_of, counters_of, kind_of, request_for, Begins, Each, Hears, OnBoard, Sends};
+ghost use Rattle.lapd_sim.specs.{config_of, counters_of, kind_of, lengths_of, request_for, Begins, Each, Hears, OnBoard, Sends};
 ghost use Rattle.model_line.specs.Request as asking;
 
 use lapd_bits::Deframer;
 use lapd_card::{AnyCard, Card, Config, FrameCard, Request};
 use lapd_clock::{LengthFault, Lengths};
-use lapd_script::{Asked, CardKind, FaultKind, LineFault};
+use lapd_script::{Asked, CardKind, Durations, FaultKind, LineFault};
 use lapd_store::RawShelf;
 use lapd_transcript::{LONGEST_INFORMATION, Terminal};
 use std::alloc::{AllocError, Global};
@@ -77,13 +77,13 @@ pub(crate) fn listeners(alloc: Global, lines: usize) -> Result<Vec<Deframer>, Al
     Ok(listeners)
 }
 
-/// How long timers run by a line of a script; each has to run a millisecond to an hour.
-pub(crate) fn lengths(t200: u32, t203: u32, t201: u32, t202: u32) -> Result<Lengths, LengthFault>
-    ensures given { IfOk result (λ lengths. lengths_of lengths ≡ record { t200 = t200; t203 = t203; t201 = t201; t202 = t202 }) }
-    ensures in_range { IfOk result (λ _. first_out_of_range (record { t200 = t200; t203 = t203; t201 = t201; t202 = t202 }) ≡ None) }
-    ensures fault { IfErr result (λ fault. first_out_of_range (record { t200 = t200; t203 = t203; t201 = t201; t202 = t202 }) ≡ Some fault) }
+/// How long timers run by a line of a script, for the card's clock.
+pub(crate) fn lengths_of(durations: Durations) -> Result<Lengths, LengthFault>
+    ensures given { IfOk result (λ lengths. given.lengths_of lengths ≡ lengths_of durations) }
+    ensures in_range { IfOk result (λ _. first_out_of_range (lengths_of durations) ≡ None) }
+    ensures fault { IfErr result (λ fault. first_out_of_range (lengths_of durations) ≡ Some fault) }
 {
-    Lengths::new(t200, t203, t201)?.with_t202(t202)
+    Lengths::new(durations.t200, durations.t203, durations.t201)?.with_t202(durations.t202)
 }
 
 /// What a word of a script asks of the card.

@@ -9,11 +9,11 @@ ghost use Rattle.lapd_sim.specs.machine.Setup as machine;
 ghost use Rattle.model_line.specs.Sound.{IsInRange};
 
 use crate::exchange::{tell, written};
-use crate::parts::{Plan, begin, lengths, listeners, request_for, terminals};
+use crate::parts::{Plan, begin, lengths_of, listeners, request_for, terminals};
 use lapd_bits::Deframer;
 use lapd_card::{AnyCard, BareReport, Config, Fault, Request, limit};
 use lapd_clock::Lengths;
-use lapd_script::{Asked, Command, FaultKind, LineFault};
+use lapd_script::{Asked, Command, Durations, FaultKind, LineFault};
 use lapd_timed::{CardTimers, TimedCard};
 use lapd_transcript::{CounterGroup, LONGEST_FRAME, Page, SHORTEST_FRAME, Target, Terminal};
 use std::alloc::Global;
@@ -84,12 +84,7 @@ impl Setup {
             Command::AskTei(line) => self.ask_for_tei(line, page),
             Command::Pull { line, count } => self.pull(line, count as usize, room, page),
             Command::Wait(milliseconds) => self.wait(milliseconds, page),
-            Command::Timers {
-                t200,
-                t203,
-                t201,
-                t202,
-            } => self.set_timers(t200, t203, t201, t202),
+            Command::Timers(durations) => self.set_timers(durations),
             Command::Stored => {
                 written(page.put_stored(self.timed.card().stored(), limit(&self.config)))
             }
@@ -224,10 +219,10 @@ impl Setup {
     }
 
     /// Timers that are started from now on run so long; each has to run a millisecond to an hour.
-    fn set_timers(&mut self, t200: u32, t203: u32, t201: u32, t202: u32) -> Obeyed
-        ensures { (before : Output) → Answers result self.old self.new before before (meaning.timers t200 t203 t201 t202) }
+    fn set_timers(&mut self, durations: Durations) -> Obeyed
+        ensures { (before : Output) → Answers result self.old self.new before before (meaning.timers durations) }
     {
-        let Ok(lengths) = lengths(t200, t203, t201, t202) else {
+        let Ok(lengths) = lengths_of(durations) else {
             return Err(LineFault::Faulty(FaultKind::BadNumber));
         };
         self.timed.set_lengths(lengths);

@@ -1,5 +1,5 @@
 -- What carrying out an order comes to, of every event that led the card to where it is.
-use Rattle.std.proofs.Common.{arith, ◌≡◌, ℕ, ◌+◌, ◌^◌, ◌<◌, ◌≤◌, List, length, get_or, Some, None, sym, ap, ◌∙◌, subst}
+use Rattle.std.proofs.Common.{arith, ◌≡◌, ℕ, ◌+◌, ◌^◌, ◌<◌, ◌≤◌, List, [], ◌∷◌, length, get_or, Some, None, sym, ap, ◌∙◌, subst}
 use Rattle.std.specs.List.{AllByRecursion}
 use Rattle.lapd_card.specs.FrameCard.{Held}
 use Rattle.lapd_card.specs.FrameStands.{FrameStands}
@@ -22,6 +22,33 @@ use Rattle.lapd_timed.specs.Stands.{IsOnAmid, HeldTimers, AreAt, AreKept, HasLed
 use Rattle.lapd_timed.proofs.Carrying.{has-place, carried-restart, carried-start, carried-stop, carried-nowhere}
 use Rattle.lapd_timed.proofs.Finishing.{begins, finished}
 use Rattle.lapd_timed.proofs.Calls.{all-at}
+
+-- the only one of a list
+pub only-one : (orders : List Order) (d o : Order) → length orders ≡ 1 → get_or orders 0 d ≡ o → orders ≡ o ∷ []
+only-one [] d o one is = absurd (omega (arith, one))
+only-one (x ∷ []) d o one is = ap (λ y. y ∷ []) is
+only-one (x ∷ y ∷ orders) d o one is = absurd (omega (arith, one))
+
+-- Where one order alone starts a timer anew at the place at which it runs, it has been carried out.
+pub restarted-alone : (h : HeldTimers) (line : ℕ) (timer : Timer) (d : ℕ) (es : List Expiry) → IsRestarted line timer (h.now + d) h.moments es → d ≡ duration h.lengths timer → h.now < 2 ^ 63 → d ≤ 3600000
+    → (orders : List Order) → orders ≡ Start timer ∷ [] → (e : Event) (m : Card) (c : Clock) → e.line ≡ line → line < m.config.lines → orders ≡ orders_at e m → AreKept (left_by e) h m c
+    → AreKept as_they_are (record h { moments = es }) (after e m) (obeyed line orders c)
+restarted-alone h line timer d es again d_is now most orders alone e m c line_is line_there is kept =
+    let here : e.line < m.config.lines = subst (λ n. n < m.config.lines) (sym line_is) line_there in
+    let same : obeyed line orders c ≡ obeyed e.line (orders_at e m) c = ap (λ n. obeyed n orders c) (sym line_is) ∙ ap (λ os. obeyed e.line os c) is in
+    subst (AreKept as_they_are (record h { moments = es }) (after e m)) (sym same)
+    (finished m e here h c kept (record h { moments = es })
+    (subst (AreAt (IsOnAmid e m) (record h { moments = es }) m) (ap (λ os. obeyed line os c) (sym alone) ∙ same)
+    (carried-restart m e kept.reached here h c (begins m e here h c kept) line timer (h.now + d) es again (ap (λ n. h.now + n) d_is) (omega (arith, now, most)))))
+
+-- Where there is no order, the timers stand as they did.
+pub rested : (h : HeldTimers) (line : ℕ) (orders : List Order) → orders ≡ [] → (e : Event) (m : Card) (c : Clock) → e.line ≡ line → line < m.config.lines → orders ≡ orders_at e m → AreKept (left_by e) h m c
+    → AreKept as_they_are h (after e m) (obeyed line orders c)
+rested h line orders none e m c line_is line_there is kept =
+    let here : e.line < m.config.lines = subst (λ n. n < m.config.lines) (sym line_is) line_there in
+    let same : obeyed line orders c ≡ obeyed e.line (orders_at e m) c = ap (λ n. obeyed n orders c) (sym line_is) ∙ ap (λ os. obeyed e.line os c) is in
+    subst (AreKept as_they_are h (after e m)) (sym same)
+    (finished m e here h c kept h (subst (AreAt (IsOnAmid e m) h m) (ap (λ os. obeyed line os c) (sym none) ∙ same) (begins m e here h c kept)))
 
 module _ {S : Type 0} (store : S → Store) (card : Held S) (h : HeldTimers) (line : ℕ) (within : line < h.lines) where
   at-line : (e : Event) (m : Card) → HasLedTo store card line e m → e.line < m.config.lines

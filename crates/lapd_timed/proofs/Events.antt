@@ -19,7 +19,7 @@ use Rattle.model_timed.specs.Octets as octets
 use Rattle.model_timed.specs.RunTheSame.{left_at}
 use Rattle.model_timed.proofs.OctetsRun.{OctetsMean, octets-mean}
 use Rattle.lapd_timed.specs.Carried.{AreCarriedOut}
-use Rattle.lapd_timed.specs.Stands.{held, AreLeft, HasLedTo, TimersStand}
+use Rattle.lapd_timed.specs.Stands.{held, AreLeft, TimersStand}
 use Rattle.lapd_timed.specs.declared.card_timers.CardTimers.{CardTimers}
 use Rattle.lapd_timed.proofs.Carried.{before-all, after-all}
 

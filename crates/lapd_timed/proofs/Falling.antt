@@ -1,7 +1,7 @@
 -- What is due, and what is left when it is taken out.
 use Rattle.std.proofs.Common.{arith, ◌≡◌, ℕ, ◌*◌, ◌≤◌, true, false, cond, List, [], ◌∷◌, drop, nat_le, Option, Some, None, option_map, refl, sym, ap, ◌∙◌, subst}
 use Rattle.std.proofs.lemmas.Bool.Decides.{nat_tests}
-use Rattle.std.proofs.lemmas.Option.{same_Some}
+use Rattle.std.proofs.lemmas.Option.{none-some, same_Some}
 use Rattle.std.specs.List.{AllByRecursion}
 use Rattle.std.specs.Prelude.{IfSome}
 use Rattle.lapd_clock.specs.Timer.{Timer}
@@ -27,6 +27,13 @@ due-is (e ∷ es) now = (elim (nat_le e.moment now) as (λ b. cond b (Some (name
   | true ↦ refl
   | false ↦ refl
 ])
+
+pub none-is : (es : List Expiry) (now : ℕ) → clocks.first_due es now ≡ None → first_due es now ≡ None
+none-is es now none = go (first_due es now) (sym (due-is es now) ∙ none)
+  where
+    go : (o : Option Expiry) → option_map named_by o ≡ None → o ≡ None
+    go None e = refl
+    go (Some x) e = absurd (none-some (named_by x) (sym e))
 
 module _ (card : Card) (h : HeldTimers) (c : Clock) (kept : AreKept as_they_are h card c) (new : List Expiry) (now : ℕ) (taken : IsTaken now h.moments new) where
   abbrev x : Expiry

@@ -1,5 +1,5 @@
 -- A card and its timers, one step on.
-use Rattle.std.proofs.Common.{arith, ◌≡◌, ℕ, zero, suc, ◌<◌, List, [], ◌∷◌, length, Option, Some, None, option_map, refl, sym, ap, ◌∙◌, subst}
+use Rattle.std.proofs.Common.{arith, ◌≡◌, ℕ, zero, suc, ◌<◌, List, [], ◌∷◌, length, Option, Some, None, option_map, refl, sym, ap, subst}
 use Rattle.std.proofs.lemmas.Option.{none-some, same_Some}
 use Rattle.std.specs.Option.{option_map_or}
 use Rattle.lapd_card.specs.Card as octets_card
@@ -34,7 +34,7 @@ use Rattle.model_timed.specs.Timed.{Kind, Timed, happens, falls_due, with_event,
 use Rattle.model_timed.proofs.OctetsRun.{OctetsMean, octets-mean}
 use Rattle.lapd_timed.specs.Carried.{AreCarriedOut}
 use Rattle.lapd_timed.specs.Places.{named_by}
-use Rattle.lapd_timed.specs.Stands.{AreLeft, TimersStand}
+use Rattle.lapd_timed.specs.Stands.{AreLeft}
 use Rattle.lapd_timed.specs.Kinds.{LedByFrames, LedByOctets}
 use Rattle.lapd_timed.specs.TimedStands.{AreFrames, AreOctets}
 use Rattle.lapd_timed.specs.declared.card_timers.CardTimers.{CardTimers}

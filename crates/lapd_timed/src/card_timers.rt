@@ -1,9 +1,10 @@
 //! The timers of a card.
 
-ghost use Rattle.std.specs.Prelude.{◌≡◌, ◌↔◌, ◌+◌, ◌*◌, ◌^◌, ◌<◌, ◌≤◌, true, false, length, IfOk, IfSome, IfNone, option_map};
+ghost use Rattle.std.specs.Prelude.{◌≡◌, ◌↔◌, ◌+◌, ◌*◌, ◌^◌, ◌<◌, ◌≤◌, [], None, true, false, length, IfOk, IfSome, IfNone, option_map};
 ghost use Rattle.lapd_card.specs.FrameCard.{line_count};
 ghost use Rattle.lapd_card.specs.FrameStands.{FrameStands};
 ghost use Rattle.lapd_clock.specs.Given.{lengths_of};
+ghost use Rattle.lapd_frame.specs.ShortLists.{listed};
 ghost use Rattle.model_card.specs.Card as machine;
 ghost use Rattle.model_card.specs.Card.{Card, line_at};
 ghost use Rattle.model_card.specs.Event.{Event, at};
@@ -21,7 +22,7 @@ ghost use Rattle.lapd_timed.specs.Places.{own_place, link_on, named_by, AreOnLin
 
 use lapd_card::FrameCard;
 use lapd_clock::Lengths;
-use lapd_frame::{Order, Service, Timer};
+use lapd_frame::{Order, Service, ShortList, Timer};
 use lapd_moments::Moments;
 use lapd_store::Shelf;
 use std::alloc::{AllocError, Global};
@@ -112,6 +113,22 @@ impl CardTimers {
         true
     }
 
+    /// The time is now this moment, if it may be, and none is due then, as is known without a look. Whether it is so; if not,
+    /// nothing changes.
+    #[inline(always)]
+    pub fn pass(&mut self, moment: u64) -> bool
+        ensures passed { result ≡ true → (m : Card) (c : Clock) → TimersStand self.old m c
+            → (c.now ≤ moment) × (moment < 2 ^ 63) × (due (at_moment moment c) ≡ None) × TimersStand self.new m (at_moment moment c) }
+        ensures stays { result ≡ false → self.new ≡ self.old }
+        ensures lines { self.new.lines ≡ self.old.lines }
+        ensures terminals { self.new.terminals ≡ self.old.terminals }
+    {
+        if !self.moments.is_early(moment) {
+            return false;
+        }
+        self.go_to(moment)
+    }
+
     /// Takes out the timer that is due first, and answers it with its line; none if none is due, and then nothing changes.
     /// Its expiry is then to be handed to the card, and the orders of the answer to be carried out.
     ///
@@ -141,7 +158,10 @@ impl CardTimers {
     /// Carries out what a card has ordered at a line, in the answer to an event, at the moment. The card is where the event has
     /// led; the event was no expiry but of the timer that [`CardTimers::due`] has just taken out. Of a line that there is not,
     /// nothing is carried out.
-    #[inline(always)]
+    ///
+    /// Mostly there is one order, for the T203 that falls due first of its line, and then no place is looked for.
+    // It stands apart, so that a card without timers of its own has no part of it in its way.
+    #[inline(never)]
     pub fn obey<S: Shelf>(&mut self, card: &FrameCard<S>, line: usize, orders: &[Order])
         ensures lines { self.new.lines ≡ self.old.lines }
         ensures terminals { self.new.terminals ≡ self.old.terminals }
@@ -149,9 +169,69 @@ impl CardTimers {
         ensures after { (e : Event) (m : Card) (c : Clock) → HasLedTo S.store card.now line e m → orders.now ≡ orders_at e m → AreLeft e self.old m c
             → TimersStand self.new (after e m) (obeyed line orders.now c) }
     {
+        if !self.restart_alone(line, orders) {
+            self.obey_each(card, line, orders);
+        }
+    }
+
+    /// The same, of the orders as a report has them.
+    #[inline(never)]
+    pub fn obey_list<S: Shelf>(
+        &mut self,
+        card: &FrameCard<S>,
+        line: usize,
+        orders: &ShortList<Order>,
+    )
+        ensures lines { self.new.lines ≡ self.old.lines }
+        ensures terminals { self.new.terminals ≡ self.old.terminals }
+        ensures after { (e : Event) (m : Card) (c : Clock) → HasLedTo S.store card.now line e m → listed orders.now ≡ orders_at e m → AreLeft e self.old m c
+            → TimersStand self.new (after e m) (obeyed line (listed orders.now) c) }
+    {
+        match orders {
+            ShortList::None => {}
+            ShortList::One(order) => {
+                if !self.restart_alone(line, order) {
+                    self.obey_each(card, line, order);
+                }
+            }
+            _ => self.obey_each(card, line, orders.as_slice()),
+        }
+    }
+
+    /// Carries out each order in its place. It stands apart, since mostly it is not called.
+    #[inline(never)]
+    fn obey_each<S: Shelf>(&mut self, card: &FrameCard<S>, line: usize, orders: &[Order])
+        ensures lines { self.new.lines ≡ self.old.lines }
+        ensures terminals { self.new.terminals ≡ self.old.terminals }
+        ensures after { (e : Event) (m : Card) (c : Clock) → HasLedTo S.store card.now line e m → orders.now ≡ orders_at e m → AreLeft e self.old m c
+            → TimersStand self.new (after e m) (obeyed line orders.now c) }
+    {
         if line < self.lines && line < card.lines() {
             self.carry_out_all(card, line, orders);
         }
+    }
+
+    /// Carries the orders out if there is one, which starts anew the T203 that falls due first of its line, and still does so
+    /// then. Whether it is so; if not, nothing changes.
+    #[inline(always)]
+    fn restart_alone(&mut self, line: usize, orders: &[Order]) -> bool
+        ensures lines { self.new.lines ≡ self.old.lines }
+        ensures terminals { self.new.terminals ≡ self.old.terminals }
+        ensures after { result ≡ true → (e : Event) (m : Card) (c : Clock) → e.line ≡ line → line < m.config.lines
+            → orders.now ≡ orders_at e m → AreLeft e self.old m c → TimersStand self.new (after e m) (obeyed line orders.now c) }
+        ensures unchanged { result ≡ false → self.new ≡ self.old }
+    {
+        if orders.len() != 1 {
+            return false;
+        }
+        let Order::Start(timer) = orders[0] else {
+            return false;
+        };
+        if !matches!(timer, Timer::T203(_, _)) {
+            return false;
+        }
+        let due_at = self.moment + self.lengths.of(timer);
+        self.moments.restart(line, timer, due_at)
     }
 
     #[inline(always)]

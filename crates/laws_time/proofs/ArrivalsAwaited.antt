@@ -1,5 +1,5 @@
 -- No answer is awaited longer than T200 may run out.
-use Rattle.std.proofs.Common.{arith, ◌≡◌, ℕ, ◌+◌, ◌-◌, ◌*◌, ◌<◌, ◌≤◌, ◌==◌, ◌&&◌, ◌||◌, not, Bool, true, false, cond, List, [], ◌∷◌, ◌++◌, Option, Some, None, refl, sym, ap, ◌∙◌, subst, eqb-true, is_some, inl, inr, append-nil, append_assoc, option_map}
+use Rattle.std.proofs.Common.{arith, ◌≡◌, ℕ, ◌+◌, ◌-◌, ◌*◌, ◌<◌, ◌≤◌, ◌==◌, ◌&&◌, ◌||◌, not, Bool, true, false, List, [], ◌∷◌, ◌++◌, Option, Some, None, refl, sym, ap, ◌∙◌, subst, eqb-true, is_some, inl, append-nil, append_assoc, option_map}
 use Rattle.std.specs.Option.{option_map_or}
 use Rattle.std.specs.Prelude.{option_to_list, nat_lt, fold}
 use Rattle.std.proofs.lemmas.Bool.{true≢false, ltb-true}
@@ -15,8 +15,7 @@ use Rattle.model_line.specs.Event as line_event
 use Rattle.model_line.specs.Event.{Answer, expiry, hears, request, next}
 use Rattle.model_line.specs.Sound.{IsInRange}
 use Rattle.model_line.specs.declared.config.Config.{Config}
-use Rattle.model_link.specs.declared.timers.LinkTimer.{LinkTimer}
-use Rattle.model_link.specs.declared.timers.LinkTimer.TheVariants.{T200, T203}
+use Rattle.model_link.specs.declared.timers.LinkTimer.TheVariants.{T200}
 use Rattle.model_card.specs.Card as cards
 use Rattle.model_card.specs.Card.{state}
 use Rattle.model_card.specs.Event.{Event, at}
@@ -24,7 +23,7 @@ use Rattle.model_card.specs.Machine.{answer}
 use Rattle.model_card.specs.Run as runs_of
 use Rattle.model_card.specs.Run.{Moment}
 use Rattle.laws_trace.specs.Managing.{is_on}
-use Rattle.laws_trace.specs.Observer.{Observed, View, view_of, view_behind, by_event, by_t200, by_frame_begun, awaits, moment_of}
+use Rattle.laws_trace.specs.Observer.{Observed, View, view_of, view_behind, by_event, by_t200, by_frame_begun, moment_of}
 use Rattle.laws_trace.specs.TimersAreTimely.{runs, is_anew, is_timer_of}
 use Rattle.laws_trace.specs.Trace.{is_own, frame_in}
 use Rattle.model_timed.specs.Clock.{Clock, due, without_first, at_moment}

@@ -1,5 +1,5 @@
 -- By which events N200 is used up, and how often T200 has expired.
-use Rattle.std.proofs.Common.{arith, ◌≡◌, ℕ, ◌+◌, ◌-◌, ◌==◌, ◌&&◌, ◌||◌, not, Bool, true, false, cond, List, [], ◌∷◌, ◌++◌, map, length, Option, Some, None, Ok, Err, refl, sym, ap, ◌∙◌, eqb-true, eq-eqb, inl, inr, ◌⊎◌, append-nil}
+use Rattle.std.proofs.Common.{arith, ◌≡◌, ℕ, ◌+◌, ◌==◌, ◌&&◌, ◌||◌, not, Bool, true, false, cond, List, [], ◌∷◌, ◌++◌, map, length, Option, Some, None, Ok, Err, refl, sym, ap, ◌∙◌, eqb-true, eq-eqb, inl, inr, ◌⊎◌, append-nil}
 use Rattle.std.specs.Option.{option_map_or, option_and_then}
 use Rattle.std.specs.Result.{result_err}
 use Rattle.std.specs.Prelude.{option_to_list, nat_lt, flat_map}
@@ -25,18 +25,13 @@ use Rattle.lapd_frame.specs.declared.timers.Timer.TheVariants as timers
 use Rattle.model_line.specs.Event as line_event
 use Rattle.model_line.specs.Event.{Answer, expiry, hears, request, next}
 use Rattle.model_line.specs.declared.config.Config.{Config}
-use Rattle.model_link.specs.declared.timers.LinkTimer.TheVariants.{T200, T203}
-use Rattle.model_card.specs.Card.{state}
-use Rattle.model_card.specs.Event.{Event}
-use Rattle.model_card.specs.Machine.{answer}
+use Rattle.model_link.specs.declared.timers.LinkTimer.TheVariants.{T200}
 use Rattle.laws_trace.specs.LinkFrames.{malformed, fault_of, faulty_long, its_frame, frame_of}
 use Rattle.laws_trace.specs.News.{notes_due, wrong, wrong_frame, wrong_number, given_up, due as due_notes, brings, is_xid, is_sabme, releases}
 use Rattle.laws_trace.specs.Observer.{Observed, by_event, by_expiry, by_t200, awaits}
 use Rattle.laws_trace.specs.TimersAreTimely.{runs}
 use Rattle.laws_trace.specs.Trace.{is_own, is_up, frame_in}
-use Rattle.model_timed.specs.Timed.{time}
 use Rattle.laws_time.specs.circuit.Arriving.{error_in, is_used_up}
-use Rattle.laws_time.proofs.Links.{there}
 use Rattle.laws_time.proofs.OfCircuit.Moments.{is_waiting, not-7}
 
 abbrev pub Used : List Note → Bool

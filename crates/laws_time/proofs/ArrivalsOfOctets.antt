@@ -1,11 +1,11 @@
 -- No answer is awaited longer at a card of octets, and N200 takes its time there, as at the card of frames inside.
-use Rattle.std.proofs.Common.{◌≡◌, ℕ, ◌+◌, ◌*◌, ◌<◌, ◌≤◌, false, List, [], ◌∷◌, Option, Some, None, refl, sym, ap, ◌∙◌, subst}
+use Rattle.std.proofs.Common.{◌≡◌, ℕ, ◌+◌, ◌*◌, ◌<◌, ◌≤◌, false, List, [], ◌∷◌, Option, Some, None, refl, sym, subst}
 use Rattle.std.specs.List.{list_any}
 use Rattle.std.specs.Prelude.{flat_map}
 use Rattle.lapd_frame.specs.declared.services.Service.{Service}
 use Rattle.model_line.specs.Event as line
 use Rattle.model_card.specs.Card.{state}
-use Rattle.model_card.specs.Event.{Event as FrameEvent, at}
+use Rattle.model_card.specs.Event.{Event as FrameEvent}
 use Rattle.model_card.specs.ports.Event.{Event}
 use Rattle.model_timed.specs.Clock.{due}
 use Rattle.model_timed.specs.Frames.{TimedCard, frames}

@@ -1,5 +1,5 @@
 -- One event of a line: how soon T200 falls due then, and that N200 is not used up by it.
-use Rattle.std.proofs.Common.{arith, ◌≡◌, ℕ, ◌+◌, ◌-◌, ◌*◌, ◌<◌, ◌≤◌, ◌==◌, ◌&&◌, ◌||◌, not, Bool, true, false, cond, List, [], ◌∷◌, ◌++◌, Some, None, refl, sym, ap, ◌∙◌, subst, eqb-true, eq-eqb, inl, inr, ◌⊎◌, filter, nat_le}
+use Rattle.std.proofs.Common.{arith, ◌≡◌, ℕ, ◌+◌, ◌*◌, ◌<◌, ◌≤◌, ◌==◌, ◌&&◌, ◌||◌, not, Bool, true, false, cond, List, [], ◌∷◌, ◌++◌, Some, None, refl, sym, ap, ◌∙◌, subst, eqb-true, eq-eqb, inl, inr, ◌⊎◌, filter, nat_le}
 use Rattle.std.specs.Prelude.{nat_lt}
 use Rattle.std.proofs.lemmas.Bool.{true≢false, ltb-false}
 use Rattle.std.proofs.lemmas.Nat.{mul-le}
@@ -13,16 +13,15 @@ use Rattle.model_line.specs.Event.{expiry}
 use Rattle.model_line.specs.Sound.{IsInRange}
 use Rattle.model_line.specs.declared.config.Config.{Config}
 use Rattle.model_link.specs.declared.timers.LinkTimer.TheVariants.{T200}
-use Rattle.model_card.specs.Card.{state}
 use Rattle.model_card.specs.Event.{Event, at}
 use Rattle.model_card.specs.Machine.{answer}
 use Rattle.laws_line.specs.Heard.{notes_of}
 use Rattle.laws_trace.specs.Managing.{is_on}
 use Rattle.laws_trace.specs.News.{notes_due, is_news, brings}
-use Rattle.laws_trace.specs.Observer.{Observed, view_of, view_behind, by_event, awaits, in_state, moment_of as moment_at}
+use Rattle.laws_trace.specs.Observer.{Observed, view_of, view_behind, by_event, in_state, moment_of as moment_at}
 use Rattle.laws_trace.specs.TimersAreTimely.{renews, is_anew, is_timer_of}
 use Rattle.laws_trace.proofs.ObservedLaws.{news-is-told-so}
-use Rattle.model_timed.specs.Clock.{Clock, due, first_due}
+use Rattle.model_timed.specs.Clock.{Clock, first_due}
 use Rattle.model_timed.specs.Frames.{TimedCard, IsNoExpiry}
 use Rattle.laws_time.specs.Silence.{news_in}
 use Rattle.laws_time.specs.Watched.{of_frames}

@@ -9,6 +9,7 @@ use Rattle.lapd_frame.specs.declared.timers.Timer.TheVariants as timers
 use Rattle.model_line.specs.Event as line_event
 use Rattle.model_line.specs.Event.{expiry}
 use Rattle.model_line.specs.Laws.{orders_in}
+use Rattle.model_line.specs.Line.{is_terminal}
 use Rattle.model_line.specs.Sound.{IsInRange}
 use Rattle.model_line.specs.declared.config.Config.{Config}
 use Rattle.model_link.specs.declared.timers.LinkTimer.{LinkTimer}
@@ -51,9 +52,10 @@ runs-elsewhere : (timer : LinkTimer) (b : Bool) (o q : Observed) → q ≡ cond 
 runs-elsewhere timer true o q is run = absurd (true≢false (sym run ∙ ap (runs timer) is ∙ none-runs timer))
 runs-elsewhere timer false o q is run = ap (runs timer) (sym is) ∙ run
 
-on-by : (tei : ℕ) (b : Bool) (w : Managed) → is_on tei w ≡ true → is_on tei (cond b (nothing_due w) w) ≡ true
-on-by tei true w on = on
-on-by tei false w on = on
+on-by : (tei : ℕ) (b there : Bool) (w : Managed) → is_on tei w ≡ true → is_on tei (cond b (cond there (nothing_due w) (nothing_due w)) w) ≡ true
+on-by tei true true w on = on
+on-by tei true false w on = on
+on-by tei false there w on = on
 
 module _ (c : Config) (number : ℕ) (ranged : IsInRange c) (within : number < c.lines) (service : Service) (tei : ℕ) where
   -- What the expiry of a timer that runs leads to.
@@ -66,12 +68,12 @@ module _ (c : Config) (number : ℕ) (ranged : IsInRange c) (within : number < c
 
     pub t200-leads : is_on tei (view_of c service tei number events).teis ≡ true → behind T200 ≡ by_t200 c.n200 o
     t200-leads on =
-        stays-on c events number ranged all within service tei (expiry (timers.T200 service tei)) on (on-by tei (number == number) (view_of c service tei number events).teis on)
+        stays-on c events number ranged all within service tei (expiry (timers.T200 service tei)) on (on-by tei (number == number) (is_terminal c) (view_of c service tei number events).teis on)
         ∙ ap (λ b. cond b (by_t200 c.n200 o) o) (own-is service tei)
 
     pub t203-leads : is_on tei (view_of c service tei number events).teis ≡ true → behind T203 ≡ cond (o.state == 7 && not (awaits o)) (enquires o) o
     t203-leads on =
-        stays-on c events number ranged all within service tei (expiry (timers.T203 service tei)) on (on-by tei (number == number) (view_of c service tei number events).teis on)
+        stays-on c events number ranged all within service tei (expiry (timers.T203 service tei)) on (on-by tei (number == number) (is_terminal c) (view_of c service tei number events).teis on)
         ∙ ap (λ b. cond (b && (o.state == 7 && not (awaits o))) (enquires o) o) (own-is service tei)
 
     -- It starts one anew.

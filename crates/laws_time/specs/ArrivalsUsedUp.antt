@@ -1,5 +1,5 @@
 -- How soon N200 is used up at the earliest: a timed card alone, whatever comes on its line.
-use Rattle.std.specs.Prelude.{◌≡◌, ◌<◌, ℕ, ◌+◌, ◌*◌, ◌==◌, ◌||◌, Bool, true, false, List, flat_map, Some}
+use Rattle.std.specs.Prelude.{◌≡◌, ◌<◌, ℕ, ◌+◌, ◌*◌, ◌==◌, ◌||◌, true, false, List, flat_map, Some}
 use Rattle.std.specs.List.{list_any}
 use Rattle.lapd_clock.specs.Timer.{Lengths}
 use Rattle.lapd_frame.specs.declared.services.Service.{Service}

@@ -122,6 +122,7 @@ pub mod AnswersAreGiven
 pub mod AnswersSuit
 pub mod Known
 pub mod ServedByTerminal
+pub mod CausesOfSide
 pub mod CausesAreTold
 pub mod CountersCount
 pub mod SeenAs
@@ -136,3 +137,5 @@ pub mod OffersOfLink
 pub mod FramesAreDue
 pub mod UnitsAreFor
 pub mod OfOctets
+pub mod AskingSteps
+pub mod AskingEnds

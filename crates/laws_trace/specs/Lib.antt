@@ -13,6 +13,7 @@ pub mod ControlFrames
 pub mod Managing
 pub mod ManagingTerminal
 pub mod TeisAreManaged
+pub mod AskingEnds
 pub mod NoLossInVain
 pub mod AnswersAreGiven
 pub mod AnswersSuit
@@ -37,6 +38,8 @@ pub mod WorkedControls
 pub mod WorkedLoss
 pub mod WorkedAnswers
 pub mod WorkedManaging
+pub mod WorkedTerminal
+pub mod WorkedAsking
 pub mod WorkedOtherSide
 pub mod WorkedSapis
 pub mod RoomsAreTold

@@ -212,16 +212,16 @@ unfolding exchanged read_by reading header_of control_of unnumbered_of
 kept_for_later h = cc h.begins
 
 -- A terminal with seed 0x1234, and messages of the network to it: by a type, an Ri and Ai.
-abbrev terminal : Config
+abbrev pub terminal : Config
 terminal = record usual { side = User; seed = Some 0x1234 }
 
-abbrev says : ℕ → ℕ → ℕ → ℕ → Event
+abbrev pub says : ℕ → ℕ → ℕ → ℕ → Event
 says type high low last = frame_comes (0xFE ∷ 0xFF ∷ 0x03 ∷ 0x0F ∷ high ∷ low ∷ type ∷ last ∷ [])
 
-abbrev gets_64 : Event
+abbrev pub gets_64 : Event
 gets_64 = says 2 0x12 0x34 0x81
 
-abbrev t202 : Event
+abbrev pub t202 : Event
 t202 = at 0 (expiry T202)
 
 -- What begins by the next calls, as information.

@@ -2,6 +2,7 @@
 
 ghost use Rattle.laws_trace.specs.Sapis.{ServicesHaveTheirSapis};
 ghost use Rattle.laws_trace.specs.Trace.{Always};
+ghost use Rattle.laws_trace.specs.AskingEnds.{AskingEnds};
 ghost use Rattle.laws_trace.specs.AnswersAreGiven.{AnswersAreSent, QueueIsSent};
 ghost use Rattle.laws_trace.specs.AnswersSuit.{AnswersSuit};
 ghost use Rattle.laws_trace.specs.Configurations.{RangesAreServed};
@@ -151,12 +152,12 @@ pub fn what_is_given_is_due()
 /// has a call of its own. This holds once there are enough calls, whatever else happens and whatever was lost. The TEI
 /// stays on the line, to an observer, and the link is not deactivated.
 ///
-/// There have to be more calls than frames that the configuration lets go before. These are four messages of TEI
-/// management (on the user's side there is none), and all unit data that may wait. Beside these there are one frame of
-/// every link for each other control frame that the link has room for, and one of each other link. Each message of TEI
-/// management and each unit data that comes meanwhile counts, too. So with eight terminals, 4 unit data and 4 control
-/// frames 72 calls are enough, if none of these comes (Q.921 clauses 5.5.1.2, 5.5.3.2, 5.6.2 to 5.6.7, 5.7 and 5.8.1,
-/// and profile).
+/// There have to be more calls than frames that the configuration lets go before. First are all messages of TEI
+/// management that may wait: four, and at a terminal one more than its line may have TEIs. (At a trunk's end none does.)
+/// Then there are all unit data that may wait, one frame of every link for each other control frame that the link has
+/// room for, and one of each other link. Each message of TEI management and each unit data that comes meanwhile counts,
+/// too. So with eight terminals, 4 unit data and 4 control frames 72 calls are enough on the network's side, if none of
+/// these comes (Q.921 clauses 5.5.1.2, 5.5.3.2, 5.6.2 to 5.6.7, 5.7 and 5.8.1, and profile).
 pub fn answers_are_given()
     ensures { Always QueueIsSent }
 {}
@@ -178,8 +179,8 @@ pub fn answers_suit_events()
 /// Nothing is lost without need. Let control frames of a link become due by an event, as [`what_is_given_is_due`] has
 /// them, while its TEI stays on the line. Then an answer tells as many as lost as find no place beside those of the link
 /// that wait. At most as many wait as the configuration says. If none of any link becomes due, it tells as many as
-/// messages of TEI management are lost, by [`teis_are_managed`]. That is one if four are owed and another is, and none
-/// otherwise (profile).
+/// messages of TEI management are lost, by [`teis_are_managed`]. On the network's side that is one if four are owed and
+/// another is, and none otherwise. A terminal loses none (profile).
 pub fn nothing_is_lost_in_vain()
     ensures { Always NoLossInVain }
 {}
@@ -229,6 +230,14 @@ pub fn nothing_is_lost_in_vain()
 /// (Q.921 clauses 4.1.1.5, 5.3.1 to 5.3.5, 5.9.4 and 5.9.7, annex B and profile.)
 pub fn teis_are_managed()
     ensures { Always TeisAreManaged }
+{}
+
+/// Asking for a TEI ends. From a granted request of a terminal's management on, whatever its line hears, one result is
+/// told: that a TEI is assigned, or that none is. It is told after the third expiry of T202 at the latest. A further
+/// request is granted only after it. If the line is down, asking is over without a result (Q.921 clauses 5.3.2, 5.3.2.1
+/// and 5.9.4, annex B, and profile).
+pub fn asking_ends()
+    ensures { Always AskingEnds }
 {}
 
 /// Timers are timely. Whatever happened to a card, the answer to an event of a line orders for the timers of a link

@@ -18,9 +18,10 @@ ghost use Rattle.laws_trace.specs.octets.UnitsAreHeard.{UnitsAreHeard, AllUnitsA
 /// service and its TEI. From each time that the line is down on they are the first of what was granted after it
 /// (`front`).
 ///
-/// They are all of that once the line was only pulled, as often as the configuration says (`all`). This is 64,346 times
-/// with eight terminals, N201 of 260, windows of 7, 4 unit data and 4 control frames. Of each number of the contents its
-/// eight low bits are heard, so an octet, 0 to 255, as it is (Q.921 clauses 2.2 to 2.7, 3.6.5 and 5.2.2, and annex B).
+/// They are all of that once the line was only pulled, as often as the configuration says (`all`). On the network's side
+/// this is 64,346 times with eight terminals, N201 of 260, windows of 7, 4 unit data and 4 control frames. Of each number
+/// of the contents its eight low bits are heard, so an octet, 0 to 255, as it is (Q.921 clauses 2.2 to 2.7, 3.6.5 and
+/// 5.2.2, and annex B).
 pub fn units_are_heard()
     ensures front { OfEachLine UnitsAreHeard }
     ensures all { OfEachLine AllUnitsAreHeard }
@@ -45,9 +46,9 @@ pub fn frames_go_out()
 ///
 /// This holds whatever comes between the pulls, as long as the TEI stays on the line and the link is not deactivated,
 /// once there are enough pulls. Each of the frames that `answers_are_given` lets go before, and one frame after, counts
-/// as the longest. So with eight terminals, 4 unit data, 4 control frames and N201 of 260, if no message of TEI
-/// management and no unit data comes meanwhile, 23,370 pulls are enough (Q.921 clauses 2.2 to 2.7, 5.5.1.2, 5.5.3.2,
-/// 5.6.2 to 5.6.7, 5.7 and 5.8.1, and profile).
+/// as the longest. Take the network's side with eight terminals, 4 unit data, 4 control frames and N201 of 260. If no
+/// message of TEI management and no unit data comes meanwhile, 23,370 pulls are enough (Q.921 clauses 2.2 to 2.7,
+/// 5.5.1.2, 5.5.3.2, 5.6.2 to 5.6.7, 5.7 and 5.8.1, and profile).
 pub fn answers_are_heard()
     ensures { OfEachLine AllThatWaitsIsHeard }
 {}

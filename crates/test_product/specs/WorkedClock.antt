@@ -69,7 +69,7 @@ none_running = refl
 
 -- with other lengths what runs keeps its moments, and what is started then runs as long as they say
 abbrev slow : Timers
-slow = with_lengths (record { t200 = 12000; t203 = 60000; t201 = 2000 }) busy
+slow = with_lengths (record { t200 = 12000; t203 = 60000; t201 = 2000; t202 = 4000 }) busy
 
 kept : slow.running ≡ busy.running
 unfolding with_order finds_place

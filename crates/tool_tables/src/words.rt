@@ -89,6 +89,9 @@ fn note_name(note: Note) -> &'static str {
         Note::Assigned(_) => "assigned ",
         Note::Removed(_) => "removed ",
         Note::Doubled(_) => "doubled ",
+        Note::Denied => "denied",
+        Note::Unassigned => "unassigned",
+        Note::RemoveAll => "remove all",
     }
 }
 
@@ -104,9 +107,11 @@ fn order_name(order: Order) -> &'static str {
         Order::Start(Timer::T200(_, _)) => "+T200",
         Order::Start(Timer::T203(_, _)) => "+T203",
         Order::Start(Timer::T201) => "+T201",
+        Order::Start(Timer::T202) => "+T202",
         Order::Stop(Timer::T200(_, _)) => "-T200",
         Order::Stop(Timer::T203(_, _)) => "-T203",
         Order::Stop(Timer::T201) => "-T201",
+        Order::Stop(Timer::T202) => "-T202",
     }
 }
 

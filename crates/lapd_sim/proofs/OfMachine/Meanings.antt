@@ -2,7 +2,7 @@
 use Rattle.lapd_sim.proofs.OfMachine.Vocabulary.{[], ◌≡◌, ℕ, zero, suc, ◌+◌, ◌<◌, Bool, true, false, cond, List, ◌∷◌, ◌++◌, replicate, Option, Some, None, Result, Ok, Err, refl, sym, ap, ◌∙◌, nat_lt, nat_le, arith, ltb-true, nat_tests, All-nil, All-cons, recursion_from_All, none-some, LengthFault, Lengths, AreInRange, is_length, first_out_of_range, pull, expiry, request, hears, next, Event, at}
 use Rattle.lapd_sim.proofs.OfMachine.Vocabulary.{Board, after_all, IsAtLine, AreAtLines, CardKind, Octets, Frames, FaultKind, BadNumber, BadLine, BadFrame, TimeOver, Setup, terminal_at, octets_sent, after_sending, with_terminal, Scene, with_event, with_events, octets_at, Pulls, one_pull, pulls, is_heard_as, expiries, after_rx, after_in, after_pull, after_coming, can_come, for_octets, for_frames}
 use Rattle.lapd_sim.proofs.OfMachine.Vocabulary.{due_by, time_until, after_wait, after_timers, with_timers, with_card, last_moment, request_for, faulty, expiry_events, events_until, coming_events, meant_events, downs, teis_on, get_or, append_assoc, append-nil, after, reply, moments, reply_text, octet_in, pulled_text, replies_text, octet_given, meant_moments, at_line, taken_at, dropped, came}
-use Rattle.lapd_sim.proofs.OfMachine.Vocabulary.{cause_of, said, AskTei}
+use Rattle.lapd_sim.proofs.OfMachine.Vocabulary.{cause_of, said, AskTei, lengths_of}
 use Rattle.std.specs.Prelude.{map}
 use Rattle.lapd_clock.specs.declared.fault.LengthFault.TheVariants as fault
 use Rattle.lapd_script.specs.Meaning as line
@@ -217,7 +217,7 @@ meaning_brings (line.pull number count) b = octets_only _ _ _ b.board.kind _ (λ
 meaning_brings (line.wait milliseconds) b =
     let end = b.clock.now + milliseconds in
     if_good _ _ _ (nat_le end last_moment) _ TimeOver (λ _. record { led = wait_led milliseconds (scene_of b); says = expiries_say (time_until end b.clock) end (scene_of b) })
-meaning_brings (line.timers t200 t203 t201 t202) b = timers_brought (record { t200 = t200; t203 = t203; t201 = t201; t202 = t202 }) b
+meaning_brings (line.timers durations) b = timers_brought (lengths_of durations) b
 meaning_brings line.stored b = record { led = nothing_led b; says = refl }
 meaning_brings (line.counters number group) b = at_it number b _ (λ within. record { led = nothing_led b; says = refl })
 meaning_brings (line.ask number tei what octets) b =

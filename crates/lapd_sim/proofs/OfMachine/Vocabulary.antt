@@ -56,7 +56,7 @@ pub use Rattle.lapd_sim.specs.machine.Replies.{TranscriptsAreReplies, line_momen
 pub use Rattle.lapd_sim.specs.machine.Script.{Fault, Played, after_bench, after_reading, after_scene, faulty, is_too_long, not_begun, one_more, played, unless_faulty}
 pub use Rattle.lapd_sim.specs.machine.Setup.{Setup, begun, happened, taken_at, terminal_at, with_terminal}
 pub use Rattle.lapd_sim.specs.machine.Steps.{Pulls, Scene, after_coming, after_in, after_pull, after_rx, after_timers, after_wait, at_expiry, at_line, can_come, downs, due_by, expired, expiries, for_frames, for_octets, held, last_moment, moment_from, octet_in, octets_at, is_heard_as, one_pull, pulls, reply_text, request_for, teis_on, time_until, until, with_card, with_event, with_events}
-pub use Rattle.lapd_sim.specs.machine.Steps.{with_timers, without_card}
+pub use Rattle.lapd_sim.specs.machine.Steps.{lengths_of, with_timers, without_card}
 pub use Rattle.lapd_sim.specs.machine.Waits.{AllLater, WaitsLeaveNothingDue}
 pub use Rattle.lapd_sim.specs.machine.Within.{ScriptsStayWithin, bound_of, terminal_bound}
 pub use Rattle.lapd_frame.specs.declared.services.Service.TheVariants.{Call, Packet}

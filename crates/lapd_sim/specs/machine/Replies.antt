@@ -30,7 +30,7 @@ abbrev pub said : line.Meaning → Setup → List Moment → List ℕ
 said line.skip b ms = []
 said (line.card kind config) b ms = []
 said (line.pull number count) b ms = pulled_text number (taken_at number b) (map octet_given ms)
-said (line.timers t200 t203 t201 t202) b ms = []
+said (line.timers durations) b ms = []
 said line.stored b ms = stored_text (held b.board) (limit b.board.config)
 said (line.counters number group) b ms = counters_text number group (counters_at number b)
 said _ b ms = replies_text ms

@@ -23,6 +23,7 @@ use Rattle.lapd_script.specs.declared.kind.FaultKind.TheVariants.{BadNumber, NoC
 use Rattle.lapd_script.specs.declared.command.Asked.{Asked}
 use Rattle.lapd_script.specs.declared.command.Asked.TheVariants as asked
 use Rattle.lapd_script.specs.declared.command.CardKind.{CardKind}
+use Rattle.lapd_script.specs.declared.command.Durations.{Durations}
 use Rattle.lapd_script.specs.declared.command.CardKind.TheVariants.{Octets, Frames}
 use Rattle.lapd_script.specs.Meaning as line
 use Rattle.lapd_transcript.specs.Text.{report_text, refused_text, frame_text, nothing_text, stored_text}
@@ -135,6 +136,9 @@ abbrev pub after_wait : ℕ → Scene → Scene
 after_wait milliseconds s = until (s.setup.clock.now + milliseconds) s
 
 -- `timers`: timers that are started from now on run so long; those that run keep their moments.
+abbrev pub lengths_of : Durations → Lengths
+lengths_of d = record { t200 = d.t200; t203 = d.t203; t201 = d.t201; t202 = d.t202 }
+
 abbrev pub after_timers : Lengths → Scene → Scene
 after_timers lengths s = record s { setup = record s.setup { clock = with_lengths lengths s.setup.clock } }
 
@@ -237,7 +241,7 @@ with_card (line.down number) s = at_line number s (after_down number s)
 with_card (line.ask_tei number) s = at_line number s (after_asking number s)
 with_card (line.pull number count) s = for_octets s.setup.board.kind (at_line number s (after_pull number count s))
 with_card (line.wait milliseconds) s = in_time milliseconds s
-with_card (line.timers t200 t203 t201 t202) s = with_timers (record { t200 = t200; t203 = t203; t201 = t201; t202 = t202 }) s
+with_card (line.timers durations) s = with_timers (lengths_of durations) s
 with_card line.stored s = Ok (after_stored s)
 with_card (line.counters number group) s = at_line number s (after_counters group number s)
 with_card (line.ask number tei what octets) s = at_line number s (after_request number tei what octets s)

@@ -1,5 +1,5 @@
 -- An end of the circuit as a station of frames, after each event: layer 3 hears the same there, except what was dropped.
-use Rattle.std.proofs.Common.{arith, ◌≡◌, ℕ, Bool, true, false, cond, List, [], ◌++◌, Option, Some, None, option_map, refl, sym, ap, ◌∙◌, subst, append-nil}
+use Rattle.std.proofs.Common.{arith, ◌≡◌, ℕ, true, false, cond, List, [], ◌++◌, Option, Some, None, option_map, refl, sym, ap, ◌∙◌, subst, append-nil}
 use Rattle.std.specs.Prelude.{flat_map}
 use Rattle.std.proofs.lemmas.Grind.{flat_map-append}
 use Rattle.std.proofs.lemmas.List.{set-get_or}
@@ -10,7 +10,6 @@ use Rattle.model_line.specs.Event.{LineTold}
 unfoldable use Rattle.model_line.specs.Machine.{answer as line_answer, after as line_after, takes_slot}
 use Rattle.model_line.specs.Line.{fresh_line}
 use Rattle.model_line.specs.Request.{Request}
-use Rattle.model_card.specs.Card.{Card}
 unfoldable use Rattle.model_card.specs.ports.Card.{after, answer, meant}
 use Rattle.model_card.specs.ports.Port as port
 use Rattle.model_card.specs.ports.Port.{gained, is_due}

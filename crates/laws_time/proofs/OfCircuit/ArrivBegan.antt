@@ -1,6 +1,5 @@
 -- The circuit begins as a call on a wire, as soon as it is asked for.
-use Rattle.std.proofs.Common.{◌≡◌, ℕ, ◌/◌, ◌<◌, ◌≤◌, List, [], ◌∷◌, ◌++◌, length, drop, refl, sym, ap, ◌∙◌, subst, All}
-use Rattle.std.specs.Prelude.{fold}
+use Rattle.std.proofs.Common.{◌≡◌, ℕ, ◌/◌, ◌<◌, ◌≤◌, List, [], ◌∷◌, ◌++◌, length, drop, sym, ap, subst, All}
 use Rattle.std.proofs.lemmas.List.Elements.{All-nil, All-head, All-tail}
 use Rattle.std.proofs.lemmas.List.Sums.{fold-append}
 use Rattle.lapd_clock.specs.Timer.{Lengths, AreInRange}
@@ -9,8 +8,6 @@ use Rattle.model_line.specs.Event.{LineTold}
 use Rattle.model_line.specs.Request.{Request, Establish, Assign}
 use Rattle.model_line.specs.Sound.{IsInRange}
 use Rattle.model_line.specs.declared.config.Config.{Config}
-use Rattle.model_card.specs.ports.Port as port
-use Rattle.model_card.specs.ports.Port.{Port}
 use Rattle.model_timed.specs.Clock.{obeyed, stopped}
 use Rattle.laws_wire.specs.Call as call
 use Rattle.laws_wire.specs.Wire as wire
@@ -22,7 +19,7 @@ use Rattle.laws_order.proofs.OfCircuit.Projected.{asked-way}
 use Rattle.laws_order.proofs.OfCircuit.Ran.{Ran}
 use Rattle.lapd_frame.specs.declared.services.Service.{Service}
 use Rattle.laws_time.specs.circuit.Arriving.{calls, AreAsked, IsIdle as AsksNothing}
-use Rattle.laws_time.specs.circuit.Clocked.{TimedEndpoint, Clocked, Beat, hears, without_first_octet, comes_to, gone, beat, after, flags, endpoint}
+use Rattle.laws_time.specs.circuit.Clocked.{TimedEndpoint, Clocked, Beat, hears, comes_to, gone, beat, after, flags, endpoint}
 use Rattle.laws_time.specs.circuit.LongEnough.{Line, IsFit, IsTalk, IsOfLink, IsClearAt, begins, asked}
 unfoldable use Rattle.laws_time.specs.circuit.LongEnough.{AreClear}
 use Rattle.laws_time.proofs.OfCircuit.ArrivAs.{station, heard_of}
@@ -32,7 +29,6 @@ use Rattle.laws_time.proofs.OfCircuit.ArrivRun.{Reached, IsFairBoth, first-going
 use Rattle.laws_time.proofs.OfCircuit.ArrivWay.{Going, going-with}
 use Rattle.laws_time.proofs.OfCircuit.Beats.{Gone}
 use Rattle.laws_time.proofs.OfCircuit.Began.{port-is, none-ordered}
-use Rattle.laws_time.proofs.OfCircuit.Ends.{at_time}
 use Rattle.laws_time.proofs.OfCircuit.InTime.{PairNow, near_card, far_card, pair-begins}
 use Rattle.laws_time.proofs.OfCircuit.LongEnough.{pair-then, near-comes, far-comes, near-gone, far-gone, by_now}
 
@@ -63,13 +59,13 @@ module _ (l : Line) (fit : IsFit l) where
   idle-begins : IdleNow (begins l)
   idle-begins = record {
     pair = pair-begins l fit;
-    near = idle-first l.near l.service l.tei l.near_line l.way fit.call.near.0 fit.call.near.1 fit.call.terminal l.lengths fit.lengths l.rate;
-    far = idle-first l.far l.service l.tei l.far_line l.way fit.call.far.0 fit.call.far.1 fit.call.terminal l.lengths fit.lengths l.rate;
+    near = idle-first l.near l.service l.tei l.near_line l.way fit.call.near.0 fit.call.near.1 fit.call.terminal l.lengths fit.lengths.0 l.rate;
+    far = idle-first l.far l.service l.tei l.far_line l.way fit.call.far.0 fit.call.far.1 fit.call.terminal l.far_lengths fit.lengths.1 l.rate;
     goes = first-going l.near.n201 (port_of (endpoint l.near l.near_line l.lengths l.way l.tei).at) (endpoint l.near l.near_line l.lengths l.way l.tei).at.way (flags l.way)
-        (port-is l.near l.service l.tei l.near_line l.way fit.call.near.0 fit.call.near.1 fit.call.terminal l.lengths fit.lengths l.rate)
+        (port-is l.near l.service l.tei l.near_line l.way fit.call.near.0 fit.call.near.1 fit.call.terminal l.lengths fit.lengths.0 l.rate)
         (asked-way (Assign l.tei) (record (octet_endpoint l.near l.near_line) { way = flags l.way }));
-    comes = first-going l.far.n201 (port_of (endpoint l.far l.far_line l.lengths l.way l.tei).at) (endpoint l.far l.far_line l.lengths l.way l.tei).at.way (flags l.way)
-        (port-is l.far l.service l.tei l.far_line l.way fit.call.far.0 fit.call.far.1 fit.call.terminal l.lengths fit.lengths l.rate)
+    comes = first-going l.far.n201 (port_of (endpoint l.far l.far_line l.far_lengths l.way l.tei).at) (endpoint l.far l.far_line l.far_lengths l.way l.tei).at.way (flags l.way)
+        (port-is l.far l.service l.tei l.far_line l.way fit.call.far.0 fit.call.far.1 fit.call.terminal l.far_lengths fit.lengths.1 l.rate)
         (asked-way (Assign l.tei) (record (octet_endpoint l.far l.far_line) { way = flags l.way }));
   }
 
@@ -133,7 +129,7 @@ module _ (l : Line) (fit : IsFit l) where
       near_has =
           let c = fit.call in near-gone l fit.some c.near.0 c.far.0 c.opposite.0 c.opposite.1 fit.t200 (near_card l fit) (far_card l fit) w h.pair b talk clear_near clear_far
 
-      far_has : Gone l.service l.tei l.way l.lengths l.rate l.far fit.call.far.0 (w.beats / l.rate) w.beats h.pair.S2
+      far_has : Gone l.service l.tei l.way l.far_lengths l.rate l.far fit.call.far.0 (w.beats / l.rate) w.beats h.pair.S2
           (by_now l fit.some fit.call.near.0 fit.call.far.0 fit.call.opposite.0 fit.call.opposite.1 fit.t200 (near_card l fit) (far_card l fit) h.pair.S) (gone l.rate b w).far
       far_has =
           let c = fit.call in far-gone l fit.some c.near.0 c.far.0 c.opposite.0 c.opposite.1 fit.t200 (near_card l fit) (far_card l fit) w h.pair b talk clear_near clear_far

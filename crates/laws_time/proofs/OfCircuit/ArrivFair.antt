@@ -1,9 +1,8 @@
 -- Which errors are told as T200 expires: those by which N200 is used up.
-use Rattle.std.proofs.Common.{arith, ◌≡◌, ℕ, ◌||◌, Bool, true, false, cond, List, [], ◌∷◌, ◌++◌, refl, sym, ap, ◌∙◌, subst, All, append-nil}
+use Rattle.std.proofs.Common.{arith, ◌≡◌, ℕ, ◌||◌, Bool, true, false, List, [], ◌∷◌, ◌++◌, refl, sym, ap, ◌∙◌, subst, append-nil}
 use Rattle.std.specs.Prelude.{flat_map}
 use Rattle.std.specs.List.{list_any}
 use Rattle.std.proofs.lemmas.Grind.{flat_map-append}
-use Rattle.std.proofs.lemmas.List.Elements.{All-nil, All-cons}
 use Rattle.std.proofs.lemmas.List.Folds.{list_any-append}
 use Rattle.lapd_frame.specs.declared.notes.ErrorCode.{ErrorCode}
 use Rattle.lapd_frame.specs.declared.notes.Note.{Note}
@@ -20,7 +19,7 @@ use Rattle.model_line.specs.Event.{LineTold, expiry}
 use Rattle.model_line.specs.declared.config.Config.{Config}
 use Rattle.laws_wire.specs.Losing.{is_error, TellNoError}
 use Rattle.laws_wire.specs.Timely.{MayRepeat}
-use Rattle.laws_wire.specs.Wire.{Endpoint, answered, happens, told_by}
+use Rattle.laws_wire.specs.Wire.{Endpoint, answered, told_by}
 use Rattle.laws_wire.proofs.Speaking.{heard_by, said_by}
 use Rattle.laws_wire.proofs.Standing.{StationStands, expires-said}
 use Rattle.laws_time.specs.circuit.Arriving.{error_in, is_used_up}

@@ -1,7 +1,6 @@
 -- An octet of the other end comes, or noise in its place: at the stations a frame comes, or is lost, or nothing happens.
-use Rattle.std.proofs.Common.{arith, ◌≡◌, ℕ, ◌+◌, List, [], ◌∷◌, ◌++◌, length, drop, Option, Some, None, refl, sym, ap, ◌∙◌, subst, inl, inr}
+use Rattle.std.proofs.Common.{arith, ◌≡◌, ℕ, ◌+◌, List, [], ◌∷◌, ◌++◌, length, drop, Option, Some, None, refl, ap, ◌∙◌, inl, inr}
 use Rattle.std.specs.Option.{unwrap_or}
-use Rattle.lapd_clock.specs.Timer.{Lengths}
 use Rattle.lapd_frame.specs.declared.services.Service.{Service}
 use Rattle.model_bits.specs.Stream as stream
 use Rattle.model_line.specs.Came.{came}
@@ -16,11 +15,11 @@ use Rattle.laws_wire.specs.Wire.{Endpoint as FrameEndpoint, Wire, receives, lose
 use Rattle.laws_order.specs.circuit.Circuit.{Endpoint as OctetEndpoint, port_of}
 use Rattle.laws_order.specs.circuit.Circuit as circuit
 use Rattle.laws_order.proofs.OfCircuit.Ran.{Ran}
-use Rattle.laws_time.specs.circuit.Clocked.{TimedEndpoint, happens, hears}
+use Rattle.laws_time.specs.circuit.Clocked.{TimedEndpoint, hears}
 use Rattle.laws_time.specs.circuit.LongEnough.{IsFrame}
 use Rattle.laws_time.proofs.OfCircuit.ArrivAs.{station, heard_of, Becomes, none-becomes, frame-becomes, dropped-becomes}
 use Rattle.laws_time.proofs.OfCircuit.ArrivPath.{Path, path-none, path-one, path-turned}
-use Rattle.laws_time.proofs.OfCircuit.ArrivWay.{Going, IsNoFrame, Passes, Loses, Arrives, Comes, comes}
+use Rattle.laws_time.proofs.OfCircuit.ArrivWay.{Going, IsNoFrame, Comes, comes}
 
 module _ (service : Service) (tei : ℕ) (c d : Config) (ranged_far : IsInRange d) (size : d.n201 ≡ c.n201) (a : TimedEndpoint) (config : a.at.card.card.config ≡ c)
     (there : List (List ℕ)) (ts : List LineTold) (heard : heard_of ts ≡ heard_of a.at.told)

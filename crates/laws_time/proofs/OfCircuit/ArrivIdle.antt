@@ -1,10 +1,8 @@
 -- Before the call nothing is asked: no frame goes, no timer runs, and nothing is told but what noise makes.
-use Rattle.std.proofs.Common.{arith, ◌≡◌, ℕ, ◌+◌, ◌<◌, ◌≤◌, Bool, true, false, cond, List, [], ◌∷◌, ◌++◌, length, drop, Option, Some, None, option_map, refl, sym, ap, ◌∙◌, subst, All, inl, inr, append-nil}
-use Rattle.std.specs.Prelude.{flat_map, set}
+use Rattle.std.proofs.Common.{arith, ◌≡◌, ℕ, ◌+◌, ◌<◌, ◌≤◌, Bool, true, false, cond, List, [], ◌∷◌, ◌++◌, length, drop, Option, Some, None, option_map, refl, sym, ap, ◌∙◌, subst, inl, inr, append-nil}
+use Rattle.std.specs.Prelude.{set}
 use Rattle.std.specs.Option.{option_map_or, unwrap_or}
 use Rattle.std.proofs.lemmas.List.{set-get_or}
-use Rattle.std.proofs.lemmas.List.Elements.{All-nil, All-head, All-tail}
-use Rattle.lapd_frame.specs.declared.timers.Order.{Order}
 use Rattle.model_bits.specs.Stream as stream
 use Rattle.model_link.specs.Link.{fresh as fresh_link}
 use Rattle.model_line.specs.Event as line
@@ -16,7 +14,7 @@ use Rattle.model_line.specs.Request.{Request}
 use Rattle.model_line.specs.Sound.{IsInRange}
 use Rattle.model_line.specs.Taken.{Taken, taken, next_of, line_of}
 use Rattle.model_line.specs.declared.config.Config.{Config}
-use Rattle.model_card.specs.Card.{Card, line_at}
+use Rattle.model_card.specs.Card.{line_at}
 use Rattle.model_card.specs.Event.{at}
 use Rattle.model_card.specs.Machine as machine
 use Rattle.model_card.specs.ports.Event.{at as octet_at}
@@ -33,7 +31,7 @@ use Rattle.laws_order.specs.circuit.Circuit.{Endpoint as OctetEndpoint, port_of,
 use Rattle.laws_order.specs.circuit.Circuit as circuit
 use Rattle.laws_order.proofs.OfCircuit.AsFrames.{as_station}
 use Rattle.laws_order.proofs.OfCircuit.Ran.{Ran}
-use Rattle.laws_time.specs.circuit.Clocked.{TimedEndpoint, happens, hears, comes_to, asks}
+use Rattle.laws_time.specs.circuit.Clocked.{TimedEndpoint, happens, hears, comes_to}
 unfoldable use Rattle.laws_time.specs.circuit.Clocked.{fall_due}
 use Rattle.laws_time.specs.circuit.LongEnough.{IsFrame}
 use Rattle.laws_time.proofs.OctetsMean.{meant_at, orders-are}

@@ -1,23 +1,20 @@
 -- A call bears noise: what is told of it on a wire is told of the circuit.
-use Rattle.std.proofs.Common.{◌≡◌, ℕ, Bool, false, List, [], ◌∷◌, ◌++◌, map, refl, sym, ap, ◌∙◌, subst, All}
+use Rattle.std.proofs.Common.{◌≡◌, [], ◌∷◌, ◌++◌, map, sym, ap, ◌∙◌, subst, All}
 use Rattle.std.specs.Prelude.{flat_map}
 use Rattle.std.specs.List.{list_any}
 use Rattle.std.proofs.lemmas.List.Elements.{All-head, All-tail}
 use Rattle.std.proofs.lemmas.List.Folds.{list_any-append}
-use Rattle.lapd_frame.specs.declared.notes.ErrorCode.{ErrorCode}
 use Rattle.lapd_frame.specs.declared.notes.ErrorCode.TheVariants.{F}
 use Rattle.model_link.specs.Sound.{IsInRange}
-use Rattle.model_line.specs.Event.{LineTold}
 use Rattle.model_line.specs.Line.{terms}
 use Rattle.laws_wire.specs.Call.{calling, confirmed, indicated, data_told, IsBeginningOf}
 use Rattle.laws_wire.specs.Losing.{for_layer_3, heard_in}
 use Rattle.laws_wire.specs.Wire.{Wire}
 use Rattle.laws_wire.proofs.LossyRun.{setting}
 use Rattle.laws_wire.proofs.Talking.{Face}
-use Rattle.laws_time.specs.circuit.Arriving.{AreAsked, IsTold, HasAllPlaces, CallsBearNoise, calls, errors_at, is_used_up}
-use Rattle.laws_time.specs.circuit.Clocked.{TimedEndpoint, Clocked, after, contents_at}
+use Rattle.laws_time.specs.circuit.Arriving.{AreAsked, IsTold, CallsBearNoise, calls, errors_at, is_used_up}
+use Rattle.laws_time.specs.circuit.Clocked.{Clocked, after, contents_at}
 use Rattle.laws_time.specs.circuit.LongEnough.{Line, IsFit, begins}
-use Rattle.laws_time.proofs.OfCircuit.ArrivAs.{heard_of}
 use Rattle.laws_time.proofs.OfCircuit.ArrivBegan.{reached}
 use Rattle.laws_time.proofs.OfCircuit.ArrivFair.{codes, neither}
 use Rattle.laws_time.proofs.OfCircuit.ArrivRun.{Reached}

@@ -1,7 +1,6 @@
 -- With no octets in transit and no noise each frame that is heard was given; so a run meets the premises of `calls_bear_noise`.
-use Rattle.std.proofs.Common.{arith, ◌≡◌, ℕ, ◌<◌, ◌/◌, List, [], ◌∷◌, ◌++◌, length, drop, replicate, Option, Some, None, refl, sym, ap, ◌∙◌, subst, All, append-nil, append_assoc}
+use Rattle.std.proofs.Common.{arith, ◌≡◌, ℕ, ◌<◌, ◌/◌, List, [], ◌∷◌, ◌++◌, length, drop, replicate, Option, Some, None, refl, sym, ap, ◌∙◌, subst, All, append_assoc}
 use Rattle.std.proofs.lemmas.List.Elements.{All-nil, All-cons, All-append, All-head, All-tail}
-use Rattle.model_bits.specs.Stream as stream
 use Rattle.model_bits.specs.StuffingLaws.{AreOctets}
 use Rattle.model_line.specs.Event as line
 use Rattle.model_line.specs.Request.{Request, Establish}
@@ -17,9 +16,9 @@ use Rattle.laws_order.specs.circuit.Circuit as circuit
 use Rattle.laws_order.specs.circuit.Through.{octet_endpoint}
 use Rattle.laws_order.proofs.OfCircuit.Projected.{port-after, heard-way, asked-way}
 use Rattle.laws_order.proofs.OfCircuit.Ran.{Ran, goes-on, within-ports}
-use Rattle.laws_time.specs.circuit.Arriving.{IsIdle, IsAsked, AreAsked, IsTold, calls}
-use Rattle.laws_time.specs.circuit.Clocked.{TimedEndpoint, Clocked, Beat, plain, happens, hears, without_first_octet, comes_to, gone, beat, flags, endpoint, contents_at}
-use Rattle.laws_time.specs.circuit.LongEnough.{Line, IsFit, IsTalk, IsOfLink, IsClearAt, IsFrame, asked, begins}
+use Rattle.laws_time.specs.circuit.Arriving.{IsIdle, IsAsked, AreAsked, calls}
+use Rattle.laws_time.specs.circuit.Clocked.{TimedEndpoint, Clocked, Beat, plain, hears, without_first_octet, comes_to, gone, beat, flags, contents_at}
+use Rattle.laws_time.specs.circuit.LongEnough.{Line, IsFit, IsTalk, IsOfLink, IsClearAt, asked, begins}
 unfoldable use Rattle.laws_time.specs.circuit.LongEnough.{AreClear}
 use Rattle.laws_time.specs.circuit.WorkedArriving.{its_line, is_fit, sends, talks, talked, none_used, no_errors, has_places}
 use Rattle.laws_time.proofs.OfCircuit.ArrivLaw.{calls-bear-noise}
@@ -162,10 +161,10 @@ module _ (l : Line) (fit : IsFit l) where
       ap (λ (p : Port). p.given) is ∙ sym (ap (λ (q : Port). q.received ++ sent) same ∙ flags_are ∙ ap flags none)
 
   near-port : port_of (begins l).near.at ≡ fresh_port
-  near-port = port-is l.near l.service l.tei l.near_line l.way fit.call.near.0 fit.call.near.1 fit.call.terminal l.lengths fit.lengths l.rate
+  near-port = port-is l.near l.service l.tei l.near_line l.way fit.call.near.0 fit.call.near.1 fit.call.terminal l.lengths fit.lengths.0 l.rate
 
   far-port : port_of (begins l).far.at ≡ fresh_port
-  far-port = port-is l.far l.service l.tei l.far_line l.way fit.call.far.0 fit.call.far.1 fit.call.terminal l.lengths fit.lengths l.rate
+  far-port = port-is l.far l.service l.tei l.far_line l.way fit.call.far.0 fit.call.far.1 fit.call.terminal l.far_lengths fit.lengths.1 l.rate
 
   pub clear-line : l.way ≡ 0 → (bs : List Beat) → All (IsTalk l) bs → All IsQuiet bs → AreClear l bs (begins l)
   clear-line none bs talk quiet =

@@ -1,7 +1,6 @@
 -- No frame of a kind is under way from an end that gave all of that kind: neither on its way, nor waiting.
-use Rattle.std.proofs.Common.{arith, ◌≡◌, ℕ, ◌+◌, ◌*◌, ◌≤◌, ◌<◌, ◌||◌, Bool, true, false, List, [], ◌∷◌, ◌++◌, map, length, Option, Some, None, Ok, refl, sym, ap, ◌∙◌, subst, All, inl, inr, append-nil, length-append}
+use Rattle.std.proofs.Common.{arith, ◌≡◌, ℕ, ◌+◌, ◌*◌, ◌≤◌, ◌<◌, ◌||◌, Bool, true, false, List, [], ◌∷◌, ◌++◌, map, length, Option, Some, None, refl, sym, ap, ◌∙◌, subst, All, inl, inr, append-nil, length-append}
 use Rattle.std.specs.List.{list_any}
-use Rattle.std.proofs.lemmas.Bool.{true≢false}
 use Rattle.std.proofs.lemmas.List.{append_cancel_left, map-append}
 use Rattle.std.proofs.lemmas.List.Elements.{All-nil, All-cons, All-head, All-tail}
 use Rattle.lapd_frame.specs.declared.controls.Control.{Control}
@@ -23,7 +22,7 @@ use Rattle.model_card.proofs.OfPorts.PortGoesOn.{frames_among-append}
 use Rattle.model_card.specs.ports.Codec.{frames_among}
 use Rattle.model_card.specs.ports.Port.{Port, gained}
 use Rattle.laws_link.specs.two.Timely.{HasNo}
-use Rattle.laws_wire.specs.Facing.{parts_of, read_as}
+use Rattle.laws_wire.specs.Facing.{parts_of}
 use Rattle.laws_wire.proofs.Standing.{IsCarried, StationStands, link-sound}
 use Rattle.laws_order.specs.circuit.Circuit.{Endpoint as OctetEndpoint, port_of}
 use Rattle.laws_order.proofs.OfCircuit.AsFrames.{as_station}

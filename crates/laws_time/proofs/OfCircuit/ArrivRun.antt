@@ -1,22 +1,19 @@
 -- A call of the clocked circuit is one on a wire of frames, where T200 is long enough.
-use Rattle.std.proofs.Common.{arith, ◌≡◌, ℕ, ◌/◌, Bool, List, [], ◌∷◌, ◌++◌, length, Option, refl, sym, ap, ◌∙◌, subst, All, append-nil}
-use Rattle.std.specs.Prelude.{fold}
+use Rattle.std.proofs.Common.{◌≡◌, ℕ, ◌/◌, List, [], ◌∷◌, length, Option, refl, sym, ◌∙◌, subst, All, append-nil}
 use Rattle.std.proofs.lemmas.List.Elements.{All-nil, All-cons, All-head, All-tail}
 use Rattle.model_bits.specs.StuffingLaws.{AreOctets}
 use Rattle.model_line.specs.Event as line
 use Rattle.model_line.specs.Event.{LineTold}
-use Rattle.model_line.specs.Request.{Request, Establish, Data, SetBusy, ClearBusy, Assign}
-use Rattle.model_line.specs.declared.config.Config.{Config}
-use Rattle.model_card.specs.ports.Codec.{frames_among}
+use Rattle.model_line.specs.Request.{Request, Establish, Data, SetBusy, ClearBusy}
 use Rattle.model_card.specs.ports.Port as port
 use Rattle.model_card.specs.ports.Port.{Port, fresh_port}
 use Rattle.laws_wire.specs.Answering as answering
 use Rattle.laws_wire.specs.Wire as wire
 use Rattle.laws_wire.specs.Wire.{Endpoint as FrameEndpoint, Wire}
-use Rattle.laws_order.specs.circuit.Circuit.{Endpoint as OctetEndpoint, port_of}
+use Rattle.laws_order.specs.circuit.Circuit.{port_of}
 use Rattle.laws_order.proofs.OfCircuit.OneWay.{Carries}
 use Rattle.laws_time.specs.circuit.Arriving.{calls, IsAsked, AreAsked}
-use Rattle.laws_time.specs.circuit.Clocked.{TimedEndpoint, Clocked, Beat, happens, asks, hears, comes_to, gone, beat, after, fall_due, flags}
+use Rattle.laws_time.specs.circuit.Clocked.{TimedEndpoint, Clocked, Beat, asks, hears, comes_to, gone, beat, after, flags}
 use Rattle.laws_time.specs.circuit.LongEnough.{Line, IsFit, IsTalk, IsOfLink, asked, answered_in}
 unfoldable use Rattle.laws_time.specs.circuit.LongEnough.{AreClear}
 use Rattle.laws_time.proofs.OfCircuit.Acts.{Goes, asks-goes}
@@ -28,7 +25,7 @@ use Rattle.laws_time.proofs.OfCircuit.ArrivSide.{fair-happens, fair-asks, fair-f
 use Rattle.laws_time.proofs.OfCircuit.ArrivWay.{Going}
 use Rattle.laws_time.proofs.OfCircuit.Ends.{at_time}
 use Rattle.laws_time.proofs.OfCircuit.InTime.{PairNow, near_card, far_card}
-use Rattle.laws_time.proofs.OfCircuit.LongEnough.{Pair, by_now, near-in-all, pair-then}
+use Rattle.laws_time.proofs.OfCircuit.LongEnough.{by_now, near-in-all, pair-then}
 use Rattle.std.specs.Option.{unwrap_or}
 
 -- What is told later leaves what was told.

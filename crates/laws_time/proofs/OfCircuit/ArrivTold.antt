@@ -1,6 +1,6 @@
 -- What is told in a call with losses on a wire: which errors, and all data whose sender keeps nothing any more.
-use Rattle.std.proofs.Common.{arith, ◌≡◌, ℕ, ◌+◌, ◌-◌, ◌≤◌, ◌==◌, Bool, true, false, cond, List, [], ◌∷◌, ◌++◌, length, map, take, drop, Option, Some, None, Ok, Err, refl, sym, ap, ◌∙◌, subst, All, ◌⊎◌, inl, inr, append-nil, append_assoc}
-use Rattle.std.specs.Prelude.{flat_map, option_to_list, Result}
+use Rattle.std.proofs.Common.{arith, ◌≡◌, ℕ, ◌≤◌, ◌==◌, Bool, true, false, cond, List, [], ◌∷◌, ◌++◌, length, map, take, drop, Option, Some, None, Ok, refl, sym, ap, ◌∙◌, subst, All, ◌⊎◌, inl, inr, append-nil}
+use Rattle.std.specs.Prelude.{flat_map, option_to_list}
 use Rattle.std.proofs.lemmas.Bool.{true≢false}
 use Rattle.std.proofs.lemmas.Grind.{flat_map-append}
 use Rattle.std.proofs.lemmas.List.{length-drop, take_all}
@@ -24,11 +24,11 @@ use Rattle.model_line.specs.declared.config.Config.{Config}
 use Rattle.model_card.specs.Card.{line_at}
 use Rattle.model_card.specs.Room.{room, free as free_slots}
 use Rattle.laws_line.proofs.OfCard.Meanwhile.{all-left}
-use Rattle.laws_wire.specs.Answering.{IsFullTalk, Called, uncalled, told_of_sabme, with_sabme, takes_sabme, seeing, error_f, renewed, all_kept, ToldSo}
+use Rattle.laws_wire.specs.Answering.{IsFullTalk, Called, uncalled, with_sabme, takes_sabme, seeing, error_f, renewed, ToldSo}
 unfoldable use Rattle.laws_wire.specs.Answering.{StayPatient, seen}
 use Rattle.laws_wire.specs.Call.{CanCall, calling, confirmed, indicated, data_told, IsBeginningOf}
 use Rattle.laws_wire.specs.Losing.{for_layer_3, heard_in}
-use Rattle.laws_wire.specs.Wire.{Endpoint, Wire, Step, requests, expires, sends, receives, loses, StepAt, at_near, at_far, doing}
+use Rattle.laws_wire.specs.Wire.{Endpoint, Wire, requests, expires, sends, receives, loses, StepAt, at_near, at_far, doing}
 unfoldable use Rattle.laws_wire.specs.Wire.{doing_all}
 use Rattle.laws_wire.proofs.Awaited.{link-is}
 use Rattle.laws_wire.proofs.Calling.{end, ua}

@@ -1,18 +1,28 @@
 -- Two ends of the clocked circuit as they begin: nothing is under way, and no timer runs.
-use Rattle.std.proofs.Common.{arith, ◌≡◌, ℕ, ◌+◌, ◌<◌, ◌≤◌, Bool, true, false, cond, List, [], ◌∷◌, ◌++◌, length, Some, refl, sym, ap, ◌∙◌, subst, All}
+use Rattle.std.proofs.Common.{arith, ◌≡◌, ℕ, ◌+◌, ◌<◌, ◌≤◌, Bool, true, false, cond, List, [], ◌∷◌, ◌++◌, length, Option, Some, None, refl, sym, ap, ◌∙◌, subst, All}
 use Rattle.std.proofs.lemmas.List.{length-replicate}
 use Rattle.std.proofs.lemmas.Bool.{true≢false}
 use Rattle.std.proofs.lemmas.List.Elements.{All-nil}
 use Rattle.lapd_clock.specs.Timer.{Lengths, AreInRange}
+use Rattle.lapd_frame.specs.declared.refusals.Refusal.{Refusal}
 use Rattle.lapd_frame.specs.declared.refusals.Refusal.TheVariants.{PoolFull}
 use Rattle.lapd_frame.specs.declared.services.Service.{Service}
 unfoldable use Rattle.lapd_tei.specs.Events.{course as tei_course, refusal as tei_refusal}
+use Rattle.lapd_tei.specs.Events.{assign as tei_assign}
+use Rattle.lapd_tei.specs.Table.{free_place}
+use Rattle.lapd_terminal.specs.Events as terminals
+unfoldable use Rattle.lapd_terminal.specs.Events.{course as terminal_course}
+use Rattle.lapd_terminal.specs.Rows.{join_at, put_on}
+use Rattle.lapd_terminal.specs.Words.{Course, begun as terminal_begun}
 use Rattle.model_bits.specs.StuffingLaws.{AreOctets}
 use Rattle.model_bits.specs.Sent.{Item}
 use Rattle.model_link.specs.Link.{fresh as fresh_link}
 use Rattle.model_line.specs.Event as line
 use Rattle.model_line.specs.Laws.{orders_in}
-use Rattle.model_line.specs.Line.{Line}
+use Rattle.model_line.specs.Effect.{at_management, of_aim, of_change, of_network, of_terminal, told_of_terminal}
+use Rattle.model_line.specs.Line.{Line, is_terminal, terminal_in, with_terminal}
+use Rattle.model_line.specs.Machine.{unless_refused, unless_refused_told}
+use Rattle.model_line.specs.Refusal.{refusal}
 unfoldable use Rattle.model_line.specs.Machine.{answer as line_answer, takes_slot}
 use Rattle.model_line.specs.Request.{Assign}
 use Rattle.model_line.specs.Sound.{IsInRange}
@@ -55,10 +65,38 @@ use Rattle.laws_time.proofs.OfCircuit.Under.{EndOk}
 use Rattle.laws_time.specs.circuit.Clocked.{TimedEndpoint, first, flags, endpoint}
 use Rattle.laws_time.specs.circuit.LongEnough.{is_of}
 
--- An assignment orders nothing.
-assigned-none : (c : Config) (tei : ℕ) (l : Line) → orders_in (line_answer c (line.request (Assign tei)) l) ≡ []
-unfolding line_answer tei_course tei_refusal
-assigned-none c tei l = grind arith
+-- An assignment orders nothing, whatever the side.
+module _ (c : Config) (tei : ℕ) (l : Line) where
+  here : (of_network c (tei_assign tei) l).told.orders ≡ []
+  unfolding tei_course tei_refusal
+  here = grind arith
+
+  abbrev OrdersNone : Course → Type 0
+  OrdersNone x = (of_change c x.told.change (told_of_terminal x.told) (with_terminal x.now l)).told.orders ≡ []
+
+  there : (of_terminal c (terminals.assign tei) l).told.orders ≡ []
+  unfolding terminal_course
+  there = unless (terminals.refusal (terminals.assign tei) (terminal_in l))
+    where
+      joined : (o : Option ℕ) → OrdersNone (join_at tei o (terminal_begun (terminal_in l)))
+      joined None = refl
+      joined (Some place) = refl
+
+      unless : (o : Option Refusal) → OrdersNone (terminals.unless_refused o (put_on tei) (terminal_in l))
+      unless None = joined (free_place l.management.places)
+      unless (Some why) = refl
+
+  assigned-none : orders_in (line_answer c (line.request (Assign tei)) l) ≡ []
+  unfolding line_answer
+  assigned-none = unless (refusal c false (Assign tei) l)
+    where
+      by-side : (b : Bool) → (cond b (of_terminal c (terminals.assign tei) l) (of_network c (tei_assign tei) l)).told.orders ≡ []
+      by-side true = there
+      by-side false = here
+
+      unless : (o : Option Refusal) → orders_in (unless_refused_told o (of_aim c (unless_refused o (at_management (tei_assign tei))) l)) ≡ []
+      unless None = by-side (is_terminal c)
+      unless (Some why) = refl
 
 assign-orders : (number tei : ℕ) (card : Card) → orders_in (machine.answer (at number (line.request (Assign tei))) card) ≡ []
 assign-orders number tei card = go (wants_room (at number (line.request (Assign tei))) card)

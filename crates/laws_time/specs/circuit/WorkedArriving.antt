@@ -1,6 +1,6 @@
 -- Worked values: a call on a line of an octet a millisecond, on which T200 is long enough. A content is sent, and its sender's queue has
 -- each of its places again as it is acknowledged. Each computes.
-use Rattle.std.specs.Prelude.{◌≡◌, ℕ, ◌+◌, ◌*◌, ◌≤◌, false, List, [], ◌∷◌, ◌++◌, replicate, refl}
+use Rattle.std.specs.Prelude.{◌≡◌, false, List, [], ◌∷◌, ◌++◌, replicate, refl}
 use Rattle.std.specs.List.{list_any}
 use Rattle.std.proofs.Common.{arith}
 use Rattle.lapd_frame.specs.declared.notes.ErrorCode.TheVariants.{C}

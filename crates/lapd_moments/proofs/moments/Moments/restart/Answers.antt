@@ -8,7 +8,7 @@ use Rattle.lapd_moments.proofs.moments.Moments.restart.Goals as goal
 pub invariant_of-self-2 : goal.invariant_of-self-2
 invariant_of-self-2 c =
     restarted c.self.inside.not_before c.self.inside.each c.args.line c.self.inside.bounds.items c.self.inside.leads.items c.self.inside.places.items c.index-lead.result.now c.index_mut-leading.result.now c.self.invariant
-    (omega arith) c.index-lead.ensures c.index_mut-leading.ensures.value c.min-self-inside.result c.args.moment (omega arith) (omega arith) (omega arith) c.if-leading.false
+    (omega arith) c.index-lead.ensures c.index_mut-leading.ensures.value c.args.moment (omega arith) (omega arith) c.if-leading.false
 
 pub returns-clause-done : goal.returns-clause-done
 returns-clause-done c = λ _.

@@ -1,15 +1,14 @@
 -- Hand-written answers for `Setup::set_timers`.
 use Rattle.lapd_sim.proofs.Vocabulary.{◌≡◌, Ok, refl, sym, subst, counters_of, scene, OnBoard, SetupStands, puts_nothing}
-use Rattle.lapd_clock.specs.Timer.{Lengths}
 use Rattle.lapd_timed.specs.Stands.{TimersStand}
 use Rattle.model_timed.specs.Clock.{with_lengths}
-use Rattle.lapd_sim.specs.machine.Steps.{after_timers}
+use Rattle.lapd_sim.specs.machine.Steps.{after_timers, lengths_of}
 use Rattle.lapd_sim.proofs.Scenes.{obeyed, timers_set}
 use Rattle.lapd_sim.proofs.setup.Setup.set_timers.Goals as goal
 
 pub returns : goal.returns
 returns c = λ before m h.
-    let lengths : Lengths = record { t200 = c.args.t200; t203 = c.args.t203; t201 = c.args.t201; t202 = c.args.t202 } in
+    let lengths = lengths_of c.args.durations in
     obeyed (Ok tt) (Ok tt) refl before before (SetupStands _) _ (after_timers lengths (scene m)) (timers_set lengths (scene m) c.in-Ok.ensures.in_range) (
       puts_nothing before,
       record {

@@ -1,5 +1,5 @@
 -- Where there are orders, the timers obey them.
-use Rattle.std.proofs.Common.{◌≡◌, ◌<◌, [], length, ap, sym, subst, arith}
+use Rattle.std.proofs.Common.{◌≡◌, ◌<◌, length, ap, sym, subst, arith}
 use Rattle.lapd_card.specs.Kinds.{frames_of, shelf_of}
 use Rattle.lapd_timed.specs.Carried.{AreCarriedOut}
 use Rattle.lapd_timed.specs.Stands.{HasLedTo}

@@ -1,0 +1,11 @@
+-- Lemmas.
+pub mod Lists
+pub mod NetworkSteps
+pub mod Frames
+pub mod TerminalSteps
+pub mod Waiting
+pub mod NetworkHolds
+pub mod TerminalHolds
+pub mod Seen
+pub mod Runs
+pub mod Law

@@ -1,0 +1,103 @@
+-- What is in a list of assignments, and what passes a test in a list.
+use Rattle.std.specs.Prelude.{◌≡◌, ℕ, zero, suc, ◌==◌, ◌||◌, ◌≤◌, ◌⊎◌, not, Bool, true, false, cond, List, [], ◌∷◌, ◌++◌, length, filter, drop, Option, Some, None, refl}
+use Rattle.std.specs.List.{list_any, find}
+use Rattle.std.proofs.Common.{inl, inr, subst, sym, ap, ◌∙◌, arith, true≢false, append-nil}
+use Rattle.std.proofs.lemmas.List.Folds.{list_any-append}
+use Rattle.lapd_tei.specs.declared.remembered.Remembered.{Remembered}
+use Rattle.laws_teis.specs.Assignments.{IsIn}
+
+pub in-left : (r : Remembered) (xs ys : List Remembered) → IsIn r xs → IsIn r (xs ++ ys)
+in-left r [] ys is = absurd is
+in-left r (x ∷ xs) ys (inl is) = inl is
+in-left r (x ∷ xs) ys (inr more) = inr (in-left r xs ys more)
+
+pub in-right : (r : Remembered) (xs ys : List Remembered) → IsIn r ys → IsIn r (xs ++ ys)
+in-right r [] ys is = is
+in-right r (x ∷ xs) ys is = inr (in-right r xs ys is)
+
+pub in-either : (r : Remembered) (xs ys : List Remembered) → IsIn r (xs ++ ys) → IsIn r xs ⊎ IsIn r ys
+in-either r [] ys is = inr is
+in-either r (x ∷ xs) ys (inl is) = inl (inl is)
+in-either r (x ∷ xs) ys (inr more) = go (in-either r xs ys more)
+  where
+    go : IsIn r xs ⊎ IsIn r ys → IsIn r (x ∷ xs) ⊎ IsIn r ys
+    go (inl is) = inl (inr is)
+    go (inr is) = inr is
+
+pub in-filter : (p : Remembered → Bool) (r : Remembered) (xs : List Remembered) → IsIn r xs → p r ≡ true → IsIn r (filter p xs)
+in-filter p r [] is passes = absurd is
+in-filter p r (x ∷ xs) (inl is) passes = subst (λ b. IsIn r (cond b (x ∷ filter p xs) (filter p xs))) (sym (ap p is ∙ passes)) (inl is)
+in-filter p r (x ∷ xs) (inr more) passes = go (p x) (in-filter p r xs more passes)
+  where
+    go : (b : Bool) → IsIn r (filter p xs) → IsIn r (cond b (x ∷ filter p xs) (filter p xs))
+    go true is = inr is
+    go false is = is
+
+pub in-filtered : (p : Remembered → Bool) (r : Remembered) (xs : List Remembered) → IsIn r (filter p xs) → IsIn r xs × (p r ≡ true)
+in-filtered p r [] is = absurd is
+in-filtered p r (x ∷ xs) is = go (p x) refl is (in-filtered p r xs)
+  where
+    go : (b : Bool) → p x ≡ b → IsIn r (cond b (x ∷ filter p xs) (filter p xs)) → (IsIn r (filter p xs) → IsIn r xs × (p r ≡ true)) → IsIn r (x ∷ xs) × (p r ≡ true)
+    go true so (inl same) rest = (inl same, sym (ap p same) ∙ so)
+    go true so (inr more) rest = (inr (rest more).0, (rest more).1)
+    go false so more rest = (inr (rest more).0, (rest more).1)
+
+pub in-dropped : (k : ℕ) (r : Remembered) (xs : List Remembered) → IsIn r (drop k xs) → IsIn r xs
+in-dropped zero r xs is = is
+in-dropped (suc k) r [] is = is
+in-dropped (suc k) r (x ∷ xs) is = inr (in-dropped k r xs is)
+
+pub in-end : (k : ℕ) (r : Remembered) (xs : List Remembered) → k ≤ length xs → IsIn r (drop k (xs ++ r ∷ []))
+in-end zero r xs few = in-right r xs (r ∷ []) (inl refl)
+in-end (suc k) r [] few = absurd (omega (arith, few))
+in-end (suc k) r (x ∷ xs) few = in-end k r xs (omega (arith, few))
+
+pub in-found : (p : Remembered → Bool) (r : Remembered) (xs : List Remembered) → find p xs ≡ Some r → IsIn r xs × (p r ≡ true)
+in-found p r [] found = absurd (none-is found)
+  where
+    none-is : {r : Remembered} → None ≡ Some r → ⊥
+    none-is e = cc e
+in-found p r (x ∷ xs) found = go (p x) refl found (in-found p r xs)
+  where
+    go : (b : Bool) → p x ≡ b → cond b (Some x) (find p xs) ≡ Some r → (find p xs ≡ Some r → IsIn r xs × (p r ≡ true)) → IsIn r (x ∷ xs) × (p r ≡ true)
+    go true so is rest = let same : x ≡ r = cc in (inl same, sym (ap p same) ∙ so)
+    go false so is rest = (inr (rest is).0, (rest is).1)
+
+pub found-passes : {X : Type 0} (p : X → Bool) (x : X) (xs : List X) → find p xs ≡ Some x → p x ≡ true
+found-passes p x [] found = absurd (cc)
+found-passes p x (y ∷ xs) found = go (p y) refl found (found-passes p x xs)
+  where
+    go : (b : Bool) → p y ≡ b → cond b (Some y) (find p xs) ≡ Some x → (find p xs ≡ Some x → p x ≡ true) → p x ≡ true
+    go true so is rest = let same : y ≡ x = cc in sym (ap p same) ∙ so
+    go false so is rest = rest is
+
+-- tests
+pub or-left-so : (a b : Bool) → a ≡ true → (a || b) ≡ true
+or-left-so a b is = ap (λ a. a || b) is
+
+pub or-right-so : (a b : Bool) → b ≡ true → (a || b) ≡ true
+or-right-so true b is = refl
+or-right-so false b is = is
+
+pub or-cases : (a b : Bool) → (a || b) ≡ true → (a ≡ true) ⊎ (b ≡ true)
+or-cases true b is = inl refl
+or-cases false b is = inr is
+
+pub any-left : {X : Type 0} (p : X → Bool) (xs ys : List X) → list_any p xs ≡ true → list_any p (xs ++ ys) ≡ true
+any-left p xs ys is = list_any-append p xs ys ∙ or-left-so _ _ is
+
+pub any-right : {X : Type 0} (p : X → Bool) (xs ys : List X) → list_any p ys ≡ true → list_any p (xs ++ ys) ≡ true
+any-right p xs ys is = list_any-append p xs ys ∙ or-right-so (list_any p xs) _ is
+
+pub any-either : {X : Type 0} (p : X → Bool) (xs ys : List X) → list_any p (xs ++ ys) ≡ true → (list_any p xs ≡ true) ⊎ (list_any p ys ≡ true)
+any-either p xs ys is = or-cases _ _ (sym (list_any-append p xs ys) ∙ is)
+
+pub any-kept : {X : Type 0} (p q : X → Bool) (xs : List X) → ((x : X) → p x ≡ true → q x ≡ true) → list_any p xs ≡ true → list_any p (filter q xs) ≡ true
+any-kept p q [] so is = is
+any-kept p q (x ∷ xs) so is = go (p x) (q x) refl refl is (any-kept p q xs so)
+  where
+    go : (a b : Bool) → p x ≡ a → q x ≡ b → (a || list_any p xs) ≡ true → (list_any p xs ≡ true → list_any p (filter q xs) ≡ true) → list_any p (cond b (x ∷ filter q xs) (filter q xs)) ≡ true
+    go true true ps qs found rest = or-left-so (p x) (list_any p (filter q xs)) ps
+    go true false ps qs found rest = absurd (true≢false (sym (so x ps) ∙ qs))
+    go false true ps qs found rest = or-right-so (p x) (list_any p (filter q xs)) (rest found)
+    go false false ps qs found rest = rest found

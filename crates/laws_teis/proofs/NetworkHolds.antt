@@ -1,0 +1,237 @@
+-- An event of the network's line leaves each assignment accounted for.
+use Rattle.std.specs.Prelude.{◌≡◌, ℕ, ◌==◌, ◌&&◌, ◌||◌, ⊤, ◌⊎◌, not, Bool, true, false, cond, List, [], ◌∷◌, ◌++◌, length, map, filter, drop, nat_le, zero, suc, refl}
+use Rattle.std.specs.List.{list_any}
+use Rattle.std.proofs.Common.{inl, inr, subst, sym, ap, ◌∙◌, true≢false, append_assoc, append-nil}
+use Rattle.lapd_tei.specs.declared.messages.Message.{Message}
+use Rattle.lapd_tei.specs.declared.remembered.Remembered.{Remembered}
+use Rattle.model_line.specs.Event.{Event, hears, expiry, request, next}
+use Rattle.model_line.specs.Request.{Down}
+use Rattle.laws_trace.specs.Managing.{Managed, is_on, octets_of}
+use Rattle.laws_trace.specs.TeisAreManaged.{message_text}
+use Rattle.laws_teis.specs.Bus.{Bus, Network, newly_made, with_teis, gives_up, leaves_untold, removes}
+use Rattle.laws_teis.specs.Assignments.{Terminal, CanMeet, IsIn}
+use Rattle.laws_teis.proofs.Frames.{AreNone}
+use Rattle.laws_teis.proofs.Lists.{in-left, in-right, in-either, in-filter, in-filtered, any-left, any-right, any-either, or-left-so, or-right-so}
+use Rattle.laws_teis.proofs.NetworkSteps.{Table, Queue}
+use Rattle.laws_teis.proofs.Waiting.{Known, known, removal, IsCovered, AreCovered, covered-so, covered-both, none-covered, texts, texts-both, removals-are, made-covered, Holds}
+
+dropped-front : {X : Type 0} (xs ys : List X) → drop (length xs) (xs ++ ys) ≡ ys
+dropped-front [] ys = refl
+dropped-front (x ∷ xs) ys = dropped-front xs ys
+
+not-true : (b : Bool) → not b ≡ true → b ≡ false
+not-true true is = absurd (true≢false (sym is))
+not-true false is = refl
+
+module _ (b : Bus) (can : CanMeet b) (n : Network) (t : Terminal) (way : List (List ℕ)) (missed : List Remembered) (h : Holds b n t way missed) (what : Event) (d : Managed) (fs : List (List ℕ)) (table : Table n.teis d) where
+  abbrev w : Managed
+  w = n.teis
+
+  abbrev is_missed : Remembered → Bool
+  is_missed r = gives_up r.tei what w || leaves_untold r.tei w d
+
+  abbrev pub missed_now : List Remembered
+  missed_now = missed ++ filter is_missed n.made
+
+  abbrev pub network_now : Network
+  network_now = with_teis (λ tei. is_on tei d) d n
+
+  abbrev old : Known
+  old = known n missed
+
+  abbrev new : Known
+  new = known network_now missed_now
+
+  -- the table
+  held-now : (r : Remembered) → IsIn r d.held → IsIn r network_now.hold
+  held-now r is = in-filter (λ r. is_on r.tei d) r (n.hold ++ newly_made w d) (there (is_on r.tei w) refl) (table.still r is)
+    where
+      there : (x : Bool) → is_on r.tei w ≡ x → IsIn r (n.hold ++ newly_made w d)
+      there true on = in-left r n.hold (newly_made w d) (h.held r (table.known r is on))
+      there false off = in-right r n.hold (newly_made w d) (in-filter (λ r. not (is_on r.tei w)) r d.held is (ap not off))
+
+  on-now : (r : Remembered) → IsIn r network_now.hold → is_on r.tei d ≡ true
+  on-now r is = (in-filtered (λ r. is_on r.tei d) r (n.hold ++ newly_made w d) is).1
+
+  made-now : (r : Remembered) → IsIn r network_now.hold → IsIn r network_now.made
+  made-now r is = go (in-either r n.hold (newly_made w d) (in-filtered (λ r. is_on r.tei d) r (n.hold ++ newly_made w d) is).0)
+    where
+      go : IsIn r n.hold ⊎ IsIn r (newly_made w d) → IsIn r (n.made ++ newly_made w d)
+      go (inl was) = in-left r n.made (newly_made w d) (h.made r was)
+      go (inr new) = in-right r n.made (newly_made w d) new
+
+  alone-now : (r s : Remembered) → IsIn r network_now.hold → IsIn s network_now.hold → r.tei ≡ s.tei → r ≡ s
+  alone-now r s is other same = go (from r is) (from s other)
+    where
+      is-new : (r : Remembered) → IsIn r (newly_made w d) → IsIn r d.held × (is_on r.tei w ≡ false)
+      is-new r new = let parts = in-filtered (λ r. not (is_on r.tei w)) r d.held new in (parts.0, not-true (is_on r.tei w) parts.1)
+
+      from : (r : Remembered) → IsIn r network_now.hold → IsIn r n.hold ⊎ (IsIn r d.held × (is_on r.tei w ≡ false))
+      from r is = each (in-either r n.hold (newly_made w d) (in-filtered (λ r. is_on r.tei d) r (n.hold ++ newly_made w d) is).0)
+        where
+          each : IsIn r n.hold ⊎ IsIn r (newly_made w d) → IsIn r n.hold ⊎ (IsIn r d.held × (is_on r.tei w ≡ false))
+          each (inl was) = inl was
+          each (inr new) = inr (is-new r new)
+
+      go : IsIn r n.hold ⊎ (IsIn r d.held × (is_on r.tei w ≡ false)) → IsIn s n.hold ⊎ (IsIn s d.held × (is_on s.tei w ≡ false)) → r ≡ s
+      go (inl was) (inl old) = h.alone r s was old same
+      go (inl was) (inr new) = absurd (true≢false (sym (h.on r was) ∙ ap (λ tei. is_on tei w) same ∙ new.1))
+      go (inr new) (inl old) = absurd (true≢false (sym (h.on s old) ∙ ap (λ tei. is_on tei w) (sym same) ∙ new.1))
+      go (inr new) (inr newer) = table.alone r s new.0 newer.0 new.1 newer.1
+
+  -- an assignment
+  abbrev Found : Remembered → List (List ℕ) → Type 0
+  Found r back = (list_any (removal b r.tei) back ≡ true) ⊎ IsIn r missed_now
+
+  misses-so : (r : Remembered) → IsIn r n.made → is_missed r ≡ true → IsIn r missed_now
+  misses-so r made is = in-right r missed (filter is_missed n.made) (in-filter is_missed r n.made made is)
+
+  step : (r : Remembered) (back then_ : List (List ℕ))
+      → (list_any (removal b r.tei) back ≡ true → Found r then_)
+      → (is_on r.tei w ≡ true → is_on r.tei d ≡ false → Found r then_)
+      → IsCovered b old r back → IsCovered b new r then_
+  step r back then_ comes lost c = record { made = in-left r n.made (newly_made w d) c.made; covered = go c.covered }
+    where
+      stands : (x : Bool) → is_on r.tei d ≡ x → IsIn r n.hold → IsIn r network_now.hold ⊎ Found r then_
+      stands true on is = inl (in-filter (λ r. is_on r.tei d) r (n.hold ++ newly_made w d) (in-left r n.hold (newly_made w d) is) on)
+      stands false off is = inr (lost (h.on r is) off)
+
+      go : IsIn r n.hold ⊎ ((list_any (removal b r.tei) back ≡ true) ⊎ IsIn r missed) → IsIn r network_now.hold ⊎ Found r then_
+      go (inl is) = stands (is_on r.tei d) refl is
+      go (inr (inl is)) = inr (comes is)
+      go (inr (inr is)) = inr (inr (in-left r missed (filter is_missed n.made) is))
+
+  -- What follows of the frames.
+  then-holds : AreCovered b new (way ++ fs) (texts b d.owed) → AreCovered b new (texts b d.owed) []
+      → ((r : Remembered) → IsCovered b old r (way ++ texts b w.owed) → IsCovered b new r ((way ++ fs) ++ texts b d.owed))
+      → Holds b network_now t (way ++ fs) missed_now
+  then-holds ways owed givens = record {
+    held = held-now;
+    on = on-now;
+    made = made-now;
+    alone = alone-now;
+    own = h.own;
+    way_is = ways;
+    owed_is = owed;
+    given = λ r is. ((h.given r is).0, givens r (h.given r is).1);
+  }
+
+  -- Messages come to be owed.
+  module _ (queue : Queue w d) (none : AreNone b fs) where
+    abbrev T : List (List ℕ)
+    T = texts b w.owed
+
+    abbrev N : List (List ℕ)
+    N = texts b queue.new
+
+    owed-texts : texts b d.owed ≡ T ++ N
+    owed-texts = ap (texts b) queue.owed ∙ texts-both b w.owed queue.new
+
+    untold : (r : Remembered) → IsIn r n.made → is_on r.tei w ≡ true → is_on r.tei d ≡ false → (list_any (removal b r.tei) N ≡ true) ⊎ IsIn r missed_now
+    untold r made on off = go (list_any (removes r.tei) queue.new) refl
+      where
+        go : (x : Bool) → list_any (removes r.tei) queue.new ≡ x → (list_any (removal b r.tei) N ≡ true) ⊎ IsIn r missed_now
+        go true is = inl (removals-are b can r.tei queue.new ∙ is)
+        go false is =
+            inr (misses-so r made (or-right-so (gives_up r.tei what w) (leaves_untold r.tei w d)
+            (ap (λ x. (x && not (is_on r.tei d)) && not (list_any (removes r.tei) (drop (length w.owed) d.owed))) on
+            ∙ ap (λ x. not x && not (list_any (removes r.tei) (drop (length w.owed) d.owed))) off
+            ∙ ap (λ ms. not (list_any (removes r.tei) (drop (length w.owed) ms))) queue.owed
+            ∙ ap (λ ms. not (list_any (removes r.tei) ms)) (dropped-front w.owed queue.new)
+            ∙ ap not is)))
+
+    more : (r : Remembered) (back : List (List ℕ)) → IsCovered b old r (back ++ T) → IsCovered b new r (back ++ (fs ++ (T ++ N)))
+    more r back c =
+        step r (back ++ T) (back ++ (fs ++ (T ++ N)))
+        (λ is. inl (widened (any-either (removal b r.tei) back T is)))
+        (λ on off. at-end (untold r c.made on off)) c
+      where
+        widened : (list_any (removal b r.tei) back ≡ true) ⊎ (list_any (removal b r.tei) T ≡ true) → list_any (removal b r.tei) (back ++ (fs ++ (T ++ N))) ≡ true
+        widened (inl is) = any-left (removal b r.tei) back (fs ++ (T ++ N)) is
+        widened (inr is) = any-right (removal b r.tei) back (fs ++ (T ++ N)) (any-right (removal b r.tei) fs (T ++ N) (any-left (removal b r.tei) T N is))
+
+        at-end : (list_any (removal b r.tei) N ≡ true) ⊎ IsIn r missed_now → Found r (back ++ (fs ++ (T ++ N)))
+        at-end (inl is) = inl (any-right (removal b r.tei) back (fs ++ (T ++ N)) (any-right (removal b r.tei) fs (T ++ N) (any-right (removal b r.tei) T N is)))
+        at-end (inr is) = inr is
+
+    more-owed : (r : Remembered) (back : List (List ℕ)) → IsCovered b old r (back ++ []) → IsCovered b new r (back ++ (N ++ []))
+    more-owed r back c =
+        step r (back ++ []) (back ++ (N ++ []))
+        (λ is. inl (any-left (removal b r.tei) back (N ++ []) (subst (λ xs. list_any (removal b r.tei) xs ≡ true) (append-nil back) is)))
+        (λ on off. at-end (untold r c.made on off)) c
+      where
+        at-end : (list_any (removal b r.tei) N ≡ true) ⊎ IsIn r missed_now → Found r (back ++ (N ++ []))
+        at-end (inl is) = inl (any-right (removal b r.tei) back (N ++ []) (any-left (removal b r.tei) N [] is))
+        at-end (inr is) = inr is
+
+    pub kept : Holds b network_now t (way ++ fs) missed_now
+    kept =
+        then-holds
+        (subst (AreCovered b new (way ++ fs)) (sym owed-texts)
+        (covered-both b new way fs (T ++ N) (covered-so b old new way T (fs ++ (T ++ N)) more h.way_is) (none-covered b new fs (T ++ N) none)))
+        (subst (λ xs. AreCovered b new xs []) (sym owed-texts)
+        (covered-both b new T N [] (covered-so b old new T [] (N ++ []) more-owed h.owed_is)
+        (made-covered b can new d.held held-now made-now queue.new [] queue.made)))
+        (λ r c. subst (IsCovered b new r) (sym (append_assoc way fs (texts b d.owed) ∙ ap (λ xs. way ++ (fs ++ xs)) owed-texts)) (more r way c))
+
+  -- The TEIs stay as they were.
+  module _ (same : d.on ≡ w.on) where
+    stays-on : (r : Remembered) → is_on r.tei w ≡ true → is_on r.tei d ≡ false → ⊥
+    stays-on r on off = true≢false (sym (ap (λ xs. list_any (λ x. x == r.tei) xs) same ∙ on) ∙ off)
+
+    -- The line is down: what was owed is given up.
+    module _ (down : what ≡ request Down) (none_owed : d.owed ≡ []) (none : AreNone b fs) where
+      less : (r : Remembered) (back : List (List ℕ)) → IsCovered b old r (back ++ texts b w.owed) → IsCovered b new r (back ++ (fs ++ []))
+      less r back c =
+          step r (back ++ texts b w.owed) (back ++ (fs ++ []))
+          (λ is. narrowed (any-either (removal b r.tei) back (texts b w.owed) is))
+          (λ on off. absurd (stays-on r on off)) c
+        where
+          narrowed : (list_any (removal b r.tei) back ≡ true) ⊎ (list_any (removal b r.tei) (texts b w.owed) ≡ true) → Found r (back ++ (fs ++ []))
+          narrowed (inl is) = inl (any-left (removal b r.tei) back (fs ++ []) is)
+          narrowed (inr is) =
+              inr (misses-so r c.made (or-left-so (gives_up r.tei what w) (leaves_untold r.tei w d)
+              (ap (λ e. gives_up r.tei e w) down ∙ sym (removals-are b can r.tei w.owed) ∙ is)))
+
+      pub given-up : Holds b network_now t (way ++ fs) missed_now
+      given-up =
+          then-holds
+          (subst (λ ms. AreCovered b new (way ++ fs) (texts b ms)) (sym none_owed)
+          (covered-both b new way fs [] (covered-so b old new way (texts b w.owed) (fs ++ []) less h.way_is) (none-covered b new fs [] none)))
+          (subst (λ ms. AreCovered b new (texts b ms) []) (sym none_owed) tt)
+          (λ r c. subst (IsCovered b new r) (sym (append_assoc way fs (texts b d.owed) ∙ ap (λ ms. way ++ (fs ++ texts b ms)) none_owed)) (less r way c))
+
+    -- The line is called for its next frame.
+    as-it-is : (r : Remembered) (back then_ : List (List ℕ)) → back ≡ then_ → IsCovered b old r back → IsCovered b new r then_
+    as-it-is r back then_ is c =
+        step r back then_ (λ found. inl (subst (λ xs. list_any (removal b r.tei) xs ≡ true) is found)) (λ on off. absurd (stays-on r on off)) c
+
+    pub called-none : w.owed ≡ [] → d.owed ≡ [] → AreNone b fs → Holds b network_now t (way ++ fs) missed_now
+    called-none was now none =
+        then-holds
+        (subst (λ ms. AreCovered b new (way ++ fs) (texts b ms)) (sym now)
+        (covered-both b new way fs [] (covered-so b old new way (texts b w.owed) (fs ++ []) wider h.way_is) (none-covered b new fs [] none)))
+        (subst (λ ms. AreCovered b new (texts b ms) []) (sym now) tt)
+        (λ r c. subst (IsCovered b new r) (sym (append_assoc way fs (texts b d.owed) ∙ ap (λ ms. way ++ (fs ++ texts b ms)) now)) (wider r way c))
+      where
+        wider : (r : Remembered) (back : List (List ℕ)) → IsCovered b old r (back ++ texts b w.owed) → IsCovered b new r (back ++ (fs ++ []))
+        wider r back c =
+            step r (back ++ texts b w.owed) (back ++ (fs ++ []))
+            (λ found. inl (any-left (removal b r.tei) back (fs ++ [])
+            (subst (λ xs. list_any (removal b r.tei) xs ≡ true) (ap (λ ms. back ++ texts b ms) was ∙ append-nil back) found)))
+            (λ on off. absurd (stays-on r on off)) c
+
+    pub called-one : (m : Message) (more : List Message) → w.owed ≡ m ∷ more → d.owed ≡ more → fs ≡ message_text b.network (octets_of m) ∷ [] → Holds b network_now t (way ++ fs) missed_now
+    called-one m more was now one =
+        then-holds
+        (covered-both b new way fs (texts b d.owed)
+        (covered-so b old new way (texts b w.owed) (fs ++ texts b d.owed) (λ r back c. as-it-is r _ _ (ap (λ xs. back ++ xs) moves) c) h.way_is)
+        (subst (λ xs. AreCovered b new xs (texts b d.owed)) (sym one) (λ r is. as-it-is r _ _ (append-nil (texts b more) ∙ ap (texts b) (sym now)) (waits.0 r is), tt)))
+        (subst (λ ms. AreCovered b new (texts b ms) []) (sym now) (covered-so b old new (texts b more) [] [] (λ r back c. as-it-is r _ _ refl c) waits.1))
+        (λ r c. as-it-is r _ _ (ap (λ xs. way ++ xs) moves ∙ sym (append_assoc way fs (texts b d.owed))) c)
+      where
+        moves : texts b w.owed ≡ fs ++ texts b d.owed
+        moves = ap (texts b) was ∙ sym (ap (λ xs. xs ++ texts b d.owed) one ∙ ap (λ ms. message_text b.network (octets_of m) ∷ texts b ms) now)
+
+        waits : AreCovered b old (texts b (m ∷ more)) []
+        waits = subst (λ ms. AreCovered b old (texts b ms) []) was h.owed_is

@@ -17,7 +17,7 @@ use Rattle.model_card.proofs.Stored.{stored_within_limit}
 use Rattle.lapd_store.specs.Store.{Store}
 use Rattle.lapd_card.specs.FrameCard.{Held, line_count}
 use Rattle.lapd_card.proofs.Counting.{numbers_in_runs}
-use Rattle.laws_promises.specs.FrameDrive.{event_of, line_of, events_of, KeepsLaws}
+use Rattle.laws_promises.specs.FrameDrive.{event_of, line_of, events_of, FramesKeepLaws}
 use Rattle.laws_promises.specs.Linear.{IsLinear}
 use Rattle.laws_promises.specs.declared.frame_events.FrameEvent as rust
 use Rattle.laws_promises.proofs.Kept.{promises-kept}
@@ -36,7 +36,7 @@ events_at_lines store card n201 events within m s =
 
 -- The laws hold of the events of a list, of each front of it, and of each front of that of a card as it begins.
 laws : {S : Type 0} (store : S → Store) (card : Held S) (list : List Event) → ((m : Card) → FrameStands store card m → AreAtLines m list) → All (TakesItsOctets card.config.n201) list
-    → KeepsLaws store card list
+    → FramesKeepLaws store card list
 laws store card list within octets = record {
   moments = run_is_moments;
   refused = refused_by_the_table;
@@ -69,5 +69,5 @@ laws store card list within octets = record {
 
 -- so of the events with which a card is driven
 pub laws_of : {S : Type 0} (store : S → Store) (card : Held S) (events : List rust.FrameEvent) → All (λ e. line_of e < line_count card) events
-    → KeepsLaws store card (events_of card.config.n201 events)
+    → FramesKeepLaws store card (events_of card.config.n201 events)
 laws_of store card events within = laws store card (events_of card.config.n201 events) (events_at_lines store card card.config.n201 events within) (all_take card.config.n201 events)

@@ -58,7 +58,7 @@ HasRun store takes misses failures old new =
 
 -- The laws that hold of each list of events at a card, for the machines for which it stood, as `KeepsLaws` of `lapd_card` has
 -- them of what octets mean: of the list, of each front of it, and of each front from a card that has just begun.
-pub record KeepsLaws {S : Type 0} (store : S → Store) (card : Held S) (events : List Event) : Type 0 where
+pub record FramesKeepLaws {S : Type 0} (store : S → Store) (card : Held S) (events : List Event) : Type 0 where
   pub moments : RunIsMoments
   pub refused : RefusedByTheTable
   pub counters_add_up : CountersAreNumbers

@@ -8,7 +8,7 @@ ghost use Rattle.model_card.specs.Machine.{answer};
 ghost use Rattle.lapd_card.specs.FrameCard.{line_count};
 ghost use Rattle.lapd_card.specs.FrameStands.{FrameStands, Leads};
 ghost use Rattle.lapd_card.specs.Sink.{Hands};
-ghost use Rattle.laws_promises.specs.FrameDrive.{event_of, line_of, events_of, HasRun, KeepsLaws};
+ghost use Rattle.laws_promises.specs.FrameDrive.{event_of, line_of, events_of, HasRun, FramesKeepLaws};
 
 use crate::frame_events::FrameEvent;
 use crate::frame_replies::{FrameReply, SentFrame};
@@ -39,7 +39,7 @@ pub fn drive_frames<S: Shelf, K: FrameSink>(
     requires { All (λ event. line_of event < line_count card.old) events.now }
     ensures config { card.new.config ≡ card.old.config }
     ensures run { HasRun S.store K.takes K.misses K.failures card.old card.new (events_of card.old.config.n201 events.now) sink.old sink.new result }
-    ensures laws { KeepsLaws S.store card.old (events_of card.old.config.n201 events.now) }
+    ensures laws { FramesKeepLaws S.store card.old (events_of card.old.config.n201 events.now) }
 {
     for (at, event) in events.iter().enumerate() {
         if answer(card, *event, sink).is_err() {

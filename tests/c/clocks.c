@@ -3,8 +3,8 @@
  * In a beat each end comes to the moment, layer 3 asks, and what is due falls due. Then each end gives an octet, and
  * receives one, or noise in its place. As T200 falls due in state 5, 6 or 8, no command with P=1 of that end is to come,
  * and no response with F=1 of the other: whether one waits is seen by pulling a copy of the process. The sizes, the rate,
- * the octets in transit, the noise and what is asked for are random; T200 is the least that is long enough, or a little
- * more. And an end that comes to state 5, 6 or 8 without noise leaves it in that time, as long as no frame finds no place
+ * the octets in transit, the noise and what is asked for are random; T200 of each end is the least that is long enough, or a
+ * little more. And an end that comes to state 5, 6 or 8 without noise leaves it in that time, as long as no frame finds no place
  * and, for 8, the other end is up. This is read from docs/TWO-CARDS.md ("Time"), without any code of the library. For tests
  * alone.
  *
@@ -48,6 +48,7 @@ static uint32_t below(uint32_t most) {
 typedef struct {
     lapd_card card;
     bool network;
+    int runs_t200, runs_t203;         /* in milliseconds */
     long t200, t203;                  /* when they fall due, or NEVER */
     uint8_t transit[MOST_IN_TRANSIT]; /* octets that were given, and not received yet: a ring */
     int first, count;
@@ -63,7 +64,6 @@ typedef struct {
 
 typedef struct {
     int rate, way;    /* octets in a millisecond, and in transit */
-    int t200, t203;   /* in milliseconds */
     int answered;     /* in so many octet times a command is answered */
     long now;
     end ends[2];
@@ -79,7 +79,7 @@ static void obey(const world *w, end *e) {
         const lapd_order *order = &report.orders[i];
         bool is_t200 = order->timer.timer == LAPD_T200;
         long *moment = is_t200 ? &e->t200 : &e->t203;
-        *moment = order->order == LAPD_START ? w->now + (is_t200 ? w->t200 : w->t203) : NEVER;
+        *moment = order->order == LAPD_START ? w->now + (is_t200 ? e->runs_t200 : e->runs_t203) : NEVER;
     }
 }
 
@@ -237,10 +237,13 @@ static int start(world *w, int shorter) {
     /* the longest frame: four octets, the information and its check, a 0 after each fifth bit, a flag, and an octet more */
     int bits = 8 * (n201 + 6), longest = (bits + bits / 5 + 8) / 8 + 1;
     w->answered = 2 * (longest + w->way) + 9 * waiting;
-    w->t200 = (w->answered + w->rate + w->rate - 1) / w->rate - shorter;
-    if (w->t200 < 1) w->t200 = 1;
-    if (shorter == 0 && below(4) == 0) w->t200 += (int)below(50);
-    w->t203 = 1 + (int)below(3 * (uint32_t)w->t200);
+    for (int i = 0; i < 2; i++) {
+        end *e = &w->ends[i];
+        e->runs_t200 = (w->answered + w->rate + w->rate - 1) / w->rate - shorter;
+        if (e->runs_t200 < 1) e->runs_t200 = 1;
+        if (shorter == 0 && below(4) == 0) e->runs_t200 += (int)below(50);
+        e->runs_t203 = 1 + (int)below(3 * (uint32_t)e->runs_t200);
+    }
     return n201;
 }
 
@@ -279,7 +282,7 @@ int main(int count, char **words) {
         chance = ((uint64_t)(seed + i) + 1) * 0x9E3779B97F4A7C15u;
         if (run(&w, shorter)) {
             too_soon++;
-            if (shorter == 0) printf("seed %ld: T200 of %d ms is too short, %d octets a millisecond, %d in transit\n", seed + i, w.t200, w.rate, w.way);
+            if (shorter == 0) printf("seed %ld: T200 of %d and %d ms is too short, %d octets a millisecond, %d in transit\n", seed + i, w.ends[0].runs_t200, w.ends[1].runs_t200, w.rate, w.way);
         }
         if (w.late > 0) printf("seed %ld: an answer takes longer than %d octet times, %d in transit\n", seed + i, w.answered, w.way);
         expiries += w.expiries;

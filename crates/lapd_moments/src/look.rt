@@ -44,8 +44,11 @@ fn least(bounds: &[u64]) -> usize
     ensures { IsFirstBest nat_lt bounds.now (length bounds.now) result }
 {
     let mut least = 0;
+    let mut least_bound = bounds[0];
     for line in 1..bounds.len() {
-        if bounds[line] < bounds[least] {
+        let bound = bounds[line];
+        if bound < least_bound {
+            least_bound = bound;
             least = line;
         }
     }

@@ -158,7 +158,9 @@ impl CardTimers {
     /// Carries out what a card has ordered at a line, in the answer to an event, at the moment. The card is where the event has
     /// led; the event was no expiry but of the timer that [`CardTimers::due`] has just taken out. Of a line that there is not,
     /// nothing is carried out.
-    // It stands apart: what mostly is ordered is carried out at once.
+    ///
+    /// Mostly there is one order, for the T203 that falls due first of its line, and then no place is looked for.
+    // It stands apart, so that a card without timers of its own has no part of it in its way.
     #[inline(never)]
     pub fn obey<S: Shelf>(&mut self, card: &FrameCard<S>, line: usize, orders: &[Order])
         ensures lines { self.new.lines ≡ self.old.lines }
@@ -167,14 +169,12 @@ impl CardTimers {
         ensures after { (e : Event) (m : Card) (c : Clock) → HasLedTo S.store card.now line e m → orders.now ≡ orders_at e m → AreLeft e self.old m c
             → TimersStand self.new (after e m) (obeyed line orders.now c) }
     {
-        if line < self.lines && line < card.lines() {
-            self.carry_out_all(card, line, orders);
+        if !self.restart_alone(line, orders) {
+            self.obey_each(card, line, orders);
         }
     }
 
-    /// The same, of the orders as a report has them. Mostly there is one, for the T203 that falls due first of its line, and then
-    /// no place is looked for.
-    // It stands apart, so that a card without timers of its own has no part of it in its way.
+    /// The same, of the orders as a report has them.
     #[inline(never)]
     pub fn obey_list<S: Shelf>(
         &mut self,
@@ -191,10 +191,23 @@ impl CardTimers {
             ShortList::None => {}
             ShortList::One(order) => {
                 if !self.restart_alone(line, order) {
-                    self.obey(card, line, order);
+                    self.obey_each(card, line, order);
                 }
             }
-            _ => self.obey(card, line, orders.as_slice()),
+            _ => self.obey_each(card, line, orders.as_slice()),
+        }
+    }
+
+    /// Carries out each order in its place. It stands apart, since mostly it is not called.
+    #[inline(never)]
+    fn obey_each<S: Shelf>(&mut self, card: &FrameCard<S>, line: usize, orders: &[Order])
+        ensures lines { self.new.lines ≡ self.old.lines }
+        ensures terminals { self.new.terminals ≡ self.old.terminals }
+        ensures after { (e : Event) (m : Card) (c : Clock) → HasLedTo S.store card.now line e m → orders.now ≡ orders_at e m → AreLeft e self.old m c
+            → TimersStand self.new (after e m) (obeyed line orders.now c) }
+    {
+        if line < self.lines && line < card.lines() {
+            self.carry_out_all(card, line, orders);
         }
     }
 

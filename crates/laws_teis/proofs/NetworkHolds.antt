@@ -19,6 +19,10 @@ dropped-front : {X : Type 0} (xs ys : List X) → drop (length xs) (xs ++ ys) �
 dropped-front [] ys = refl
 dropped-front (x ∷ xs) ys = dropped-front xs ys
 
+not-true : (b : Bool) → not b ≡ true → b ≡ false
+not-true true is = absurd (true≢false (sym is))
+not-true false is = refl
+
 module _ (b : Bus) (can : CanMeet b) (n : Network) (t : Terminal) (way : List (List ℕ)) (missed : List Remembered) (h : Holds b n t way missed) (what : Event) (d : Managed) (fs : List (List ℕ)) (table : Table n.teis d) where
   abbrev w : Managed
   w = n.teis
@@ -56,6 +60,25 @@ module _ (b : Bus) (can : CanMeet b) (n : Network) (t : Terminal) (way : List (L
       go (inl was) = in-left r n.made (newly_made w d) (h.made r was)
       go (inr new) = in-right r n.made (newly_made w d) new
 
+  alone-now : (r s : Remembered) → IsIn r network_now.hold → IsIn s network_now.hold → r.tei ≡ s.tei → r ≡ s
+  alone-now r s is other same = go (from r is) (from s other)
+    where
+      is-new : (r : Remembered) → IsIn r (newly_made w d) → IsIn r d.held × (is_on r.tei w ≡ false)
+      is-new r new = let parts = in-filtered (λ r. not (is_on r.tei w)) r d.held new in (parts.0, not-true (is_on r.tei w) parts.1)
+
+      from : (r : Remembered) → IsIn r network_now.hold → IsIn r n.hold ⊎ (IsIn r d.held × (is_on r.tei w ≡ false))
+      from r is = each (in-either r n.hold (newly_made w d) (in-filtered (λ r. is_on r.tei d) r (n.hold ++ newly_made w d) is).0)
+        where
+          each : IsIn r n.hold ⊎ IsIn r (newly_made w d) → IsIn r n.hold ⊎ (IsIn r d.held × (is_on r.tei w ≡ false))
+          each (inl was) = inl was
+          each (inr new) = inr (is-new r new)
+
+      go : IsIn r n.hold ⊎ (IsIn r d.held × (is_on r.tei w ≡ false)) → IsIn s n.hold ⊎ (IsIn s d.held × (is_on s.tei w ≡ false)) → r ≡ s
+      go (inl was) (inl old) = h.alone r s was old same
+      go (inl was) (inr new) = absurd (true≢false (sym (h.on r was) ∙ ap (λ tei. is_on tei w) same ∙ new.1))
+      go (inr new) (inl old) = absurd (true≢false (sym (h.on s old) ∙ ap (λ tei. is_on tei w) (sym same) ∙ new.1))
+      go (inr new) (inr newer) = table.alone r s new.0 newer.0 new.1 newer.1
+
   -- an assignment
   abbrev Found : Remembered → List (List ℕ) → Type 0
   Found r back = (list_any (removal b r.tei) back ≡ true) ⊎ IsIn r missed_now
@@ -86,6 +109,7 @@ module _ (b : Bus) (can : CanMeet b) (n : Network) (t : Terminal) (way : List (L
     held = held-now;
     on = on-now;
     made = made-now;
+    alone = alone-now;
     own = h.own;
     way_is = ways;
     owed_is = owed;

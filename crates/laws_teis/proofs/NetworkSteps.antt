@@ -34,10 +34,11 @@ pub record Queue (w d : Managed) : Type 0 where
   pub owed : d.owed ≡ w.owed ++ new
   pub made : AreMade d.held new
 
--- What is remembered is on the line; and what was on it before was remembered before.
+-- What is remembered is on the line; what was on it before was remembered before; and one more is, at most.
 pub record Table (w d : Managed) : Type 0 where
   pub still : (r : Remembered) → IsIn r d.held → is_on r.tei d ≡ true
   pub known : (r : Remembered) → IsIn r d.held → is_on r.tei w ≡ true → IsIn r w.held
+  pub alone : (r s : Remembered) → IsIn r d.held → IsIn s d.held → is_on r.tei w ≡ false → is_on s.tei w ≡ false → r ≡ s
 
 pub record Changes (w d : Managed) : Type 0 where
   pub table : Table w d
@@ -55,6 +56,7 @@ module _ (w : Managed) (there : (r : Remembered) → IsIn r w.held → is_on r.t
   same-table d on held = record {
     still = λ r is. ap (λ on. list_any (λ x. x == r.tei) on) on ∙ there r (subst (IsIn r) held is);
     known = λ r is was. subst (IsIn r) held is;
+    alone = λ r s is other off away. absurd (true≢false (sym (there r (subst (IsIn r) held is)) ∙ off));
   }
 
   none-owed : (d : Managed) → d.owed ≡ w.owed → Queue w d
@@ -81,6 +83,9 @@ module _ (w : Managed) (there : (r : Remembered) → IsIn r w.held → is_on r.t
   comes-so ri tei off = record {
     still = λ r is. is-still r (in-either r w.held (new ∷ []) (in-dropped (length w.held - 3) r (w.held ++ new ∷ []) is));
     known = λ r is was. is-known r was (in-either r w.held (new ∷ []) (in-dropped (length w.held - 3) r (w.held ++ new ∷ []) is));
+    alone = λ r s is other off away.
+    sym (is-new r off (in-either r w.held (new ∷ []) (in-dropped (length w.held - 3) r (w.held ++ new ∷ []) is)))
+    ∙ is-new s away (in-either s w.held (new ∷ []) (in-dropped (length w.held - 3) s (w.held ++ new ∷ []) other));
   }
     where
       new : Remembered
@@ -90,6 +95,11 @@ module _ (w : Managed) (there : (r : Remembered) → IsIn r w.held → is_on r.t
       is-still r (inl is) = or-right-so (tei == r.tei) (is_on r.tei w) (there r is)
       is-still r (inr (inr none)) = absurd none
       is-still r (inr (inl same)) = or-left-so (tei == r.tei) (is_on r.tei w) (eq-eqb tei r.tei (ap (λ (r : Remembered). r.tei) same))
+
+      is-new : (r : Remembered) → is_on r.tei w ≡ false → IsIn r w.held ⊎ IsIn r (new ∷ []) → new ≡ r
+      is-new r off (inl is) = absurd (true≢false (sym (there r is) ∙ off))
+      is-new r off (inr (inl same)) = same
+      is-new r off (inr (inr none)) = absurd none
 
       is-known : (r : Remembered) → is_on r.tei w ≡ true → IsIn r w.held ⊎ IsIn r (new ∷ []) → IsIn r w.held
       is-known r was (inl is) = is
@@ -122,7 +132,7 @@ module _ (w : Managed) (there : (r : Remembered) → IsIn r w.held → is_on r.t
             begins = refl;
           }
       go None (Some tei) found free = record {
-        table = record { still = (comes-so ri tei (free-off c tei free)).still; known = (comes-so ri tei (free-off c tei free)).known };
+        table = record { still = (comes-so ri tei (free-off c tei free)).still; known = (comes-so ri tei (free-off c tei free)).known; alone = (comes-so ri tei (free-off c tei free)).alone };
         queue = owed-so (IdentityAssigned ri tei) (comes ri tei) refl (in-end (length w.held - 3) (record { ri = ri; tei = tei }) w.held (omega arith));
         begins = refl;
       }
@@ -140,6 +150,8 @@ module _ (w : Managed) (there : (r : Remembered) → IsIn r w.held → is_on r.t
         let was = in-filtered (λ (r : Remembered). not (r.tei == tei)) r w.held (subst (IsIn r) held is) in
         ap (λ on. list_any (λ x. x == r.tei) on) on ∙ other-on tei r.tei was.1 (there r was.0);
     known = λ r is was. (in-filtered (λ (r : Remembered). not (r.tei == tei)) r w.held (subst (IsIn r) held is)).0;
+    alone = λ r s is other off away.
+    absurd (true≢false (sym (there r (in-filtered (λ (r : Remembered). not (r.tei == tei)) r w.held (subst (IsIn r) held is)).0) ∙ off));
   }
 
   leaves-owed : (tei : ℕ) → (leaves tei w).owed ≡ w.owed
@@ -220,7 +232,7 @@ module _ (w : Managed) (there : (r : Remembered) → IsIn r w.held → is_on r.t
   -- what management asks for
   granted-so : (b : Bool) (u : Managed) → Changes w u → Changes w (grants b u w)
   granted-so true u h = record {
-    table = record { still = h.table.still; known = h.table.known };
+    table = record { still = h.table.still; known = h.table.known; alone = h.table.alone };
     queue = record { new = h.queue.new; owed = h.queue.owed; made = h.queue.made };
     begins = h.begins;
   }
@@ -228,7 +240,11 @@ module _ (w : Managed) (there : (r : Remembered) → IsIn r w.held → is_on r.t
 
   put-so : (tei : ℕ) → Changes w (record w { on = tei ∷ w.on })
   put-so tei = record {
-    table = record { still = λ r is. or-right-so (tei == r.tei) (is_on r.tei w) (there r is); known = λ r is was. is };
+    table = record {
+      still = λ r is. or-right-so (tei == r.tei) (is_on r.tei w) (there r is);
+      known = λ r is was. is;
+      alone = λ r s is other off away. absurd (true≢false (sym (there r is) ∙ off));
+    };
     queue = none-owed _ refl;
     begins = refl;
   }

@@ -72,7 +72,7 @@ module _ (b : Bus) (can : CanMeet b) where
     changed : (what : line_event.Event) → IsOther what → Then what
     changed what other =
         let changes : Changes (nothing_due w) (due c what w) = subst (Changes (nothing_due w)) (sym (due-is what w)) (event-so (nothing_due w) there c what other) in
-        kept b can n t way missed h what (due c what w) (frame_in (a what)) (record { still = changes.table.still; known = changes.table.known })
+        kept b can n t way missed h what (due c what w) (frame_in (a what)) (record { still = changes.table.still; known = changes.table.known; alone = changes.table.alone })
         (record { new = changes.queue.new; owed = changes.queue.owed; made = changes.queue.made }) (none-begins what changes.begins)
 
     abbrev down : line_event.Event
@@ -211,6 +211,7 @@ module _ (b : Bus) (can : CanMeet b) where
       held = λ r is. absurd is;
       on = λ r is. absurd is;
       made = λ r is. absurd is;
+      alone = λ r s is other same. absurd is;
       own = none-there b.terminal.terminals;
       way_is = tt;
       owed_is = tt;

@@ -34,6 +34,7 @@ module _ (b : Bus) (can : CanMeet b) (n : Network) (t : Terminal) where
     held = h.held;
     on = h.on;
     made = h.made;
+    alone = h.alone;
     own = h.own;
     way_is = all-grown missed ys way (texts b n.teis.owed) h.way_is;
     owed_is = all-grown missed ys (texts b n.teis.owed) [] h.owed_is;
@@ -47,6 +48,7 @@ module _ (b : Bus) (can : CanMeet b) (n : Network) (t : Terminal) where
     held = h.held;
     on = h.on;
     made = h.made;
+    alone = h.alone;
     own = h.own;
     way_is = all-grown missed misses more (texts b n.teis.owed) h.way_is.1;
     owed_is = all-grown missed misses (texts b n.teis.owed) [] h.owed_is;
@@ -102,6 +104,7 @@ module _ (b : Bus) (can : CanMeet b) (n : Network) (t : Terminal) where
       held = h.held;
       on = h.on;
       made = h.made;
+      alone = h.alone;
       own = own-now h.own;
       way_is = h.way_is;
       owed_is = h.owed_is;
@@ -119,6 +122,7 @@ module _ (b : Bus) (can : CanMeet b) (n : Network) (t : Terminal) where
     held = h.held;
     on = h.on;
     made = h.made;
+    alone = h.alone;
     own = own-now e h.own;
     way_is = h.way_is.1;
     owed_is = h.owed_is;

@@ -84,6 +84,7 @@ module _ (b : Bus) where
     pub held : (r : Remembered) → IsIn r n.teis.held → IsIn r n.hold
     pub on : (r : Remembered) → IsIn r n.hold → is_on r.tei n.teis ≡ true
     pub made : (r : Remembered) → IsIn r n.hold → IsIn r n.made
+    pub alone : (r s : Remembered) → IsIn r n.hold → IsIn s n.hold → r.tei ≡ s.tei → r ≡ s
     pub own : t.teis.on ≡ teis_of (own_of b.terminal t.teis).places
     pub way_is : AreCovered (known n missed) way (texts n.teis.owed)
     pub owed_is : AreCovered (known n missed) (texts n.teis.owed) []

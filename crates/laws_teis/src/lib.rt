@@ -7,4 +7,4 @@
 
 mod laws;
 
-pub use laws::assignments_hold;
+pub use laws::{assignments_hold, two_terminals_differ};

@@ -31,12 +31,12 @@ pub fn ends_are_timed_cards()
 /// Answers come in time: as T200 falls due in a state that awaits an answer (5, 6 or 8), none is to come. No command
 /// with P=1 of that end waits or is in transit, and no response with F=1 of the other. So what was asked was lost, or
 /// is not answered, and it is right to ask again (Q.921 clauses 5.5.1.3, 5.5.3.3 and 5.6.7). It holds after any number
-/// of beats from the start, and at any time in the next one, whatever noise there is. T200 runs for at least 2 (L + D)
-/// + 9 (c + c') octet times, and a millisecond more, as moments are whole. L is the longest frame in octets, D octets
-/// are in transit, and c and c' control frames may wait at the two ends. Noise makes no frame: each frame that is heard
-/// stood at that place in what the other end gave. Layer 3 of each end asks for anything of the link except unit data
-/// and deactivation. (Unit data goes before all frames of a link. With a shorter T200 the law is false,
-/// `specs/circuit/WorkedLongEnough`.)
+/// of beats from the start, and at any time in the next one, whatever noise there is. T200 of each end, which may be
+/// another, runs for at least 2 (L + D) + 9 (c + c') octet times, and a millisecond more, as moments are whole. L is the
+/// longest frame in octets, D octets are in transit, and c and c' control frames may wait at the two ends. Noise makes
+/// no frame: each frame that is heard stood at that place in what the other end gave. Layer 3 of each end asks for
+/// anything of the link except unit data and deactivation. (Unit data goes before all frames of a link. With a shorter
+/// T200 the law is false, `specs/circuit/WorkedLongEnough`.)
 pub fn answers_come_in_time()
     ensures { AnswersComeInTime }
 {}

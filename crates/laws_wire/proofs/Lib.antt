@@ -46,6 +46,12 @@ pub mod SureHeard
 pub mod Underway
 pub mod UnderwayRun
 pub mod UnderwayRounds
+pub mod Lively
+pub mod Often
+pub mod OftenHeard
+pub mod OftenRun
+pub mod OftenMoves
+pub mod ExpiringMet
 pub mod LooseUp
 pub mod UaBefore
 pub mod UaCalled

@@ -192,15 +192,28 @@ module _ (service : Service) (tei : ℕ) (c d : Config) (p q : ℕ) (face : Face
           → moves ds w ≤ (2 * v + 8) + (v + 4) * expiries ds + (v + 6) * granted_of (doing_all ds w)
       go o = grind (arith, weigh, ringing, t, u, fresh, not-erred, doing_all)
 
-  -- ---- from where both ends are up, as nothing more is accepted and no timer expires
+  -- ---- from where both ends are up, as nothing more is accepted
 
+  pub from-up-on : (ds : List StepAt) → All (IsRoughTalk service tei) ds → (w : Wire) (h : IsUp service tei c d p q w) → granted_of (doing_all ds w) ≡ granted_of w
+      → HasNoError (doing_all ds w).near → HasNoError (doing_all ds w).far → moves ds w ≤ weigh v h.n h.m + (v + 4) * expiries ds
+  unfolding seen
+  from-up-on ds all w h same fair-near fair-far = go (runs ds all w (inr (inr h)))
+    where
+      go : Total (moves ds w) (expiries ds) h.n h.m (doing_all ds w) ⊎ Errs (doing_all ds w) → moves ds w ≤ weigh v h.n h.m + (v + 4) * expiries ds
+      go (inl x) =
+          let kept : granted_of w ≡ length h.n.link.contents + length h.m.link.contents = grind arith in
+          let all = x.granted in
+          let none : x.more ≡ 0 = omega (arith, all, same, kept) in
+          let falls = subst (λ more. moves ds w ≤ weigh v h.n h.m + (v + 4) * expiries ds + (v + 6) * more) none x.falls in
+          omega (arith, falls)
+      go (inr (inl e)) = absurd (not-erred (doing_all ds w).near fair-near e)
+      go (inr (inr e)) = absurd (not-erred (doing_all ds w).far fair-far e)
+
+  -- and no timer expires
   pub from-up : (ds : List StepAt) → All (IsRoughTalk service tei) ds → (w : Wire) (h : IsUp service tei c d p q w) → expiries ds ≡ 0 → granted_of (doing_all ds w) ≡ granted_of w
       → HasNoError (doing_all ds w).near → HasNoError (doing_all ds w).far → moves ds w ≤ weigh v h.n h.m
-  unfolding seen
-  from-up ds all w h none same fair-near fair-far = go (runs ds all w (inr (inr h)))
-    where
-      go : Total (moves ds w) (expiries ds) h.n h.m (doing_all ds w) ⊎ Errs (doing_all ds w) → moves ds w ≤ weigh v h.n h.m
-      go o = grind (arith, weigh, none, not-erred)
+  from-up ds all w h none same fair-near fair-far =
+      let most = subst (λ e. moves ds w ≤ weigh v h.n h.m + (v + 4) * e) none (from-up-on ds all w h same fair-near fair-far) in omega (arith, most)
 
 pub twice : (x k : ℕ) → x ≤ k → 2 * x ≤ 2 * k
 twice x k le = omega (arith, le)

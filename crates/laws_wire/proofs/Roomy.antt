@@ -1,5 +1,6 @@
 -- There is room for each enquiry and each answer of two ends of which neither was ever busy, where three control frames may wait.
-use Rattle.laws_wire.proofs.Vocabulary.{◌≡◌, ℕ, ◌+◌, ◌≤◌, true, false, List, [], ◌∷◌, ◌++◌, length, refl, arith, All, lt-ltb, All-head, All-tail, Parts, ControlFrame, Terms, LinkEndpoint, has_room, frames_of, is_enquiry, HasNo, line, Kind, kind_of, kinds_of, kinds-append, tally, one_enquiry, one_answer, one_rejection, not-enquiry}
+use Rattle.laws_wire.proofs.Vocabulary.{◌≡◌, ℕ, ◌+◌, ◌≤◌, true, false, List, [], ◌∷◌, ◌++◌, length, refl, arith, All, lt-ltb, All-head, All-tail, Parts, ControlFrame, Terms, Bool, Control, LinkEndpoint, has_room, frames_of, is_enquiry, HasNo, line, Kind, kind_of, kinds_of, kinds-append, tally, one_enquiry, one_answer, one_rejection, not-enquiry}
+use Rattle.laws_link.specs.two.Timely.{is_answer}
 use Rattle.laws_wire.proofs.Firm.{Firm}
 use Rattle.laws_wire.proofs.Tame.{WaitsSo}
 
@@ -25,21 +26,33 @@ roomy n m h wide few =
     let all = count-waits n.terms n.link.waiting h.near_tame.waiting in
     grind (arith, frames_of, kinds_of, kinds-append, tally-append, lt-ltb)
 
-none-waits : (t : Terms) (ws : List ControlFrame) → All (λ f. is_enquiry f.command f.control ≡ false) ws → tally one_enquiry (kinds_of (frames_of t ws)) ≡ 0
-none-waits t [] h = refl
-none-waits t (f ∷ fs) h =
-    let here : one_enquiry (kind_of f.command f.control) ≡ 0 = not-enquiry f.command f.control (All-head (λ f. is_enquiry f.command f.control ≡ false) f fs h) in
-    let more : tally one_enquiry (kinds_of (frames_of t fs)) ≡ 0 = none-waits t fs (All-tail (λ f. is_enquiry f.command f.control ≡ false) f fs h) in
-    omega (arith, here, more)
+-- none of a kind waits or is on its way
+module _ (asked : Bool → Control → Bool) (one : Kind → ℕ) (not_one : (b : Bool) (control : Control) → asked b control ≡ false → one (kind_of b control) ≡ 0) where
+  abbrev IsNot : ControlFrame → Type 0
+  IsNot f = asked f.command f.control ≡ false
 
-none-goes : (t : Terms) (way : List Parts) (ws : List ControlFrame) → All (λ f. is_enquiry f.address.command f.control ≡ false) way
-    → All (λ f. is_enquiry f.command f.control ≡ false) ws → tally one_enquiry (line t way ws) ≡ 0
-none-goes t [] ws h k = none-waits t ws k
-none-goes t (f ∷ fs) ws h k =
-    let here : one_enquiry (kind_of f.address.command f.control) ≡ 0 =
-    not-enquiry f.address.command f.control (All-head (λ f. is_enquiry f.address.command f.control ≡ false) f fs h) in
-    let more : tally one_enquiry (line t fs ws) ≡ 0 = none-goes t fs ws (All-tail (λ f. is_enquiry f.address.command f.control ≡ false) f fs h) k in
-    omega (arith, here, more)
+  abbrev IsNotOnWay : Parts → Type 0
+  IsNotOnWay f = asked f.address.command f.control ≡ false
+
+  none-waits : (t : Terms) (ws : List ControlFrame) → All IsNot ws → tally one (kinds_of (frames_of t ws)) ≡ 0
+  none-waits t [] h = refl
+  none-waits t (f ∷ fs) h =
+      let here : one (kind_of f.command f.control) ≡ 0 = not_one f.command f.control (All-head IsNot f fs h) in
+      let more : tally one (kinds_of (frames_of t fs)) ≡ 0 = none-waits t fs (All-tail IsNot f fs h) in
+      omega (arith, here, more)
+
+  none-goes : (t : Terms) (way : List Parts) (ws : List ControlFrame) → All IsNotOnWay way → All IsNot ws → tally one (line t way ws) ≡ 0
+  none-goes t [] ws h k = none-waits t ws k
+  none-goes t (f ∷ fs) ws h k =
+      let here : one (kind_of f.address.command f.control) ≡ 0 = not_one f.address.command f.control (All-head IsNotOnWay f fs h) in
+      let more : tally one (line t fs ws) ≡ 0 = none-goes t fs ws (All-tail IsNotOnWay f fs h) k in
+      omega (arith, here, more)
+
+not-answer : (b : Bool) (control : Control) → is_answer b control ≡ false → one_answer (kind_of b control) ≡ 0
+not-answer b control e = grind arith
 
 pub none-asked : (n : LinkEndpoint) → HasNo is_enquiry n → tally one_enquiry (kinds n) ≡ 0
-none-asked n h = none-goes n.terms n.way n.link.waiting h.way h.waiting
+none-asked n h = none-goes is_enquiry one_enquiry not-enquiry n.terms n.way n.link.waiting h.way h.waiting
+
+pub none-answered : (n : LinkEndpoint) → HasNo is_answer n → tally one_answer (kinds n) ≡ 0
+none-answered n h = none-goes is_answer one_answer not-answer n.terms n.way n.link.waiting h.way h.waiting

@@ -98,7 +98,7 @@ module _ (n m : LinkEndpoint) (h : Firm n m) (p : Parts) (fs : List Parts) (firs
   abbrev rest : List Kind
   rest = line m.terms fs m.link.waiting
 
-  there : Flow n.link.s m.link.r (is_recovering n.link.state) m.link.rejecting (kinds n) (x ∷ rest)
+  pub there : Flow n.link.s m.link.r (is_recovering n.link.state) m.link.rejecting (kinds n) (x ∷ rest)
   there = subst (λ way. Flow n.link.s m.link.r (is_recovering n.link.state) m.link.rejecting (kinds n) (line m.terms way m.link.waiting)) first h.there
 
   pub back : Flow m.link.s n.link.r (is_recovering m.link.state) n.link.rejecting (x ∷ rest) (kinds n)
@@ -107,15 +107,15 @@ module _ (n m : LinkEndpoint) (h : Firm n m) (p : Parts) (fs : List Parts) (firs
   pub known : NoAlien x
   known = is-no-alien m.link.s n.link.r (is_recovering m.link.state) n.link.rejecting x rest (kinds n) back
 
-  high : m.link.r ≤ n.link.s
+  pub high : m.link.r ≤ n.link.s
   high = flows-low n m h.there
 
-  near : n.link.s ≤ n.link.a + 127
+  pub near : n.link.s ≤ n.link.a + 127
   near = grind arith
 
   module _ (up' : IsTrue (is_multiple_frame l'.state)) (rising' : Rising l'.a m.link.r (line_of m')) where
     -- V(A) becomes what the N(R) means
-    hears-number : (i : ℕ) → n.link.a ≤ i → i ≤ m.link.r → Means i p.control → l'.a ≡ i
+    pub hears-number : (i : ℕ) → n.link.a ≤ i → i ≤ m.link.r → Means i p.control → l'.a ≡ i
     hears-number i low below means =
         let told = (frame-taken n.terms n.link h.joined.near_up p.address.command p.info i p.control means).took.by.stay up' in
         let v = told.0 in

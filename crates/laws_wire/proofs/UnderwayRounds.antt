@@ -18,7 +18,7 @@ many-turns (suc n) =
     (All-cons SendsOrReceives (at_far receives) (at_far sends ∷ at_near receives ∷ many n) tt
     (All-cons SendsOrReceives (at_far sends) (at_near receives ∷ many n) tt (All-cons SendsOrReceives (at_near receives) (many n) tt (many-turns n))))
 
-both-timely : (ds es : List StepAt) (w : Wire) → StayTimely ds w → StayTimely es (doing_all ds w) → StayTimely (ds ++ es) w
+pub both-timely : (ds es : List StepAt) (w : Wire) → StayTimely ds w → StayTimely es (doing_all ds w) → StayTimely (ds ++ es) w
 unfolding StayTimely doing_all
 both-timely [] es w h g = g
 both-timely (d ∷ ds) es w h g = (h.0, both-timely ds es (doing d w) h.1 g)

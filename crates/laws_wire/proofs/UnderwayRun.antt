@@ -8,7 +8,7 @@ use Rattle.laws_wire.proofs.Underway.{SureUp, sure-runs, has-come}
 
 module _ (service : Service) (tei : ℕ) (c d : Config) (p q : ℕ) where
   -- once the end that called was told anything, both are up
-  are-up : (w : Wire) → Goes service tei c d p q w → heard_in w.near ≢ [] → AreUp service tei c d p q (confirmed service tei ∷ []) (indicated service tei ∷ []) w
+  pub are-up : (w : Wire) → Goes service tei c d p q w → heard_in w.near ≢ [] → AreUp service tei c d p q (confirmed service tei ∷ []) (indicated service tei ∷ []) w
   are-up w (inl h) told = absurd (told h.near.heard)
   are-up w (inr (inl h)) told = absurd (told h.near.heard)
   are-up w (inr (inr (inl h))) told = absurd (told h.near.heard)

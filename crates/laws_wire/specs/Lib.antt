@@ -9,6 +9,7 @@ pub mod Counted
 pub mod Facing
 pub mod Resting
 pub mod Arriving
+pub mod Expiring
 pub mod Answering
 pub mod Settling
 pub mod Ending
@@ -20,6 +21,7 @@ pub mod WorkedRecovering
 pub mod WorkedCounted
 pub mod WorkedResting
 pub mod WorkedArriving
+pub mod WorkedExpiring
 pub mod WorkedAnswering
 pub mod WorkedSettling
 pub mod WorkedReports

@@ -8,7 +8,7 @@
 //! - `Losing`: the same with frames that are lost and timers that expire;
 //! - `Timely`: a T200 that is long enough. `Recovering` has what it recovers, `StillTimely` the same if it expires as
 //!   no turn is left;
-//! - `Arriving`: what it recovers under traffic;
+//! - `Arriving`: what it recovers under traffic. `Expiring`: how often it expires then;
 //! - `Answering`: the same if UA is lost or an end is busy. `Settling`: that such a call comes to rest. `Ending`: its
 //!   end;
 //! - `Counted`: how often T200 may expire. `Resting`: how many turns there are at most;
@@ -32,6 +32,7 @@
 
 mod answering;
 mod arriving;
+mod expiring;
 mod laws;
 mod resting;
 mod settling;
@@ -39,6 +40,7 @@ mod terminals;
 
 pub use answering::{a_call_ends, a_call_with_losses_comes_through};
 pub use arriving::it_arrives_under_traffic;
+pub use expiring::expiries_come_to_an_end;
 pub use laws::{
     a_call_comes_through, cards_deliver, expiries_are_counted, told_in_order, what_is_lost_arrives,
     what_is_lost_arrives_from_rest,

@@ -88,7 +88,7 @@ module _ (l : Line) (fit : IsFit l) where
   far = fit.call.far.0
 
   abbrev pub PairAt : Clocked → Type 0
-  PairAt w = Pair l fit.some fit.call.near.0 fit.call.far.0 fit.call.opposite.0 fit.call.opposite.1 fit.t200 (fresh l.near l.lengths) (fresh l.far l.lengths) w
+  PairAt w = Pair l fit.some fit.call.near.0 fit.call.far.0 fit.call.opposite.0 fit.call.opposite.1 fit.t200 (fresh l.near l.lengths) (fresh l.far l.far_lengths) w
 
   module _ (w : Clocked) (p : PairAt w) (b : Beat) (talk : IsTalk l b) where
     abbrev n1 : TimedEndpoint
@@ -97,16 +97,16 @@ module _ (l : Line) (fit : IsFit l) where
     abbrev f1 : TimedEndpoint
     f1 = comes_to (w.beats / l.rate) b.far_asks w.far
 
-    pub near-come : Goes l.near l.service l.tei 0 near l.lengths l.rate p.S (by_now l fit.some near far fit.call.opposite.0 fit.call.opposite.1 fit.t200 (fresh l.near l.lengths) (fresh l.far l.lengths) p.S2) (at_time (w.beats / l.rate) w.near)
+    pub near-come : Goes l.near l.service l.tei 0 near l.lengths l.rate p.S (by_now l fit.some near far fit.call.opposite.0 fit.call.opposite.1 fit.t200 (fresh l.near l.lengths) (fresh l.far l.far_lengths) p.S2) (at_time (w.beats / l.rate) w.near)
         (comes_to (w.beats / l.rate) b.near_asks w.near)
     near-come =
-        near-comes l fit.some near far fit.call.opposite.0 fit.call.opposite.1 fit.t200 (fresh l.near l.lengths) (fresh l.far l.lengths) w p b talk
+        near-comes l fit.some near far fit.call.opposite.0 fit.call.opposite.1 fit.t200 (fresh l.near l.lengths) (fresh l.far l.far_lengths) w p b talk
         (length (asked (w.beats / l.rate) b.near_asks w.near).clock.running)
 
-    pub far-come : Goes l.far l.service l.tei 0 far l.lengths l.rate p.S2 (by_now l fit.some near far fit.call.opposite.0 fit.call.opposite.1 fit.t200 (fresh l.near l.lengths) (fresh l.far l.lengths) p.S) (at_time (w.beats / l.rate) w.far)
+    pub far-come : Goes l.far l.service l.tei 0 far l.far_lengths l.rate p.S2 (by_now l fit.some near far fit.call.opposite.0 fit.call.opposite.1 fit.t200 (fresh l.near l.lengths) (fresh l.far l.far_lengths) p.S) (at_time (w.beats / l.rate) w.far)
         (comes_to (w.beats / l.rate) b.far_asks w.far)
     far-come =
-        far-comes l fit.some near far fit.call.opposite.0 fit.call.opposite.1 fit.t200 (fresh l.near l.lengths) (fresh l.far l.lengths) w p b talk
+        far-comes l fit.some near far fit.call.opposite.0 fit.call.opposite.1 fit.t200 (fresh l.near l.lengths) (fresh l.far l.far_lengths) w p b talk
         (length (asked (w.beats / l.rate) b.far_asks w.far).clock.running)
 
     pub near-pulls : Pulled l.near l.service l.tei 0 near (comes_to (w.beats / l.rate) b.near_asks w.near).at near-come.ok.but.ends
@@ -192,7 +192,7 @@ module _ (l : Line) (fit : IsFit l) where
       let u = beat l.rate w b in
       let x = beaten l fit w h.pair b talk in
       record {
-        pair = pair-then l fit.some (near l fit) (far l fit) fit.call.opposite.0 fit.call.opposite.1 fit.t200 (fresh l.near l.lengths) (fresh l.far l.lengths) w h.pair b talk near_clear far_clear;
+        pair = pair-then l fit.some (near l fit) (far l fit) fit.call.opposite.0 fit.call.opposite.1 fit.t200 (fresh l.near l.lengths) (fresh l.far l.far_lengths) w h.pair b talk near_clear far_clear;
         near_behind = behind-then l.way w.near v.near u.near v.far b.near_noise x.near_sent x.near x.far.value x.far.more x.far.comes h.near_behind;
         far_behind = behind-then l.way w.far v.far u.far v.near b.far_noise x.far_sent x.far x.near.value x.near.more x.near.comes h.far_behind;
       }

@@ -207,7 +207,7 @@ module _ (l : Line) (fit : IsFit l) where
         near_clear,
         far_clear,
         all-clear bs u
-            (pair-then l fit.some (near l fit) (far l fit) fit.call.opposite.0 fit.call.opposite.1 fit.t200 (fresh l.near l.lengths) (fresh l.far l.lengths) w p b t near_clear far_clear)
+            (pair-then l fit.some (near l fit) (far l fit) fit.call.opposite.0 fit.call.opposite.1 fit.t200 (fresh l.near l.lengths) (fresh l.far l.far_lengths) w p b t near_clear far_clear)
             (exact-heard l.way w.near v.near u.near v.far v.far b.near_noise z.near_sent z.near (port_of w.far.at) z.far_sent.received z.far.value z.far.more z.far.comes (port_of u.far.at)
             (ap (λ (p : Port). p.received) z.far.port ∙ ap (λ o. (port_of v.far.at).received ++ unwrap_or o z.far.value ∷ []) c.1) x1)
             (exact-heard l.way w.far v.far u.far v.near v.near b.far_noise z.far_sent z.far (port_of w.near.at) z.near_sent.received z.near.value z.near.more z.near.comes (port_of u.near.at)

@@ -31,7 +31,7 @@ module _ (l : Line) (fit : IsFit l) where
     few : p.S ≤ w.beats
     few = let early = p.near_ok.but.early in let given = p.near_counts.given in omega (arith, early, given)
 
-    end-now : EndOk l.near l.service l.tei 0 (near l fit) l.lengths l.rate w.beats (by_now l fit.some (near l fit) (far l fit) fit.call.opposite.0 fit.call.opposite.1 fit.t200 (fresh l.near l.lengths) (fresh l.far l.lengths) p.S2) w.near
+    end-now : EndOk l.near l.service l.tei 0 (near l fit) l.lengths l.rate w.beats (by_now l fit.some (near l fit) (far l fit) fit.call.opposite.0 fit.call.opposite.1 fit.t200 (fresh l.near l.lengths) (fresh l.far l.far_lengths) p.S2) w.near
     end-now = record {
       but = record {
         ends = p.near_ok.but.ends;
@@ -54,9 +54,9 @@ module _ (l : Line) (fit : IsFit l) where
             S = w.beats;
             S2 = p.S2;
             near_ok = end-now;
-            far_ok = end-later l.service l.tei l.way l.lengths l.rate l.far (far l fit) p.S2
-                (by_now l fit.some (near l fit) (far l fit) fit.call.opposite.0 fit.call.opposite.1 fit.t200 (fresh l.near l.lengths) (fresh l.far l.lengths) p.S)
-                (by_now l fit.some (near l fit) (far l fit) fit.call.opposite.0 fit.call.opposite.1 fit.t200 (fresh l.near l.lengths) (fresh l.far l.lengths) w.beats) (omega (arith, less)) w.far p.far_ok;
+            far_ok = end-later l.service l.tei l.way l.far_lengths l.rate l.far (far l fit) p.S2
+                (by_now l fit.some (near l fit) (far l fit) fit.call.opposite.0 fit.call.opposite.1 fit.t200 (fresh l.near l.lengths) (fresh l.far l.far_lengths) p.S)
+                (by_now l fit.some (near l fit) (far l fit) fit.call.opposite.0 fit.call.opposite.1 fit.t200 (fresh l.near l.lengths) (fresh l.far l.far_lengths) w.beats) (omega (arith, less)) w.far p.far_ok;
             near_counts = p.near_counts;
             far_counts = p.far_counts;
           },
@@ -68,10 +68,10 @@ module _ (l : Line) (fit : IsFit l) where
   pairs-on since [] w talk clear p = p
   pairs-on since (b ∷ bs) w talk clear p =
       let t = All-head (IsTalk l) b bs talk in
-      let later = pair-later l fit.some (near l fit) (far l fit) fit.call.opposite.0 fit.call.opposite.1 fit.t200 (fresh l.near l.lengths) (fresh l.far l.lengths) w p.0 b t clear.0 clear.1 in
+      let later = pair-later l fit.some (near l fit) (far l fit) fit.call.opposite.0 fit.call.opposite.1 fit.t200 (fresh l.near l.lengths) (fresh l.far l.far_lengths) w p.0 b t clear.0 clear.1 in
       let from = p.1 in
       pairs-on since bs (beat l.rate w b) (All-tail (IsTalk l) b bs talk) clear.2 (
-        pair-then l fit.some (near l fit) (far l fit) fit.call.opposite.0 fit.call.opposite.1 fit.t200 (fresh l.near l.lengths) (fresh l.far l.lengths) w p.0 b t clear.0 clear.1,
+        pair-then l fit.some (near l fit) (far l fit) fit.call.opposite.0 fit.call.opposite.1 fit.t200 (fresh l.near l.lengths) (fresh l.far l.far_lengths) w p.0 b t clear.0 clear.1,
         omega (arith, later, from),
       )
 
@@ -80,11 +80,11 @@ module _ (l : Line) (fit : IsFit l) where
       → due (fall_due k (asked (u.beats / l.rate) c.near_asks u.near)).clock ≡ Some x → x.timer ≡ T200 l.service l.tei → state_at l (fall_due k (asked (u.beats / l.rate) c.near_asks u.near)) ≡ Some 8 → ⊥
   not-due since u p from soon c talk k x falls timer is =
       let a = fall_due k (asked (u.beats / l.rate) c.near_asks u.near) in
-      let g = near-comes l fit.some (near l fit) (far l fit) fit.call.opposite.0 fit.call.opposite.1 fit.t200 (fresh l.near l.lengths) (fresh l.far l.lengths) u p c talk k in
+      let g = near-comes l fit.some (near l fit) (far l fit) fit.call.opposite.0 fit.call.opposite.1 fit.t200 (fresh l.near l.lengths) (fresh l.far l.far_lengths) u p c talk k in
       let at_due = due-is a.at.line a.clock.now (T200 l.service l.tei) a.clock.running x g.ok.but.clock.here falls timer in
       let number = same-some (state_number g.ok.but.ends.its.state) 8 (sym (state-here l.near l.service l.tei 0 (near l fit) l.lengths l.rate a.at g.ok.but.ends) ∙ is) in
       let started = g.ok.timer x.moment (ap is_waiting number) at_due.0 in
-      let ago = long-ago l fit.some (near l fit) (far l fit) fit.call.opposite.0 fit.call.opposite.1 fit.t200 (fresh l.near l.lengths) (fresh l.far l.lengths) g.S' u.beats x.moment started
+      let ago = long-ago l fit.some (near l fit) (far l fit) fit.call.opposite.0 fit.call.opposite.1 fit.t200 (fresh l.near l.lengths) (fresh l.far l.far_lengths) l.lengths fit.t200.0 g.S' u.beats x.moment started
       (subst (λ k. x.moment ≤ k) g.now at_due.1) in
       let later = g.later in omega (arith, from, soon, ago, later)
 
@@ -105,7 +105,7 @@ module _ (l : Line) (bs : List Beat) (b : Beat) (more : List Beat) (c : Beat) (k
   unfolding AreClear
   from-beat soon clear p up falls timer is =
       let w1 = beat l.rate w0 b in
-      let q = pair-then l fit.some (near l fit) (far l fit) fit.call.opposite.0 fit.call.opposite.1 fit.t200 (fresh l.near l.lengths) (fresh l.far l.lengths) w0 p b (All-head (IsTalk l) b more last) clear.0 clear.1 in
+      let q = pair-then l fit.some (near l fit) (far l fit) fit.call.opposite.0 fit.call.opposite.1 fit.t200 (fresh l.near l.lengths) (fresh l.far l.far_lengths) w0 p b (All-head (IsTalk l) b more last) clear.0 clear.1 in
       let number = same-some (state_number q.near_ok.but.ends.its.state) 7 (sym (state-here l.near l.service l.tei 0 (near l fit) l.lengths l.rate w1.near.at q.near_ok.but.ends) ∙ up) in
       let r = pairs-on l fit w1.beats more w1 (All-tail (IsTalk l) b more last) clear.2 (pair-now l fit w1 q (ap is_waiting number)) in
       let so_many = beats-then l.rate more w1 in
@@ -117,6 +117,6 @@ one-enquiry-is-enough l bs b more c k x comes talk_c =
     let fit = h.fit in
     let soon = an-enquiry-is-answered l bs b more comes in
     let parts = clear-parts l fit bs (b ∷ more) (begins l) h.clear in
-    let first = all-pairs l fit.some (near l fit) (far l fit) fit.call.opposite.0 fit.call.opposite.1 fit.t200 (fresh l.near l.lengths) (fresh l.far l.lengths) bs (all-left (IsTalk l) bs (b ∷ more) h.talk) (begins l) parts.0 (pair-begins l fit) in
+    let first = all-pairs l fit.some (near l fit) (far l fit) fit.call.opposite.0 fit.call.opposite.1 fit.t200 (fresh l.near l.lengths) (fresh l.far l.far_lengths) bs (all-left (IsTalk l) bs (b ∷ more) h.talk) (begins l) parts.0 (pair-begins l fit) in
     let same : begun l bs b ≡ beat l.rate (after l.rate bs (begins l)) b = fold-append (beat l.rate) (begins l) bs (b ∷ []) in
     subst (Claim l bs b more c k x fit h.talk talk_c) (sym same) (from-beat l bs b more c k x fit h.talk talk_c soon parts.1 first) comes.1

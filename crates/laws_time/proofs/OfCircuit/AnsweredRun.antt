@@ -90,7 +90,7 @@ module _ (l : Line) (fit : IsFit l) (n : ℕ) (x : Exchange n) (start clean base
     a = fresh l.near l.lengths
 
     abbrev d : TimedOctetCard
-    d = fresh l.far l.lengths
+    d = fresh l.far l.far_lengths
 
     abbrev p : PairAt l fit w
     p = y.pair
@@ -148,10 +148,10 @@ module _ (l : Line) (fit : IsFit l) (n : ℕ) (x : Exchange n) (start clean base
         (near-low l fit.some fit.call.near.0 fit.call.far.0 opposite size fit.t200 a d w p b talk) (near-high l fit.some fit.call.near.0 fit.call.far.0 opposite size fit.t200 a d w p b talk) p.near_counts
         (soon l fit.some fit.call.near.0 fit.call.far.0 opposite size fit.t200 a d w p b talk) talk.0 (low, so) near1
 
-    far-walk : (D : Port → Link → Type 0) (base : ℕ) → IsKept l.far l.service l.tei fit.call.far.0 l.lengths l.rate D → base ≤ lost w.far.at
-        → (lost w.far.at ≤ base → D (port_of w.far.at) p.far_ok.but.ends.its) → Kept l.far l.service l.tei fit.call.far.0 l.lengths l.rate D base f1.at far1
+    far-walk : (D : Port → Link → Type 0) (base : ℕ) → IsKept l.far l.service l.tei fit.call.far.0 l.far_lengths l.rate D → base ≤ lost w.far.at
+        → (lost w.far.at ≤ base → D (port_of w.far.at) p.far_ok.but.ends.its) → Kept l.far l.service l.tei fit.call.far.0 l.far_lengths l.rate D base f1.at far1
     far-walk D base on low so =
-        comes-kept l.far l.service l.tei fit.call.far.0 l.lengths l.rate D base on l.way (w.beats / l.rate) w.beats p.S2
+        comes-kept l.far l.service l.tei fit.call.far.0 l.far_lengths l.rate D base on l.way (w.beats / l.rate) w.beats p.S2
         (by_now l fit.some fit.call.near.0 fit.call.far.0 opposite size fit.t200 a d p.S) b.far_asks w.far p.far_ok p.both.far
         (far-low l fit.some fit.call.near.0 fit.call.far.0 opposite size fit.t200 a d w p b talk) (far-high l fit.some fit.call.near.0 fit.call.far.0 opposite size fit.t200 a d w p b talk) p.far_counts
         (soon l fit.some fit.call.near.0 fit.call.far.0 opposite size fit.t200 a d w p b talk) talk.1 (low, so) far1
@@ -214,7 +214,7 @@ module _ (l : Line) (fit : IsFit l) (n : ℕ) (x : Exchange n) (start clean base
     far-state : (n : ℕ) → state_at l u.far ≡ Some n → state_number far_mv.ends.its.state ≡ n
     far-state n is =
         same-some (state_number far_mv.ends.its.state) n
-        (sym (state-here l.far l.service l.tei 0 fit.call.far.0 l.lengths l.rate far_then.at far_mv.ends) ∙ ap (state_at l) (sym far-is) ∙ is)
+        (sym (state-here l.far l.service l.tei 0 fit.call.far.0 l.far_lengths l.rate far_then.at far_mv.ends) ∙ ap (state_at l) (sym far-is) ∙ is)
 
     module _ (is_waiting : state_at l u.near ≡ Some n) (is_up : n ≡ 8 → (state_at l u.far ≡ Some 7) ⊎ (state_at l u.far ≡ Some 8)) (near_few : lost u.near.at ≤ base) (far_few : lost u.far.at ≤ other_base)
         (late : start ≤ w.beats) where
@@ -315,7 +315,7 @@ module _ (l : Line) (fit : IsFit l) (n : ℕ) (x : Exchange n) (start clean base
           let still = near-walk (λ p y. x.Still y.state) base (still-kept l.near l.service l.tei fit.call.near.0 l.lengths l.rate n x start asked_by l.way) y.near_low
           (λ few. x.still_in p.near_ok.but.ends.its.state number) in
           let kept = far-walk (λ p y. Due (is_of x.answering l.far) start answered_by l.way w.beats p (ring l.far l.service l.tei 0 fit.call.far.0 y)) other_base
-          (due-kept l.far l.service l.tei fit.call.far.0 l.lengths l.rate x.answering start answered_by l.way w.beats) y.far_low
+          (due-kept l.far l.service l.tei fit.call.far.0 l.far_lengths l.rate x.answering start answered_by l.way w.beats) y.far_low
           (λ few. from-here l.far l.service l.tei fit.call.far.0 x.answering start answered_by l.way w.beats w.far.at p.far_ok.but.ends due) in
           far-after (subst x.Still (sym pull-state) (still.1 few-before.0))
           (due-pull l.far l.service l.tei 0 fit.call.far.0 x.answering start answered_by l.way w.beats f1.at far1 (far-pulls l fit w y.pair b talk) (omega (arith, given)) (kept.1 few-before.1))

@@ -24,7 +24,7 @@ use Rattle.laws_order.proofs.OfCircuit.AsFrames.{as_station}
 use Rattle.laws_order.proofs.OfCircuit.Projected.{port-after, heard-way}
 use Rattle.laws_order.proofs.OfCircuit.Ran.{Ran, within-ports}
 use Rattle.laws_time.specs.circuit.Clocked.{TimedEndpoint, Clocked, Beat, happens, asks, hears, comes_to, gone, beat, fall_due}
-use Rattle.laws_time.specs.circuit.LongEnough.{Line, IsTalk, IsClearAt, IsFrame, answered_in}
+use Rattle.laws_time.specs.circuit.LongEnough.{Line, RunsLong, IsTalk, IsClearAt, IsFrame, answered_in}
 use Rattle.laws_time.proofs.OfCircuit.ArrivAs.{station, heard_of, due-becomes, undue-becomes}
 use Rattle.laws_time.proofs.OfCircuit.ArrivFair.{IsFair}
 use Rattle.laws_time.proofs.OfCircuit.ArrivHeard.{Hears, hears-so}
@@ -84,7 +84,7 @@ heard-port c ranged a ran noise (value ∷ more) =
     (ap (λ (p : Port). p.items) same, ap (λ (p : Port). p.given) same, heard-way (unwrap_or noise value) a.at)
 
 module _ (l : Line) (some : 1 ≤ l.rate) (near : IsInRange l.near) (far : IsInRange l.far) (opposite : own_side l.far ≡ heard_side l.near) (size : l.near.n201 ≡ l.far.n201)
-    (t200 : answered_in l.near l.far l.way + l.rate ≤ l.lengths.t200 * l.rate) (t u : TimedOctetCard) where
+    (t200 : RunsLong l l.lengths × RunsLong l l.far_lengths) (t u : TimedOctetCard) where
   abbrev pub PairNow : Clocked → Type 0
   PairNow w = Pair l some near far opposite size t200 t u w
 
@@ -114,7 +114,7 @@ module _ (l : Line) (some : 1 ≤ l.rate) (near : IsInRange l.near) (far : IsInR
   NearOk S M a = EndOk l.near l.service l.tei 0 near l.lengths l.rate S M a
 
   abbrev FarOk : ℕ → ℕ → TimedEndpoint → Type 0
-  FarOk S M a = EndOk l.far l.service l.tei 0 far l.lengths l.rate S M a
+  FarOk S M a = EndOk l.far l.service l.tei 0 far l.far_lengths l.rate S M a
 
   module _ (w : Clocked) (p : PairNow w) (b : Beat) (talk : IsTalk l b) where
     abbrev n : ℕ
@@ -127,7 +127,10 @@ module _ (l : Line) (some : 1 ≤ l.rate) (near : IsInRange l.near) (far : IsInR
     its-soon = soon l some near far opposite size t200 t u w p b talk
 
     pub ago : (S m : ℕ) → S + l.lengths.t200 * l.rate ≤ (m + 1) * l.rate → m ≤ w.beats / l.rate → S + answered_in l.near l.far l.way ≤ w.beats
-    ago S m started low = long-ago l some near far opposite size t200 t u S w.beats m started low
+    ago S m started low = long-ago l some near far opposite size t200 t u l.lengths t200.0 S w.beats m started low
+
+    far-ago : (S m : ℕ) → S + l.far_lengths.t200 * l.rate ≤ (m + 1) * l.rate → m ≤ w.beats / l.rate → S + answered_in l.near l.far l.way ≤ w.beats
+    far-ago S m started low = long-ago l some near far opposite size t200 t u l.far_lengths t200.1 S w.beats m started low
 
     -- The far end at first.
     module _ (back : List (List ℕ)) (comes : Going l.far.n201 (port_of w.far.at) w.far.at.way back) (us : List LineTold) (far_heard : heard_of us ≡ heard_of w.far.at.told) where
@@ -209,17 +212,17 @@ module _ (l : Line) (some : 1 ≤ l.rate) (near : IsInRange l.near) (far : IsInR
 
         abbrev FarStood : ℕ → TimedEndpoint → FrameEndpoint → Type 0
         FarStood S a x =
-            Stood l.service l.tei l.far far l.near l.lengths l.rate l.way (answered_in l.near l.far l.way) w.beats (w.beats / l.rate) ago (far-in-all l some near far opposite size t200 t u)
+            Stood l.service l.tei l.far far l.near l.far_lengths l.rate l.way (answered_in l.near l.far l.way) w.beats (w.beats / l.rate) far-ago (far-in-all l some near far opposite size t200 t u)
             p.S2 (its_by_now p.S) near_now near_end near-stands near-finals S a x
 
         abbrev FarAfter : FrameEndpoint → TimedEndpoint → Type 0
         FarAfter x v =
-            After l.service l.tei l.far far l.near l.lengths l.rate l.way (answered_in l.near l.far l.way) w.beats (w.beats / l.rate) ago (far-in-all l some near far opposite size t200 t u)
+            After l.service l.tei l.far far l.near l.far_lengths l.rate l.way (answered_in l.near l.far l.way) w.beats (w.beats / l.rate) far-ago (far-in-all l some near far opposite size t200 t u)
             p.S2 (its_by_now p.S) near_now near_end near-stands near-finals x v
 
         far-stood : FarStood p.S2 (at_time (w.beats / l.rate) w.far) (station back us w.far.at)
         far-stood = record {
-          ok = at-moment l.service l.tei l.way l.lengths l.rate l.far far (w.beats / l.rate) w.beats p.S2 (its_by_now p.S) b.far_asks w.far p.far_ok p.both.far
+          ok = at-moment l.service l.tei l.way l.far_lengths l.rate l.far far (w.beats / l.rate) w.beats p.S2 (its_by_now p.S) b.far_asks w.far p.far_ok p.both.far
               (far-low l some near far opposite size t200 t u w p b talk) (far-high l some near far opposite size t200 t u w p b talk) p.far_counts its-soon talk.1;
           later = omega arith;
           given = p.far_counts.given;
@@ -238,7 +241,7 @@ module _ (l : Line) (some : 1 ≤ l.rate) (near : IsInRange l.near) (far : IsInR
 
         k : FarAfter (station back us w.far.at) (comes_to (w.beats / l.rate) b.far_asks w.far)
         k =
-            all-comes l.service l.tei l.far far l.near l.lengths l.rate l.way (answered_in l.near l.far l.way) w.beats (w.beats / l.rate) ago (far-in-all l some near far opposite size t200 t u)
+            all-comes l.service l.tei l.far far l.near l.far_lengths l.rate l.way (answered_in l.near l.far l.way) w.beats (w.beats / l.rate) far-ago (far-in-all l some near far opposite size t200 t u)
             p.S2 (its_by_now p.S) near_now near_end near-stands near-finals b.far_asks (length far_asked.clock.running) p.S2 (at_time (w.beats / l.rate) w.far) (station back us w.far.at) far-stood far_both
             (fair-happens port.pull (comes_to (w.beats / l.rate) b.far_asks w.far) far_fair)
 
@@ -290,7 +293,7 @@ module _ (l : Line) (some : 1 ≤ l.rate) (near : IsInRange l.near) (far : IsInR
           near_has : Gone l.service l.tei l.way l.lengths l.rate l.near near (w.beats / l.rate) w.beats p.S (its_by_now p.S2) (gone l.rate b w).near
           near_has = near-gone l some near far opposite size t200 t u w p b talk clear_near clear_far
 
-          far_has : Gone l.service l.tei l.way l.lengths l.rate l.far far (w.beats / l.rate) w.beats p.S2 (its_by_now p.S) (gone l.rate b w).far
+          far_has : Gone l.service l.tei l.way l.far_lengths l.rate l.far far (w.beats / l.rate) w.beats p.S2 (its_by_now p.S) (gone l.rate b w).far
           far_has = far-gone l some near far opposite size t200 t u w p b talk clear_near clear_far
 
           nh : Hears l.service l.tei l.near l.far far (sym size) vn near_has.ok.but.ends.stands.config np.there' np.ts' np.heard' vf.at far_has.ok.but.ends.ran far_pulled kp.there' b.near_noise vf.at.way

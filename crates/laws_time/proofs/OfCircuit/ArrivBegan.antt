@@ -59,13 +59,13 @@ module _ (l : Line) (fit : IsFit l) where
   idle-begins : IdleNow (begins l)
   idle-begins = record {
     pair = pair-begins l fit;
-    near = idle-first l.near l.service l.tei l.near_line l.way fit.call.near.0 fit.call.near.1 fit.call.terminal l.lengths fit.lengths l.rate;
-    far = idle-first l.far l.service l.tei l.far_line l.way fit.call.far.0 fit.call.far.1 fit.call.terminal l.lengths fit.lengths l.rate;
+    near = idle-first l.near l.service l.tei l.near_line l.way fit.call.near.0 fit.call.near.1 fit.call.terminal l.lengths fit.lengths.0 l.rate;
+    far = idle-first l.far l.service l.tei l.far_line l.way fit.call.far.0 fit.call.far.1 fit.call.terminal l.far_lengths fit.lengths.1 l.rate;
     goes = first-going l.near.n201 (port_of (endpoint l.near l.near_line l.lengths l.way l.tei).at) (endpoint l.near l.near_line l.lengths l.way l.tei).at.way (flags l.way)
-        (port-is l.near l.service l.tei l.near_line l.way fit.call.near.0 fit.call.near.1 fit.call.terminal l.lengths fit.lengths l.rate)
+        (port-is l.near l.service l.tei l.near_line l.way fit.call.near.0 fit.call.near.1 fit.call.terminal l.lengths fit.lengths.0 l.rate)
         (asked-way (Assign l.tei) (record (octet_endpoint l.near l.near_line) { way = flags l.way }));
-    comes = first-going l.far.n201 (port_of (endpoint l.far l.far_line l.lengths l.way l.tei).at) (endpoint l.far l.far_line l.lengths l.way l.tei).at.way (flags l.way)
-        (port-is l.far l.service l.tei l.far_line l.way fit.call.far.0 fit.call.far.1 fit.call.terminal l.lengths fit.lengths l.rate)
+    comes = first-going l.far.n201 (port_of (endpoint l.far l.far_line l.far_lengths l.way l.tei).at) (endpoint l.far l.far_line l.far_lengths l.way l.tei).at.way (flags l.way)
+        (port-is l.far l.service l.tei l.far_line l.way fit.call.far.0 fit.call.far.1 fit.call.terminal l.far_lengths fit.lengths.1 l.rate)
         (asked-way (Assign l.tei) (record (octet_endpoint l.far l.far_line) { way = flags l.way }));
   }
 
@@ -129,7 +129,7 @@ module _ (l : Line) (fit : IsFit l) where
       near_has =
           let c = fit.call in near-gone l fit.some c.near.0 c.far.0 c.opposite.0 c.opposite.1 fit.t200 (near_card l fit) (far_card l fit) w h.pair b talk clear_near clear_far
 
-      far_has : Gone l.service l.tei l.way l.lengths l.rate l.far fit.call.far.0 (w.beats / l.rate) w.beats h.pair.S2
+      far_has : Gone l.service l.tei l.way l.far_lengths l.rate l.far fit.call.far.0 (w.beats / l.rate) w.beats h.pair.S2
           (by_now l fit.some fit.call.near.0 fit.call.far.0 fit.call.opposite.0 fit.call.opposite.1 fit.t200 (near_card l fit) (far_card l fit) h.pair.S) (gone l.rate b w).far
       far_has =
           let c = fit.call in far-gone l fit.some c.near.0 c.far.0 c.opposite.0 c.opposite.1 fit.t200 (near_card l fit) (far_card l fit) w h.pair b talk clear_near clear_far

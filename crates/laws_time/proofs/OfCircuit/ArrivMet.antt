@@ -161,10 +161,10 @@ module _ (l : Line) (fit : IsFit l) where
       ap (λ (p : Port). p.given) is ∙ sym (ap (λ (q : Port). q.received ++ sent) same ∙ flags_are ∙ ap flags none)
 
   near-port : port_of (begins l).near.at ≡ fresh_port
-  near-port = port-is l.near l.service l.tei l.near_line l.way fit.call.near.0 fit.call.near.1 fit.call.terminal l.lengths fit.lengths l.rate
+  near-port = port-is l.near l.service l.tei l.near_line l.way fit.call.near.0 fit.call.near.1 fit.call.terminal l.lengths fit.lengths.0 l.rate
 
   far-port : port_of (begins l).far.at ≡ fresh_port
-  far-port = port-is l.far l.service l.tei l.far_line l.way fit.call.far.0 fit.call.far.1 fit.call.terminal l.lengths fit.lengths l.rate
+  far-port = port-is l.far l.service l.tei l.far_line l.way fit.call.far.0 fit.call.far.1 fit.call.terminal l.far_lengths fit.lengths.1 l.rate
 
   pub clear-line : l.way ≡ 0 → (bs : List Beat) → All (IsTalk l) bs → All IsQuiet bs → AreClear l bs (begins l)
   clear-line none bs talk quiet =

@@ -179,8 +179,8 @@ module _ (service : Service) (tei transit : ℕ) (lengths : Lengths) (rate : ℕ
         port_said u = Rattle.model_card.specs.ports.Card.said (octet_at u.at.line port.pull) u.at.card
 
   -- An octet of the other end comes, or noise in its place.
-  module _ (d : Config) (ranged_far : IsInRange d) (n201 : ℕ) (size : c.n201 ≡ n201) (size_far : d.n201 ≡ n201) (side : heard_side c ≡ own_side d)
-      (n S M M' S2 M2 : ℕ) (a other : TimedEndpoint) (h : End S M a) (k : EndOk d service tei 0 ranged_far lengths rate S2 M2 other) (less : M ≤ M')
+  module _ (d : Config) (ranged_far : IsInRange d) (lengths_far : Lengths) (n201 : ℕ) (size : c.n201 ≡ n201) (size_far : d.n201 ≡ n201) (side : heard_side c ≡ own_side d)
+      (n S M M' S2 M2 : ℕ) (a other : TimedEndpoint) (h : End S M a) (k : EndOk d service tei 0 ranged_far lengths_far rate S2 M2 other) (less : M ≤ M')
       (bound : transit + S2 + half d service tei 0 ranged_far + 1 + half c service tei 0 ranged ≤ M') (noise : Option ℕ) (clear : IsClearAt n201 noise a other)
       (given : length (port_of a.at).given ≡ n + 1) (given_far : length (port_of other.at).given ≡ n + 1) (way_far : length other.at.way ≡ transit + 1)
       (soon : length (port_of a.at).given ≤ (a.clock.now + 1) * rate) where

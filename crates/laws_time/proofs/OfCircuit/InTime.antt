@@ -14,23 +14,23 @@ module _ (l : Line) (fit : IsFit l) where
   near_card = fresh l.near l.lengths
 
   abbrev pub far_card : TimedOctetCard
-  far_card = fresh l.far l.lengths
+  far_card = fresh l.far l.far_lengths
 
   abbrev pub PairNow : Clocked → Type 0
-  PairNow w = Pair l fit.some fit.call.near.0 fit.call.far.0 fit.call.opposite.0 fit.call.opposite.1 fit.t200 (fresh l.near l.lengths) (fresh l.far l.lengths) w
+  PairNow w = Pair l fit.some fit.call.near.0 fit.call.far.0 fit.call.opposite.0 fit.call.opposite.1 fit.t200 (fresh l.near l.lengths) (fresh l.far l.far_lengths) w
 
   pub pair-begins : PairNow (begins l)
   pair-begins =
       let call = fit.call in
       let most = by_now l fit.some call.near.0 call.far.0 call.opposite.0 call.opposite.1 fit.t200 near_card far_card 0 in
       record {
-        both = both-begin l.near l.far l.near_line l.far_line l.tei l.way l.rate l.lengths l.lengths call.near.1 call.far.1 fit.lengths fit.lengths;
+        both = both-begin l.near l.far l.near_line l.far_line l.tei l.way l.rate l.lengths l.far_lengths call.near.1 call.far.1 fit.lengths.0 fit.lengths.1;
         S = 0;
         S2 = 0;
-        near_ok = end-begins l.near l.service l.tei l.near_line l.way call.near.0 call.near.1 call.terminal l.lengths fit.lengths l.rate most;
-        far_ok = end-begins l.far l.service l.tei l.far_line l.way call.far.0 call.far.1 call.terminal l.lengths fit.lengths l.rate most;
-        near_counts = counts-begin l.near l.service l.tei l.near_line l.way call.near.0 call.near.1 call.terminal l.lengths fit.lengths l.rate;
-        far_counts = counts-begin l.far l.service l.tei l.far_line l.way call.far.0 call.far.1 call.terminal l.lengths fit.lengths l.rate;
+        near_ok = end-begins l.near l.service l.tei l.near_line l.way call.near.0 call.near.1 call.terminal l.lengths fit.lengths.0 l.rate most;
+        far_ok = end-begins l.far l.service l.tei l.far_line l.way call.far.0 call.far.1 call.terminal l.far_lengths fit.lengths.1 l.rate most;
+        near_counts = counts-begin l.near l.service l.tei l.near_line l.way call.near.0 call.near.1 call.terminal l.lengths fit.lengths.0 l.rate;
+        far_counts = counts-begin l.far l.service l.tei l.far_line l.way call.far.0 call.far.1 call.terminal l.far_lengths fit.lengths.1 l.rate;
       }
 
 pub answers-come-in-time : AnswersComeInTime

@@ -6,12 +6,14 @@ use Rattle.std.proofs.lemmas.List.Elements.{All-head, All-tail}
 use Rattle.std.proofs.Math.Nat.{mul-div-le}
 use Rattle.std.proofs.lemmas.Nat.{mul-le}
 use Rattle.lapd_clock.specs.Moments.{moment_of}
-use Rattle.lapd_clock.specs.Timer.{is_same}
+use Rattle.lapd_clock.specs.Timer.{Lengths, is_same}
 use Rattle.lapd_clock.specs.Timers.{Expiry, is_of as timer_is_of}
 use Rattle.lapd_frame.specs.declared.controls.Control.{Control}
 use Rattle.lapd_frame.specs.declared.services.Service.{Service}
 use Rattle.lapd_frame.specs.declared.timers.Timer.TheVariants as timers
-use Rattle.lapd_frame.specs.Grammar.{Parts}
+use Rattle.lapd_frame.specs.declared.addresses.Side.{Side}
+use Rattle.lapd_frame.specs.declared.addresses.Side.TheVariants.{Network, User}
+use Rattle.lapd_frame.specs.Grammar.{Parts, other_side}
 use Rattle.model_bits.specs.Stream as stream
 use Rattle.model_link.specs.Link.{state_number}
 use Rattle.model_line.specs.Sound.{IsInRange}
@@ -35,7 +37,7 @@ use Rattle.laws_time.proofs.OfCircuit.Sender.{Sends}
 use Rattle.laws_time.proofs.OfCircuit.Standing.{Ends, pulls}
 use Rattle.laws_time.proofs.OfCircuit.Under.{EndOk, state-here}
 use Rattle.laws_time.specs.circuit.Clocked.{TimedEndpoint, Clocked, Beat, gone, beat, after, fall_due}
-use Rattle.laws_time.specs.circuit.LongEnough.{Line, IsTalk, IsClearAt, IsLongEnough, is_of, is_waiting, asked, answered_in}
+use Rattle.laws_time.specs.circuit.LongEnough.{Line, RunsLong, IsTalk, IsClearAt, IsLongEnough, is_of, is_waiting, asked, answered_in}
 use Rattle.model_line.specs.Taken.{own_side}
 use Rattle.model_line.specs.Heard.{heard_side}
 use Rattle.laws_wire.proofs.Spelled.{sides-turned}
@@ -97,7 +99,7 @@ module _ (c : Config) (service : Service) (tei : ℕ) (ranged : IsInRange c) (ki
       pulling-on n (circuit.happens port.pull s) (pulls c service tei 0 ranged s h).ends (pulled-on c service tei 0 ranged kind plain s h most ok) before value more octets given is its
 
 module _ (l : Line) (some : 1 ≤ l.rate) (near : IsInRange l.near) (far : IsInRange l.far) (opposite : own_side l.far ≡ heard_side l.near) (size : l.near.n201 ≡ l.far.n201)
-    (t200 : answered_in l.near l.far l.way + l.rate ≤ l.lengths.t200 * l.rate) (t u : TimedOctetCard) where
+    (t200 : RunsLong l l.lengths × RunsLong l l.far_lengths) (t u : TimedOctetCard) where
   abbrev halves : ℕ
   halves = half l.near l.service l.tei 0 near + half l.far l.service l.tei 0 far
 
@@ -109,13 +111,13 @@ module _ (l : Line) (some : 1 ≤ l.rate) (near : IsInRange l.near) (far : IsInR
   NearEnd S M a = EndOk l.near l.service l.tei 0 near l.lengths l.rate S M a
 
   abbrev FarEnd : ℕ → ℕ → TimedEndpoint → Type 0
-  FarEnd S M a = EndOk l.far l.service l.tei 0 far l.lengths l.rate S M a
+  FarEnd S M a = EndOk l.far l.service l.tei 0 far l.far_lengths l.rate S M a
 
   abbrev NearCounts : ℕ → TimedEndpoint → Type 0
   NearCounts n a = Counts l.service l.tei l.way l.lengths l.rate l.near near n a
 
   abbrev FarCounts : ℕ → TimedEndpoint → Type 0
-  FarCounts n a = Counts l.service l.tei l.way l.lengths l.rate l.far far n a
+  FarCounts n a = Counts l.service l.tei l.way l.far_lengths l.rate l.far far n a
 
   pub record Pair (w : Clocked) : Type 0 where
     pub both : Both l.rate t u w
@@ -150,9 +152,9 @@ module _ (l : Line) (some : 1 ≤ l.rate) (near : IsInRange l.near) (far : IsInR
     near-comes k =
         comes-on l.service l.tei l.way l.lengths l.rate l.near near (w.beats / l.rate) w.beats p.S (by_now p.S2) b.near_asks w.near p.near_ok p.both.near near-low near-high p.near_counts soon talk.0 k
 
-    pub far-comes : (k : ℕ) → Goes l.far l.service l.tei 0 far l.lengths l.rate p.S2 (by_now p.S) (at_time (w.beats / l.rate) w.far) (fall_due k (asked (w.beats / l.rate) b.far_asks w.far))
+    pub far-comes : (k : ℕ) → Goes l.far l.service l.tei 0 far l.far_lengths l.rate p.S2 (by_now p.S) (at_time (w.beats / l.rate) w.far) (fall_due k (asked (w.beats / l.rate) b.far_asks w.far))
     far-comes k =
-        comes-on l.service l.tei l.way l.lengths l.rate l.far far (w.beats / l.rate) w.beats p.S2 (by_now p.S) b.far_asks w.far p.far_ok p.both.far far-low far-high p.far_counts soon talk.1 k
+        comes-on l.service l.tei l.way l.far_lengths l.rate l.far far (w.beats / l.rate) w.beats p.S2 (by_now p.S) b.far_asks w.far p.far_ok p.both.far far-low far-high p.far_counts soon talk.1 k
 
     -- and after the beat.
     module _ (clear_near : IsClearAt l.near.n201 b.near_noise (gone l.rate b w).near (gone l.rate b w).far) (clear_far : IsClearAt l.near.n201 b.far_noise (gone l.rate b w).far (gone l.rate b w).near) where
@@ -160,9 +162,9 @@ module _ (l : Line) (some : 1 ≤ l.rate) (near : IsInRange l.near) (far : IsInR
       near-gone =
           gone-on l.service l.tei l.way l.lengths l.rate l.near near (w.beats / l.rate) w.beats p.S (by_now p.S2) b.near_asks w.near p.near_ok p.both.near near-low near-high p.near_counts soon talk.0
 
-      pub far-gone : Gone l.service l.tei l.way l.lengths l.rate l.far far (w.beats / l.rate) w.beats p.S2 (by_now p.S) (gone l.rate b w).far
+      pub far-gone : Gone l.service l.tei l.way l.far_lengths l.rate l.far far (w.beats / l.rate) w.beats p.S2 (by_now p.S) (gone l.rate b w).far
       far-gone =
-          gone-on l.service l.tei l.way l.lengths l.rate l.far far (w.beats / l.rate) w.beats p.S2 (by_now p.S) b.far_asks w.far p.far_ok p.both.far far-low far-high p.far_counts soon talk.1
+          gone-on l.service l.tei l.way l.far_lengths l.rate l.far far (w.beats / l.rate) w.beats p.S2 (by_now p.S) b.far_asks w.far p.far_ok p.both.far far-low far-high p.far_counts soon talk.1
 
       soon-then : (a : TimedEndpoint) → length (port_of a.at).given ≡ w.beats + 1 → a.clock.now ≡ w.beats / l.rate → length (port_of a.at).given ≤ (a.clock.now + 1) * l.rate
       soon-then a given now = subst (λ n. length (port_of a.at).given ≤ (n + 1) * l.rate) (sym now) (let so_soon = soon in omega (arith, given, so_soon))
@@ -170,14 +172,14 @@ module _ (l : Line) (some : 1 ≤ l.rate) (near : IsInRange l.near) (far : IsInR
       near-heard : HasHeard l.service l.tei l.way l.lengths l.rate l.near near w.beats near-gone.S' (by_now far-gone.S') (gone l.rate b w).near (beat l.rate w b).near
       near-heard =
           let g = near-gone in let k = far-gone in let more = k.later in
-          heard-on l.service l.tei l.way l.lengths l.rate l.near near l.far far l.near.n201 refl (sym size) (sym opposite) w.beats g.S' (by_now p.S2) (by_now k.S') k.S' (by_now p.S)
+          heard-on l.service l.tei l.way l.lengths l.rate l.near near l.far far l.far_lengths l.near.n201 refl (sym size) (sym opposite) w.beats g.S' (by_now p.S2) (by_now k.S') k.S' (by_now p.S)
           (gone l.rate b w).near (gone l.rate b w).far g.ok k.ok (omega (arith, more)) (omega arith) b.near_noise clear_near g.given k.given k.way
           (soon-then (gone l.rate b w).near g.given g.now)
 
-      far-heard : HasHeard l.service l.tei l.way l.lengths l.rate l.far far w.beats far-gone.S' (by_now near-gone.S') (gone l.rate b w).far (beat l.rate w b).far
+      far-heard : HasHeard l.service l.tei l.way l.far_lengths l.rate l.far far w.beats far-gone.S' (by_now near-gone.S') (gone l.rate b w).far (beat l.rate w b).far
       far-heard =
           let g = near-gone in let k = far-gone in let more = g.later in
-          heard-on l.service l.tei l.way l.lengths l.rate l.far far l.near near l.near.n201 (sym size) refl (sym (sides-turned l.near l.far opposite)) w.beats k.S' (by_now p.S) (by_now g.S') g.S' (by_now p.S2)
+          heard-on l.service l.tei l.way l.far_lengths l.rate l.far far l.near near l.lengths l.near.n201 (sym size) refl (sym (sides-turned l.near l.far opposite)) w.beats k.S' (by_now p.S) (by_now g.S') g.S' (by_now p.S2)
           (gone l.rate b w).far (gone l.rate b w).near k.ok g.ok (omega (arith, more)) (omega arith) b.far_noise clear_far k.given g.given g.way
           (soon-then (gone l.rate b w).far k.given k.now)
 
@@ -198,7 +200,7 @@ module _ (l : Line) (some : 1 ≤ l.rate) (near : IsInRange l.near) (far : IsInR
             S = x.S';
             S2 = y.S';
             near_ok = end-later l.service l.tei l.way l.lengths l.rate l.near near x.S' (by_now k.S') (by_now y.S') (omega (arith, y_later)) (beat l.rate w b).near x.ok;
-            far_ok = end-later l.service l.tei l.way l.lengths l.rate l.far far y.S' (by_now g.S') (by_now x.S') (omega (arith, x_later)) (beat l.rate w b).far y.ok;
+            far_ok = end-later l.service l.tei l.way l.far_lengths l.rate l.far far y.S' (by_now g.S') (by_now x.S') (omega (arith, x_later)) (beat l.rate w b).far y.ok;
             near_counts = record { given = x.given; received = omega (arith, near_received, near_before); way = short (gone l.rate b w).near (beat l.rate w b).near x.way g.way };
             far_counts = record { given = y.given; received = omega (arith, far_received, far_before); way = short (gone l.rate b w).far (beat l.rate w b).far y.way k.way };
           }
@@ -214,12 +216,12 @@ module _ (l : Line) (some : 1 ≤ l.rate) (near : IsInRange l.near) (far : IsInR
       all-pairs bs (All-tail (IsTalk l) b bs talk) (beat l.rate w b) clear.2 (pair-then w p b (All-head (IsTalk l) b bs talk) clear.0 clear.1)
 
   -- T200 that falls due runs at least as long as the answer takes.
-  pub long-ago : (S beats m : ℕ) → S + l.lengths.t200 * l.rate ≤ (m + 1) * l.rate → m ≤ beats / l.rate → S + answered_in l.near l.far l.way ≤ beats
-  long-ago S beats m started low =
+  pub long-ago : (lengths : Lengths) → RunsLong l lengths → (S beats m : ℕ) → S + lengths.t200 * l.rate ≤ (m + 1) * l.rate → m ≤ beats / l.rate → S + answered_in l.near l.far l.way ≤ beats
+  long-ago lengths runs S beats m started low =
       let whole = mul-div-le beats l.rate in
       let up = mul-le (m + 1) l.rate (beats / l.rate + 1) l.rate (omega (arith, low)) (omega arith) in
       let is : (beats / l.rate + 1) * l.rate ≡ l.rate * (beats / l.rate) + l.rate = grind arith in
-      omega (arith, started, whole, up, is, t200)
+      omega (arith, started, whole, up, is, runs)
 
   same-longest : longest_text l.near.n201 / 8 ≡ longest_text l.far.n201 / 8
   same-longest = ap (λ n. longest_text n / 8) size
@@ -241,7 +243,7 @@ module _ (l : Line) (some : 1 ≤ l.rate) (near : IsInRange l.near) (far : IsInR
         let at_due = due-is a.at.line a.clock.now (timers.T200 l.service l.tei) a.clock.running x g.ok.but.clock.here falls timer in
         let number = same-number (state_number g.ok.but.ends.its.state) state_now (sym (state-here l.near l.service l.tei 0 near l.lengths l.rate a.at g.ok.but.ends) ∙ is) in
         let started = g.ok.timer x.moment (ap is_waiting number ∙ waits) at_due.0 in
-        let ago = long-ago g.S' w.beats x.moment started (subst (λ k. x.moment ≤ k) g.now at_due.1) in
+        let ago = long-ago l.lengths t200.0 g.S' w.beats x.moment started (subst (λ k. x.moment ≤ k) g.now at_due.1) in
         let later = g.later in let far_received = p.far_counts.received in
         let near_received = ap (λ (p : Port). length p.received) g.port ∙ p.near_counts.received in (
           (λ k before value more octets given gains poll.
@@ -261,9 +263,9 @@ module _ (l : Line) (some : 1 ≤ l.rate) (near : IsInRange l.near) (far : IsInR
         let a = fall_due n (asked (w.beats / l.rate) b.far_asks w.far) in
         let g = far-comes w p b talk n in
         let at_due = due-is a.at.line a.clock.now (timers.T200 l.service l.tei) a.clock.running x g.ok.but.clock.here falls timer in
-        let number = same-number (state_number g.ok.but.ends.its.state) state_now (sym (state-here l.far l.service l.tei 0 far l.lengths l.rate a.at g.ok.but.ends) ∙ is) in
+        let number = same-number (state_number g.ok.but.ends.its.state) state_now (sym (state-here l.far l.service l.tei 0 far l.far_lengths l.rate a.at g.ok.but.ends) ∙ is) in
         let started = g.ok.timer x.moment (ap is_waiting number ∙ waits) at_due.0 in
-        let ago = long-ago g.S' w.beats x.moment started (subst (λ k. x.moment ≤ k) g.now at_due.1) in
+        let ago = long-ago l.far_lengths t200.1 g.S' w.beats x.moment started (subst (λ k. x.moment ≤ k) g.now at_due.1) in
         let later = g.later in let near_received = p.near_counts.received in
         let far_received = ap (λ (p : Port). length p.received) g.port ∙ p.far_counts.received in (
           (λ k before value more octets given gains poll.

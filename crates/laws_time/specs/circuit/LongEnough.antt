@@ -38,18 +38,22 @@ pub record Line : Type 0 where
   pub tei : ℕ
   pub service : Service
   pub lengths : Lengths
+  pub far_lengths : Lengths
   pub rate : ℕ
   pub way : ℕ
 
 abbrev pub begins : Line → Clocked
-begins l = record { near = endpoint l.near l.near_line l.lengths l.way l.tei; far = endpoint l.far l.far_line l.lengths l.way l.tei; beats = 0 }
+begins l = record { near = endpoint l.near l.near_line l.lengths l.way l.tei; far = endpoint l.far l.far_line l.far_lengths l.way l.tei; beats = 0 }
 
--- T200 runs at least as long as an answer takes, and a millisecond more, as moments are whole.
+-- T200 of each end runs at least as long as an answer takes, and a millisecond more, as moments are whole.
+abbrev pub RunsLong : Line → Lengths → Type 0
+RunsLong l lengths = answered_in l.near l.far l.way + l.rate ≤ lengths.t200 * l.rate
+
 pub record IsFit (l : Line) : Type 0 where
   pub call : CanCall l.near l.near_line l.far l.far_line l.tei
   pub some : 1 ≤ l.rate
-  pub lengths : AreInRange l.lengths
-  pub t200 : answered_in l.near l.far l.way + l.rate ≤ l.lengths.t200 * l.rate
+  pub lengths : AreInRange l.lengths × AreInRange l.far_lengths
+  pub t200 : RunsLong l l.lengths × RunsLong l l.far_lengths
 
 -- Layer 3 of each end asks for anything of the link except unit data and deactivation; data are octets.
 abbrev pub IsOfLink : Service → ℕ → Request → Type 0

@@ -30,6 +30,7 @@ its_line = record {
   tei = 0;
   service = Call;
   lengths = record { t200 = 73; t203 = 20; t201 = 73; t202 = 146 };
+  far_lengths = record { t200 = 73; t203 = 20; t201 = 73; t202 = 146 };
   rate = 1;
   way = 0;
 }

@@ -27,7 +27,7 @@ unfoldable use Rattle.laws_time.specs.circuit.LongEnough.{pulling}
 -- A line of so many octets a millisecond, with so many in transit each way, on which each timer runs so long.
 abbrev pub line_with : ℕ → ℕ → ℕ → Line
 line_with rate way t200 =
-    record { near = user; far = network; near_line = 0; far_line = 0; tei = 0; service = Call; lengths = record { t200 = t200; t203 = 10000; t201 = 1000; t202 = 2000 }; rate = rate; way = way }
+    record { near = user; far = network; near_line = 0; far_line = 0; tei = 0; service = Call; lengths = record { t200 = t200; t203 = 10000; t201 = 1000; t202 = 2000 }; far_lengths = record { t200 = t200; t203 = 10000; t201 = 1000; t202 = 2000 }; rate = rate; way = way }
 
 -- At 16 kbit/s with 4 octets in transit an answer takes 722 octet times at most, which are 361 ms; at 64 kbit/s with 16 it takes 746.
 basic_rate : answered_in user network 4 ≡ 722
@@ -42,21 +42,21 @@ unfolding sapi_fault
 fit rate way t200 some least most long = record {
   call = record { near = (refl, omega arith); far = (refl, omega arith); opposite = (refl, refl); terminal = omega arith };
   some = some;
-  lengths = record { t200 = least; t203 = omega arith; t201 = omega arith; t202 = omega arith; t200_most = most; t203_most = omega arith; t201_most = omega arith; t202_most = omega arith };
-  t200 = long;
+  lengths = (record { t200 = least; t203 = omega arith; t201 = omega arith; t202 = omega arith; t200_most = most; t203_most = omega arith; t201_most = omega arith; t202_most = omega arith }, record { t200 = least; t203 = omega arith; t201 = omega arith; t202 = omega arith; t200_most = most; t203_most = omega arith; t201_most = omega arith; t202_most = omega arith });
+  t200 = (long, long);
 }
 
 basic_fit : IsFit (line_with 2 4 362)
 basic_fit = fit 2 4 362 (omega arith) (omega arith) (omega arith) (omega arith)
 
 basic_not : IsFit (line_with 2 4 361) → ⊥
-basic_not h = omega (arith, h.t200)
+basic_not h = omega (arith, h.t200.0)
 
 primary_fit : IsFit (line_with 8 16 95)
 primary_fit = fit 8 16 95 (omega arith) (omega arith) (omega arith) (omega arith)
 
 primary_not : IsFit (line_with 8 16 94) → ⊥
-primary_not h = omega (arith, h.t200)
+primary_not h = omega (arith, h.t200.0)
 
 -- T200 of a millisecond: it falls due at 1, in state 5, while SABME is under way. Its last octet is the eighth, and one was received.
 abbrev too_short : Line

@@ -1,0 +1,142 @@
+-- Worked runs: a terminal that is assigned a TEI, one that misses its removal, and two that have one TEI.
+use Rattle.std.specs.Prelude.{◌≡◌, ℕ, ◌<◌, true, false, List, [], ◌∷◌, ◌++◌, Some, None, refl}
+use Rattle.std.proofs.lemmas.Bool.{ltb-true}
+use Rattle.lapd_frame.specs.declared.addresses.Side.TheVariants.{Network, User}
+use Rattle.lapd_frame.specs.declared.timers.Timer.TheVariants.{T201}
+use Rattle.lapd_frame.specs.Reading.{reading, header_of, control_of, unnumbered_of}
+use Rattle.lapd_frame.specs.Senders.{exchanged, reading as read_by}
+use Rattle.lapd_tei.specs.Events as teis
+use Rattle.lapd_tei.specs.declared.remembered.Remembered.{Remembered}
+use Rattle.lapd_terminal.specs.Events as terminals
+use Rattle.model_bits.specs.Stream.{frame}
+use Rattle.model_line.specs.Config as configs
+use Rattle.model_line.specs.declared.config.Config.{Config}
+use Rattle.model_line.specs.Event.{hears, expiry, request, next}
+use Rattle.model_line.specs.Machine as lines
+use Rattle.model_line.specs.Request.{AskTei, Remove, Check, Down}
+use Rattle.model_card.specs.Event.{Event, at}
+use Rattle.model_card.specs.Run.{moments, after_all}
+use Rattle.laws_line.specs.card.Worked.{usual, on_0}
+use Rattle.laws_teis.specs.Bus.{Bus, Past, Step, network, terminal, receives, loses, past_of, network_of, removal_comes}
+use Rattle.laws_teis.specs.Assignments.{CanMeet, IsIn, given_to}
+
+-- A network's line, and terminals with the seeds 0x1234 and 0x4321.
+abbrev seeded : ℕ → Config
+seeded seed = record usual { side = User; seed = Some seed }
+
+abbrev bus : ℕ → Bus
+bus seed = record { network = usual; number = 0; terminal = seeded seed; line = 0 }
+
+can_meet : CanMeet (bus 0x1234)
+unfolding configs.sapi_fault
+can_meet = record { side = refl; own = refl; network = refl; terminal = refl; number = ltb-true 0 1 refl; line = ltb-true 0 1 refl }
+
+-- The terminal asks, and its request comes to the network, which answers. Others ask by 0x4321.
+abbrev asks : Step
+asks = terminal (on_0 AskTei)
+
+abbrev request_comes : ℕ → ℕ → Step
+request_comes high low = network (at 0 (hears (frame (0xFC ∷ 0xFF ∷ 0x03 ∷ 0x0F ∷ high ∷ low ∷ 1 ∷ 0xFF ∷ []))))
+
+abbrev sends : Step
+sends = network (at 0 next)
+
+abbrev assigned : List Step
+assigned = asks ∷ request_comes 0x12 0x34 ∷ sends ∷ receives ∷ []
+
+abbrev first : Remembered
+first = record { ri = 0x1234; tei = 64 }
+
+abbrev known_after : List Step → Past
+known_after steps = past_of (bus 0x1234) steps
+
+is_given : given_to (bus 0x1234) (known_after assigned) ≡ first ∷ []
+unfolding moments after_all lines.after lines.answer lines.takes_slot teis.course teis.refusal terminals.course exchanged read_by reading header_of control_of unnumbered_of
+is_given = refl
+
+it_holds : (network_of (bus 0x1234) (known_after assigned)).hold ≡ first ∷ []
+unfolding moments after_all lines.after lines.answer lines.takes_slot teis.course teis.refusal terminals.course exchanged read_by reading header_of control_of unnumbered_of
+it_holds = refl
+
+-- It is removed: the removal is owed, then in transit, and then heard.
+abbrev removed : List Step
+removed = assigned ++ network (on_0 (Remove 64)) ∷ []
+
+removal_owed : removal_comes (bus 0x1234) (known_after removed) 64 ≡ true
+unfolding moments after_all lines.after lines.answer lines.takes_slot teis.course teis.refusal terminals.course exchanged read_by reading header_of control_of unnumbered_of
+removal_owed = refl
+
+holds_no_more : (network_of (bus 0x1234) (known_after removed)).hold ≡ []
+unfolding moments after_all lines.after lines.answer lines.takes_slot teis.course teis.refusal terminals.course exchanged read_by reading header_of control_of unnumbered_of
+holds_no_more = refl
+
+removal_in_transit : removal_comes (bus 0x1234) (known_after (removed ++ sends ∷ [])) 64 ≡ true
+unfolding moments after_all lines.after lines.answer lines.takes_slot teis.course teis.refusal terminals.course exchanged read_by reading header_of control_of unnumbered_of
+removal_in_transit = refl
+
+given_up : given_to (bus 0x1234) (known_after (removed ++ sends ∷ receives ∷ [])) ≡ []
+unfolding moments after_all lines.after lines.answer lines.takes_slot teis.course teis.refusal terminals.course exchanged read_by reading header_of control_of unnumbered_of
+given_up = refl
+
+-- It is lost, given up as the line is down, or never owed, as T201 runs out twice: each time the terminal keeps the TEI.
+is_lost : (known_after (removed ++ sends ∷ loses ∷ [])).missed ≡ first ∷ []
+unfolding moments after_all lines.after lines.answer lines.takes_slot teis.course teis.refusal terminals.course exchanged read_by reading header_of control_of unnumbered_of
+is_lost = refl
+
+kept_on : given_to (bus 0x1234) (known_after (removed ++ sends ∷ loses ∷ [])) ≡ first ∷ []
+unfolding moments after_all lines.after lines.answer lines.takes_slot teis.course teis.refusal terminals.course exchanged read_by reading header_of control_of unnumbered_of
+kept_on = refl
+
+is_withdrawn : (known_after (removed ++ network (on_0 Down) ∷ [])).missed ≡ first ∷ []
+unfolding moments after_all lines.after lines.answer lines.takes_slot teis.course teis.refusal terminals.course exchanged read_by reading header_of control_of unnumbered_of
+is_withdrawn = refl
+
+abbrev expires : Step
+expires = network (at 0 (expiry T201))
+
+abbrev unanswered : List Step
+unanswered = assigned ++ network (on_0 (Check 64)) ∷ expires ∷ expires ∷ []
+
+never_sent : (known_after unanswered).missed ≡ first ∷ []
+unfolding moments after_all lines.after lines.answer lines.takes_slot teis.course teis.refusal terminals.course exchanged read_by reading header_of control_of unnumbered_of
+never_sent = refl
+
+-- Another terminal with the same seed asks by the same number: one answer is for both, and both have TEI 64 by 0x1234.
+abbrev same_seed : List Step
+same_seed = asks ∷ request_comes 0x12 0x34 ∷ sends ∷ loses ∷ request_comes 0x12 0x34 ∷ sends ∷ receives ∷ []
+
+abbrev both_heard : List Step
+both_heard = asks ∷ request_comes 0x12 0x34 ∷ sends ∷ receives ∷ request_comes 0x12 0x34 ∷ sends ∷ loses ∷ []
+
+same_network : (known_after same_seed).at_network ≡ (known_after both_heard).at_network
+unfolding moments after_all lines.after lines.answer lines.takes_slot teis.course teis.refusal terminals.course exchanged read_by reading header_of control_of unnumbered_of
+same_network = refl
+
+both_have_it : given_to (bus 0x1234) (known_after same_seed) ++ given_to (bus 0x1234) (known_after both_heard) ≡ first ∷ first ∷ []
+unfolding moments after_all lines.after lines.answer lines.takes_slot teis.course teis.refusal terminals.course exchanged read_by reading header_of control_of unnumbered_of
+both_have_it = refl
+
+-- The removal is lost for the first, and TEI 64 is then assigned to another, by 0x4321. The first misses that assignment, too.
+abbrev second : Remembered
+second = record { ri = 0x4321; tei = 64 }
+
+abbrev reassigned : List Step → List Step
+reassigned then_ = network (on_0 (Remove 64)) ∷ sends ∷ request_comes 0x43 0x21 ∷ sends ∷ then_
+
+abbrev of_first : List Step
+of_first = assigned ++ reassigned (loses ∷ loses ∷ [])
+
+abbrev of_second : List Step
+of_second = request_comes 0x12 0x34 ∷ sends ∷ reassigned (asks ∷ receives ∷ receives ∷ receives ∷ [])
+
+one_network : (known_after of_first).at_network ≡ (past_of (bus 0x4321) of_second).at_network
+unfolding moments after_all lines.after lines.answer lines.takes_slot teis.course teis.refusal terminals.course exchanged read_by reading header_of control_of unnumbered_of
+one_network = refl
+
+one_tei : given_to (bus 0x1234) (known_after of_first) ++ given_to (bus 0x4321) (past_of (bus 0x4321) of_second) ≡ first ∷ second ∷ []
+unfolding moments after_all lines.after lines.answer lines.takes_slot teis.course teis.refusal terminals.course exchanged read_by reading header_of control_of unnumbered_of
+one_tei = refl
+
+first_missed_it : (known_after of_first).missed ≡ first ∷ []
+unfolding moments after_all lines.after lines.answer lines.takes_slot teis.course teis.refusal terminals.course exchanged read_by reading header_of control_of unnumbered_of
+first_missed_it = refl

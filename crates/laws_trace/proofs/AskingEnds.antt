@@ -1,5 +1,6 @@
 -- Asking for a TEI ends: runs of a card, and the law.
-use Rattle.laws_trace.proofs.Vocabulary.{◌≡◌, ℕ, ◌+◌, ◌<◌, ◌≤◌, ◌==◌, ◌&&◌, Bool, true, false, cond, not, List, [], ◌∷◌, ◌++◌, length, length-append, filter, Option, Some, None, is_some, refl, sym, ap, ◌∙◌, subst, ◌⊎◌, inl, inr, arith, nat_lt, fold-append, sum_by-cons, append-nil, append_assoc, All, All-head, All-tail, option_map_or, Card, none-some, true≢false, eqb-true, Config, IsInRange, Note, at, moments, Moment, after_all-append, all-left, unwrap_or, list_any}
+use Rattle.laws_trace.proofs.Vocabulary.{◌≡◌, ℕ, ◌+◌, ◌<◌, ◌≤◌, ◌==◌, ◌&&◌, Bool, true, false, cond, not, List, [], ◌∷◌, ◌++◌, length, length-append, filter, Option, Some, None, is_some, refl, sym, ap, ◌∙◌}
+use Rattle.laws_trace.proofs.Vocabulary.{subst, ◌⊎◌, inl, inr, arith, nat_lt, fold-append, sum_by-cons, append-nil, append_assoc, All, All-head, All-tail, option_map_or, Card, none-some, true≢false, eqb-true, Config, IsInRange, Note, at, moments, Moment, after_all-append, all-left, unwrap_or, list_any}
 use Rattle.laws_trace.proofs.Vocabulary.{fresh, CardEvent as Event, after, card_answer as answer, after_all, IsAtLine, AreAtLines, Managed, nothing_due, none_on, due, led, managed_after, Always, notes_of, is_of_teis, moment_of}
 use Rattle.lapd_terminal.specs.declared.procedure.Procedure.{Procedure}
 use Rattle.laws_line.specs.Share.{is_granted}

@@ -1,6 +1,8 @@
 -- Worked runs: a terminal that is assigned a TEI, one that misses its removal, and two that have one TEI.
-use Rattle.std.specs.Prelude.{◌≡◌, ℕ, true, List, [], ◌∷◌, ◌++◌, Some, refl}
-use Rattle.std.proofs.lemmas.Bool.{ltb-true}
+use Rattle.std.specs.Prelude.{◌≡◌, ℕ, true, List, [], ◌∷◌, ◌++◌, Some, refl, ◌<◌, ◌==◌, ◌&&◌, Bool, All}
+use Rattle.std.proofs.Common.{eqb-true, subst, sym}
+use Rattle.std.proofs.lemmas.Bool.{and_parts, ltb-true}
+use Rattle.std.proofs.lemmas.List.Elements.{All-cons, All-nil}
 use Rattle.lapd_frame.specs.declared.addresses.Side.TheVariants.{User}
 use Rattle.lapd_frame.specs.declared.timers.Timer.TheVariants.{T201}
 use Rattle.lapd_frame.specs.Reading.{reading, header_of, control_of, unnumbered_of}
@@ -18,7 +20,7 @@ use Rattle.model_card.specs.Event.{at}
 use Rattle.model_card.specs.Run.{moments, after_all}
 use Rattle.laws_line.specs.card.Worked.{usual, on_0}
 use Rattle.laws_teis.specs.Bus.{Bus, Past, Step, network, terminal, receives, loses, past_of, network_of, removal_comes}
-use Rattle.laws_teis.specs.Assignments.{CanMeet, given_to}
+use Rattle.laws_teis.specs.Assignments.{CanMeet, IsThere, given_to}
 
 -- A network's line, and terminals with the seeds 0x1234 and 0x4321.
 abbrev seeded : ℕ → Config
@@ -30,6 +32,32 @@ bus seed = record { network = usual; number = 0; terminal = seeded seed; line = 
 can_meet : CanMeet (bus 0x1234)
 unfolding configs.sapi_fault
 can_meet = record { side = refl; own = refl; network = refl; terminal = refl; number = ltb-true 0 1 refl; line = ltb-true 0 1 refl }
+
+can_meet_too : CanMeet (bus 0x4321)
+unfolding configs.sapi_fault
+can_meet_too = record { side = refl; own = refl; network = refl; terminal = refl; number = ltb-true 0 1 refl; line = ltb-true 0 1 refl }
+
+-- All that happens below is at their lines.
+abbrev is_at_0 : Step → Bool
+is_at_0 (network e) = e.line == 0
+is_at_0 (terminal e) = e.line == 0
+is_at_0 other = true
+
+abbrev are_at_0 : List Step → Bool
+are_at_0 [] = true
+are_at_0 (step ∷ steps) = is_at_0 step && are_at_0 steps
+
+is_there_then : (seed : ℕ) (step : Step) → is_at_0 step ≡ true → IsThere (bus seed) step
+is_there_then seed (network e) is = subst (λ n. n < 1) (sym (eqb-true e.line 0 is)) (ltb-true 0 1 refl)
+is_there_then seed (terminal e) is = subst (λ n. n < 1) (sym (eqb-true e.line 0 is)) (ltb-true 0 1 refl)
+is_there_then seed receives is = tt
+is_there_then seed loses is = tt
+
+are_there : (seed : ℕ) (steps : List Step) → are_at_0 steps ≡ true → All (IsThere (bus seed)) steps
+are_there seed [] is = All-nil (IsThere (bus seed))
+are_there seed (step ∷ steps) is =
+    let parts = and_parts (is_at_0 step) (are_at_0 steps) is in
+    All-cons (IsThere (bus seed)) step steps (is_there_then seed step parts.0) (are_there seed steps parts.1)
 
 -- The terminal asks, and its request comes to the network, which answers. Others ask by 0x4321.
 abbrev asks : Step
@@ -149,3 +177,10 @@ later_misses_none = refl
 later_holds : (network_of (bus 0x1234) (known_after late)).hold ≡ second ∷ []
 unfolding moments after_all lines.after lines.answer lines.takes_slot teis.course teis.refusal terminals.course exchanged read_by reading header_of control_of unnumbered_of
 later_holds = refl
+
+-- So the premises of the laws are met.
+premises_of_one : All (IsThere (bus 0x1234)) (removed ++ sends ∷ loses ∷ [])
+premises_of_one = are_there 0x1234 (removed ++ sends ∷ loses ∷ []) refl
+
+premises_of_two : All (IsThere (bus 0x1234)) of_first × All (IsThere (bus 0x4321)) of_second
+premises_of_two = (are_there 0x1234 of_first refl, are_there 0x4321 of_second refl)

@@ -1,7 +1,7 @@
 -- What an observer of the network's line knows of its assignments and of the messages that are owed, event by event.
 use Rattle.std.specs.Prelude.{◌≡◌, ℕ, ◌+◌, ◌-◌, ◌*◌, ◌/◌, ◌%◌, ◌==◌, ◌&&◌, ◌||◌, ◌⊎◌, ⊤, not, Bool, true, false, cond, List, [], ◌∷◌, ◌++◌, length, filter, drop, Option, Some, None, nat_lt, refl}
 use Rattle.std.specs.List.{list_any, find, range_with_len}
-use Rattle.std.specs.Option.{option_map_or}
+use Rattle.std.specs.Option.{option_and_then, option_map_or, unwrap_or}
 use Rattle.std.proofs.Common.{inl, inr, subst, sym, ap, ◌∙◌, arith, true≢false, append-nil, eq-eqb, eqb-true}
 use Rattle.lapd_frame.specs.Grammar.{Parts}
 use Rattle.lapd_frame.specs.declared.notes.Note.TheVariants.{Assigned, Removed}
@@ -13,7 +13,7 @@ use Rattle.model_line.specs.declared.config.Config.{Config}
 use Rattle.model_line.specs.Event.{Event, hears, expiry, request, next}
 use Rattle.model_line.specs.Request.{Request, Establish, Release, Data, Unit, Assign, Remove, Check, Disown, AskTei, VerifyTei, SetBusy, ClearBusy, Deactivate, Down}
 use Rattle.laws_trace.specs.LinkFrames.{frame_of}
-use Rattle.laws_trace.specs.Managing.{Managed, Checked, is_on, is_full, owes, gives, asked, free_tei, checks, over, leaves, responded, ran_out, by_message, by_frame, by_request, by_event, may_check, manages, grants}
+use Rattle.laws_trace.specs.Managing.{Managed, Checked, is_on, is_full, owes, gives, free_tei, checks, over, leaves, responded, ran_out, by_message, by_frame, by_request, by_event, may_check, manages, grants}
 use Rattle.laws_trace.specs.ManagingTerminal.{is_message}
 use Rattle.laws_teis.specs.Assignments.{IsIn}
 use Rattle.laws_teis.proofs.Lists.{in-dropped, in-end, in-either, in-found, in-filtered, found-passes, any-kept, or-right-so, or-left-so}
@@ -119,7 +119,10 @@ module _ (w : Managed) (there : (r : Remembered) → IsIn r w.held → is_on r.t
   abbrev WithMessage : Message → Managed → Type 0
   WithMessage m u = Changes w (owes m u)
 
-  asked-so : (c : Config) (ri : ℕ) → Changes w (asked c ri w)
+  abbrev asked : Config → ℕ → Managed
+  asked c ri = gives ri (find (λ (r : Remembered). r.ri == ri) w.held) (free_tei c w) w
+
+  asked-so : (c : Config) (ri : ℕ) → Changes w (asked c ri)
   asked-so c ri = go (find (λ (r : Remembered). r.ri == ri) w.held) (free_tei c w) refl refl
     where
       go : (o : Option Remembered) (f : Option ℕ) → find (λ (r : Remembered). r.ri == ri) w.held ≡ o → free_tei c w ≡ f → Changes w (gives ri o f w)
@@ -189,21 +192,25 @@ module _ (w : Managed) (there : (r : Remembered) → IsIn r w.held → is_on r.t
   either true x y h j = h
   either false x y h j = j
 
-  responded-so : (tei : ℕ) (check : Checked) → Changes w (responded tei w check)
+  either-served : (b : Bool) (x y : Option Managed) → Changes w (unwrap_or x w) → Changes w (unwrap_or y w) → Changes w (unwrap_or (cond b x y) w)
+  either-served true x y h j = h
+  either-served false x y h j = j
+
+  responded-so : (tei : ℕ) (check : Checked) → Changes w (unwrap_or (responded tei w check) w)
   responded-so tei check =
       let gone = removed-so tei in
-      either (not (check.tei == tei)) _ _ nothing
-      (either check.answered _ _
+      either-served (not (check.tei == tei)) _ _ nothing
+      (either-served check.answered _ _
       (record { table = leaves-table tei _ refl refl; queue = record { new = gone.queue.new; owed = gone.queue.owed; made = gone.queue.made }; begins = gone.begins })
       (unchanged _ refl refl refl refl))
 
-  message-so : (c : Config) (info : List ℕ) → Changes w (by_message c w info)
+  message-so : (c : Config) (info : List ℕ) → Changes w (unwrap_or (by_message c w info) w)
   message-so c (entity ∷ high ∷ low ∷ type ∷ last ∷ []) =
-      either (not (entity == 0x0F && last % 2 == 1)) _ _ nothing
-      (either (type == 1 && last / 2 == 127) _ _ (asked-so c (256 * high + low))
-      (either (type == 5) _ _ (answered w.check) (either (type == 7 && may_check (last / 2) w) _ _ (checks-so (last / 2) None) nothing)))
+      either-served (not (entity == 0x0F && last % 2 == 1)) _ _ nothing
+      (either-served (type == 1 && last / 2 == 127) _ _ (asked-so c (256 * high + low))
+      (either-served (type == 5) _ _ (answered w.check) (either-served (type == 7 && may_check (last / 2) w) _ _ (checks-so (last / 2) None) nothing)))
     where
-      answered : (o : Option Checked) → Changes w (option_map_or (responded (last / 2) w) o w)
+      answered : (o : Option Checked) → Changes w (unwrap_or (option_and_then (responded (last / 2) w) o) w)
       answered None = nothing
       answered (Some check) = responded-so (last / 2) check
   message-so c [] = nothing

@@ -19,7 +19,7 @@ use Rattle.model_line.specs.Request.{Request, Establish, Release, Data, Unit, As
 use Rattle.laws_trace.specs.LinkFrames.{frame_of}
 use Rattle.laws_trace.specs.Managing as managing
 use Rattle.laws_trace.specs.Managing.{Managed, due, at_terminal, of_terminal, own_of, nothing_due}
-use Rattle.laws_trace.specs.ManagingTerminal.{OfTerminal, teis_of, without_tei, with_tei, is_on, is_free, is_message, may_come, named, verifies, over, asks, leaves, removed, verified, by_assigned, by_denied, by_check, by_remove, by_message, by_frame, by_request, by_event, ran_out, grants}
+use Rattle.laws_trace.specs.ManagingTerminal.{OfTerminal, teis_of, without_tei, with_tei, is_on, is_free, is_message, named, verifies, over, asks, leaves, removed, verified, by_assigned, by_denied, by_check, by_remove, by_message, by_frame, by_request, by_event, ran_out, grants}
 use Rattle.laws_trace.proofs.AskingSteps.{answers-same, verified-same}
 use Rattle.laws_teis.specs.Bus.{message_in, is_removal, is_heard}
 use Rattle.laws_teis.specs.Assignments.{IsIn, taken_by}
@@ -48,6 +48,9 @@ module _ (t : OfTerminal) (quiet : t.notes ≡ []) where
   stays : (info : List ℕ) → Takes t info t
   stays info = nothing info t (none-taken t quiet)
 
+  abbrev may_come : ℕ → Bool
+  may_come tei = nat_le 64 tei && nat_le tei 126 && not (is_on tei t) && list_any is_free t.places
+
   module _ (entity high low last : ℕ) (whole : (entity == 0x0F && last % 2 == 1) ≡ true) where
     abbrev its_info : List ℕ
     its_info = entity ∷ high ∷ low ∷ 2 ∷ last ∷ []
@@ -65,11 +68,11 @@ module _ (t : OfTerminal) (quiet : t.notes ≡ []) where
         go true = nothing its_info (verifies its_tei 1 t) (none-taken (verifies its_tei 1 t) quiet)
         go false = stays its_info
     assigned (Some (Verifying on n)) is = stays its_info
-    assigned (Some (Asking own n)) is = go (own == its_ri && may_come its_tei t) refl
+    assigned (Some (Asking own n)) is = go (own == its_ri && may_come its_tei) refl
       where
-        fits : (own == its_ri && may_come its_tei t) ≡ true → is_assigned (record { ri = own; tei = its_tei }) its_info ≡ true
+        fits : (own == its_ri && may_come its_tei) ≡ true → is_assigned (record { ri = own; tei = its_tei }) its_info ≡ true
         fits h =
-            let parts = and_parts (own == its_ri) (may_come its_tei t) h in
+            let parts = and_parts (own == its_ri) (may_come its_tei) h in
             let most = and_parts ((nat_le 64 its_tei && nat_le its_tei 126) && not (is_on its_tei t)) (list_any is_free t.places) parts.1 in
             let within = (and_parts (nat_le 64 its_tei) (nat_le its_tei 126) (and_parts (nat_le 64 its_tei && nat_le its_tei 126) (not (is_on its_tei t)) most.0).0).1 in
             let same = eq-eqb its_ri own (sym (eqb-true own its_ri parts.0)) in
@@ -77,7 +80,7 @@ module _ (t : OfTerminal) (quiet : t.notes ≡ []) where
             ∙ ap (λ x. x && (last / 2 == its_tei && nat_le its_tei 126)) same
             ∙ ap (λ x. x && nat_le its_tei 126) (eq-eqb (last / 2) its_tei refl) ∙ within
 
-        go : (x : Bool) → (own == its_ri && may_come its_tei t) ≡ x → Takes t its_info (then_ (cond x (Some (record (over t) { places = with_tei its_tei t.places; notes = Assigned its_tei ∷ [] })) None))
+        go : (x : Bool) → (own == its_ri && may_come its_tei) ≡ x → Takes t its_info (then_ (cond x (Some (record (over t) { places = with_tei its_tei t.places; notes = Assigned its_tei ∷ [] })) None))
         go false h r is_in = stays its_info r is_in
         go true h r is_in = taken-so (subst (λ p. IsIn r (taken_by (Assigned its_tei) p ++ [])) is is_in)
           where

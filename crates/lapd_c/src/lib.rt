@@ -23,8 +23,8 @@
 //! `tests/c/run` and `tests/c/declared`: starts; that all memory is given back; that structs, prototypes and
 //! statuses are as `lapd.h` has them, and its inline functions. Every stored script is played, call by call and by
 //! `lapd_exchange`. A card of frames and one of octets, to which the same happens at random, tell the same. A gateway
-//! of 64 lines runs a day with terminals that nobody here wrote. On demand these also beside a card of
-//! octets and at a trunk (`tests/interop`).
+//! of 64 lines runs a day with terminals that nobody here wrote. On demand these also beside a card of octets, at a
+//! trunk, and as the network of terminals (`tests/interop`).
 //!
 //! # Open
 //!

@@ -124,7 +124,7 @@ pub record GoesOn (count : ℕ) (old new : Terminal) : Type 0 where
   pub messages : All (IsKnown old count) new.waiting
   pub each : count_by has_number new.waiting ≤ count_by has_number old.waiting + count
 
--- It takes a few numbers at most, so none twice.
+-- It takes a few numbers at most. That no two of the new messages have the same, `teis_are_managed` of `laws_trace` says.
 abbrev pub NumbersGoOn : Type 0
 NumbersGoOn = (e : Event) (m : Terminal) → (count : ℕ) × (count ≤ length m.places + 1) × GoesOn count m (after e m)
 

@@ -10,11 +10,7 @@
 //! - `laws`: what holds of the table of events itself.
 //!
 //! The events and their effects stand in `specs/Rows.antt` and `specs/Events.antt`, one equation for each row. No call
-//! takes memory.
-//!
-//! # Open
-//!
-//! What a line makes of it, since no line has it yet.
+//! takes memory. What a line makes of it is in `model_line`, and in `lapd_line`.
 #![tactic(auto)]
 
 mod heard;

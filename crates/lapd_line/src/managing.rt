@@ -180,6 +180,7 @@ impl Managing {
     }
 
     /// Takes the message that has waited longest: the octets of its frame, without the frame check.
+    #[inline(always)]
     pub fn offer(&mut self, side: Side) -> Option<[u8; 8]>
         ensures { Gives side result self.old self.new }
     {

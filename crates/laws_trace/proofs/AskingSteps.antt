@@ -1,5 +1,5 @@
 -- What an observer of a terminal's line knows of its asking for a TEI, event by event.
-use Rattle.laws_trace.proofs.Vocabulary.{◌≡◌, ℕ, ◌+◌, ◌*◌, ◌/◌, ◌%◌, ◌==◌, ◌&&◌, Bool, true, false, cond, not, List, [], ◌∷◌, ◌++◌, length, filter, Option, Some, None, refl, sym, ap, ◌∙◌, ◌⊎◌, inl, inr, fold, list_any, is_some, nat_lt, unwrap_or, option_and_then, true≢false, Config, Parts}
+use Rattle.laws_trace.proofs.Vocabulary.{◌≡◌, ℕ, ◌+◌, ◌*◌, ◌/◌, ◌%◌, ◌==◌, ◌&&◌, Bool, true, false, cond, not, List, [], ◌∷◌, ◌++◌, length, filter, Option, Some, None, refl, sym, ap, ◌∙◌, ◌⊎◌, inl, inr, fold, list_any, is_some, nat_le, nat_lt, unwrap_or, option_and_then, true≢false, Config, Parts}
 use Rattle.lapd_frame.specs.declared.notes.Note.TheVariants.{Assigned, Unassigned, Denied}
 use Rattle.lapd_frame.specs.declared.timers.Timer.TheVariants.{T200, T201, T202, T203}
 use Rattle.lapd_terminal.specs.declared.messages.Message.TheVariants.{IdentityCheckResponse}
@@ -9,7 +9,7 @@ use Rattle.model_line.specs.Event.{Event, hears, expiry, request, next}
 use Rattle.model_line.specs.Request.{Request, Assign, Remove, Check, Disown, AskTei, VerifyTei, Down, Establish, Release, Data, Unit, SetBusy, ClearBusy, Deactivate}
 use Rattle.laws_trace.specs.AskingEnds.{is_result, is_t202}
 use Rattle.laws_trace.specs.LinkFrames.{frame_of}
-use Rattle.laws_trace.specs.ManagingTerminal.{OfTerminal, verified, responds, by_assigned, by_denied, by_check, by_remove, by_message, by_frame, by_request, by_event, grants, with_tei, is_verified, is_on, is_free, is_message, is_response_for, may_come, named, over, removed, leaves, ran_out, asks, verifies}
+use Rattle.laws_trace.specs.ManagingTerminal.{OfTerminal, verified, responds, by_assigned, by_denied, by_check, by_remove, by_message, by_frame, by_request, by_event, grants, with_tei, is_verified, is_on, is_free, is_message, is_response_for, named, over, removed, leaves, ran_out, asks, verifies}
 
 -- The attempts of the asking that runs.
 abbrev pub asking_of : Option Procedure → Option ℕ
@@ -99,7 +99,7 @@ module _ (t : OfTerminal) (quiet : t.notes ≡ []) where
       go : (b : Bool) → Goes None (then_ (cond b (Some (verifies tei 1 t)) None))
       go true = inl (none-told, refl)
       go false = inl (none-told, ap asking_of is)
-  assigned ri tei (Some (Asking own n)) is = go (own == ri && may_come tei t)
+  assigned ri tei (Some (Asking own n)) is = go (own == ri && (nat_le 64 tei && nat_le tei 126 && not (is_on tei t) && list_any is_free t.places))
     where
       go : (b : Bool) → Goes (Some n) (then_ (cond b (Some (record (over t) { places = with_tei tei t.places; notes = Assigned tei ∷ [] })) None))
       go true = inr (refl, (refl, refl))

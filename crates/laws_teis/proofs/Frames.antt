@@ -1,5 +1,5 @@
 -- What the terminal reads of a frame that the network's line sends.
-use Rattle.std.specs.Prelude.{◌≡◌, ℕ, ◌+◌, ◌*◌, ◌/◌, ◌%◌, ◌==◌, ◌&&◌, ◌≤◌, ◌<◌, Bool, true, false, cond, List, [], ◌∷◌, ◌++◌, filter, map, Option, Some, None, Result, Ok, Err, option_map, option_to_list, nat_le, nat_lt, length, take, ⊤, refl}
+use Rattle.std.specs.Prelude.{◌≡◌, ℕ, ◌+◌, ◌*◌, ◌/◌, ◌%◌, ◌==◌, ◌&&◌, Bool, true, false, cond, List, [], ◌∷◌, filter, Option, Some, None, Result, Ok, Err, nat_le, nat_lt, length, take, ⊤, refl}
 use Rattle.std.specs.Option.{option_map_or}
 use Rattle.std.specs.Result.{result_ok}
 use Rattle.std.proofs.Common.{subst, sym, ap, ◌∙◌, arith, true≢false, eq-eqb, eqb-true}
@@ -9,23 +9,19 @@ use Rattle.model_bits.specs.declared.heard.Cause.TheVariants.{Short}
 use Rattle.model_bits.specs.Stream.{frame, overlong, dropped}
 use Rattle.lapd_frame.specs.Grammar.{Parts, other_side, spelling as side_spelling}
 unfoldable use Rattle.lapd_frame.specs.Reading.{reading as side_reading}
-use Rattle.lapd_frame.specs.Senders.{spelling, named, renamed, parts_named}
+use Rattle.lapd_frame.specs.Senders.{spelling, named}
 unfoldable use Rattle.lapd_frame.specs.Senders.{exchanged, reading}
 use Rattle.lapd_frame.specs.declared.addresses.Side.{Side}
 use Rattle.lapd_frame.specs.declared.addresses.Side.TheVariants.{Network, User}
 use Rattle.lapd_frame.specs.declared.controls.Control.TheVariants.{Ui}
 use Rattle.lapd_frame.specs.declared.faults.ReadFault.{ReadFault}
-use Rattle.lapd_frame.specs.declared.senders.Sender.{Sender}
 use Rattle.lapd_frame.proofs.Naming.{exchanged-back, management-stays, management-spelled}
 use Rattle.lapd_tei.specs.declared.messages.Message.{Message}
 use Rattle.lapd_tei.specs.declared.messages.Message.TheVariants.{IdentityAssigned, IdentityDenied, IdentityCheckRequest, IdentityRemove}
 use Rattle.lapd_tei.specs.declared.remembered.Remembered.{Remembered}
-use Rattle.model_line.specs.declared.config.Config.{Config}
-use Rattle.model_line.specs.Came.{came}
-use Rattle.model_line.specs.Event.{Answer, gave, told, refused, NextFrame}
+use Rattle.model_line.specs.Event.{Answer, gave, told, refused}
 use Rattle.model_line.specs.Heard.{heard_side}
-use Rattle.model_line.specs.Line.{is_at, is_terminal}
-use Rattle.model_line.specs.Sound.{IsInRange}
+use Rattle.model_line.specs.Line.{is_at}
 use Rattle.model_line.specs.Taken.{own_side}
 use Rattle.model_line.proofs.Ranges.{ranges_of}
 use Rattle.laws_trace.specs.LinkFrames.{reads, frame_of}
@@ -33,7 +29,7 @@ use Rattle.laws_trace.specs.Managing.{octets_of}
 use Rattle.laws_trace.specs.ManagingTerminal.{is_message}
 use Rattle.laws_trace.specs.TeisAreManaged.{message_text}
 use Rattle.laws_trace.specs.Trace.{frame_in}
-use Rattle.laws_wire.proofs.Spelled.{Carries, carries}
+use Rattle.laws_wire.proofs.Spelled.{carries}
 use Rattle.laws_teis.specs.Bus.{Bus, message_in, is_removal, removes}
 use Rattle.laws_teis.specs.Assignments.{CanMeet}
 

@@ -1,9 +1,8 @@
 -- The laws.
-use Rattle.std.specs.Prelude.{◌≡◌, ℕ, ◌⊎◌, true, List, All}
+use Rattle.std.specs.Prelude.{◌≡◌, ◌⊎◌}
 use Rattle.std.proofs.Common.{inl, inr, subst, sym, ap}
 use Rattle.lapd_tei.specs.declared.remembered.Remembered.{Remembered}
-use Rattle.model_card.specs.Event.{Event}
-use Rattle.laws_teis.specs.Bus.{Bus, Past, past_of, begun, network_after, network_of, removal_comes}
+use Rattle.laws_teis.specs.Bus.{Bus, Past, past_of, begun, network_after, network_of}
 use Rattle.laws_teis.specs.Assignments.{AssignmentsHold, IsIn}
 use Rattle.laws_teis.specs.TwoTerminals.{TwoTerminalsDiffer, IsOver}
 use Rattle.laws_teis.proofs.Runs.{Runs, run-so, begins-runs}

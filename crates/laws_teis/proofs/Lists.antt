@@ -1,10 +1,12 @@
 -- What is in a list of assignments, and what passes a test in a list.
-use Rattle.std.specs.Prelude.{◌≡◌, ℕ, zero, suc, ◌==◌, ◌||◌, ◌≤◌, ◌⊎◌, not, Bool, true, false, cond, List, [], ◌∷◌, ◌++◌, length, filter, drop, Option, Some, None, refl}
+use Rattle.std.specs.Prelude.{◌≡◌, ℕ, zero, suc, ◌==◌, ◌&&◌, ◌||◌, ◌≤◌, ◌⊎◌, Bool, true, false, cond, List, [], ◌∷◌, ◌++◌, length, filter, drop, Some, None, refl}
 use Rattle.std.specs.List.{list_any, find}
-use Rattle.std.proofs.Common.{inl, inr, subst, sym, ap, ◌∙◌, arith, true≢false, append-nil}
+use Rattle.std.proofs.Common.{inl, inr, subst, sym, ap, ◌∙◌, arith, true≢false, eqb-true}
 use Rattle.std.proofs.lemmas.List.Folds.{list_any-append}
 use Rattle.lapd_tei.specs.declared.remembered.Remembered.{Remembered}
+use Rattle.std.proofs.lemmas.Bool.{and_parts}
 use Rattle.laws_teis.specs.Assignments.{IsIn}
+use Rattle.laws_teis.specs.Bus.{is_among}
 
 pub in-left : (r : Remembered) (xs ys : List Remembered) → IsIn r xs → IsIn r (xs ++ ys)
 in-left r [] ys is = absurd is
@@ -101,3 +103,14 @@ any-kept p q (x ∷ xs) so is = go (p x) (q x) refl refl is (any-kept p q xs so)
     go true false ps qs found rest = absurd (true≢false (sym (so x ps) ∙ qs))
     go false true ps qs found rest = or-right-so (p x) (list_any p (filter q xs)) (rest found)
     go false false ps qs found rest = rest found
+
+-- An assignment that is found by its parts is there.
+pub is-there : (r : Remembered) (all : List Remembered) → is_among r all ≡ true → IsIn r all
+is-there r [] is = absurd (true≢false (sym is))
+is-there r (one ∷ more) is = go (or-cases (one.ri == r.ri && one.tei == r.tei) (is_among r more) is) (is-there r more)
+  where
+    go : ((one.ri == r.ri && one.tei == r.tei) ≡ true) ⊎ (is_among r more ≡ true) → (is_among r more ≡ true → IsIn r more) → IsIn r (one ∷ more)
+    go (inl same) rest =
+        let parts = and_parts (one.ri == r.ri) (one.tei == r.tei) same in
+        inl (ap (λ n. record one { ri = n }) (eqb-true one.ri r.ri parts.0) ∙ ap (λ n. record { ri = r.ri; tei = n }) (eqb-true one.tei r.tei parts.1))
+    go (inr there) rest = inr (rest there)

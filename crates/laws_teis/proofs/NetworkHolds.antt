@@ -1,17 +1,17 @@
 -- An event of the network's line leaves each assignment accounted for.
-use Rattle.std.specs.Prelude.{◌≡◌, ℕ, ◌==◌, ◌&&◌, ◌||◌, ⊤, ◌⊎◌, not, Bool, true, false, cond, List, [], ◌∷◌, ◌++◌, length, map, filter, drop, nat_le, zero, suc, refl}
+use Rattle.std.specs.Prelude.{◌≡◌, ℕ, ◌==◌, ◌&&◌, ◌||◌, ◌⊎◌, not, Bool, true, false, List, [], ◌∷◌, ◌++◌, length, filter, drop, refl}
 use Rattle.std.specs.List.{list_any}
 use Rattle.std.proofs.Common.{inl, inr, subst, sym, ap, ◌∙◌, true≢false, append_assoc, append-nil}
 use Rattle.lapd_tei.specs.declared.messages.Message.{Message}
 use Rattle.lapd_tei.specs.declared.remembered.Remembered.{Remembered}
-use Rattle.model_line.specs.Event.{Event, hears, expiry, request, next}
+use Rattle.model_line.specs.Event.{Event, request}
 use Rattle.model_line.specs.Request.{Down}
 use Rattle.laws_trace.specs.Managing.{Managed, is_on, octets_of}
 use Rattle.laws_trace.specs.TeisAreManaged.{message_text}
-use Rattle.laws_teis.specs.Bus.{Bus, Network, newly_made, with_teis, gives_up, leaves_untold, removes}
+use Rattle.laws_teis.specs.Bus.{Bus, Network, newly_made, with_teis, gives_up, leaves_untold, removes, is_among}
 use Rattle.laws_teis.specs.Assignments.{Terminal, CanMeet, IsIn}
 use Rattle.laws_teis.proofs.Frames.{AreNone}
-use Rattle.laws_teis.proofs.Lists.{in-left, in-right, in-either, in-filter, in-filtered, any-left, any-right, any-either, or-left-so, or-right-so}
+use Rattle.laws_teis.proofs.Lists.{in-left, in-right, in-either, in-filter, in-filtered, any-left, any-right, any-either, or-left-so, or-right-so, is-there}
 use Rattle.laws_teis.proofs.NetworkSteps.{Table, Queue}
 use Rattle.laws_teis.proofs.Waiting.{Known, known, removal, IsCovered, AreCovered, covered-so, covered-both, none-covered, texts, texts-both, removals-are, made-covered, Holds}
 
@@ -27,14 +27,17 @@ module _ (b : Bus) (can : CanMeet b) (n : Network) (t : Terminal) (way : List (L
   abbrev w : Managed
   w = n.teis
 
+  abbrev pub network_now : Network
+  network_now = with_teis (λ tei. is_on tei d) d n
+
+  abbrev misses_one : Remembered → Bool
+  misses_one r = gives_up r.tei what w || leaves_untold r.tei w d
+
   abbrev is_missed : Remembered → Bool
-  is_missed r = gives_up r.tei what w || leaves_untold r.tei w d
+  is_missed r = misses_one r && not (is_among r network_now.hold)
 
   abbrev pub missed_now : List Remembered
   missed_now = missed ++ filter is_missed n.made
-
-  abbrev pub network_now : Network
-  network_now = with_teis (λ tei. is_on tei d) d n
 
   abbrev old : Known
   old = known n missed
@@ -80,11 +83,24 @@ module _ (b : Bus) (can : CanMeet b) (n : Network) (t : Terminal) (way : List (L
       go (inr new) (inr newer) = table.alone r s new.0 newer.0 new.1 newer.1
 
   -- an assignment
-  abbrev Found : Remembered → List (List ℕ) → Type 0
-  Found r back = (list_any (removal b r.tei) back ≡ true) ⊎ IsIn r missed_now
+  abbrev Else : Remembered → Type 0
+  Else r = IsIn r network_now.hold ⊎ IsIn r missed_now
 
-  misses-so : (r : Remembered) → IsIn r n.made → is_missed r ≡ true → IsIn r missed_now
-  misses-so r made is = in-right r missed (filter is_missed n.made) (in-filter is_missed r n.made made is)
+  abbrev Found : Remembered → List (List ℕ) → Type 0
+  Found r back = IsIn r network_now.hold ⊎ ((list_any (removal b r.tei) back ≡ true) ⊎ IsIn r missed_now)
+
+  else-found : (r : Remembered) (back : List (List ℕ)) → Else r → Found r back
+  else-found r back (inl holds) = inl holds
+  else-found r back (inr is) = inr (inr is)
+
+  misses-so : (r : Remembered) → IsIn r n.made → misses_one r ≡ true → Else r
+  misses-so r made is = go (is_among r network_now.hold) refl
+    where
+      go : (x : Bool) → is_among r network_now.hold ≡ x → Else r
+      go true among = inl (is-there r network_now.hold among)
+      go false among =
+          inr (in-right r missed (filter is_missed n.made)
+          (in-filter is_missed r n.made made (ap (λ x. x && not (is_among r network_now.hold)) is ∙ ap not among)))
 
   step : (r : Remembered) (back then_ : List (List ℕ))
       → (list_any (removal b r.tei) back ≡ true → Found r then_)
@@ -92,13 +108,13 @@ module _ (b : Bus) (can : CanMeet b) (n : Network) (t : Terminal) (way : List (L
       → IsCovered b old r back → IsCovered b new r then_
   step r back then_ comes lost c = record { made = in-left r n.made (newly_made w d) c.made; covered = go c.covered }
     where
-      stands : (x : Bool) → is_on r.tei d ≡ x → IsIn r n.hold → IsIn r network_now.hold ⊎ Found r then_
+      stands : (x : Bool) → is_on r.tei d ≡ x → IsIn r n.hold → Found r then_
       stands true on is = inl (in-filter (λ r. is_on r.tei d) r (n.hold ++ newly_made w d) (in-left r n.hold (newly_made w d) is) on)
-      stands false off is = inr (lost (h.on r is) off)
+      stands false off is = lost (h.on r is) off
 
-      go : IsIn r n.hold ⊎ ((list_any (removal b r.tei) back ≡ true) ⊎ IsIn r missed) → IsIn r network_now.hold ⊎ Found r then_
+      go : IsIn r n.hold ⊎ ((list_any (removal b r.tei) back ≡ true) ⊎ IsIn r missed) → Found r then_
       go (inl is) = stands (is_on r.tei d) refl is
-      go (inr (inl is)) = inr (comes is)
+      go (inr (inl is)) = comes is
       go (inr (inr is)) = inr (inr (in-left r missed (filter is_missed n.made) is))
 
   -- What follows of the frames.
@@ -127,10 +143,10 @@ module _ (b : Bus) (can : CanMeet b) (n : Network) (t : Terminal) (way : List (L
     owed-texts : texts b d.owed ≡ T ++ N
     owed-texts = ap (texts b) queue.owed ∙ texts-both b w.owed queue.new
 
-    untold : (r : Remembered) → IsIn r n.made → is_on r.tei w ≡ true → is_on r.tei d ≡ false → (list_any (removal b r.tei) N ≡ true) ⊎ IsIn r missed_now
+    untold : (r : Remembered) → IsIn r n.made → is_on r.tei w ≡ true → is_on r.tei d ≡ false → (list_any (removal b r.tei) N ≡ true) ⊎ Else r
     untold r made on off = go (list_any (removes r.tei) queue.new) refl
       where
-        go : (x : Bool) → list_any (removes r.tei) queue.new ≡ x → (list_any (removal b r.tei) N ≡ true) ⊎ IsIn r missed_now
+        go : (x : Bool) → list_any (removes r.tei) queue.new ≡ x → (list_any (removal b r.tei) N ≡ true) ⊎ Else r
         go true is = inl (removals-are b can r.tei queue.new ∙ is)
         go false is =
             inr (misses-so r made (or-right-so (gives_up r.tei what w) (leaves_untold r.tei w d)
@@ -143,26 +159,26 @@ module _ (b : Bus) (can : CanMeet b) (n : Network) (t : Terminal) (way : List (L
     more : (r : Remembered) (back : List (List ℕ)) → IsCovered b old r (back ++ T) → IsCovered b new r (back ++ (fs ++ (T ++ N)))
     more r back c =
         step r (back ++ T) (back ++ (fs ++ (T ++ N)))
-        (λ is. inl (widened (any-either (removal b r.tei) back T is)))
+        (λ is. inr (inl (widened (any-either (removal b r.tei) back T is))))
         (λ on off. at-end (untold r c.made on off)) c
       where
         widened : (list_any (removal b r.tei) back ≡ true) ⊎ (list_any (removal b r.tei) T ≡ true) → list_any (removal b r.tei) (back ++ (fs ++ (T ++ N))) ≡ true
         widened (inl is) = any-left (removal b r.tei) back (fs ++ (T ++ N)) is
         widened (inr is) = any-right (removal b r.tei) back (fs ++ (T ++ N)) (any-right (removal b r.tei) fs (T ++ N) (any-left (removal b r.tei) T N is))
 
-        at-end : (list_any (removal b r.tei) N ≡ true) ⊎ IsIn r missed_now → Found r (back ++ (fs ++ (T ++ N)))
-        at-end (inl is) = inl (any-right (removal b r.tei) back (fs ++ (T ++ N)) (any-right (removal b r.tei) fs (T ++ N) (any-right (removal b r.tei) T N is)))
-        at-end (inr is) = inr is
+        at-end : (list_any (removal b r.tei) N ≡ true) ⊎ Else r → Found r (back ++ (fs ++ (T ++ N)))
+        at-end (inl is) = inr (inl (any-right (removal b r.tei) back (fs ++ (T ++ N)) (any-right (removal b r.tei) fs (T ++ N) (any-right (removal b r.tei) T N is))))
+        at-end (inr is) = else-found r (back ++ (fs ++ (T ++ N))) is
 
     more-owed : (r : Remembered) (back : List (List ℕ)) → IsCovered b old r (back ++ []) → IsCovered b new r (back ++ (N ++ []))
     more-owed r back c =
         step r (back ++ []) (back ++ (N ++ []))
-        (λ is. inl (any-left (removal b r.tei) back (N ++ []) (subst (λ xs. list_any (removal b r.tei) xs ≡ true) (append-nil back) is)))
+        (λ is. inr (inl (any-left (removal b r.tei) back (N ++ []) (subst (λ xs. list_any (removal b r.tei) xs ≡ true) (append-nil back) is))))
         (λ on off. at-end (untold r c.made on off)) c
       where
-        at-end : (list_any (removal b r.tei) N ≡ true) ⊎ IsIn r missed_now → Found r (back ++ (N ++ []))
-        at-end (inl is) = inl (any-right (removal b r.tei) back (N ++ []) (any-left (removal b r.tei) N [] is))
-        at-end (inr is) = inr is
+        at-end : (list_any (removal b r.tei) N ≡ true) ⊎ Else r → Found r (back ++ (N ++ []))
+        at-end (inl is) = inr (inl (any-right (removal b r.tei) back (N ++ []) (any-left (removal b r.tei) N [] is)))
+        at-end (inr is) = else-found r (back ++ (N ++ [])) is
 
     pub kept : Holds b network_now t (way ++ fs) missed_now
     kept =
@@ -188,9 +204,9 @@ module _ (b : Bus) (can : CanMeet b) (n : Network) (t : Terminal) (way : List (L
           (λ on off. absurd (stays-on r on off)) c
         where
           narrowed : (list_any (removal b r.tei) back ≡ true) ⊎ (list_any (removal b r.tei) (texts b w.owed) ≡ true) → Found r (back ++ (fs ++ []))
-          narrowed (inl is) = inl (any-left (removal b r.tei) back (fs ++ []) is)
+          narrowed (inl is) = inr (inl (any-left (removal b r.tei) back (fs ++ []) is))
           narrowed (inr is) =
-              inr (misses-so r c.made (or-left-so (gives_up r.tei what w) (leaves_untold r.tei w d)
+              else-found r (back ++ (fs ++ [])) (misses-so r c.made (or-left-so (gives_up r.tei what w) (leaves_untold r.tei w d)
               (ap (λ e. gives_up r.tei e w) down ∙ sym (removals-are b can r.tei w.owed) ∙ is)))
 
       pub given-up : Holds b network_now t (way ++ fs) missed_now
@@ -204,7 +220,7 @@ module _ (b : Bus) (can : CanMeet b) (n : Network) (t : Terminal) (way : List (L
     -- The line is called for its next frame.
     as-it-is : (r : Remembered) (back then_ : List (List ℕ)) → back ≡ then_ → IsCovered b old r back → IsCovered b new r then_
     as-it-is r back then_ is c =
-        step r back then_ (λ found. inl (subst (λ xs. list_any (removal b r.tei) xs ≡ true) is found)) (λ on off. absurd (stays-on r on off)) c
+        step r back then_ (λ found. inr (inl (subst (λ xs. list_any (removal b r.tei) xs ≡ true) is found))) (λ on off. absurd (stays-on r on off)) c
 
     pub called-none : w.owed ≡ [] → d.owed ≡ [] → AreNone b fs → Holds b network_now t (way ++ fs) missed_now
     called-none was now none =
@@ -217,8 +233,8 @@ module _ (b : Bus) (can : CanMeet b) (n : Network) (t : Terminal) (way : List (L
         wider : (r : Remembered) (back : List (List ℕ)) → IsCovered b old r (back ++ texts b w.owed) → IsCovered b new r (back ++ (fs ++ []))
         wider r back c =
             step r (back ++ texts b w.owed) (back ++ (fs ++ []))
-            (λ found. inl (any-left (removal b r.tei) back (fs ++ [])
-            (subst (λ xs. list_any (removal b r.tei) xs ≡ true) (ap (λ ms. back ++ texts b ms) was ∙ append-nil back) found)))
+            (λ found. inr (inl (any-left (removal b r.tei) back (fs ++ [])
+            (subst (λ xs. list_any (removal b r.tei) xs ≡ true) (ap (λ ms. back ++ texts b ms) was ∙ append-nil back) found))))
             (λ on off. absurd (stays-on r on off)) c
 
     pub called-one : (m : Message) (more : List Message) → w.owed ≡ m ∷ more → d.owed ≡ more → fs ≡ message_text b.network (octets_of m) ∷ [] → Holds b network_now t (way ++ fs) missed_now

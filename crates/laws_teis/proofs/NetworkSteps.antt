@@ -1,11 +1,10 @@
 -- What an observer of the network's line knows of its assignments and of the messages that are owed, event by event.
-use Rattle.std.specs.Prelude.{◌≡◌, ℕ, ◌+◌, ◌-◌, ◌*◌, ◌/◌, ◌%◌, ◌==◌, ◌&&◌, ◌||◌, ◌≤◌, ◌⊎◌, ⊤, not, Bool, true, false, cond, List, [], ◌∷◌, ◌++◌, length, filter, drop, take, map, Option, Some, None, is_some, nat_lt, nat_le, refl}
+use Rattle.std.specs.Prelude.{◌≡◌, ℕ, ◌+◌, ◌-◌, ◌*◌, ◌/◌, ◌%◌, ◌==◌, ◌&&◌, ◌||◌, ◌⊎◌, ⊤, not, Bool, true, false, cond, List, [], ◌∷◌, ◌++◌, length, filter, drop, Option, Some, None, nat_lt, refl}
 use Rattle.std.specs.List.{list_any, find, range_with_len}
 use Rattle.std.specs.Option.{option_map_or}
 use Rattle.std.proofs.Common.{inl, inr, subst, sym, ap, ◌∙◌, arith, true≢false, append-nil, eq-eqb, eqb-true}
 use Rattle.lapd_frame.specs.Grammar.{Parts}
-use Rattle.lapd_frame.specs.declared.notes.Note.TheVariants.{Assigned, Doubled, Removed}
-use Rattle.lapd_frame.specs.declared.timers.Order.TheVariants.{Start, Stop}
+use Rattle.lapd_frame.specs.declared.notes.Note.TheVariants.{Assigned, Removed}
 use Rattle.lapd_frame.specs.declared.timers.Timer.TheVariants.{T200, T201, T202, T203}
 use Rattle.lapd_tei.specs.declared.messages.Message.{Message}
 use Rattle.lapd_tei.specs.declared.messages.Message.TheVariants.{IdentityAssigned, IdentityDenied, IdentityCheckRequest, IdentityRemove}

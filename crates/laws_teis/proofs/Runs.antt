@@ -1,12 +1,10 @@
 -- A run of a network's line and a terminal's.
-use Rattle.std.specs.Prelude.{◌≡◌, ℕ, ◌<◌, ◌==◌, ◌&&◌, ◌||◌, ⊤, Bool, true, false, cond, List, [], ◌∷◌, ◌++◌, map, filter, fold, drop, take, replicate, zero, suc, All, Option, Some, None, refl}
+use Rattle.std.specs.Prelude.{◌≡◌, ℕ, ◌<◌, ◌==◌, ◌&&◌, ◌||◌, not, Bool, true, false, cond, List, [], ◌∷◌, ◌++◌, map, filter, fold, drop, take, replicate, zero, suc, All, None, refl}
 use Rattle.std.specs.List.{list_any}
-use Rattle.std.proofs.Common.{inl, inr, subst, sym, ap, ◌∙◌, true≢false, append-nil, eq-eqb, eqb-true}
-use Rattle.std.proofs.lemmas.Grind.{fold-append}
+use Rattle.std.proofs.Common.{subst, sym, ap, ◌∙◌, append-nil, eq-eqb, eqb-true}
 use Rattle.std.proofs.lemmas.List.Elements.{All-append, All-cons, All-head, All-nil, All-tail}
 use Rattle.lapd_frame.specs.Grammar.{Parts}
 use Rattle.lapd_frame.specs.declared.addresses.Side.{Side}
-use Rattle.lapd_frame.specs.declared.addresses.Side.TheVariants.{Network as OfNetwork}
 use Rattle.lapd_tei.specs.declared.messages.Message.{Message}
 use Rattle.lapd_tei.specs.declared.remembered.Remembered.{Remembered}
 use Rattle.model_line.specs.declared.config.Config.{Config}
@@ -14,9 +12,9 @@ use Rattle.model_line.specs.Came.{came}
 use Rattle.model_line.specs.Event as line_event
 use Rattle.model_line.specs.Event.{Answer, hears, expiry, request, next}
 use Rattle.model_line.specs.Line.{is_at, is_terminal}
-use Rattle.model_line.specs.Request.{Request, Establish, Release, Data, Unit, Assign, Remove, Check, Disown, AskTei, VerifyTei, SetBusy, ClearBusy, Deactivate, Down}
+use Rattle.model_line.specs.Request.{Establish, Release, Data, Unit, Assign, Remove, Check, Disown, AskTei, VerifyTei, SetBusy, ClearBusy, Deactivate, Down}
 use Rattle.model_line.specs.Taken.{own_side}
-use Rattle.model_card.specs.Card.{Card, fresh}
+use Rattle.model_card.specs.Card.{fresh}
 use Rattle.model_card.specs.Event.{Event, at}
 use Rattle.model_card.specs.Machine.{answer}
 use Rattle.model_card.specs.Run.{after_all, moments, IsAtLine, AreAtLines}
@@ -24,13 +22,13 @@ use Rattle.laws_trace.specs.LinkFrames.{reads}
 use Rattle.laws_trace.specs.Managing as managing
 use Rattle.laws_trace.specs.Managing.{Managed, nothing_due, none_on, due, led, managed_after, octets_of, own_of, at_terminal}
 use Rattle.laws_trace.specs.ManagingTerminal.{teis_of}
-use Rattle.laws_trace.specs.TeisAreManaged.{message_text, IsAsDue}
+use Rattle.laws_trace.specs.TeisAreManaged.{message_text}
 use Rattle.laws_trace.specs.Trace.{frame_in}
 use Rattle.laws_trace.proofs.TeisAreManaged.{teis-are-managed}
-use Rattle.laws_teis.specs.Bus.{Bus, Network, Past, Step, network, terminal, receives, loses, network_led, network_after, network_of, with_teis, begun, doing, acting, received, missing, misses, is_heard, gives_up, leaves_untold, removal_comes}
-use Rattle.laws_teis.specs.Assignments.{Terminal, CanMeet, IsThere, IsIn, terminal_led, terminal_after}
+use Rattle.laws_teis.specs.Bus.{Bus, Network, Past, Step, network, terminal, receives, loses, network_of, with_teis, begun, doing, acting, received, missing, misses, is_heard, gives_up, leaves_untold, is_among}
+use Rattle.laws_teis.specs.Assignments.{Terminal, CanMeet, IsThere, IsIn, terminal_after}
 use Rattle.laws_teis.proofs.Frames.{AreNone, begins-one, begins-none}
-use Rattle.laws_teis.proofs.NetworkSteps.{Table, Queue, Changes, same-table, event-so, IsOther}
+use Rattle.laws_teis.proofs.NetworkSteps.{Changes, same-table, event-so, IsOther}
 use Rattle.laws_teis.proofs.NetworkHolds.{kept, given-up, called-none, called-one}
 use Rattle.laws_teis.proofs.TerminalHolds.{grows, lost, no-frame, comes, terminal_now}
 use Rattle.laws_teis.proofs.Seen.{network-teis, network-then, terminal-then}
@@ -60,7 +58,7 @@ module _ (b : Bus) (can : CanMeet b) where
 
     abbrev Then : line_event.Event → Type 0
     Then what =
-        Holds b (with_teis (λ tei. managing.is_on tei (due c what w)) (due c what w) n) t (way ++ frame_in (a what)) (missed ++ filter (λ r. gives_up r.tei what w || leaves_untold r.tei w (due c what w)) n.made)
+        Holds b (with_teis (λ tei. managing.is_on tei (due c what w)) (due c what w) n) t (way ++ frame_in (a what)) (missed ++ filter (λ r. (gives_up r.tei what w || leaves_untold r.tei w (due c what w)) && not (is_among r (with_teis (λ tei. managing.is_on tei (due c what w)) (due c what w) n).hold)) n.made)
 
     begins-so : (what : line_event.Event) → filter (reads (own_side c) (λ (f : Parts). f.address.sapi == 63)) (frame_in (a what)) ≡ map (message_text c) (due c what w).begins
     begins-so what =
@@ -118,13 +116,15 @@ module _ (b : Bus) (can : CanMeet b) where
     -- One of the card.
     abbrev ThenOf : Event → Bool → Type 0
     ThenOf e x =
-        Holds b (cond x (with_teis (λ tei. managing.is_on tei (due c e.what w)) (due c e.what w) n) n) t (way ++ cond x (frame_in (answer e (after_all (fresh c) events))) [])
-        (missed ++ filter (λ r. x && (gives_up r.tei e.what w || leaves_untold r.tei w (due c e.what w))) n.made)
+        let m = cond x (with_teis (λ tei. managing.is_on tei (due c e.what w)) (due c e.what w) n) n in
+        Holds b m t (way ++ cond x (frame_in (answer e (after_all (fresh c) events))) [])
+        (missed ++ filter (λ r. (x && (gives_up r.tei e.what w || leaves_untold r.tei w (due c e.what w))) && not (is_among r m.hold)) n.made)
 
     pub any-event : (e : Event) (x : Bool) → (e.line == b.number) ≡ x → ThenOf e x
     any-event e true is = subst (λ line. ThenOf (at line e.what) true) (sym (eqb-true e.line b.number is)) (own-event e.what)
     any-event e false is =
-        subst (λ way. Holds b n t way (missed ++ filter (λ r. false) n.made)) (sym (append-nil way)) (grows b can n t way missed (filter (λ r. false) n.made) h)
+        subst (λ way. Holds b n t way (missed ++ filter (λ r. false && not (is_among r n.hold)) n.made)) (sym (append-nil way))
+        (grows b can n t way missed (filter (λ r. false && not (is_among r n.hold)) n.made) h)
 
   -- A run.
   pub record Runs (p : Past) : Type 0 where
@@ -138,7 +138,7 @@ module _ (b : Bus) (can : CanMeet b) where
   step-so : (p : Past) (step : Step) → IsThere b step → Runs p → Runs (doing b p step)
   step-so p (network e) there runs = record {
     all = All-append (IsAtLine (fresh c)) p.at_network (e ∷ []) runs.all (All-cons (IsAtLine (fresh c)) e [] there (All-nil (IsAtLine (fresh c))));
-    holds = subst (λ n. Holds b n (known_terminal p) (acting b (network e) p).way (doing b p (network e)).missed) (sym (network-then c b.number can.network can.number p.at_network e runs.all there))
+    holds = subst (λ n. Holds b n (known_terminal p) (acting b (network e) p).way (p.missed ++ filter (λ r. misses b p (network e) r.tei && not (is_among r n.hold)) (network_of b p).made)) (sym (network-then c b.number can.network can.number p.at_network e runs.all there))
         (any-event (network_of b p) (known_terminal p) p.way p.missed runs.holds p.at_network runs.all (network-teis c b.number p.at_network) e (e.line == b.number) refl);
     there = runs.there;
   }
@@ -193,8 +193,8 @@ module _ (b : Bus) (can : CanMeet b) where
       n = network_of b p
 
       go : (way : List (List ℕ)) → Holds b n (known_terminal p) way p.missed
-          → Holds b n (known_terminal p) (drop 1 way) (p.missed ++ filter (λ r. list_any (removal b r.tei) (take 1 way)) n.made)
-      go [] h = grows b can n (known_terminal p) [] p.missed (filter (λ r. false) n.made) h
+          → Holds b n (known_terminal p) (drop 1 way) (p.missed ++ filter (λ r. list_any (removal b r.tei) (take 1 way) && not (is_among r n.hold)) n.made)
+      go [] h = grows b can n (known_terminal p) [] p.missed (filter (λ r. false && not (is_among r n.hold)) n.made) h
       go (x ∷ more) h = lost b can n (known_terminal p) x more p.missed h
 
   -- as the cards begin

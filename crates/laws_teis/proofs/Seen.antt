@@ -1,11 +1,10 @@
 -- What the observers of both lines know is what the answers show, and what `Card::state` tells.
-use Rattle.std.specs.Prelude.{◌≡◌, ℕ, ◌<◌, ◌==◌, Bool, true, false, cond, List, [], ◌∷◌, ◌++◌, filter, flat_map, fold, is_some, Option, None, refl}
+use Rattle.std.specs.Prelude.{◌≡◌, ℕ, ◌<◌, ◌==◌, Bool, true, false, cond, List, [], ◌∷◌, ◌++◌, filter, fold, is_some, Option, None, refl}
 use Rattle.std.proofs.Common.{arith, subst, sym, ap, ◌∙◌, eqb-true}
 use Rattle.std.proofs.lemmas.Bool.{lt-ltb}
 use Rattle.std.proofs.lemmas.Grind.{fold-append}
 use Rattle.std.proofs.lemmas.List.Elements.{All-append, All-cons, All-nil}
 use Rattle.lapd_frame.specs.declared.notes.Note.{Note}
-use Rattle.lapd_frame.specs.declared.notes.Note.TheVariants as notes
 use Rattle.lapd_frame.specs.declared.services.Service.TheVariants.{Call}
 use Rattle.lapd_tei.specs.declared.remembered.Remembered.{Remembered}
 use Rattle.lapd_terminal.specs.declared.procedure.Procedure.{Procedure}
@@ -25,7 +24,6 @@ use Rattle.laws_trace.specs.Managing.{Managed, is_on, none_on, due, led, managed
 use Rattle.laws_trace.specs.TeisAreManaged.{is_of_teis}
 use Rattle.laws_trace.proofs.ObservedRun.{is-told}
 use Rattle.laws_trace.proofs.TeisAreManaged.{teis-are-managed, follows-now}
-use Rattle.laws_trace.proofs.TimersAreTimely.{itself}
 use Rattle.laws_teis.specs.Bus.{Network, network_led, network_after, with_teis, is_there}
 use Rattle.laws_teis.specs.Assignments.{Terminal, terminal_led, terminal_after, with_given, taken, taken_by}
 

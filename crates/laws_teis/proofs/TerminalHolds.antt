@@ -1,5 +1,5 @@
 -- An event of the terminal's line, and a frame that is lost, leave each assignment accounted for.
-use Rattle.std.specs.Prelude.{◌≡◌, ℕ, ◌==◌, ◌&&◌, ◌||◌, ◌⊎◌, Bool, true, false, List, [], ◌∷◌, ◌++◌, filter, flat_map, take, nat_le, refl}
+use Rattle.std.specs.Prelude.{◌≡◌, ℕ, ◌==◌, ◌&&◌, ◌||◌, ◌⊎◌, not, Bool, true, false, List, [], ◌∷◌, ◌++◌, filter, flat_map, nat_le, refl}
 use Rattle.std.specs.List.{list_any}
 use Rattle.std.specs.Option.{unwrap_or}
 use Rattle.std.proofs.Common.{inl, inr, subst, sym, ap, ◌∙◌, true≢false}
@@ -9,12 +9,12 @@ use Rattle.model_line.specs.Event.{Event, hears}
 use Rattle.laws_trace.specs.Managing.{Managed, is_on, due, own_of}
 use Rattle.laws_trace.specs.ManagingTerminal as terminal
 use Rattle.laws_trace.specs.ManagingTerminal.{OfTerminal, teis_of, by_event, by_message}
-use Rattle.laws_teis.specs.Bus.{Bus, Network, message_in, is_removal, is_heard}
+use Rattle.laws_teis.specs.Bus.{Bus, Network, message_in, is_heard, is_among}
 use Rattle.laws_teis.specs.Assignments.{Terminal, CanMeet, IsIn, taken_by, taken, with_given}
-use Rattle.laws_teis.proofs.Frames.{is_assigned, assigned-few}
-use Rattle.laws_teis.proofs.Lists.{in-left, in-right, in-either, in-filter, in-filtered, or-cases}
+use Rattle.laws_teis.proofs.Frames.{assigned-few}
+use Rattle.laws_teis.proofs.Lists.{in-left, in-right, in-either, in-filter, in-filtered, or-cases, is-there}
 use Rattle.laws_teis.proofs.TerminalSteps.{takes, message-takes, removal-takes-off, frame-is, other-takes, then_own, due-so}
-use Rattle.laws_teis.proofs.Waiting.{Known, known, removal, IsCovered, AreCovered, covered-so, texts, Holds}
+use Rattle.laws_teis.proofs.Waiting.{known, removal, IsCovered, AreCovered, covered-so, texts, Holds}
 
 module _ (b : Bus) (can : CanMeet b) (n : Network) (t : Terminal) where
   -- What is missed is only added to.
@@ -43,7 +43,7 @@ module _ (b : Bus) (can : CanMeet b) (n : Network) (t : Terminal) where
 
   -- The oldest frame in transit is lost.
   pub lost : (x : List ℕ) (more : List (List ℕ)) (missed : List Remembered) → Holds b n t (x ∷ more) missed
-      → Holds b n t more (missed ++ filter (λ r. list_any (removal b r.tei) (x ∷ [])) n.made)
+      → Holds b n t more (missed ++ filter (λ r. list_any (removal b r.tei) (x ∷ []) && not (is_among r n.hold)) n.made)
   lost x more missed h = record {
     held = h.held;
     on = h.on;
@@ -56,20 +56,28 @@ module _ (b : Bus) (can : CanMeet b) (n : Network) (t : Terminal) where
   }
     where
       misses : List Remembered
-      misses = filter (λ r. list_any (removal b r.tei) (x ∷ [])) n.made
+      misses = filter (λ r. list_any (removal b r.tei) (x ∷ []) && not (is_among r n.hold)) n.made
 
       without : (r : Remembered) → IsCovered b (known n missed) r ((x ∷ more) ++ texts b n.teis.owed) → IsCovered b (known n (missed ++ misses)) r (more ++ texts b n.teis.owed)
       without r c = record { made = c.made; covered = go c.covered }
         where
-          either : (removal b r.tei x ≡ true) ⊎ (list_any (removal b r.tei) (more ++ texts b n.teis.owed) ≡ true)
-              → (list_any (removal b r.tei) (more ++ texts b n.teis.owed) ≡ true) ⊎ IsIn r (missed ++ misses)
-          either (inl is) = inr (in-right r missed misses (in-filter (λ r. list_any (removal b r.tei) (x ∷ [])) r n.made c.made (ap (λ z. z || false) is)))
-          either (inr is) = inl is
+          Rest : Type 0
+          Rest = IsIn r n.hold ⊎ ((list_any (removal b r.tei) (more ++ texts b n.teis.owed) ≡ true) ⊎ IsIn r (missed ++ misses))
+
+          missed-now : removal b r.tei x ≡ true → (y : Bool) → is_among r n.hold ≡ y → Rest
+          missed-now is true among = inl (is-there r n.hold among)
+          missed-now is false among =
+              inr (inr (in-right r missed misses (in-filter (λ r. list_any (removal b r.tei) (x ∷ []) && not (is_among r n.hold)) r n.made c.made
+              (ap (λ z. (z || false) && not (is_among r n.hold)) is ∙ ap not among))))
+
+          either : (removal b r.tei x ≡ true) ⊎ (list_any (removal b r.tei) (more ++ texts b n.teis.owed) ≡ true) → Rest
+          either (inl is) = missed-now is (is_among r n.hold) refl
+          either (inr is) = inr (inl is)
 
           go : IsIn r n.hold ⊎ ((list_any (removal b r.tei) ((x ∷ more) ++ texts b n.teis.owed) ≡ true) ⊎ IsIn r missed)
               → IsIn r n.hold ⊎ ((list_any (removal b r.tei) (more ++ texts b n.teis.owed) ≡ true) ⊎ IsIn r (missed ++ misses))
           go (inl is) = inl is
-          go (inr (inl is)) = inr (either (or-cases (removal b r.tei x) (list_any (removal b r.tei) (more ++ texts b n.teis.owed)) is))
+          go (inr (inl is)) = (either (or-cases (removal b r.tei x) (list_any (removal b r.tei) (more ++ texts b n.teis.owed)) is))
           go (inr (inr is)) = inr (inr (in-left r missed misses is))
 
   -- An event of the terminal's line.

@@ -1,12 +1,12 @@
 -- What an observer of the terminal's line knows of the TEIs that it was assigned, event by event.
-use Rattle.std.specs.Prelude.{◌≡◌, ℕ, ◌+◌, ◌*◌, ◌/◌, ◌%◌, ◌==◌, ◌&&◌, ◌||◌, ◌≤◌, ⊤, not, Bool, true, false, cond, List, [], ◌∷◌, ◌++◌, map, filter, flat_map, fold, Option, Some, None, is_some, nat_le, nat_lt, refl}
+use Rattle.std.specs.Prelude.{◌≡◌, ℕ, ◌+◌, ◌*◌, ◌/◌, ◌%◌, ◌==◌, ◌&&◌, ◌||◌, not, Bool, true, false, cond, List, [], ◌∷◌, ◌++◌, flat_map, Option, Some, None, nat_le, nat_lt, refl}
 use Rattle.std.specs.List.{list_any}
 use Rattle.std.specs.Option.{option_map_or, option_and_then, unwrap_or}
 use Rattle.std.proofs.Common.{inl, inr, subst, sym, ap, ◌∙◌, arith, true≢false, eq-eqb, eqb-true}
 use Rattle.std.proofs.lemmas.Bool.{and_parts}
 use Rattle.lapd_frame.specs.Grammar.{Parts}
 use Rattle.lapd_frame.specs.declared.notes.Note.{Note}
-use Rattle.lapd_frame.specs.declared.notes.Note.TheVariants.{Assigned, Denied, Unassigned, Removed, RemoveAll}
+use Rattle.lapd_frame.specs.declared.notes.Note.TheVariants.{Assigned, Denied, Unassigned}
 use Rattle.lapd_frame.specs.declared.timers.Timer.TheVariants.{T200, T201, T202, T203}
 use Rattle.lapd_tei.specs.declared.remembered.Remembered.{Remembered}
 use Rattle.lapd_terminal.specs.declared.procedure.Procedure.{Procedure}
@@ -19,7 +19,7 @@ use Rattle.model_line.specs.Request.{Request, Establish, Release, Data, Unit, As
 use Rattle.laws_trace.specs.LinkFrames.{frame_of}
 use Rattle.laws_trace.specs.Managing as managing
 use Rattle.laws_trace.specs.Managing.{Managed, due, at_terminal, of_terminal, own_of, nothing_due}
-use Rattle.laws_trace.specs.ManagingTerminal.{OfTerminal, teis_of, without_tei, with_tei, is_on, is_free, is_message, may_come, named, verifies, over, asks, leaves, removed, verified, responds, by_assigned, by_denied, by_check, by_remove, by_message, by_frame, by_request, by_event, ran_out, grants}
+use Rattle.laws_trace.specs.ManagingTerminal.{OfTerminal, teis_of, without_tei, with_tei, is_on, is_free, is_message, may_come, named, verifies, over, asks, leaves, removed, verified, by_assigned, by_denied, by_check, by_remove, by_message, by_frame, by_request, by_event, ran_out, grants}
 use Rattle.laws_trace.proofs.AskingSteps.{answers-same, verified-same}
 use Rattle.laws_teis.specs.Bus.{message_in, is_removal, is_heard}
 use Rattle.laws_teis.specs.Assignments.{IsIn, taken_by}

@@ -1,18 +1,16 @@
 -- The assignments in frames that are to come to the terminal.
-use Rattle.std.specs.Prelude.{◌≡◌, ℕ, ◌==◌, ◌&&◌, ◌||◌, ⊤, ◌⊎◌, Bool, true, false, List, [], ◌∷◌, ◌++◌, map, nat_le, refl}
+use Rattle.std.specs.Prelude.{◌≡◌, ℕ, ◌||◌, ⊤, ◌⊎◌, Bool, true, List, [], ◌∷◌, ◌++◌, map, nat_le, refl}
 use Rattle.std.specs.List.{list_any}
-use Rattle.std.proofs.Common.{inl, inr, subst, sym, ap, ◌∙◌, true≢false, append_assoc, append-nil}
+use Rattle.std.proofs.Common.{inl, subst, sym, ap, ◌∙◌, true≢false, append_assoc}
 use Rattle.lapd_tei.specs.declared.messages.Message.{Message}
-use Rattle.lapd_tei.specs.declared.messages.Message.TheVariants.{IdentityAssigned}
 use Rattle.lapd_tei.specs.declared.remembered.Remembered.{Remembered}
-use Rattle.laws_trace.specs.Managing.{Managed, is_on, own_of, octets_of}
+use Rattle.laws_trace.specs.Managing.{is_on, own_of, octets_of}
 use Rattle.laws_trace.specs.ManagingTerminal.{teis_of}
 use Rattle.laws_trace.specs.TeisAreManaged.{message_text}
-use Rattle.laws_teis.specs.Bus.{Bus, Network, message_in, is_removal, removes, owed_by}
+use Rattle.laws_teis.specs.Bus.{Bus, Network, message_in, is_removal, removes}
 use Rattle.laws_teis.specs.Assignments.{Terminal, CanMeet, IsIn}
 use Rattle.laws_teis.proofs.Frames.{is_assigned, AreNone, message-read, removes-so, assigned-so}
 use Rattle.laws_teis.proofs.NetworkSteps.{AreMade, IsMade}
-use Rattle.laws_teis.proofs.Lists.{any-left, any-right, any-either}
 
 -- What is known of the assignments: which were made, which hold, and of which the terminal has missed a removal.
 pub record Known : Type 0 where

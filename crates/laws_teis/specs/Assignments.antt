@@ -1,11 +1,11 @@
 -- Each TEI that a terminal was assigned is the network's, or the terminal is to hear, or has missed, that it is removed.
-use Rattle.std.specs.Prelude.{◌≡◌, ℕ, ◌==◌, ◌<◌, ◌⊎◌, Bool, true, false, List, [], ◌∷◌, ◌++◌, filter, flat_map, fold, All, Option, Some, None, if◌then◌else◌}
+use Rattle.std.specs.Prelude.{◌≡◌, ℕ, ◌==◌, ◌<◌, ◌⊎◌, Bool, true, List, [], ◌∷◌, ◌++◌, filter, flat_map, fold, All, Option, Some, if◌then◌else◌}
 use Rattle.lapd_frame.specs.declared.addresses.Side.TheVariants.{Network}
 use Rattle.lapd_frame.specs.declared.notes.Note.{Note}
 use Rattle.lapd_frame.specs.declared.notes.Note.TheVariants.{Assigned}
 use Rattle.lapd_tei.specs.declared.remembered.Remembered.{Remembered}
 use Rattle.lapd_terminal.specs.declared.procedure.Procedure.{Procedure}
-use Rattle.lapd_terminal.specs.declared.procedure.Procedure.TheVariants.{Asking, Verifying}
+use Rattle.lapd_terminal.specs.declared.procedure.Procedure.TheVariants.{Asking}
 use Rattle.model_line.specs.declared.config.Config.{Config}
 use Rattle.model_line.specs.Line.{is_terminal}
 use Rattle.model_line.specs.Sound.{IsInRange}
@@ -14,8 +14,8 @@ use Rattle.model_card.specs.Card.{fresh}
 use Rattle.model_card.specs.Event.{Event}
 use Rattle.model_card.specs.Machine.{after}
 use Rattle.model_card.specs.Run.{Moment, moments}
-use Rattle.laws_trace.specs.Managing.{Managed, is_on, none_on, due, own_of}
-use Rattle.laws_teis.specs.Bus.{Bus, Past, Step, network, terminal, receives, loses, network_of, removal_comes, past_of, is_there}
+use Rattle.laws_trace.specs.Managing.{Managed, none_on, due, own_of}
+use Rattle.laws_teis.specs.Bus.{Bus, Past, Step, network, terminal, network_of, removal_comes, past_of, is_there}
 
 -- The TEIs on the terminal's line that are told as assigned, each with the reference number by which it was asked for (Q.921 clause
 -- 5.3.2). One that management has put there is none of them.
@@ -53,7 +53,7 @@ IsIn r [] = ⊥
 IsIn r (one ∷ more) = (one ≡ r) ⊎ IsIn r more
 
 -- An assignment holds; or a message that removes its TEI is in transit to the terminal, or is owed; or the terminal has missed one
--- since the assignment was made (clause 5.3.4).
+-- since the assignment was over (clause 5.3.4).
 abbrev pub IsAccountedFor : Bus → Past → Remembered → Type 0
 IsAccountedFor b p r = IsIn r (network_of b p).hold ⊎ ((removal_comes b p r.tei ≡ true) ⊎ IsIn r p.missed)
 

@@ -129,8 +129,12 @@ acting b (terminal e) p = if e.line == b.line && is_heard e.what then p else rec
 acting b receives p = received b p.way p
 acting b loses p = record p { way = drop 1 p.way }
 
+-- Only an assignment that does not hold then has a removal to miss.
+abbrev pub is_among : Remembered → List Remembered → Bool
+is_among r all = list_any (λ (one : Remembered). one.ri == r.ri && one.tei == r.tei) all
+
 abbrev pub missing : Bus → Step → Past → List Remembered
-missing b step p = filter (λ r. misses b p step r.tei) (network_of b p).made
+missing b step p = filter (λ r. misses b p step r.tei && not (is_among r (network_of b (acting b step p)).hold)) (network_of b p).made
 
 abbrev pub doing : Bus → Past → Step → Past
 doing b p step = record (acting b step p) { missed = p.missed ++ missing b step p }

@@ -1,7 +1,7 @@
 -- Worked runs: a terminal that is assigned a TEI, one that misses its removal, and two that have one TEI.
-use Rattle.std.specs.Prelude.{◌≡◌, ℕ, ◌<◌, true, false, List, [], ◌∷◌, ◌++◌, Some, None, refl}
+use Rattle.std.specs.Prelude.{◌≡◌, ℕ, true, List, [], ◌∷◌, ◌++◌, Some, refl}
 use Rattle.std.proofs.lemmas.Bool.{ltb-true}
-use Rattle.lapd_frame.specs.declared.addresses.Side.TheVariants.{Network, User}
+use Rattle.lapd_frame.specs.declared.addresses.Side.TheVariants.{User}
 use Rattle.lapd_frame.specs.declared.timers.Timer.TheVariants.{T201}
 use Rattle.lapd_frame.specs.Reading.{reading, header_of, control_of, unnumbered_of}
 use Rattle.lapd_frame.specs.Senders.{exchanged, reading as read_by}
@@ -11,14 +11,14 @@ use Rattle.lapd_terminal.specs.Events as terminals
 use Rattle.model_bits.specs.Stream.{frame}
 use Rattle.model_line.specs.Config as configs
 use Rattle.model_line.specs.declared.config.Config.{Config}
-use Rattle.model_line.specs.Event.{hears, expiry, request, next}
+use Rattle.model_line.specs.Event.{hears, expiry, next}
 use Rattle.model_line.specs.Machine as lines
 use Rattle.model_line.specs.Request.{AskTei, Remove, Check, Down}
-use Rattle.model_card.specs.Event.{Event, at}
+use Rattle.model_card.specs.Event.{at}
 use Rattle.model_card.specs.Run.{moments, after_all}
 use Rattle.laws_line.specs.card.Worked.{usual, on_0}
 use Rattle.laws_teis.specs.Bus.{Bus, Past, Step, network, terminal, receives, loses, past_of, network_of, removal_comes}
-use Rattle.laws_teis.specs.Assignments.{CanMeet, IsIn, given_to}
+use Rattle.laws_teis.specs.Assignments.{CanMeet, given_to}
 
 -- A network's line, and terminals with the seeds 0x1234 and 0x4321.
 abbrev seeded : ℕ → Config
@@ -120,14 +120,11 @@ both_have_it = refl
 abbrev second : Remembered
 second = record { ri = 0x4321; tei = 64 }
 
-abbrev reassigned : List Step → List Step
-reassigned then_ = network (on_0 (Remove 64)) ∷ sends ∷ request_comes 0x43 0x21 ∷ sends ∷ then_
-
 abbrev of_first : List Step
-of_first = assigned ++ reassigned (loses ∷ loses ∷ [])
+of_first = assigned ++ network (on_0 (Remove 64)) ∷ sends ∷ loses ∷ request_comes 0x43 0x21 ∷ sends ∷ loses ∷ []
 
 abbrev of_second : List Step
-of_second = request_comes 0x12 0x34 ∷ sends ∷ reassigned (asks ∷ receives ∷ receives ∷ receives ∷ [])
+of_second = request_comes 0x12 0x34 ∷ sends ∷ network (on_0 (Remove 64)) ∷ sends ∷ request_comes 0x43 0x21 ∷ sends ∷ asks ∷ receives ∷ receives ∷ receives ∷ []
 
 one_network : (known_after of_first).at_network ≡ (past_of (bus 0x4321) of_second).at_network
 unfolding moments after_all lines.after lines.answer lines.takes_slot teis.course teis.refusal terminals.course exchanged read_by reading header_of control_of unnumbered_of
@@ -140,3 +137,15 @@ one_tei = refl
 first_missed_it : (known_after of_first).missed ≡ first ∷ []
 unfolding moments after_all lines.after lines.answer lines.takes_slot teis.course teis.refusal terminals.course exchanged read_by reading header_of control_of unnumbered_of
 first_missed_it = refl
+
+-- The removal may be lost after TEI 64 is assigned anew. The later assignment misses none, as it holds.
+abbrev late : List Step
+late = assigned ++ network (on_0 (Remove 64)) ∷ sends ∷ request_comes 0x43 0x21 ∷ sends ∷ loses ∷ loses ∷ []
+
+later_misses_none : (known_after late).missed ≡ first ∷ []
+unfolding moments after_all lines.after lines.answer lines.takes_slot teis.course teis.refusal terminals.course exchanged read_by reading header_of control_of unnumbered_of
+later_misses_none = refl
+
+later_holds : (network_of (bus 0x1234) (known_after late)).hold ≡ second ∷ []
+unfolding moments after_all lines.after lines.answer lines.takes_slot teis.course teis.refusal terminals.course exchanged read_by reading header_of control_of unnumbered_of
+later_holds = refl

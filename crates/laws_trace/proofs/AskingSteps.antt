@@ -1,5 +1,5 @@
 -- What an observer of a terminal's line knows of its asking for a TEI, event by event.
-use Rattle.laws_trace.proofs.Vocabulary.{◌≡◌, ℕ, ◌+◌, ◌*◌, ◌/◌, ◌%◌, ◌==◌, ◌&&◌, Bool, true, false, cond, not, List, [], ◌∷◌, ◌++◌, length, filter, Option, Some, None, refl, sym, ap, ◌∙◌, ◌⊎◌, inl, inr, fold, list_any, is_some, nat_le, nat_lt, unwrap_or, option_and_then, true≢false, Config, Parts}
+use Rattle.laws_trace.proofs.Vocabulary.{◌≡◌, ℕ, ◌+◌, ◌*◌, ◌/◌, ◌%◌, ◌==◌, ◌&&◌, Bool, true, false, cond, not, List, [], ◌∷◌, ◌++◌, length, filter, Option, Some, None, refl, sym, ap, ◌∙◌, ◌⊎◌, inl, inr, fold, list_any, is_some, nat_lt, nat_le, unwrap_or, option_and_then, true≢false, Config, Parts}
 use Rattle.lapd_frame.specs.declared.notes.Note.TheVariants.{Assigned, Unassigned, Denied}
 use Rattle.lapd_frame.specs.declared.timers.Timer.TheVariants.{T200, T201, T202, T203}
 use Rattle.lapd_terminal.specs.declared.messages.Message.TheVariants.{IdentityCheckResponse}

@@ -350,7 +350,8 @@ LAPD_STATUS lapd_card_start(lapd_card *card, const lapd_config *config);
 LAPD_STATUS lapd_card_start_frames(lapd_card *card, const lapd_config *config);
 
 /* How long timers run, in milliseconds, 1 to 3,600,000 each, at each side: T200 and T203 of each link, T201 of each line, and
- * T202 of each line of a terminal (clauses 5.9.1, 5.9.8, 5.9.6 and 5.9.7; by default 1,000, 10,000, 1,000 and 2,000). */
+ * T202 of each line of a terminal (clauses 5.9.1, 5.9.8, 5.9.6 and 5.9.7). By default they are 1,000, 10,000, 1,000 and
+ * 2,000. */
 typedef struct lapd_lengths {
     uint32_t t200;
     uint32_t t203;
@@ -675,7 +676,7 @@ LAPD_STATUS lapd_clock_apply(lapd_clock *clock, uint32_t line, const lapd_order 
  * LAPD_NO_PLACE: at least one found no place; the others were carried out. */
 LAPD_STATUS lapd_clock_apply_report(lapd_clock *clock, uint32_t line, const lapd_report *report, uint64_t now);
 
-/* Takes out the timer that falls due first, where its moment is not after `now`; hand it to lapd_expire. At one moment: by
+/* Takes out the timer that falls due first, if its moment is not after `now`; hand it to lapd_expire. At one moment: by
  * line, then T200 before T203 before T201 or T202, by TEI, and call control before packet. LAPD_NO_TIMER: none is due. */
 LAPD_STATUS lapd_clock_due(lapd_clock *clock, uint64_t now, lapd_due *due);
 

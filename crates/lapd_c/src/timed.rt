@@ -24,7 +24,7 @@ pub extern "C" fn lapd_fall_due(handle: &mut CardHandle, now: u64, report: &mut 
     ensures call { IsCall handle.old handle.new result }
     ensures kind { kind_in handle.new ≡ kind_in handle.old }
     ensures untold { result ≢ status.ok → report.new ≡ report.old }
-    // A card keeps its own timers after it where it did before; that of one whose timers are the caller's is refused.
+    // A card keeps its own timers after it if it did before; that of one whose timers are the caller's is refused.
     ensures timed { is_timed handle.new ≡ is_timed handle.old }
     ensures wrong_card { is_timed handle.old ≡ false
         → (card_of handle.old ≡ None) ⊎ ((result ≡ status.wrong_card) × (card_of handle.new ≡ card_of handle.old)) }
@@ -61,7 +61,7 @@ pub extern "C" fn lapd_fall_due(handle: &mut CardHandle, now: u64, report: &mut 
     fall_due(handle, now, report)
 }
 
-// The same, where something may be due or the moment is refused. It stands apart, since mostly nothing is due.
+// The same, if something may be due or the moment is refused. It stands apart, since mostly nothing is due.
 #[cold]
 #[inline(never)]
 fn fall_due(handle: &mut CardHandle, now: u64, report: &mut PlainReport) -> u32
@@ -69,7 +69,7 @@ fn fall_due(handle: &mut CardHandle, now: u64, report: &mut PlainReport) -> u32
     ensures call { IsCall handle.old handle.new result }
     ensures kind { kind_in handle.new ≡ kind_in handle.old }
     ensures untold { result ≢ status.ok → report.new ≡ report.old }
-    // A card keeps its own timers after it where it did before; that of one whose timers are the caller's is refused.
+    // A card keeps its own timers after it if it did before; that of one whose timers are the caller's is refused.
     ensures timed { is_timed handle.new ≡ is_timed handle.old }
     ensures wrong_card { is_timed handle.old ≡ false
         → (card_of handle.old ≡ None) ⊎ ((result ≡ status.wrong_card) × (card_of handle.new ≡ card_of handle.old)) }

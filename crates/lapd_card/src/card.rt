@@ -74,8 +74,8 @@ impl<S: Shelf> Card<S> {
         requires { line < line_count self.old }
         ensures told { (m : machine.OctetCard) → OctetCardStands S.store self.old m
             → told (report_told result) ≡ answer (at line (port.octet octet)) m }
-        // What may be sent rises by two at most for the frame that it ends, and by k more where that is an REJ with a
-        // valid N(R); else by nothing.
+        // What may be sent rises by two at most for the frame that it ends, or by so many as a terminal may have TEIs, if
+        // these are more; and by k more if that is an REJ with a valid N(R). Else it rises by nothing.
         ensures frames { (m : machine.OctetCard) → OctetCardStands S.store self.old m → IsPriced (at line (port.octet octet)) m }
         // Where it names a cause, why the octet or its frame was dropped, what may be sent stays as it is.
         ensures dropped { (m : machine.OctetCard) → OctetCardStands S.store self.old m → IsSome result.cause

@@ -38,7 +38,7 @@ impl<S: Shelf> Card<S> {
     /// - `refused`: a request is refused exactly if a row of the table of refusals holds, for the reason of the first
     ///   such row. Then nothing changes.
     /// - `by_event`: how much what the events mean raises the number of frames still to be sent. A frame heard raises it
-    ///   by two at most, and by k more for an REJ; an expiry of a running timer by k + 1 at most; an accepted request by
+    ///   by two at most, or by so many as a terminal may have TEIs, if these are more, and by k more for an REJ; an expiry of a running timer by k + 1 at most; an accepted request by
     ///   one at most. A frame that a pull begins lowers it. By `codec` an octet or a pull that means nothing leaves it.
     /// - `drops`, `without_effect`: an octet whose answer names a cause, why it or its frame was dropped, leaves the number
     ///   of frames still to be sent as it is. It leaves all else of the card, too, except the octets received, and the
@@ -49,7 +49,8 @@ impl<S: Shelf> Card<S> {
     /// - `within_limit`: the octets stored are at most [`crate::limit`] of the configuration.
     /// - `amortised`: the frames that pulls begin, with those still to be sent, have a limit, whatever the number of
     ///   pulls. They are at most those that could be sent before, two for each frame heard, one for each accepted request,
-    ///   k + 1 for each expiry of a running timer and k for each REJ with a valid N(R). k is the greater window.
+    ///   k + 1 for each expiry of a running timer and k for each REJ with a valid N(R). k is the greater window. For each
+    ///   frame heard a terminal counts so many as it may have TEIs, if these are more than two.
     /// - `amortised_from_zero`: from a card that has just begun, the same without what could be sent before.
     /// - `six_octets_a_frame`, `seven_octets_a_reject`: from a card that has just begun, each frame heard has taken six of
     ///   the octets received, and each of those REJ seven.

@@ -91,7 +91,8 @@ impl<S: Shelf> FrameCard<S> {
             ≡ answer (at line (hears (came self.old.config.n201 octets.now))) m }
         ensures after { Leads S.store (at line (hears (came self.old.config.n201 octets.now))) self.old self.new }
         ensures quiet { result ≡ true → IsQuiet report.new }
-        // What may be sent rises by two at most for the frame, and by k more where that is an REJ with a valid N(R).
+        // What may be sent rises by two at most for the frame, or by so many as a terminal may have TEIs, if these are
+        // more; and by k more if that is an REJ with a valid N(R).
         ensures frames { (m : machine.Card) → FrameStands S.store self.old m → RisesByHeard line (came self.old.config.n201 octets.now) m }
     {
         let frame_line = &mut self.lines[line];

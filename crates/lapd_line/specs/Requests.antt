@@ -45,7 +45,7 @@ may_ask c tei_request.Disown = is_network c.side
 may_ask c tei_request.Ask = is_terminal c
 may_ask c tei_request.Verify = is_terminal c
 
--- The TEI that it names is no terminal's, or where a TEI is disowned, not that of all either. (One that is asked for is not
+-- The TEI that it names is no terminal's, nor, if a TEI is disowned, that of all. (One that is asked for is not
 -- named.)
 abbrev pub is_bad : TeiRequest → ℕ → Bool
 is_bad tei_request.Assign tei = nat_lt 126 tei

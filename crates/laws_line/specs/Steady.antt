@@ -69,7 +69,7 @@ abbrev pub IsOf : Config → Event → Answer → Service → ℕ → link.Event
 IsOf c e answer service tei link.cleared = IsDeactivated e answer service tei
 IsOf c e answer service tei other = IsBy c e answer service tei other
 
--- The network's side serves messages of TEI management; a terminal does, where they are commands.
+-- The network's side serves messages of TEI management; a terminal does, if they are commands.
 abbrev pub ServesMessages : Config → Parts → Type 0
 ServesMessages c parts = (c.side ≡ Network) ⊎ ((is_terminal c ≡ true) × (parts.address.command ≡ true))
 
@@ -84,8 +84,8 @@ pub record BringsMessage (c : Config) (e : Event) (info : List ℕ) : Type 0 whe
   pub control : parts.control ≡ Ui poll
   pub info_is : parts.info ≡ info
 
--- The event of the line is this event of TEI management, of the network's side or of a trunk's end: a message is brought; T201 expires; or a request of management is
--- granted. That the line is down is an event of more than TEI management.
+-- The event of the line is this event of TEI management, of the network's side or of a trunk's end: a message is brought; T201
+-- expires; or a request of management is granted. That the line is down is an event of more than TEI management.
 abbrev pub IsOfManagement : Config → Event → Answer → teis.Event → Type 0
 IsOfManagement c e answer (teis.message info) = BringsMessage c e info
 IsOfManagement c e answer teis.expiry = e ≡ expiry timers.T201

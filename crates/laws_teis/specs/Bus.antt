@@ -92,8 +92,9 @@ pub data Step : Type 0 where
   receives : Step
   loses : Step
 
--- A terminal misses a removal that is lost, that is given up as the network's line is down, or that is not owed though the TEI
--- leaves the line: as T201 runs out, and if there is no room for it (clause 5.3.3.2, annex B and profile).
+-- A terminal misses a removal that is lost, or given up as the network's line is down. Or none is owed though the TEI leaves the
+-- line: as T201 runs out, or if there is no room for it (clause 5.3.3.2, annex B and profile). One that was missed stays missed: a
+-- pair of number and TEI that is assigned again needs a number that comes again.
 abbrev pub removes : ℕ → Message → Bool
 removes tei (IdentityRemove of) = of == tei
 removes tei other = false

@@ -132,8 +132,8 @@ abbrev pub by_frame : Config → Managed → Parts → Managed
 by_frame c w f = if manages c.side && is_message f then unwrap_or (by_message c w f.info) w else w
 
 -- What management asks for, and whether it is granted (clauses 4.1.1.5, 5.3.3 and 5.3.4). A trunk's end neither removes a TEI, nor
--- checks one, nor disowns one (profile), and only a terminal asks for one or has it verified. A TEI that is disowned is not on the line, and terminals that use it are to
--- give it up (clause 5.3.4). That the line is down is always granted: no message is owed any more, and a check that runs
+-- checks one, nor disowns one (profile), and only a terminal asks for one or has it verified. A TEI that is disowned is not on the
+-- line, and terminals that use it are to give it up (clause 5.3.4). That the line is down is always granted: no message is owed any more, and a check that runs
 -- ends without a result (annex B, persistent deactivation).
 abbrev pub grants : Bool → Managed → Managed → Managed
 grants so after w = record (if so then after else w) { granted = Some so }

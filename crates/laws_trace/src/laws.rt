@@ -225,17 +225,15 @@ pub fn nothing_is_lost_in_vain()
 /// - T202 is started with each request and each verify, and stopped as a procedure ends.
 /// - *No message is owed twice, and none is lost.* A newer request takes the place of an older one that is owed. A verify
 ///   or a response that is owed is enough, for the one procedure and for each TEI. What is owed is withdrawn as its
-///   procedure ends, or its TEI leaves. Nothing is refused for want of room for a message.
-///
-/// (Q.921 clauses 4.1.1.5, 5.3.1 to 5.3.5, 5.9.4 and 5.9.7, annex B and profile.)
+///   procedure ends, or its TEI leaves. Nothing is refused for want of room for a message (Q.921 clauses 4.1.1.5,
+///   5.3.1 to 5.3.5, 5.9.4 and 5.9.7, annex B and profile).
 pub fn teis_are_managed()
     ensures { Always TeisAreManaged }
 {}
 
 /// Asking for a TEI ends. From a granted request of a terminal's management on, whatever its line hears, one result is
-/// told: that a TEI is assigned, or that none is. It is told after the third expiry of T202 at the latest. A further
-/// request is granted only after it. If the line is down, asking is over without a result (Q.921 clauses 5.3.2, 5.3.2.1
-/// and 5.9.4, annex B, and profile).
+/// told: that a TEI is assigned, or that none is, after the third expiry of T202 at the latest. No other is granted before,
+/// unless the line is down, which ends asking without a result (Q.921 clauses 5.3.2, 5.3.2.1, 5.9.4, annex B, profile).
 pub fn asking_ends()
     ensures { Always AskingEnds }
 {}

@@ -24,7 +24,7 @@ ExpiriesComeToAnEnd =
     (length (heard_in w.far) + how_often (near_asks service tei) since w ≤ length (due_far service tei last) + 1)
     × (length (heard_in w.near) + how_often (far_asks service tei) since w ≤ length (due_near service tei last) + 1)
 
--- If nothing more is granted, and no timer expires but T200 where it runs, then there are at most so many moves from there on.
+-- If nothing more is granted, and no timer expires but T200 while it runs, then there are at most so many moves from there on.
 abbrev pub most_since : Service → ℕ → ℕ → Wire → ℕ
 most_since service tei k w =
     2 * most_frames k (6 + frames_left service tei w.near + frames_left service tei w.far + notes_left service tei w) (notes_left service tei w)

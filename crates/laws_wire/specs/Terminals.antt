@@ -18,7 +18,7 @@ asking c line d other = record { near = happens (request AskTei) (endpoint c lin
 abbrev pub assigned_told : LineTold
 assigned_told = record nothing { notes = notes.Assigned 64 ∷ [] }
 
--- There are at most so many turns. At any time each end is told a beginning of this, and all of it where no turn is left.
+-- There are at most so many turns. At any time each end is told a beginning of this, and all of it if no turn is left.
 pub record IsTold (taken most : ℕ) (to_near to_far : List LineTold) (w : Wire) : Type 0 where
   pub turns : taken ≤ most
   pub near : ToldInOrder (IsStill w) to_near w.near.told

@@ -12,7 +12,7 @@ ghost use Rattle.laws_wire.specs.Expiring.{ExpiriesComeToAnEnd, MovesComeToAnEnd
 /// received. So each further expiry comes after something that was received and not acknowledged, and the answer to the
 /// enquiry acknowledges it (Q.921 clauses 5.6.7 and 5.9.1). One time more is needed (`specs/WorkedExpiring`).
 ///
-/// Let nothing more be granted from then on, and no timer expire but T200 where it runs. Let k be at least the window of
+/// Let nothing more be granted from then on, and no timer expire but T200 while it runs. Let k be at least the window of
 /// either end. Then a number of moves that is known at that time is never exceeded, however often and whenever T200
 /// expires (`moves`). It is that of [`crate::turns_come_to_an_end`]. Count as an expiry each control frame of the link
 /// that waits, each frame in transit, each note that is still to be told, and six more. Count as a granted request each

@@ -11,11 +11,10 @@ use Rattle.model_card.specs.Machine.{after, answer}
 use Rattle.model_card.specs.Promises.{IsAmortised}
 use Rattle.model_card.specs.Run.{Moment, moments}
 
--- What `IsAmortised` says of a list it says of each event alone: one that is heard raises it by two where it is a frame (or as
--- many as a terminal may have TEIs), and by k
--- more where that is an REJ with a valid N(R); an expiry by k + 1 where the timer was running; a request by one where it is
--- accepted; nothing else raises it. A call that gives a frame lowers it by one, or by two where the frame makes an
--- acknowledgement needless; any other leaves it as it is.
+-- What `IsAmortised` says of a list it says of each event alone. A frame that is heard raises it by two (or by so many as a
+-- terminal may have TEIs, if these are more), and by k more if it is an REJ with a valid N(R). An expiry raises it by k + 1 if the
+-- timer was running, and a request by one if it is accepted. Nothing else raises it. A call that gives a frame lowers it by one, or
+-- by two if the frame makes an acknowledgement needless. Any other leaves it as it is.
 pub record IsPriced (m : Moment) : Type 0 where
   pub rises : IsAmortised m.card (m.event ∷ [])
   pub reject : rejected (m ∷ []) ≤ heard (m ∷ [])

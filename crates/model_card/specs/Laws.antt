@@ -46,8 +46,8 @@ pub record RefusedByTheTable : Type 0 where
   pub unchanged : (card : Card) (number : ℕ) (r : Request) →
       IsSome (refusal card.config (is_full card) r (line_at number card)) → after (at number (request r)) card ≡ card
 
--- The frames sent, and those that may still be sent, rise by at most two for each frame that is heard, by one for
--- each request that is accepted, by k + 1 for each expiry of a running timer, and by k for each REJ with a valid N(R).
+-- The frames sent, and those that may still be sent, rise by at most two for each frame that is heard (or by so many as a
+-- terminal may have TEIs, if these are more), by one for each request that is accepted, by k + 1 for each expiry of a running timer, and by k for each REJ with a valid N(R).
 -- Calls for the next frame and refusals never raise them, nor does what is dropped before it is a frame; a frame dropped later
 -- is one that was heard here, though it costs nothing (`DropsCostNothing`).
 abbrev pub FramesAmortised : Type 0

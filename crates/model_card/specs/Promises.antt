@@ -16,8 +16,8 @@ abbrev pub IsWithinLimit : Card → List Event → Type 0
 IsWithinLimit m events = stored (after_all m events) ≤ limit m.config
 
 -- The frames sent, and those that may be sent at the end, are at most those that might be sent at the beginning, two
--- for each frame heard (or so many as a terminal may have TEIs), one for each accepted request, k + 1 for each expiry of a running timer, and k for each REJ with
--- a valid N(R); all of them counted over the same moments.
+-- for each frame heard (or so many as a terminal may have TEIs, if these are more), one for each accepted request, k + 1 for each
+-- expiry of a running timer, and k for each REJ with a valid N(R). All of them are counted over the same moments.
 abbrev pub IsAmortised : Card → List Event → Type 0
 IsAmortised m events =
     let ms = moments m events in

@@ -24,14 +24,16 @@ pub fn stored_within_limit()
 /// Frames are linear in what happens, from any sound card on, however often the next frame is called for. Count the
 /// frames sent, and those that may still be sent. They are at most those that could be sent before, two for each frame
 /// heard, one for each accepted request, k + 1 for each expiry of a running timer, and k for each REJ with a valid
-/// N(R). Here k is the greater of both windows. So no terminal can make a card a source of frames.
+/// N(R). Here k is the greater of both windows. A terminal that may have more than two TEIs counts their number for each
+/// frame heard. So no peer can make a card a source of frames.
 #[tactic(auto, using(crate::proofs::Amortised::frames_amortised))]
 pub fn frames_amortised()
     ensures { FramesAmortised }
 {}
 
 /// The same bound for single events, and so in every moment of a run. What may be sent rises by at most two for a frame
-/// that is heard, and by k more if that is an REJ with a valid N(R). It rises by k + 1 for an expiry of a running
+/// that is heard, or by the number of TEIs that a terminal may have, if that is more. It rises by k more if the frame is
+/// an REJ with a valid N(R). It rises by k + 1 for an expiry of a running
 /// timer, and by one for an accepted request. What is dropped before it is a frame (abort, ragged, short, frame check)
 /// lets it rise by nothing, and so do a refusal and an expiry of a timer that does not run. A frame that is dropped
 /// later is one that was heard: see [`drops_cost_nothing`]. A call that gives a frame lowers it by one or two, and any
@@ -80,8 +82,9 @@ pub fn lines_isolated()
     ensures { LinesIsolated }
 {}
 
-/// The same from a fresh card on: at most two for each frame heard, one for each accepted request, k + 1 for each
-/// expiry of a running timer, and k for each REJ with a valid N(R).
+/// The same from a fresh card on: at most two for each frame heard, or at a terminal the number of TEIs that it may have,
+/// if that is more; one for each accepted request, k + 1 for each expiry of a running timer, and k for each REJ with a
+/// valid N(R).
 #[tactic(auto, using(crate::proofs::Amortised::frames_amortised_from_zero))]
 pub fn frames_amortised_from_zero()
     ensures { FramesAmortisedFromZero }

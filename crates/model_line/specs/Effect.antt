@@ -69,8 +69,8 @@ of_link c service tei place event l =
     }
 
 -- An event of TEI management. A TEI that comes to the line opens its two links. One that leaves clears them, that of
--- call control first. What they tell comes after what TEI management tells, except for the order of T201, which is the
--- last (profile).
+-- call control first. What they tell comes after what TEI management tells, except for the order of T201 or T202, which is
+-- the last (profile).
 abbrev pub told_of_management : tei.TeiTold → LineTold
 told_of_management t =
     record { notes = t.notes; contents = None; cause = unserved_cause t.unserved; orders = t.orders; lost = t.lost }

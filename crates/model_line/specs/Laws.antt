@@ -10,9 +10,9 @@ use Rattle.model_line.specs.Line.{Line}
 use Rattle.model_line.specs.Counts.{one, may_send, brought, hears_frame, hears_long_frame, is_given, is_accepted, is_running_expiry, rejects}
 use Rattle.model_line.specs.Machine.{after, answer}
 
--- The frame that a line gives, and those that it may still send without anything else happening, rise by no more than two
--- for each frame that is heard (or so many as a terminal may have TEIs), one for an accepted request, k + 1 for the expiry of
--- a running timer, and k for an REJ with a valid N(R), where k is the greater of both windows.
+-- The frame that a line gives, and those that it may still send without anything else happening, rise by no more than two for
+-- each frame that is heard, or by so many as a terminal may have TEIs, if these are more. They rise by one for an accepted
+-- request, by k + 1 for the expiry of a running timer, and by k for an REJ with a valid N(R). Here k is the greater of both windows.
 abbrev pub Rises : Config → Event → Line → Type 0
 Rises c e l =
     let k = max c.k c.k16 in

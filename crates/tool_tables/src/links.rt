@@ -16,7 +16,7 @@ const HEAD: &str = "# What a card does, printed by itself
 
 For a reader who has the standard's state tables at hand. `tool_tables` prints this page: it plays each event on the
 proved `Link` and `Teis`, by their public calls, and tells what they answer. A test compares. A link is the same on both
-sides of a line; TEI management is the network's side alone. docs/MACHINE.md has the rules in words.
+sides of a line; the tables of TEI management are of the network's side. docs/MACHINE.md has the rules in words.
 
 ## Links
 

@@ -38,8 +38,9 @@ impl<S: Shelf> Card<S> {
     /// - `refused`: a request is refused exactly if a row of the table of refusals holds, for the reason of the first
     ///   such row. Then nothing changes.
     /// - `by_event`: how much what the events mean raises the number of frames still to be sent. A frame heard raises it
-    ///   by two at most, or by so many as a terminal may have TEIs, if these are more, and by k more for an REJ; an expiry of a running timer by k + 1 at most; an accepted request by
-    ///   one at most. A frame that a pull begins lowers it. By `codec` an octet or a pull that means nothing leaves it.
+    ///   by two at most, and by k more for an REJ. At a terminal the two are so many as it may have TEIs, if these are
+    ///   more. An expiry of a running timer raises it by k + 1 at most, and an accepted request by one. A frame that a pull
+    ///   begins lowers it. By `codec` an octet or a pull that means nothing leaves it.
     /// - `drops`, `without_effect`: an octet whose answer names a cause, why it or its frame was dropped, leaves the number
     ///   of frames still to be sent as it is. It leaves all else of the card, too, except the octets received, and the
     ///   answer says nothing else.

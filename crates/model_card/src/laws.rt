@@ -82,9 +82,9 @@ pub fn lines_isolated()
     ensures { LinesIsolated }
 {}
 
-/// The same from a fresh card on: at most two for each frame heard, or at a terminal the number of TEIs that it may have,
-/// if that is more; one for each accepted request, k + 1 for each expiry of a running timer, and k for each REJ with a
-/// valid N(R).
+/// The same from a fresh card on: at most two for each frame heard, one for each accepted request, k + 1 for each
+/// expiry of a running timer, and k for each REJ with a valid N(R). A terminal that may have more than two TEIs counts
+/// their number for each frame heard.
 #[tactic(auto, using(crate::proofs::Amortised::frames_amortised_from_zero))]
 pub fn frames_amortised_from_zero()
     ensures { FramesAmortisedFromZero }

@@ -45,7 +45,7 @@ RUNS = {
     'frames_are_heard': 'model_card ports/WorkedText', 'given_frames_are_heard': 'laws_trace octets/Worked',
     'frames_go_at_once': 'model_card ports/WorkedText', 'answers_are_heard': 'laws_trace octets/WorkedAnswers',
     'a_call_comes_through': 'laws_wire Worked', 'a_terminal_comes_through': 'laws_wire WorkedTerminals', 'cards_deliver': 'laws_wire Worked',
-    'assignments_hold': 'laws_teis Worked',
+    'assignments_hold': 'laws_teis Worked', 'two_terminals_differ': 'laws_teis Worked',
     'a_call_comes_through_in_octets': 'laws_order circuit/WorkedCall', 'calls_are_of_frames': 'laws_order circuit/WorkedMixed',
     'all_is_told_in_beats': 'laws_order circuit/Worked', 'a_call_comes_to_rest': 'laws_order circuit/WorkedDamaged',
     'told_in_order': 'laws_wire WorkedLosing',

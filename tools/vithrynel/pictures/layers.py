@@ -76,7 +76,7 @@ def beside(draw: Drawing) -> None:
     rows = ["contents that wait", "to be sent, or to be", "acknowledged, of", "all lines", "no slot free:", "request refused"]
     part(draw, (714, 228, 140, 160), "shelf", rows, "lapd_store")
     draw.line([(684, 290), (714, 290)], "soft", 1.6, "4 3")
-    part(draw, (952, 228, 126, 112), "clock", ["the card's, or the", "caller's: T200,", "T203, T201, T202"], "lapd_clock")
+    part(draw, (952, 228, 126, 112), "clock", ["the card's, or the", "caller's: T200 to", "T203"], "lapd_clock")
     draw.arrow([(880, 254), (952, 254)], OUT, 2.2)
     draw.text(916, 246, "orders", OUT, 12.5, anchor="middle")
     draw.arrow([(952, 312), (880, 312)], IN, 2.2)

@@ -212,6 +212,7 @@ module _ (b : Bus) (can : CanMeet b) where
       on = λ r is. absurd is;
       made = λ r is. absurd is;
       alone = λ r s is other same. absurd is;
+      latest = λ r s is other same. absurd is;
       own = none-there b.terminal.terminals;
       way_is = tt;
       owed_is = tt;

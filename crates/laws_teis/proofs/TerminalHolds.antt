@@ -35,6 +35,7 @@ module _ (b : Bus) (can : CanMeet b) (n : Network) (t : Terminal) where
     on = h.on;
     made = h.made;
     alone = h.alone;
+    latest = h.latest;
     own = h.own;
     way_is = all-grown missed ys way (texts b n.teis.owed) h.way_is;
     owed_is = all-grown missed ys (texts b n.teis.owed) [] h.owed_is;
@@ -49,6 +50,7 @@ module _ (b : Bus) (can : CanMeet b) (n : Network) (t : Terminal) where
     on = h.on;
     made = h.made;
     alone = h.alone;
+    latest = h.latest;
     own = h.own;
     way_is = all-grown missed misses more (texts b n.teis.owed) h.way_is.1;
     owed_is = all-grown missed misses (texts b n.teis.owed) [] h.owed_is;
@@ -113,6 +115,7 @@ module _ (b : Bus) (can : CanMeet b) (n : Network) (t : Terminal) where
       on = h.on;
       made = h.made;
       alone = h.alone;
+      latest = h.latest;
       own = own-now h.own;
       way_is = h.way_is;
       owed_is = h.owed_is;
@@ -131,6 +134,7 @@ module _ (b : Bus) (can : CanMeet b) (n : Network) (t : Terminal) where
     on = h.on;
     made = h.made;
     alone = h.alone;
+    latest = h.latest;
     own = own-now e h.own;
     way_is = h.way_is.1;
     owed_is = h.owed_is;

@@ -84,9 +84,9 @@ module _ (b : Bus) (can : CanMeet b) (n : Network) (t : Terminal) (way : List (L
   alone-now r s is other same = go (from r is) (from s other)
     where
       go : IsIn r n.hold ⊎ IsIn r made_anew → IsIn s n.hold ⊎ IsIn s made_anew → r ≡ s
-      go (inl was) (inl before) = h.alone r s was old same
+      go (inl was) (inl before) = h.alone r s was before same
       go (inl was) (inr new) = absurd (not-held r s was new (sym same))
-      go (inr new) (inl old) = absurd (not-held s r old new same)
+      go (inr new) (inl before) = absurd (not-held s r before new same)
       go (inr new) (inr newer) = one-new r s new newer
 
   latest-now : (r s : Remembered) → IsIn r network_now.hold → IsIn s network_now.made → s.tei ≡ r.tei → (s ≡ r) ⊎ (is_older s r network_now.made ≡ true)

@@ -1,4 +1,5 @@
--- Two terminals on one bus have one TEI only by one reference number, or if the one with the older assignment did not hear that it is removed.
+-- Two terminals on one bus have one TEI only by one reference number, or if that which was assigned it before did not hear that it
+-- is removed.
 use Rattle.std.specs.Prelude.{◌≡◌, ℕ, ◌&&◌, ◌⊎◌, Bool, true, false, List, [], ◌∷◌, All, if◌then◌else◌}
 use Rattle.lapd_tei.specs.declared.remembered.Remembered.{Remembered}
 use Rattle.model_line.specs.declared.config.Config.{Config}

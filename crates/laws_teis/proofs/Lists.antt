@@ -1,12 +1,12 @@
 -- What is in a list of assignments, and what passes a test in a list.
-use Rattle.std.specs.Prelude.{◌≡◌, ℕ, zero, suc, ◌==◌, ◌&&◌, ◌||◌, ◌≤◌, ◌⊎◌, Bool, true, false, cond, List, [], ◌∷◌, ◌++◌, length, filter, drop, Some, None, refl}
+use Rattle.std.specs.Prelude.{◌≡◌, ℕ, zero, suc, ◌==◌, ◌&&◌, ◌||◌, ◌≤◌, ◌⊎◌, not, Bool, true, false, cond, List, [], ◌∷◌, ◌++◌, length, filter, drop, Some, None, refl}
 use Rattle.std.specs.List.{list_any, find}
 use Rattle.std.proofs.Common.{inl, inr, subst, sym, ap, ◌∙◌, arith, true≢false, eqb-true, eq-eqb}
 use Rattle.std.proofs.lemmas.List.Folds.{list_any-append}
 use Rattle.lapd_tei.specs.declared.remembered.Remembered.{Remembered}
 use Rattle.std.proofs.lemmas.Bool.{and_parts}
 use Rattle.laws_teis.specs.Assignments.{IsIn}
-use Rattle.laws_teis.specs.Bus.{is_among}
+use Rattle.laws_teis.specs.Bus.{is_among, over_of}
 use Rattle.laws_teis.specs.TwoTerminals.{is_older}
 
 pub in-left : (r : Remembered) (xs ys : List Remembered) → IsIn r xs → IsIn r (xs ++ ys)
@@ -115,6 +115,14 @@ is-there r (one ∷ more) is = go (or-cases (one.ri == r.ri && one.tei == r.tei)
         let parts = and_parts (one.ri == r.ri) (one.tei == r.tei) same in
         inl (ap (λ n. record one { ri = n }) (eqb-true one.ri r.ri parts.0) ∙ ap (λ n. record { ri = r.ri; tei = n }) (eqb-true one.tei r.tei parts.1))
     go (inr there) rest = inr (rest there)
+
+-- An assignment holds, or is over.
+pub held-or-over : (r : Remembered) (hold all : List Remembered) → IsIn r all → IsIn r hold ⊎ IsIn r (over_of hold all)
+held-or-over r hold all is = go (is_among r hold) refl
+  where
+    go : (x : Bool) → is_among r hold ≡ x → IsIn r hold ⊎ IsIn r (over_of hold all)
+    go true among = inl (is-there r hold among)
+    go false among = inr (in-filter (λ r. not (is_among r hold)) r all is (ap not among))
 
 -- One that is there is found by its parts.
 pub among-so : (r : Remembered) (all : List Remembered) → IsIn r all → is_among r all ≡ true

@@ -8,11 +8,11 @@ use Rattle.model_line.specs.Event.{Event, request}
 use Rattle.model_line.specs.Request.{Down}
 use Rattle.laws_trace.specs.Managing.{Managed, is_on, octets_of}
 use Rattle.laws_trace.specs.TeisAreManaged.{message_text}
-use Rattle.laws_teis.specs.Bus.{Bus, Network, newly_made, with_teis, gives_up, leaves_untold, removes, is_among}
+use Rattle.laws_teis.specs.Bus.{Bus, Network, newly_made, with_teis, gives_up, leaves_untold, removes, is_among, over_of}
 use Rattle.laws_teis.specs.Assignments.{Terminal, CanMeet, IsIn}
 use Rattle.laws_teis.specs.TwoTerminals.{is_older}
 use Rattle.laws_teis.proofs.Frames.{AreNone}
-use Rattle.laws_teis.proofs.Lists.{in-left, in-right, in-either, in-filter, in-filtered, any-left, any-right, any-either, or-left-so, or-right-so, is-there, older-kept, older-new}
+use Rattle.laws_teis.proofs.Lists.{in-left, in-right, in-either, in-filter, in-filtered, any-left, any-right, any-either, or-left-so, or-right-so, is-there, held-or-over, older-kept, older-new}
 use Rattle.laws_teis.proofs.NetworkSteps.{Table, Queue}
 use Rattle.laws_teis.proofs.Waiting.{Known, known, removal, IsCovered, AreCovered, covered-so, covered-both, none-covered, texts, texts-both, removals-are, made-covered, Holds}
 
@@ -34,11 +34,8 @@ module _ (b : Bus) (can : CanMeet b) (n : Network) (t : Terminal) (way : List (L
   abbrev misses_one : Remembered → Bool
   misses_one r = gives_up r.tei what w || leaves_untold r.tei w d
 
-  abbrev is_missed : Remembered → Bool
-  is_missed r = misses_one r && not (is_among r network_now.hold)
-
   abbrev pub missed_now : List Remembered
-  missed_now = missed ++ filter is_missed n.made
+  missed_now = over_of network_now.hold (missed ++ filter misses_one n.made)
 
   abbrev old : Known
   old = known n missed
@@ -118,14 +115,11 @@ module _ (b : Bus) (can : CanMeet b) (n : Network) (t : Terminal) (way : List (L
   else-found r back (inl holds) = inl holds
   else-found r back (inr is) = inr (inr is)
 
+  or-missed : (r : Remembered) → IsIn r (missed ++ filter misses_one n.made) → Else r
+  or-missed r is = held-or-over r network_now.hold (missed ++ filter misses_one n.made) is
+
   misses-so : (r : Remembered) → IsIn r n.made → misses_one r ≡ true → Else r
-  misses-so r made is = go (is_among r network_now.hold) refl
-    where
-      go : (x : Bool) → is_among r network_now.hold ≡ x → Else r
-      go true among = inl (is-there r network_now.hold among)
-      go false among =
-          inr (in-right r missed (filter is_missed n.made)
-          (in-filter is_missed r n.made made (ap (λ x. x && not (is_among r network_now.hold)) is ∙ ap not among)))
+  misses-so r made is = or-missed r (in-right r missed (filter misses_one n.made) (in-filter misses_one r n.made made is))
 
   step : (r : Remembered) (back then_ : List (List ℕ))
       → (list_any (removal b r.tei) back ≡ true → Found r then_)
@@ -140,7 +134,7 @@ module _ (b : Bus) (can : CanMeet b) (n : Network) (t : Terminal) (way : List (L
       go : IsIn r n.hold ⊎ ((list_any (removal b r.tei) back ≡ true) ⊎ IsIn r missed) → Found r then_
       go (inl is) = stands (is_on r.tei d) refl is
       go (inr (inl is)) = comes is
-      go (inr (inr is)) = inr (inr (in-left r missed (filter is_missed n.made) is))
+      go (inr (inr is)) = else-found r then_ (or-missed r (in-left r missed (filter misses_one n.made) is))
 
   -- What follows of the frames.
   then-holds : AreCovered b new (way ++ fs) (texts b d.owed) → AreCovered b new (texts b d.owed) []

@@ -130,6 +130,14 @@ never_sent : (known_after unanswered).missed ≡ first ∷ []
 unfolding moments after_all lines.after lines.answer lines.takes_slot teis.course teis.refusal terminals.course exchanged read_by reading header_of control_of unnumbered_of
 never_sent = refl
 
+-- The same assignment is made anew, so it misses none.
+abbrev anew : List Step
+anew = removed ++ sends ∷ loses ∷ request_comes 0x12 0x34 ∷ []
+
+anew_misses_none : (known_after anew).missed ≡ []
+unfolding moments after_all lines.after lines.answer lines.takes_slot teis.course teis.refusal terminals.course exchanged read_by reading header_of control_of unnumbered_of
+anew_misses_none = refl
+
 -- Another terminal with the same seed asks by the same number: one answer is for both, and both have TEI 64 by 0x1234.
 abbrev same_seed : List Step
 same_seed = asks ∷ request_comes 0x12 0x34 ∷ sends ∷ loses ∷ request_comes 0x12 0x34 ∷ sends ∷ receives ∷ []

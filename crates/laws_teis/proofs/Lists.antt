@@ -1,12 +1,13 @@
 -- What is in a list of assignments, and what passes a test in a list.
-use Rattle.std.specs.Prelude.{◌≡◌, ℕ, zero, suc, ◌==◌, ◌&&◌, ◌||◌, ◌≤◌, ◌⊎◌, Bool, true, false, cond, List, [], ◌∷◌, ◌++◌, length, filter, drop, Some, None, refl}
+use Rattle.std.specs.Prelude.{◌≡◌, ℕ, zero, suc, ◌==◌, ◌&&◌, ◌||◌, ◌≤◌, ◌⊎◌, not, Bool, true, false, cond, List, [], ◌∷◌, ◌++◌, length, filter, drop, Some, None, refl}
 use Rattle.std.specs.List.{list_any, find}
-use Rattle.std.proofs.Common.{inl, inr, subst, sym, ap, ◌∙◌, arith, true≢false, eqb-true}
+use Rattle.std.proofs.Common.{inl, inr, subst, sym, ap, ◌∙◌, arith, true≢false, eqb-true, eq-eqb}
 use Rattle.std.proofs.lemmas.List.Folds.{list_any-append}
 use Rattle.lapd_tei.specs.declared.remembered.Remembered.{Remembered}
 use Rattle.std.proofs.lemmas.Bool.{and_parts}
 use Rattle.laws_teis.specs.Assignments.{IsIn}
-use Rattle.laws_teis.specs.Bus.{is_among}
+use Rattle.laws_teis.specs.Bus.{is_among, over_of}
+use Rattle.laws_teis.specs.TwoTerminals.{is_older}
 
 pub in-left : (r : Remembered) (xs ys : List Remembered) → IsIn r xs → IsIn r (xs ++ ys)
 in-left r [] ys is = absurd is
@@ -114,3 +115,76 @@ is-there r (one ∷ more) is = go (or-cases (one.ri == r.ri && one.tei == r.tei)
         let parts = and_parts (one.ri == r.ri) (one.tei == r.tei) same in
         inl (ap (λ n. record one { ri = n }) (eqb-true one.ri r.ri parts.0) ∙ ap (λ n. record { ri = r.ri; tei = n }) (eqb-true one.tei r.tei parts.1))
     go (inr there) rest = inr (rest there)
+
+-- An assignment holds, or is over.
+pub held-or-over : (r : Remembered) (hold all : List Remembered) → IsIn r all → IsIn r hold ⊎ IsIn r (over_of hold all)
+held-or-over r hold all is = go (is_among r hold) refl
+  where
+    go : (x : Bool) → is_among r hold ≡ x → IsIn r hold ⊎ IsIn r (over_of hold all)
+    go true among = inl (is-there r hold among)
+    go false among = inr (in-filter (λ r. not (is_among r hold)) r all is (ap not among))
+
+-- One that is there is found by its parts.
+pub among-so : (r : Remembered) (all : List Remembered) → IsIn r all → is_among r all ≡ true
+among-so r [] is = absurd is
+among-so r (one ∷ more) (inl same) =
+    or-left-so (one.ri == r.ri && one.tei == r.tei) (is_among r more)
+    (subst (λ (one : Remembered). (one.ri == r.ri && one.tei == r.tei) ≡ true) (sym same) (ap (λ x. x && r.tei == r.tei) (eq-eqb r.ri r.ri refl) ∙ eq-eqb r.tei r.tei refl))
+among-so r (one ∷ more) (inr there) = or-right-so (one.ri == r.ri && one.tei == r.tei) (is_among r more) (among-so r more there)
+
+module _ (one two : Remembered) where
+  abbrev or_first : Remembered → Bool → List Remembered → Type 0
+  or_first x again xs = cond again (is_older one two xs) (is_among one (x ∷ []) && is_among two xs) ≡ true
+
+  -- Others are made after these.
+  module _ (ys : List Remembered) (none : is_among one ys ≡ false) where
+    not-again : (xs : List Remembered) → is_among one xs ≡ false → is_among one (xs ++ ys) ≡ false
+    not-again xs off = list_any-append (λ (r : Remembered). r.ri == one.ri && r.tei == one.tei) xs ys ∙ ap (λ x. x || is_among one ys) off ∙ none
+
+    among-more : (r : Remembered) (xs : List Remembered) → is_among r xs ≡ true → is_among r (xs ++ ys) ≡ true
+    among-more r xs is = any-left (λ (x : Remembered). x.ri == r.ri && x.tei == r.tei) xs ys is
+
+    -- It is the first of the list, and not again in it.
+    first-so : (x : Remembered) (xs : List Remembered) → is_among one xs ≡ false → is_among one (x ∷ []) ≡ true → is_among two (xs ++ ys) ≡ true → is_older one two (x ∷ xs ++ ys) ≡ true
+    first-so x xs off is other =
+        subst (λ again. or_first x again (xs ++ ys)) (sym (not-again xs off)) (ap (λ x. x && is_among two (xs ++ ys)) is ∙ other)
+
+    -- The older stays older.
+    pub older-kept : (xs : List Remembered) → is_older one two xs ≡ true → is_older one two (xs ++ ys) ≡ true
+    older-kept [] is = absurd (true≢false (sym is))
+    older-kept (x ∷ xs) is = go (is_among one xs) refl is (older-kept xs)
+      where
+        go : (again : Bool) → is_among one xs ≡ again → or_first x again xs → (is_older one two xs ≡ true → is_older one two (xs ++ ys) ≡ true) → is_older one two (x ∷ xs ++ ys) ≡ true
+        go true so is rest = subst (λ again. or_first x again (xs ++ ys)) (sym (among-more one xs so)) (rest is)
+        go false so is rest =
+            let parts = and_parts (is_among one (x ∷ [])) (is_among two xs) is in
+            first-so x xs so parts.0 (among-more two xs parts.1)
+
+    -- One is older than what is made after it.
+    pub older-new : (xs : List Remembered) → IsIn one xs → IsIn two ys → is_older one two (xs ++ ys) ≡ true
+    older-new [] is later = absurd is
+    older-new (x ∷ xs) is later = go (is_among one xs) refl is (older-new xs)
+      where
+        go : (again : Bool) → is_among one xs ≡ again → IsIn one (x ∷ xs) → (IsIn one xs → IsIn two ys → is_older one two (xs ++ ys) ≡ true) → is_older one two (x ∷ xs ++ ys) ≡ true
+        go true so is rest = subst (λ again. or_first x again (xs ++ ys)) (sym (among-more one xs so)) (rest (is-there one xs so) later)
+        go false so (inr more) rest = absurd (true≢false (sym (among-so one xs more) ∙ so))
+        go false so (inl same) rest = first-so x xs so (among-so one (x ∷ []) (inl same)) (among-so two (xs ++ ys) (in-right two xs ys later))
+
+-- Of two that are made, one is older.
+pub one-older : (one two : Remembered) (xs : List Remembered) → IsIn one xs → IsIn two xs → (one ≡ two) ⊎ ((is_older one two xs ≡ true) ⊎ (is_older two one xs ≡ true))
+one-older one two [] is other = absurd is
+one-older one two (x ∷ xs) is other = go (is_among one xs) (is_among two xs) refl refl (one-older one two xs)
+  where
+    first-is : (r : Remembered) → IsIn r (x ∷ xs) → is_among r xs ≡ false → x ≡ r
+    first-is r (inl same) off = same
+    first-is r (inr more) off = absurd (true≢false (sym (among-so r xs more) ∙ off))
+
+    Or : Type 0
+    Or = (one ≡ two) ⊎ ((is_older one two xs ≡ true) ⊎ (is_older two one xs ≡ true))
+
+    go : (a b : Bool) → is_among one xs ≡ a → is_among two xs ≡ b → (IsIn one xs → IsIn two xs → Or)
+        → (one ≡ two) ⊎ ((cond a (is_older one two xs) (is_among one (x ∷ []) && b) ≡ true) ⊎ (cond b (is_older two one xs) (is_among two (x ∷ []) && a) ≡ true))
+    go true true so too rest = rest (is-there one xs so) (is-there two xs too)
+    go true false so too rest = inr (inr (ap (λ x. x && true) (among-so two (x ∷ []) (inl (first-is two other too)))))
+    go false true so too rest = inr (inl (ap (λ x. x && true) (among-so one (x ∷ []) (inl (first-is one is so)))))
+    go false false so too rest = inl (sym (first-is one is so) ∙ first-is two other too)

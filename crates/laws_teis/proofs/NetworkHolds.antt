@@ -8,10 +8,11 @@ use Rattle.model_line.specs.Event.{Event, request}
 use Rattle.model_line.specs.Request.{Down}
 use Rattle.laws_trace.specs.Managing.{Managed, is_on, octets_of}
 use Rattle.laws_trace.specs.TeisAreManaged.{message_text}
-use Rattle.laws_teis.specs.Bus.{Bus, Network, newly_made, with_teis, gives_up, leaves_untold, removes, is_among}
+use Rattle.laws_teis.specs.Bus.{Bus, Network, newly_made, with_teis, gives_up, leaves_untold, removes, is_among, over_of}
 use Rattle.laws_teis.specs.Assignments.{Terminal, CanMeet, IsIn}
+use Rattle.laws_teis.specs.TwoTerminals.{is_older}
 use Rattle.laws_teis.proofs.Frames.{AreNone}
-use Rattle.laws_teis.proofs.Lists.{in-left, in-right, in-either, in-filter, in-filtered, any-left, any-right, any-either, or-left-so, or-right-so, is-there}
+use Rattle.laws_teis.proofs.Lists.{in-left, in-right, in-either, in-filter, in-filtered, any-left, any-right, any-either, or-left-so, or-right-so, is-there, held-or-over, older-kept, older-new}
 use Rattle.laws_teis.proofs.NetworkSteps.{Table, Queue}
 use Rattle.laws_teis.proofs.Waiting.{Known, known, removal, IsCovered, AreCovered, covered-so, covered-both, none-covered, texts, texts-both, removals-are, made-covered, Holds}
 
@@ -33,11 +34,8 @@ module _ (b : Bus) (can : CanMeet b) (n : Network) (t : Terminal) (way : List (L
   abbrev misses_one : Remembered → Bool
   misses_one r = gives_up r.tei what w || leaves_untold r.tei w d
 
-  abbrev is_missed : Remembered → Bool
-  is_missed r = misses_one r && not (is_among r network_now.hold)
-
   abbrev pub missed_now : List Remembered
-  missed_now = missed ++ filter is_missed n.made
+  missed_now = over_of network_now.hold (missed ++ filter misses_one n.made)
 
   abbrev old : Known
   old = known n missed
@@ -63,24 +61,48 @@ module _ (b : Bus) (can : CanMeet b) (n : Network) (t : Terminal) (way : List (L
       go (inl was) = in-left r n.made (newly_made w d) (h.made r was)
       go (inr new) = in-right r n.made (newly_made w d) new
 
+  abbrev made_anew : List Remembered
+  made_anew = newly_made w d
+
+  is-new : (r : Remembered) → IsIn r made_anew → IsIn r d.held × (is_on r.tei w ≡ false)
+  is-new r new = let parts = in-filtered (λ r. not (is_on r.tei w)) r d.held new in (parts.0, not-true (is_on r.tei w) parts.1)
+
+  from : (r : Remembered) → IsIn r network_now.hold → IsIn r n.hold ⊎ IsIn r made_anew
+  from r is = in-either r n.hold made_anew (in-filtered (λ r. is_on r.tei d) r (n.hold ++ made_anew) is).0
+
+  -- What is made anew is of one TEI, which none had that held.
+  one-new : (r s : Remembered) → IsIn r made_anew → IsIn s made_anew → r ≡ s
+  one-new r s is other = table.alone r s (is-new r is).0 (is-new s other).0 (is-new r is).1 (is-new s other).1
+
+  not-held : (r s : Remembered) → IsIn r n.hold → IsIn s made_anew → s.tei ≡ r.tei → ⊥
+  not-held r s was new same = true≢false (sym (h.on r was) ∙ ap (λ tei. is_on tei w) (sym same) ∙ (is-new s new).1)
+
   alone-now : (r s : Remembered) → IsIn r network_now.hold → IsIn s network_now.hold → r.tei ≡ s.tei → r ≡ s
   alone-now r s is other same = go (from r is) (from s other)
     where
-      is-new : (r : Remembered) → IsIn r (newly_made w d) → IsIn r d.held × (is_on r.tei w ≡ false)
-      is-new r new = let parts = in-filtered (λ r. not (is_on r.tei w)) r d.held new in (parts.0, not-true (is_on r.tei w) parts.1)
+      go : IsIn r n.hold ⊎ IsIn r made_anew → IsIn s n.hold ⊎ IsIn s made_anew → r ≡ s
+      go (inl was) (inl before) = h.alone r s was before same
+      go (inl was) (inr new) = absurd (not-held r s was new (sym same))
+      go (inr new) (inl before) = absurd (not-held s r before new same)
+      go (inr new) (inr newer) = one-new r s new newer
 
-      from : (r : Remembered) → IsIn r network_now.hold → IsIn r n.hold ⊎ (IsIn r d.held × (is_on r.tei w ≡ false))
-      from r is = each (in-either r n.hold (newly_made w d) (in-filtered (λ r. is_on r.tei d) r (n.hold ++ newly_made w d) is).0)
-        where
-          each : IsIn r n.hold ⊎ IsIn r (newly_made w d) → IsIn r n.hold ⊎ (IsIn r d.held × (is_on r.tei w ≡ false))
-          each (inl was) = inl was
-          each (inr new) = inr (is-new r new)
+  latest-now : (r s : Remembered) → IsIn r network_now.hold → IsIn s network_now.made → s.tei ≡ r.tei → (s ≡ r) ⊎ (is_older s r network_now.made ≡ true)
+  latest-now r s is made same = go (from r is) (in-either s n.made made_anew made) (is_among s made_anew) refl
+    where
+      Or : Type 0
+      Or = (s ≡ r) ⊎ (is_older s r network_now.made ≡ true)
 
-      go : IsIn r n.hold ⊎ (IsIn r d.held × (is_on r.tei w ≡ false)) → IsIn s n.hold ⊎ (IsIn s d.held × (is_on s.tei w ≡ false)) → r ≡ s
-      go (inl was) (inl old) = h.alone r s was old same
-      go (inl was) (inr new) = absurd (true≢false (sym (h.on r was) ∙ ap (λ tei. is_on tei w) same ∙ new.1))
-      go (inr new) (inl old) = absurd (true≢false (sym (h.on s old) ∙ ap (λ tei. is_on tei w) (sym same) ∙ new.1))
-      go (inr new) (inr newer) = table.alone r s new.0 newer.0 new.1 newer.1
+      stays : is_among s made_anew ≡ false → (s ≡ r) ⊎ (is_older s r n.made ≡ true) → Or
+      stays off (inl is) = inl is
+      stays off (inr older) = inr (older-kept s r made_anew off n.made older)
+
+      go : IsIn r n.hold ⊎ IsIn r made_anew → IsIn s n.made ⊎ IsIn s made_anew → (x : Bool) → is_among s made_anew ≡ x → Or
+      go (inl was) (inr new) x so = absurd (not-held r s was new same)
+      go (inl was) (inl before) true so = absurd (not-held r s was (is-there s made_anew so) same)
+      go (inl was) (inl before) false so = stays so (h.latest r s was before same)
+      go (inr new) (inr newer) x so = inl (one-new s r newer new)
+      go (inr new) (inl before) true so = inl (one-new s r (is-there s made_anew so) new)
+      go (inr new) (inl before) false so = inr (older-new s r made_anew so n.made before new)
 
   -- an assignment
   abbrev Else : Remembered → Type 0
@@ -93,14 +115,11 @@ module _ (b : Bus) (can : CanMeet b) (n : Network) (t : Terminal) (way : List (L
   else-found r back (inl holds) = inl holds
   else-found r back (inr is) = inr (inr is)
 
+  or-missed : (r : Remembered) → IsIn r (missed ++ filter misses_one n.made) → Else r
+  or-missed r is = held-or-over r network_now.hold (missed ++ filter misses_one n.made) is
+
   misses-so : (r : Remembered) → IsIn r n.made → misses_one r ≡ true → Else r
-  misses-so r made is = go (is_among r network_now.hold) refl
-    where
-      go : (x : Bool) → is_among r network_now.hold ≡ x → Else r
-      go true among = inl (is-there r network_now.hold among)
-      go false among =
-          inr (in-right r missed (filter is_missed n.made)
-          (in-filter is_missed r n.made made (ap (λ x. x && not (is_among r network_now.hold)) is ∙ ap not among)))
+  misses-so r made is = or-missed r (in-right r missed (filter misses_one n.made) (in-filter misses_one r n.made made is))
 
   step : (r : Remembered) (back then_ : List (List ℕ))
       → (list_any (removal b r.tei) back ≡ true → Found r then_)
@@ -115,7 +134,7 @@ module _ (b : Bus) (can : CanMeet b) (n : Network) (t : Terminal) (way : List (L
       go : IsIn r n.hold ⊎ ((list_any (removal b r.tei) back ≡ true) ⊎ IsIn r missed) → Found r then_
       go (inl is) = stands (is_on r.tei d) refl is
       go (inr (inl is)) = comes is
-      go (inr (inr is)) = inr (inr (in-left r missed (filter is_missed n.made) is))
+      go (inr (inr is)) = else-found r then_ (or-missed r (in-left r missed (filter misses_one n.made) is))
 
   -- What follows of the frames.
   then-holds : AreCovered b new (way ++ fs) (texts b d.owed) → AreCovered b new (texts b d.owed) []
@@ -126,6 +145,7 @@ module _ (b : Bus) (can : CanMeet b) (n : Network) (t : Terminal) (way : List (L
     on = on-now;
     made = made-now;
     alone = alone-now;
+    latest = latest-now;
     own = h.own;
     way_is = ways;
     owed_is = owed;

@@ -1,5 +1,5 @@
 -- A run of a network's line and a terminal's.
-use Rattle.std.specs.Prelude.{◌≡◌, ℕ, ◌<◌, ◌==◌, ◌&&◌, ◌||◌, not, Bool, true, false, cond, List, [], ◌∷◌, ◌++◌, map, filter, fold, drop, take, replicate, zero, suc, All, None, refl}
+use Rattle.std.specs.Prelude.{◌≡◌, ℕ, ◌<◌, ◌==◌, ◌&&◌, ◌||◌, Bool, true, false, cond, List, [], ◌∷◌, ◌++◌, map, filter, fold, drop, take, replicate, zero, suc, All, None, refl}
 use Rattle.std.specs.List.{list_any}
 use Rattle.std.proofs.Common.{subst, sym, ap, ◌∙◌, append-nil, eq-eqb, eqb-true}
 use Rattle.std.proofs.lemmas.List.Elements.{All-append, All-cons, All-head, All-nil, All-tail}
@@ -25,7 +25,7 @@ use Rattle.laws_trace.specs.ManagingTerminal.{teis_of}
 use Rattle.laws_trace.specs.TeisAreManaged.{message_text}
 use Rattle.laws_trace.specs.Trace.{frame_in}
 use Rattle.laws_trace.proofs.TeisAreManaged.{teis-are-managed}
-use Rattle.laws_teis.specs.Bus.{Bus, Network, Past, Step, network, terminal, receives, loses, network_of, with_teis, begun, doing, acting, received, missing, misses, is_heard, gives_up, leaves_untold, is_among}
+use Rattle.laws_teis.specs.Bus.{Bus, Network, Past, Step, network, terminal, receives, loses, network_of, with_teis, begun, doing, acting, received, missing, misses, is_heard, gives_up, leaves_untold, over_of}
 use Rattle.laws_teis.specs.Assignments.{Terminal, CanMeet, IsThere, IsIn, terminal_after}
 use Rattle.laws_teis.proofs.Frames.{AreNone, begins-one, begins-none}
 use Rattle.laws_teis.proofs.NetworkSteps.{Changes, same-table, event-so, IsOther}
@@ -58,7 +58,8 @@ module _ (b : Bus) (can : CanMeet b) where
 
     abbrev Then : line_event.Event → Type 0
     Then what =
-        Holds b (with_teis (λ tei. managing.is_on tei (due c what w)) (due c what w) n) t (way ++ frame_in (a what)) (missed ++ filter (λ r. (gives_up r.tei what w || leaves_untold r.tei w (due c what w)) && not (is_among r (with_teis (λ tei. managing.is_on tei (due c what w)) (due c what w) n).hold)) n.made)
+        let m = with_teis (λ tei. managing.is_on tei (due c what w)) (due c what w) n in
+        Holds b m t (way ++ frame_in (a what)) (over_of m.hold (missed ++ filter (λ r. gives_up r.tei what w || leaves_untold r.tei w (due c what w)) n.made))
 
     begins-so : (what : line_event.Event) → filter (reads (own_side c) (λ (f : Parts). f.address.sapi == 63)) (frame_in (a what)) ≡ map (message_text c) (due c what w).begins
     begins-so what =
@@ -118,13 +119,12 @@ module _ (b : Bus) (can : CanMeet b) where
     ThenOf e x =
         let m = cond x (with_teis (λ tei. managing.is_on tei (due c e.what w)) (due c e.what w) n) n in
         Holds b m t (way ++ cond x (frame_in (answer e (after_all (fresh c) events))) [])
-        (missed ++ filter (λ r. (x && (gives_up r.tei e.what w || leaves_untold r.tei w (due c e.what w))) && not (is_among r m.hold)) n.made)
+        (over_of m.hold (missed ++ filter (λ r. x && (gives_up r.tei e.what w || leaves_untold r.tei w (due c e.what w))) n.made))
 
     pub any-event : (e : Event) (x : Bool) → (e.line == b.number) ≡ x → ThenOf e x
     any-event e true is = subst (λ line. ThenOf (at line e.what) true) (sym (eqb-true e.line b.number is)) (own-event e.what)
     any-event e false is =
-        subst (λ way. Holds b n t way (missed ++ filter (λ r. false && not (is_among r n.hold)) n.made)) (sym (append-nil way))
-        (grows b can n t way missed (filter (λ r. false && not (is_among r n.hold)) n.made) h)
+        subst (λ way. Holds b n t way (over_of n.hold (missed ++ filter (λ r. false) n.made))) (sym (append-nil way)) (grows b can n t way missed (filter (λ r. false) n.made) h)
 
   -- A run.
   pub record Runs (p : Past) : Type 0 where
@@ -135,10 +135,14 @@ module _ (b : Bus) (can : CanMeet b) where
   abbrev known_terminal : Past → Terminal
   known_terminal p = terminal_after b.terminal b.line p.at_terminal
 
+  -- Where a step leads, if all this was missed.
+  abbrev then_of : Past → List Remembered → Past
+  then_of now all = record now { missed = over_of (network_of b now).hold all }
+
   step-so : (p : Past) (step : Step) → IsThere b step → Runs p → Runs (doing b p step)
   step-so p (network e) there runs = record {
     all = All-append (IsAtLine (fresh c)) p.at_network (e ∷ []) runs.all (All-cons (IsAtLine (fresh c)) e [] there (All-nil (IsAtLine (fresh c))));
-    holds = subst (λ n. Holds b n (known_terminal p) (acting b (network e) p).way (p.missed ++ filter (λ r. misses b p (network e) r.tei && not (is_among r n.hold)) (network_of b p).made)) (sym (network-then c b.number can.network can.number p.at_network e runs.all there))
+    holds = subst (λ n. Holds b n (known_terminal p) (acting b (network e) p).way (over_of n.hold (p.missed ++ filter (λ r. misses b p (network e) r.tei) (network_of b p).made))) (sym (network-then c b.number can.network can.number p.at_network e runs.all there))
         (any-event (network_of b p) (known_terminal p) p.way p.missed runs.holds p.at_network runs.all (network-teis c b.number p.at_network) e (e.line == b.number) refl);
     there = runs.there;
   }
@@ -153,19 +157,19 @@ module _ (b : Bus) (can : CanMeet b) where
       ys : List Remembered
       ys = missing b (terminal e) p
 
-      go : (x y : Bool) → (e.line == b.line) ≡ x → is_heard e.what ≡ y → Runs (record (cond (x && y) p (record p { at_terminal = p.at_terminal ++ e ∷ [] })) { missed = p.missed ++ ys })
+      go : (x y : Bool) → (e.line == b.line) ≡ x → is_heard e.what ≡ y → Runs (then_of (cond (x && y) p (record p { at_terminal = p.at_terminal ++ e ∷ [] })) (p.missed ++ ys))
       go true true is heard = record { all = runs.all; there = runs.there; holds = grows b can n (known_terminal p) p.way p.missed ys runs.holds }
       go true false is other = record {
         all = runs.all;
         there = more-there e there;
-        holds = subst (λ t. Holds b n t p.way (p.missed ++ ys))
+        holds = subst (λ t. Holds b n t p.way (over_of n.hold (p.missed ++ ys)))
             (sym (terminal-then b.terminal b.line can.terminal can.line p.at_terminal e runs.there there ∙ ap (λ x. cond x (terminal_now b can n (known_terminal p) e.what) (known_terminal p)) is))
             (grows b can n (terminal_now b can n (known_terminal p) e.what) p.way p.missed ys (no-frame b can n (known_terminal p) e.what p.way p.missed other runs.holds));
       }
       go false y is heard = record {
         all = runs.all;
         there = more-there e there;
-        holds = subst (λ t. Holds b n t p.way (p.missed ++ ys))
+        holds = subst (λ t. Holds b n t p.way (over_of n.hold (p.missed ++ ys)))
             (sym (terminal-then b.terminal b.line can.terminal can.line p.at_terminal e runs.there there ∙ ap (λ x. cond x (terminal_now b can n (known_terminal p) e.what) (known_terminal p)) is))
             (grows b can n (known_terminal p) p.way p.missed ys runs.holds);
       }
@@ -177,13 +181,13 @@ module _ (b : Bus) (can : CanMeet b) where
       ys : List Remembered
       ys = missing b receives p
 
-      go : (way : List (List ℕ)) → Holds b n (known_terminal p) way p.missed → Runs (record (received b way (record p { way = way })) { missed = p.missed ++ ys })
+      go : (way : List (List ℕ)) → Holds b n (known_terminal p) way p.missed → Runs (then_of (received b way (record p { way = way })) (p.missed ++ ys))
       go [] h = record { all = runs.all; there = runs.there; holds = grows b can n (known_terminal p) [] p.missed ys h }
       go (x ∷ more) h =
           let e = at b.line (hears (came b.terminal.n201 x)) in record {
             all = runs.all;
             there = All-append (IsAtLine (fresh b.terminal)) p.at_terminal (e ∷ []) runs.there (All-cons (IsAtLine (fresh b.terminal)) e [] can.line (All-nil (IsAtLine (fresh b.terminal))));
-            holds = subst (λ t. Holds b n t more (p.missed ++ ys))
+            holds = subst (λ t. Holds b n t more (over_of n.hold (p.missed ++ ys)))
                 (sym (terminal-then b.terminal b.line can.terminal can.line p.at_terminal e runs.there can.line ∙ ap (λ y. cond y (terminal_now b can n (known_terminal p) e.what) (known_terminal p)) (eq-eqb b.line b.line refl)))
                 (grows b can n (terminal_now b can n (known_terminal p) e.what) more p.missed ys (comes b can n (known_terminal p) x more p.missed h));
           }
@@ -193,8 +197,8 @@ module _ (b : Bus) (can : CanMeet b) where
       n = network_of b p
 
       go : (way : List (List ℕ)) → Holds b n (known_terminal p) way p.missed
-          → Holds b n (known_terminal p) (drop 1 way) (p.missed ++ filter (λ r. list_any (removal b r.tei) (take 1 way) && not (is_among r n.hold)) n.made)
-      go [] h = grows b can n (known_terminal p) [] p.missed (filter (λ r. false && not (is_among r n.hold)) n.made) h
+          → Holds b n (known_terminal p) (drop 1 way) (over_of n.hold (p.missed ++ filter (λ r. list_any (removal b r.tei) (take 1 way)) n.made))
+      go [] h = grows b can n (known_terminal p) [] p.missed (filter (λ r. false) n.made) h
       go (x ∷ more) h = lost b can n (known_terminal p) x more p.missed h
 
   -- as the cards begin
@@ -212,6 +216,7 @@ module _ (b : Bus) (can : CanMeet b) where
       on = λ r is. absurd is;
       made = λ r is. absurd is;
       alone = λ r s is other same. absurd is;
+      latest = λ r s is other same. absurd is;
       own = none-there b.terminal.terminals;
       way_is = tt;
       owed_is = tt;

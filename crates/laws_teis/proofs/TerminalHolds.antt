@@ -1,5 +1,5 @@
 -- An event of the terminal's line, and a frame that is lost, leave each assignment accounted for.
-use Rattle.std.specs.Prelude.{◌≡◌, ℕ, ◌==◌, ◌&&◌, ◌||◌, ◌⊎◌, not, Bool, true, false, List, [], ◌∷◌, ◌++◌, filter, flat_map, nat_le, refl}
+use Rattle.std.specs.Prelude.{◌≡◌, ℕ, ◌==◌, ◌||◌, ◌⊎◌, true, false, List, [], ◌∷◌, ◌++◌, filter, flat_map, nat_le, refl}
 use Rattle.std.specs.List.{list_any}
 use Rattle.std.specs.Option.{unwrap_or}
 use Rattle.std.proofs.Common.{inl, inr, subst, sym, ap, ◌∙◌, true≢false}
@@ -9,32 +9,40 @@ use Rattle.model_line.specs.Event.{Event, hears}
 use Rattle.laws_trace.specs.Managing.{Managed, is_on, due, own_of}
 use Rattle.laws_trace.specs.ManagingTerminal as terminal
 use Rattle.laws_trace.specs.ManagingTerminal.{OfTerminal, teis_of, by_event, by_message}
-use Rattle.laws_teis.specs.Bus.{Bus, Network, message_in, is_heard, is_among}
+use Rattle.laws_teis.specs.Bus.{Bus, Network, message_in, is_heard, over_of}
 use Rattle.laws_teis.specs.Assignments.{Terminal, CanMeet, IsIn, taken_by, taken, with_given}
 use Rattle.laws_teis.proofs.Frames.{assigned-few}
-use Rattle.laws_teis.proofs.Lists.{in-left, in-right, in-either, in-filter, in-filtered, or-cases, is-there}
+use Rattle.laws_teis.proofs.Lists.{in-left, in-right, in-either, in-filter, in-filtered, or-cases, held-or-over}
 use Rattle.laws_teis.proofs.TerminalSteps.{takes, message-takes, removal-takes-off, frame-is, other-takes, then_own, due-so}
 use Rattle.laws_teis.proofs.Waiting.{known, removal, IsCovered, AreCovered, covered-so, texts, Holds}
 
 module _ (b : Bus) (can : CanMeet b) (n : Network) (t : Terminal) where
-  -- What is missed is only added to.
-  grown : (missed ys : List Remembered) (r : Remembered) (back : List (List ℕ)) → IsCovered b (known n missed) r back → IsCovered b (known n (missed ++ ys)) r back
+  -- More is missed, and what holds was made since.
+  grown : (missed ys : List Remembered) (r : Remembered) (back : List (List ℕ)) → IsCovered b (known n missed) r back → IsCovered b (known n (over_of n.hold (missed ++ ys))) r back
   grown missed ys r back c = record { made = c.made; covered = go c.covered }
     where
-      go : IsIn r n.hold ⊎ ((list_any (removal b r.tei) back ≡ true) ⊎ IsIn r missed) → IsIn r n.hold ⊎ ((list_any (removal b r.tei) back ≡ true) ⊎ IsIn r (missed ++ ys))
+      Rest : Type 0
+      Rest = IsIn r n.hold ⊎ ((list_any (removal b r.tei) back ≡ true) ⊎ IsIn r (over_of n.hold (missed ++ ys)))
+
+      still : IsIn r n.hold ⊎ IsIn r (over_of n.hold (missed ++ ys)) → Rest
+      still (inl is) = inl is
+      still (inr is) = inr (inr is)
+
+      go : IsIn r n.hold ⊎ ((list_any (removal b r.tei) back ≡ true) ⊎ IsIn r missed) → Rest
       go (inl is) = inl is
       go (inr (inl is)) = inr (inl is)
-      go (inr (inr is)) = inr (inr (in-left r missed ys is))
+      go (inr (inr is)) = still (held-or-over r n.hold (missed ++ ys) (in-left r missed ys is))
 
-  all-grown : (missed ys : List Remembered) (xs after : List (List ℕ)) → AreCovered b (known n missed) xs after → AreCovered b (known n (missed ++ ys)) xs after
-  all-grown missed ys xs after all = covered-so b (known n missed) (known n (missed ++ ys)) xs after after (λ r back c. grown missed ys r (back ++ after) c) all
+  all-grown : (missed ys : List Remembered) (xs after : List (List ℕ)) → AreCovered b (known n missed) xs after → AreCovered b (known n (over_of n.hold (missed ++ ys))) xs after
+  all-grown missed ys xs after all = covered-so b (known n missed) (known n (over_of n.hold (missed ++ ys))) xs after after (λ r back c. grown missed ys r (back ++ after) c) all
 
-  pub grows : (way : List (List ℕ)) (missed ys : List Remembered) → Holds b n t way missed → Holds b n t way (missed ++ ys)
+  pub grows : (way : List (List ℕ)) (missed ys : List Remembered) → Holds b n t way missed → Holds b n t way (over_of n.hold (missed ++ ys))
   grows way missed ys h = record {
     held = h.held;
     on = h.on;
     made = h.made;
     alone = h.alone;
+    latest = h.latest;
     own = h.own;
     way_is = all-grown missed ys way (texts b n.teis.owed) h.way_is;
     owed_is = all-grown missed ys (texts b n.teis.owed) [] h.owed_is;
@@ -43,12 +51,13 @@ module _ (b : Bus) (can : CanMeet b) (n : Network) (t : Terminal) where
 
   -- The oldest frame in transit is lost.
   pub lost : (x : List ℕ) (more : List (List ℕ)) (missed : List Remembered) → Holds b n t (x ∷ more) missed
-      → Holds b n t more (missed ++ filter (λ r. list_any (removal b r.tei) (x ∷ []) && not (is_among r n.hold)) n.made)
+      → Holds b n t more (over_of n.hold (missed ++ filter (λ r. list_any (removal b r.tei) (x ∷ [])) n.made))
   lost x more missed h = record {
     held = h.held;
     on = h.on;
     made = h.made;
     alone = h.alone;
+    latest = h.latest;
     own = h.own;
     way_is = all-grown missed misses more (texts b n.teis.owed) h.way_is.1;
     owed_is = all-grown missed misses (texts b n.teis.owed) [] h.owed_is;
@@ -56,29 +65,29 @@ module _ (b : Bus) (can : CanMeet b) (n : Network) (t : Terminal) where
   }
     where
       misses : List Remembered
-      misses = filter (λ r. list_any (removal b r.tei) (x ∷ []) && not (is_among r n.hold)) n.made
+      misses = filter (λ r. list_any (removal b r.tei) (x ∷ [])) n.made
 
-      without : (r : Remembered) → IsCovered b (known n missed) r ((x ∷ more) ++ texts b n.teis.owed) → IsCovered b (known n (missed ++ misses)) r (more ++ texts b n.teis.owed)
+      without : (r : Remembered) → IsCovered b (known n missed) r ((x ∷ more) ++ texts b n.teis.owed) → IsCovered b (known n (over_of n.hold (missed ++ misses))) r (more ++ texts b n.teis.owed)
       without r c = record { made = c.made; covered = go c.covered }
         where
           Rest : Type 0
-          Rest = IsIn r n.hold ⊎ ((list_any (removal b r.tei) (more ++ texts b n.teis.owed) ≡ true) ⊎ IsIn r (missed ++ misses))
+          Rest = IsIn r n.hold ⊎ ((list_any (removal b r.tei) (more ++ texts b n.teis.owed) ≡ true) ⊎ IsIn r (over_of n.hold (missed ++ misses)))
 
-          missed-now : removal b r.tei x ≡ true → (y : Bool) → is_among r n.hold ≡ y → Rest
-          missed-now is true among = inl (is-there r n.hold among)
-          missed-now is false among =
-              inr (inr (in-right r missed misses (in-filter (λ r. list_any (removal b r.tei) (x ∷ []) && not (is_among r n.hold)) r n.made c.made
-              (ap (λ z. (z || false) && not (is_among r n.hold)) is ∙ ap not among))))
+          still : IsIn r n.hold ⊎ IsIn r (over_of n.hold (missed ++ misses)) → Rest
+          still (inl is) = inl is
+          still (inr is) = inr (inr is)
+
+          missed-now : IsIn r (missed ++ misses) → Rest
+          missed-now is = still (held-or-over r n.hold (missed ++ misses) is)
 
           either : (removal b r.tei x ≡ true) ⊎ (list_any (removal b r.tei) (more ++ texts b n.teis.owed) ≡ true) → Rest
-          either (inl is) = missed-now is (is_among r n.hold) refl
+          either (inl is) = missed-now (in-right r missed misses (in-filter (λ r. list_any (removal b r.tei) (x ∷ [])) r n.made c.made (ap (λ z. z || false) is)))
           either (inr is) = inr (inl is)
 
-          go : IsIn r n.hold ⊎ ((list_any (removal b r.tei) ((x ∷ more) ++ texts b n.teis.owed) ≡ true) ⊎ IsIn r missed)
-              → IsIn r n.hold ⊎ ((list_any (removal b r.tei) (more ++ texts b n.teis.owed) ≡ true) ⊎ IsIn r (missed ++ misses))
+          go : IsIn r n.hold ⊎ ((list_any (removal b r.tei) ((x ∷ more) ++ texts b n.teis.owed) ≡ true) ⊎ IsIn r missed) → Rest
           go (inl is) = inl is
           go (inr (inl is)) = (either (or-cases (removal b r.tei x) (list_any (removal b r.tei) (more ++ texts b n.teis.owed)) is))
-          go (inr (inr is)) = inr (inr (in-left r missed misses is))
+          go (inr (inr is)) = missed-now (in-left r missed misses is)
 
   -- An event of the terminal's line.
   module _ (e : Event) where
@@ -113,6 +122,7 @@ module _ (b : Bus) (can : CanMeet b) (n : Network) (t : Terminal) where
       on = h.on;
       made = h.made;
       alone = h.alone;
+      latest = h.latest;
       own = own-now h.own;
       way_is = h.way_is;
       owed_is = h.owed_is;
@@ -131,6 +141,7 @@ module _ (b : Bus) (can : CanMeet b) (n : Network) (t : Terminal) where
     on = h.on;
     made = h.made;
     alone = h.alone;
+    latest = h.latest;
     own = own-now e h.own;
     way_is = h.way_is.1;
     owed_is = h.owed_is;

@@ -9,6 +9,7 @@ use Rattle.laws_trace.specs.ManagingTerminal.{teis_of}
 use Rattle.laws_trace.specs.TeisAreManaged.{message_text}
 use Rattle.laws_teis.specs.Bus.{Bus, Network, message_in, is_removal, removes}
 use Rattle.laws_teis.specs.Assignments.{Terminal, CanMeet, IsIn}
+use Rattle.laws_teis.specs.TwoTerminals.{is_older}
 use Rattle.laws_teis.proofs.Frames.{is_assigned, AreNone, message-read, removes-so, assigned-so}
 use Rattle.laws_teis.proofs.NetworkSteps.{AreMade, IsMade}
 
@@ -83,6 +84,7 @@ module _ (b : Bus) where
     pub on : (r : Remembered) → IsIn r n.hold → is_on r.tei n.teis ≡ true
     pub made : (r : Remembered) → IsIn r n.hold → IsIn r n.made
     pub alone : (r s : Remembered) → IsIn r n.hold → IsIn s n.hold → r.tei ≡ s.tei → r ≡ s
+    pub latest : (r s : Remembered) → IsIn r n.hold → IsIn s n.made → s.tei ≡ r.tei → (s ≡ r) ⊎ (is_older s r n.made ≡ true)
     pub own : t.teis.on ≡ teis_of (own_of b.terminal t.teis).places
     pub way_is : AreCovered (known n missed) way (texts n.teis.owed)
     pub owed_is : AreCovered (known n missed) (texts n.teis.owed) []

@@ -93,8 +93,8 @@ pub data Step : Type 0 where
   loses : Step
 
 -- A terminal misses a removal that is lost, or given up as the network's line is down. Or none is owed though the TEI leaves the
--- line: as T201 runs out, or if there is no room for it (clause 5.3.3.2, annex B and profile). One that was missed stays missed: a
--- pair of number and TEI that is assigned again needs a number that comes again.
+-- line: as T201 runs out, or if there is no room for it (clause 5.3.3.2, annex B and profile). One that was missed stays missed until
+-- that assignment is made anew, which needs a number that comes again.
 abbrev pub removes : ℕ → Message → Bool
 removes tei (IdentityRemove of) = of == tei
 removes tei other = false
@@ -130,15 +130,18 @@ acting b (terminal e) p = if e.line == b.line && is_heard e.what then p else rec
 acting b receives p = received b p.way p
 acting b loses p = record p { way = drop 1 p.way }
 
--- Only an assignment that does not hold then has a removal to miss.
+-- An assignment that holds after a step has missed no removal: it was made since.
 abbrev pub is_among : Remembered → List Remembered → Bool
 is_among r all = list_any (λ (one : Remembered). one.ri == r.ri && one.tei == r.tei) all
 
+abbrev pub over_of : List Remembered → List Remembered → List Remembered
+over_of hold all = filter (λ r. not (is_among r hold)) all
+
 abbrev pub missing : Bus → Step → Past → List Remembered
-missing b step p = filter (λ r. misses b p step r.tei && not (is_among r (network_of b (acting b step p)).hold)) (network_of b p).made
+missing b step p = filter (λ r. misses b p step r.tei) (network_of b p).made
 
 abbrev pub doing : Bus → Past → Step → Past
-doing b p step = record (acting b step p) { missed = p.missed ++ missing b step p }
+doing b p step = let now = acting b step p in record now { missed = over_of (network_of b now).hold (p.missed ++ missing b step p) }
 
 abbrev pub past_of : Bus → List Step → Past
 past_of b steps = fold (doing b) begun steps

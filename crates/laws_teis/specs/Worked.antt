@@ -1,5 +1,5 @@
 -- Worked runs: a terminal that is assigned a TEI, one that misses its removal, and two that have one TEI.
-use Rattle.std.specs.Prelude.{◌≡◌, ℕ, true, List, [], ◌∷◌, ◌++◌, Some, refl, ◌<◌, ◌==◌, ◌&&◌, Bool, All}
+use Rattle.std.specs.Prelude.{◌≡◌, ℕ, true, false, List, [], ◌∷◌, ◌++◌, Some, refl, ◌<◌, ◌==◌, ◌&&◌, Bool, All}
 use Rattle.std.proofs.Common.{eqb-true, subst, sym}
 use Rattle.std.proofs.lemmas.Bool.{and_parts, ltb-true}
 use Rattle.std.proofs.lemmas.List.Elements.{All-cons, All-nil}
@@ -21,6 +21,7 @@ use Rattle.model_card.specs.Run.{moments, after_all}
 use Rattle.laws_line.specs.card.Worked.{usual, on_0}
 use Rattle.laws_teis.specs.Bus.{Bus, Past, Step, network, terminal, receives, loses, past_of, network_of, removal_comes}
 use Rattle.laws_teis.specs.Assignments.{CanMeet, IsThere, given_to}
+use Rattle.laws_teis.specs.TwoTerminals.{is_older}
 
 -- A network's line, and terminals with the seeds 0x1234 and 0x4321.
 abbrev seeded : ℕ → Config
@@ -129,6 +130,14 @@ never_sent : (known_after unanswered).missed ≡ first ∷ []
 unfolding moments after_all lines.after lines.answer lines.takes_slot teis.course teis.refusal terminals.course exchanged read_by reading header_of control_of unnumbered_of
 never_sent = refl
 
+-- The same assignment is made anew, so it misses none.
+abbrev anew : List Step
+anew = removed ++ sends ∷ loses ∷ request_comes 0x12 0x34 ∷ []
+
+anew_misses_none : (known_after anew).missed ≡ []
+unfolding moments after_all lines.after lines.answer lines.takes_slot teis.course teis.refusal terminals.course exchanged read_by reading header_of control_of unnumbered_of
+anew_misses_none = refl
+
 -- Another terminal with the same seed asks by the same number: one answer is for both, and both have TEI 64 by 0x1234.
 abbrev same_seed : List Step
 same_seed = asks ∷ request_comes 0x12 0x34 ∷ sends ∷ loses ∷ request_comes 0x12 0x34 ∷ sends ∷ receives ∷ []
@@ -165,6 +174,17 @@ one_tei = refl
 first_missed_it : (known_after of_first).missed ≡ first ∷ []
 unfolding moments after_all lines.after lines.answer lines.takes_slot teis.course teis.refusal terminals.course exchanged read_by reading header_of control_of unnumbered_of
 first_missed_it = refl
+
+-- So the first is older, unless the network makes it anew.
+first_is_older : is_older first second (network_of (bus 0x1234) (known_after of_first)).made ≡ true
+unfolding moments after_all lines.after lines.answer lines.takes_slot teis.course teis.refusal terminals.course exchanged read_by reading header_of control_of unnumbered_of
+first_is_older = refl
+
+second_is_older : is_older second first (first ∷ second ∷ first ∷ []) ≡ true
+second_is_older = refl
+
+first_is_not : is_older first second (first ∷ second ∷ first ∷ []) ≡ false
+first_is_not = refl
 
 -- The removal may be lost after TEI 64 is assigned anew. The later assignment misses none, as it holds.
 abbrev late : List Step

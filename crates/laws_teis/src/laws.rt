@@ -25,8 +25,10 @@ pub fn assignments_hold()
 
 /// Two terminals on one bus differ. Each hears one line of the network as in [`assignments_hold`]: each frame of it
 /// comes to each terminal, or is lost for it alone. Both are told one TEI as assigned, and have had it on their lines
-/// since. Then both asked for it by one reference number; or for one of them the assignment is over, and the message
-/// that removes the TEI is still to come to it, or it missed one (Q.921 clauses 5.3.2 and 5.3.4, and profile).
+/// since. Then both asked for it by one reference number; or for the one whose assignment is older it is over, and the
+/// message that removes the TEI is still to come to it, or it missed one (Q.921 clauses 5.3.2 and 5.3.4, and profile).
+///
+/// An assignment is older if the network made the other after it made this one for the last time.
 ///
 /// Two that ask by one number may both be assigned one TEI. So each needs a seed of its own.
 pub fn two_terminals_differ()

@@ -130,7 +130,7 @@ acting b (terminal e) p = if e.line == b.line && is_heard e.what then p else rec
 acting b receives p = received b p.way p
 acting b loses p = record p { way = drop 1 p.way }
 
--- An assignment that holds after a step has missed no removal: it was made since.
+-- Only an assignment that does not hold after the step has missed a removal.
 abbrev pub is_among : Remembered → List Remembered → Bool
 is_among r all = list_any (λ (one : Remembered). one.ri == r.ri && one.tei == r.tei) all
 

@@ -3,9 +3,10 @@
  *
  * A card takes what comes from its lines and answers with notes for layer 3, orders for timers, and what to send. It
  * is the network's side of its lines or, where `side` of its configuration says so, the user's: a private exchange's
- * end of a trunk. It is one of two kinds, as its start says. If a driver gives and takes whole frames, it is a card of
- * frames: lapd_card_start_frames. Drivers do so over every controller that has flags, stuffed 0s and checks in hardware.
- * If a driver gives and takes the octets of the bit stream, it is a card of octets: lapd_card_start.
+ * end of a trunk, or a terminal, whose TEIs the network assigns. It is one of two kinds, as its start says. If a driver
+ * gives and takes whole frames, it is a card of frames: lapd_card_start_frames. Drivers do so over every controller that
+ * has flags, stuffed 0s and checks in hardware. If a driver gives and takes the octets of the bit stream, it is a card of
+ * octets: lapd_card_start.
  *
  * A card has no callbacks, starts no thread, prints nothing, sets no errno, and takes memory in its start alone, as a
  * clock does. The library comes in two ways, with this header for both:
@@ -118,16 +119,17 @@ enum {
 
     /* A request was refused: the first of these that holds, and LAPD_REFUSED_WRONG_SIDE before all. Nothing has changed. */
     LAPD_REFUSED_BAD_TEI = 1,       /* the TEI is over 126 (for disown, and for unit data on the network's side, over 127) */
-    LAPD_REFUSED_NO_LINK = 2,       /* the TEI is not on the line (not for assign, disown, nor unit data to 127) */
+    LAPD_REFUSED_NO_LINK = 2,       /* the TEI is not on the line (not for assign, disown, ask, nor unit data to 127) */
     LAPD_REFUSED_WRONG_STATE = 3,   /* the state of the link does not serve the request */
     LAPD_REFUSED_TOO_LONG = 4,      /* the contents are longer than n201 */
     LAPD_REFUSED_QUEUE_FULL = 5,    /* the link's queue is full, or the line's queue of unit data */
     LAPD_REFUSED_POOL_FULL = 6,     /* as many contents wait on the card as it has slots */
     LAPD_REFUSED_TEI_TAKEN = 7,     /* the TEI is on the line already; or all are to be disowned, and one is */
     LAPD_REFUSED_TABLE_FULL = 8,    /* the line has as many TEIs as it may have */
-    LAPD_REFUSED_CHECK_RUNNING = 9, /* an identity check is running on the line */
-    LAPD_REFUSED_CONTROL_FULL = 10, /* no room for one more message of TEI management */
-    LAPD_REFUSED_WRONG_SIDE = 29,   /* only the network's side removes, checks and disowns TEIs */
+    LAPD_REFUSED_CHECK_RUNNING = 9, /* an identity check is running on the line; of a terminal, it asks or verifies */
+    LAPD_REFUSED_CONTROL_FULL = 10, /* no room for one more message of TEI management; never at a terminal */
+    LAPD_REFUSED_WRONG_SIDE = 29,   /* the card's side does not ask so. The network's side alone checks and disowns, a
+                                       terminal alone asks and verifies, and both remove: LAPD_USER does none of these */
 
     /* A wrong call. Nothing has changed. */
     LAPD_NO_CARD = 11,       /* no card is there: it was not started, or was freed */
@@ -136,7 +138,7 @@ enum {
     LAPD_WRONG_LINE = 14,    /* the card, or the clock, has no such line */
     LAPD_WRONG_SERVICE = 15, /* neither LAPD_CALL nor LAPD_PACKET */
     LAPD_WRONG_TEI = 16,     /* a TEI over 126 */
-    LAPD_WRONG_TIMER = 17,   /* none of LAPD_T200, LAPD_T203 and LAPD_T201 */
+    LAPD_WRONG_TIMER = 17,   /* none of LAPD_T200, LAPD_T203, LAPD_T201 and LAPD_T202 */
     LAPD_WRONG_REQUEST = 18, /* none of the requests */
     LAPD_WRONG_LENGTH = 19,  /* contents of a request that has none; an exchange of two lengths, or beyond them; or too
                                 little room for a frame */
@@ -186,13 +188,17 @@ typedef struct lapd_config {
     uint16_t slots;      /* contents that wait on the whole card: 1 to 8192 */
     uint16_t n201;       /* octets of an information field at most: 8 to 260 (clause 5.9.3) */
     uint16_t n200;       /* how often a command is repeated: 0 to 10 (clause 5.9.2) */
-    uint16_t side;       /* which side of its lines the card is: LAPD_NETWORK or LAPD_USER */
+    uint16_t side;       /* which side of its lines the card is: LAPD_NETWORK, LAPD_USER or LAPD_TERMINAL */
+    uint16_t seed;       /* of a terminal: its first reference number, 0 to 65,535, from a source of random numbers. By these
+                            numbers alone the network tells terminals apart that ask. Each line begins with it, so no two
+                            lines of a card may share a bus. Of the other sides it is not read */
     uint16_t sapi;       /* the SAPI of the second service, LAPD_PACKET: 1 to 62; 0 means 16 (clause 3.3.3) */
 } lapd_config;
 
 enum {
     LAPD_NETWORK = 0, /* the exchange */
-    LAPD_USER = 1     /* a private exchange (PBX), or a terminal whose TEI the network does not assign */
+    LAPD_USER = 1,    /* a private exchange (PBX), or a terminal whose TEI the network does not assign */
+    LAPD_TERMINAL = 2 /* a terminal, whose TEIs the network assigns, checks and removes (clause 5.3) */
 };
 
 /* ---- What is told ----------------------------------------------------------------------------------------------- */
@@ -203,7 +209,8 @@ enum {
 };
 
 enum {
-    LAPD_GROUP_TEI = 127,   /* the TEI of all terminals of a line, for unit data of the network's side, and for disown */
+    LAPD_GROUP_TEI = 127,   /* the TEI of all terminals of a line, for unit data of the network's side, and for disown; and
+                               that of a note of TEI management that names none */
     LAPD_MOST_NOTES = 4,    /* no event tells more notes */
     LAPD_MOST_ORDERS = 4,   /* nor gives more orders */
     LAPD_MOST_OCTETS = 260, /* no configuration allows longer contents */
@@ -222,31 +229,37 @@ enum {
     LAPD_DATA_INDICATION = 5,      /* the report's contents came in an I-frame, in order */
     LAPD_UNIT_INDICATION = 6,      /* the report's contents came in a UI frame; on the user's side also to the group */
     LAPD_ERROR_INDICATION = 7,     /* an error, for layer management; its letter is in the note */
-    LAPD_ASSIGNED = 8,             /* TEI management gave the TEI to a terminal that asked for one */
-    LAPD_REMOVED = 9,              /* no terminal has the TEI any more: it left the line */
+    LAPD_ASSIGNED = 8,             /* TEI management gave the TEI to a terminal that asked for one; at a terminal, to it */
+    LAPD_REMOVED = 9,              /* no terminal has the TEI any more: it left the line; at a terminal, the network removed
+                                      it, or answered no verify of it */
     LAPD_DOUBLED = 10,             /* two terminals had the TEI: it left the line */
-    LAPD_XID_INDICATION = 11       /* an XID frame came; it is not answered */
+    LAPD_XID_INDICATION = 11,      /* an XID frame came; it is not answered */
+    LAPD_DENIED = 12,              /* at a terminal: the network has no TEI for it now. It goes on asking (clause 5.3.2) */
+    LAPD_UNASSIGNED = 13,          /* at a terminal: three requests brought no TEI. It has stopped asking (clause 5.3.2.1) */
+    LAPD_REMOVE_ALL = 14           /* at a terminal: the network removes all its TEIs, and more than one is on the line. They
+                                      are still there: take each off by lapd_remove (clause 5.3.4) */
 };
 
 /* A note for layer 3 or management. */
 typedef struct lapd_note {
-    uint8_t note;    /* LAPD_ESTABLISH_INDICATION to LAPD_XID_INDICATION */
-    uint8_t service; /* LAPD_CALL or LAPD_PACKET; LAPD_CALL for assigned, removed and doubled, which are of both */
-    uint8_t tei;     /* the TEI that it is about */
+    uint8_t note;    /* LAPD_ESTABLISH_INDICATION to LAPD_REMOVE_ALL */
+    uint8_t service; /* LAPD_CALL or LAPD_PACKET; LAPD_CALL for notes of TEI management, which are of both */
+    uint8_t tei;     /* the TEI that it is about; LAPD_GROUP_TEI for denied, unassigned and remove-all */
     uint8_t error;   /* of LAPD_ERROR_INDICATION: the letter, 'A' to 'O' without 'M'; otherwise 0 */
 } lapd_note;
 
 enum {
     LAPD_T200 = 1, /* an answer or an acknowledgement is awaited; 1,000 ms by default (clause 5.9.1) */
     LAPD_T203 = 2, /* the longest time without frames; 10,000 ms by default (clause 5.9.8) */
-    LAPD_T201 = 3  /* responses to an identity check are awaited; 1,000 ms by default (clause 5.9.6) */
+    LAPD_T201 = 3, /* responses to an identity check are awaited; 1,000 ms by default (clause 5.9.6) */
+    LAPD_T202 = 4  /* at a terminal: an answer to a request or a verify is awaited; 2,000 ms by default (clause 5.9.7) */
 };
 
 /* A timer of a line. */
 typedef struct lapd_timer {
-    uint8_t timer;   /* LAPD_T200, LAPD_T203 or LAPD_T201 */
-    uint8_t service; /* of the link, for T200 and T203; told as 0 for T201, and not read then */
-    uint8_t tei;     /* of the link, for T200 and T203: 0 to 126; told as 0 for T201, and not read then */
+    uint8_t timer;   /* LAPD_T200, LAPD_T203, LAPD_T201 or LAPD_T202 */
+    uint8_t service; /* of the link, for T200 and T203; told as 0 for T201 and T202, and not read then */
+    uint8_t tei;     /* of the link, for T200 and T203: 0 to 126; told as 0 for T201 and T202, and not read then */
 } lapd_timer;
 
 enum {
@@ -336,12 +349,14 @@ LAPD_STATUS lapd_card_start(lapd_card *card, const lapd_config *config);
 /* Starts a card of frames in the same way. It takes less memory, as no line of it has room for a frame on its way. */
 LAPD_STATUS lapd_card_start_frames(lapd_card *card, const lapd_config *config);
 
-/* How long timers run, in milliseconds, 1 to 3,600,000 each: T200 and T203 of each link, and T201 of each line (clauses
- * 5.9.1, 5.9.8 and 5.9.6; by default 1,000, 10,000 and 1,000). */
+/* How long timers run, in milliseconds, 1 to 3,600,000 each, at each side: T200 and T203 of each link, T201 of each line, and
+ * T202 of each line of a terminal (clauses 5.9.1, 5.9.8, 5.9.6 and 5.9.7). By default they are 1,000, 10,000, 1,000 and
+ * 2,000. */
 typedef struct lapd_lengths {
     uint32_t t200;
     uint32_t t203;
     uint32_t t201;
+    uint32_t t202;
 } lapd_lengths;
 
 /*
@@ -450,12 +465,14 @@ enum {
     LAPD_READY = 9,     /* take I-frames again */
     LAPD_DEACTIVATE = 10, /* the line is down: give the link up (annex B, persistent deactivation) */
     LAPD_DOWN = 11,       /* the line is down: give up what waits on it and is of no link (annex B) */
-    LAPD_DISOWN = 12      /* a TEI that is not on the line, or 127 for all: its terminals give it up (clause 5.3.4) */
+    LAPD_DISOWN = 12,     /* a TEI that is not on the line, or 127 for all: its terminals give it up (clause 5.3.4) */
+    LAPD_ASK_TEI = 13,    /* a terminal asks the network for a TEI (clause 5.3.2) */
+    LAPD_VERIFY_TEI = 14  /* a terminal asks the network to check its TEI (clause 5.3.5) */
 };
 
 /* Asks for something at a line; the contents are copied. LAPD_REFUSED_BAD_TEI to LAPD_REFUSED_CONTROL_FULL, or
- * LAPD_REFUSED_WRONG_SIDE: it is refused. The service is LAPD_CALL or LAPD_PACKET in each, though assign, remove,
- * check and disown are about both, and LAPD_DOWN about the line, which reads no TEI either; the length is 0 except for
+ * LAPD_REFUSED_WRONG_SIDE: it is refused. The service is LAPD_CALL or LAPD_PACKET in each, though those of TEI management
+ * are about both, and LAPD_DOWN about the line. LAPD_DOWN and LAPD_ASK_TEI read no TEI either. The length is 0 except for
  * LAPD_DATA and LAPD_UNIT. The contents lie outside of *report; if they are those of the report itself, ask by lapd_data
  * or lapd_unit. */
 LAPD_STATUS lapd_request(lapd_card *card, uint32_t line, uint8_t request, uint8_t service, uint8_t tei,
@@ -466,7 +483,7 @@ LAPD_STATUS lapd_request(lapd_card *card, uint32_t line, uint8_t request, uint8_
 /*
  * The time is now a moment, in milliseconds from any origin; and the timer that is due first, if one is, expires: the report
  * tells what that led to, at its line. So call it until it answers LAPD_NO_TIMER: then nothing is due, and calls happen at
- * this moment. At one moment: by line, then T200 before T203 before T201, by TEI, and call control before packet.
+ * this moment. At one moment: by line, then T200 before T203 before T201 or T202, by TEI, and call control before packet.
  * LAPD_WRONG_TIME: a moment before the last one, or 2^63 and later, and nothing has changed. Nothing falls due until the last
  * moment has come again, so take a clock that is never set back, and look at the status that ends the loop.
  */
@@ -567,18 +584,19 @@ enum {
     /* other notes */
     LAPD_TOLD_ESTABLISH_INDICATION = 51, LAPD_TOLD_ESTABLISH_CONFIRM = 52, LAPD_TOLD_RELEASE_INDICATION = 53,
     LAPD_TOLD_RELEASE_CONFIRM = 54, LAPD_TOLD_DATA = 55, LAPD_TOLD_UNIT = 56, LAPD_TOLD_XID = 57,
-    LAPD_TOLD_ASSIGNED = 58, LAPD_TOLD_REMOVED = 59, LAPD_TOLD_DOUBLED = 60,
+    LAPD_TOLD_ASSIGNED = 58, LAPD_TOLD_REMOVED = 59, LAPD_TOLD_DOUBLED = 60, LAPD_TOLD_DENIED = 61,
+    LAPD_TOLD_UNASSIGNED = 62, LAPD_TOLD_REMOVE_ALL = 63,
     /* control frames and messages that found no room to wait */
-    LAPD_LOST = 61,
+    LAPD_LOST = 64,
     /* messages of TEI management heard and begun (clause 5.3.1, table 8), by their type. They are the UI frames above with
      * SAPI 63 and FF as the second octet (TEI 127 and its extension bit) whose information begins with the entity identifier 15,
      * well formed or not, served or not. The network's side begins those that assign, deny, check
-     * and remove, and hears the others */
-    LAPD_HEARD_REQUEST = 62, LAPD_HEARD_ASSIGNED = 63, LAPD_HEARD_DENIED = 64, LAPD_HEARD_CHECK_REQUEST = 65,
-    LAPD_HEARD_CHECK_RESPONSE = 66, LAPD_HEARD_REMOVE = 67, LAPD_HEARD_VERIFY = 68,
-    LAPD_BEGUN_REQUEST = 69, LAPD_BEGUN_ASSIGNED = 70, LAPD_BEGUN_DENIED = 71, LAPD_BEGUN_CHECK_REQUEST = 72,
-    LAPD_BEGUN_CHECK_RESPONSE = 73, LAPD_BEGUN_REMOVE = 74, LAPD_BEGUN_VERIFY = 75,
-    LAPD_COUNTERS = 76
+     * and remove, and hears the others; a terminal begins the others */
+    LAPD_HEARD_REQUEST = 65, LAPD_HEARD_ASSIGNED = 66, LAPD_HEARD_DENIED = 67, LAPD_HEARD_CHECK_REQUEST = 68,
+    LAPD_HEARD_CHECK_RESPONSE = 69, LAPD_HEARD_REMOVE = 70, LAPD_HEARD_VERIFY = 71,
+    LAPD_BEGUN_REQUEST = 72, LAPD_BEGUN_ASSIGNED = 73, LAPD_BEGUN_DENIED = 74, LAPD_BEGUN_CHECK_REQUEST = 75,
+    LAPD_BEGUN_CHECK_RESPONSE = 76, LAPD_BEGUN_REMOVE = 77, LAPD_BEGUN_VERIFY = 78,
+    LAPD_COUNTERS = 79
 };
 
 /* As the call has the same name, it is `struct lapd_counters` also in C++. While the major version stays, it has these
@@ -604,15 +622,16 @@ LAPD_STATUS lapd_lines(lapd_card *card, uint32_t *lines);
 /* ---- A frame in words ------------------------------------------------------------------------------------------- */
 
 /*
- * What octets say, without a check, as a side sent them (LAPD_NETWORK or LAPD_USER), for a log: in front of `text`, which ends
- * with a 0, the first line that `lapdsim frame` prints of them. What is no frame has the line that tells why.
+ * What octets say, without a check, as a side sent them (LAPD_NETWORK, LAPD_USER or, the same, LAPD_TERMINAL), for a log:
+ * in front of `text`, which ends with a 0, the first line that `lapdsim frame` prints of them. What is no frame has the line
+ * that tells why.
  *
  *     sapi 0 tei 64 command i ns 1 nr 2 p 0 info 0801          an I-frame of the user's side
  *     sapi 0 tei 64 response ua f 1 info -                     UA of the network's side
  *     frame: bad extension                                     and so: short, undefined, wrong size
  *
  * LAPD_WRONG_LENGTH: `length` is over 1,028, or `room` is too small; 64 and twice the length are enough, so LAPD_MOST_TEXT
- * for each frame that a card takes or gives. LAPD_BAD_SIDE: it is neither side. Nothing is written then. It is of no card, takes
+ * for each frame that a card takes or gives. LAPD_BAD_SIDE: it is no side. Nothing is written then. It is of no card, takes
  * no memory, and may be called at any time; of lapd.c it takes 24 KB of stack.
  */
 LAPD_STATUS lapd_frame_text(const uint8_t *octets, size_t length, uint16_t side, char *text, size_t room);
@@ -641,10 +660,10 @@ typedef struct lapd_due {
  * LAPD_SECOND_START, the first bad field or LAPD_NO_MEMORY: there is no other clock than before. */
 LAPD_STATUS lapd_clock_start(lapd_clock *clock, const lapd_config *config);
 
-/* How long timers run that are started from now on, in milliseconds, 1 to 3,600,000 each: T200 and T203 of each link, and
- * T201 of each line. Those that run keep their moments. A clock begins with 1,000, 10,000 and 1,000 (clauses 5.9.1, 5.9.8
- * and 5.9.6). LAPD_WRONG_TIME: one is out of range, and nothing has changed. */
-LAPD_STATUS lapd_clock_set_lengths(lapd_clock *clock, uint32_t t200, uint32_t t203, uint32_t t201);
+/* How long timers run that are started from now on, in milliseconds, 1 to 3,600,000 each: T200 and T203 of each link, T201 of
+ * each line, and T202 of each line of a terminal. Those that run keep their moments. A clock begins with 1,000, 10,000, 1,000
+ * and 2,000 (clauses 5.9.1, 5.9.8, 5.9.6 and 5.9.7). LAPD_WRONG_TIME: one is out of range, and nothing has changed. */
+LAPD_STATUS lapd_clock_set_lengths(lapd_clock *clock, uint32_t t200, uint32_t t203, uint32_t t201, uint32_t t202);
 
 /* Ends a clock and gives back all memory that its start took. LAPD_NO_CLOCK: nothing happens. */
 LAPD_STATUS lapd_clock_free(lapd_clock *clock);
@@ -657,8 +676,8 @@ LAPD_STATUS lapd_clock_apply(lapd_clock *clock, uint32_t line, const lapd_order 
  * LAPD_NO_PLACE: at least one found no place; the others were carried out. */
 LAPD_STATUS lapd_clock_apply_report(lapd_clock *clock, uint32_t line, const lapd_report *report, uint64_t now);
 
-/* Takes out the timer that falls due first, where its moment is not after `now`; hand it to lapd_expire. At one moment:
- * by line, then T200 before T203 before T201, by TEI, and call control before packet. LAPD_NO_TIMER: none is due. */
+/* Takes out the timer that falls due first, if its moment is not after `now`; hand it to lapd_expire. At one moment: by
+ * line, then T200 before T203 before T201 or T202, by TEI, and call control before packet. LAPD_NO_TIMER: none is due. */
 LAPD_STATUS lapd_clock_due(lapd_clock *clock, uint64_t now, lapd_due *due);
 
 /* The moment of the timer that falls due first, due or not. LAPD_NO_TIMER: none runs. */
@@ -708,7 +727,7 @@ LAPD_INLINE uint64_t lapd_card_octets(const lapd_config *config) {
 
 /* The same of a card that keeps its own timers: one of frames, one of octets. */
 LAPD_INLINE uint64_t lapd_card_octets_frames_timed(const lapd_config *config) {
-    uint64_t places = config->lines * (4u * config->terminals + 1u);
+    uint64_t places = config->lines * (4u * config->terminals + 2u);
     return lapd_card_octets_frames(config) + lapd_block_octets(24 * places) + lapd_block_octets(96);
 }
 
@@ -776,12 +795,13 @@ LAPD_INLINE_STATUS lapd_assign(lapd_card *card, uint32_t line, uint8_t tei, lapd
     return lapd_request_with(card, line, LAPD_ASSIGN, LAPD_CALL, tei, LAPD_NULL, 0, report);
 }
 
-/* Takes the TEI from the line (MDL-REMOVE request). Of the network's side alone: LAPD_REFUSED_WRONG_SIDE. */
+/* Takes the TEI from the line (MDL-REMOVE request). The network's side sends a message then. A terminal sends none, is not told
+ * LAPD_REMOVED, and stops verifying this TEI. LAPD_REFUSED_WRONG_SIDE: of LAPD_USER. */
 LAPD_INLINE_STATUS lapd_remove(lapd_card *card, uint32_t line, uint8_t tei, lapd_report *report) {
     return lapd_request_with(card, line, LAPD_REMOVE, LAPD_CALL, tei, LAPD_NULL, 0, report);
 }
 
-/* Asks the terminals of the line who has the TEI. Of the network's side alone: LAPD_REFUSED_WRONG_SIDE. */
+/* Asks the terminals of the line who has the TEI. Of the network's side alone: otherwise LAPD_REFUSED_WRONG_SIDE. */
 LAPD_INLINE_STATUS lapd_check(lapd_card *card, uint32_t line, uint8_t tei, lapd_report *report) {
     return lapd_request_with(card, line, LAPD_CHECK, LAPD_CALL, tei, LAPD_NULL, 0, report);
 }
@@ -791,6 +811,30 @@ LAPD_INLINE_STATUS lapd_check(lapd_card *card, uint32_t line, uint8_t tei, lapd_
  * network's side alone: LAPD_REFUSED_WRONG_SIDE. */
 LAPD_INLINE_STATUS lapd_disown(lapd_card *card, uint32_t line, uint8_t tei, lapd_report *report) {
     return lapd_request_with(card, line, LAPD_DISOWN, LAPD_CALL, tei, LAPD_NULL, 0, report);
+}
+
+/*
+ * A terminal asks the network for a TEI: as layer 3 wants its first link, and again after LAPD_UNASSIGNED or LAPD_REMOVED.
+ * The message goes with the next frames, and T202 runs until the network has answered. The answer is told as LAPD_ASSIGNED,
+ * with the TEI that is on the line then. Without one it asks again as T202 expires, with another reference number; after
+ * three times LAPD_UNASSIGNED ends it. LAPD_DENIED is told besides, and ends nothing.
+ * LAPD_REFUSED_WRONG_SIDE: the card is no terminal. LAPD_REFUSED_TABLE_FULL: `terminals` TEIs are on the line.
+ * LAPD_REFUSED_CHECK_RUNNING: it asks already, or verifies a TEI.
+ */
+LAPD_INLINE_STATUS lapd_ask_tei(lapd_card *card, uint32_t line, lapd_report *report) {
+    return lapd_request_with(card, line, LAPD_ASK_TEI, LAPD_CALL, LAPD_GROUP_TEI, LAPD_NULL, 0, report);
+}
+
+/*
+ * A terminal asks the network to check a TEI of its own, which another terminal may have, too (clause 5.3.5). A check request
+ * of the network for it ends this, and the terminal answers it. If none comes until T202 has expired twice, the TEI leaves
+ * the line: LAPD_REMOVED. A terminal verifies by itself when it hears that a TEI of its own is assigned, unless it asks or
+ * verifies already.
+ * LAPD_REFUSED_WRONG_SIDE: the card is no terminal. LAPD_REFUSED_BAD_TEI: the TEI is over 126. LAPD_REFUSED_NO_LINK: it is
+ * not on the line. LAPD_REFUSED_CHECK_RUNNING: the terminal asks for a TEI, or verifies one.
+ */
+LAPD_INLINE_STATUS lapd_verify_tei(lapd_card *card, uint32_t line, uint8_t tei, lapd_report *report) {
+    return lapd_request_with(card, line, LAPD_VERIFY_TEI, LAPD_CALL, tei, LAPD_NULL, 0, report);
 }
 
 /* Layer 3 can take no data of the link for now. */
@@ -805,8 +849,8 @@ LAPD_INLINE_STATUS lapd_ready(lapd_card *card, uint32_t line, uint8_t service, u
 
 /* The line is down, for example as layer 1 lost its synchronization: gives the link up, in each state, with all contents and
  * control frames that wait on it. It is in state 4 then, its timer stops, and its release is told as its state has it. The
- * TEI stays, unless a check of it that runs takes it off the line; unit data and messages of the line go on waiting, which
- * lapd_line_down gives up, too. LAPD_REFUSED_BAD_TEI and LAPD_REFUSED_NO_LINK alone refuse it. */
+ * TEI stays, unless a check or a verify of it that runs takes it off the line; unit data and messages of the line go on
+ * waiting, which lapd_line_down gives up, too. LAPD_REFUSED_BAD_TEI and LAPD_REFUSED_NO_LINK alone refuse it. */
 LAPD_INLINE_STATUS lapd_deactivate(lapd_card *card, uint32_t line, uint8_t service, uint8_t tei, lapd_report *report) {
     return lapd_request_with(card, line, LAPD_DEACTIVATE, service, tei, LAPD_NULL, 0, report);
 }
@@ -815,7 +859,8 @@ LAPD_INLINE_STATUS lapd_deactivate(lapd_card *card, uint32_t line, uint8_t servi
  * The same of a whole line, a link a call, since a report has no room for the releases of all: gives up the next link from a
  * place on, which is 0 for the first, and afterwards as the call leaves it. After the last link one call (LAPD_DOWN) gives
  * up what waits on the line and is of none: unit data, and messages of TEI management. A check that runs ends without a
- * result, and its timer stops; that is the order of that report, except at a card that keeps its own timers.
+ * result, and so does what a terminal asks or verifies. Its timer stops; that is the order of that report, except at a card
+ * that keeps its own timers.
  * LAPD_NO_MORE_LINKS: the line is down, after two calls for each of its TEIs, and one more, if nothing else was asked or heard
  * there meanwhile. The TEIs stay. Begin again at 0 when the line goes down the next time.
  *
@@ -901,6 +946,9 @@ LAPD_INLINE const char *lapd_note_text(const lapd_note *note) {
     case LAPD_REMOVED: return "removed";
     case LAPD_DOUBLED: return "doubled";
     case LAPD_XID_INDICATION: return packet ? "xid-16" : "xid";
+    case LAPD_DENIED: return "denied";
+    case LAPD_UNASSIGNED: return "unassigned";
+    case LAPD_REMOVE_ALL: return "remove-all";
     default: return "unknown note";
     }
 }
@@ -932,7 +980,8 @@ LAPD_INLINE const char *lapd_counter_text(unsigned place) {
         "dropped-unserved", "errors-a", "errors-b", "errors-c", "errors-d", "errors-e", "errors-f", "errors-g",
         "errors-h", "errors-i", "errors-j", "errors-k", "errors-l", "errors-n", "errors-o",
         "told-establish-indication", "told-establish-confirm", "told-release-indication", "told-release-confirm",
-        "told-data", "told-unit", "told-xid", "told-assigned", "told-removed", "told-doubled", "lost",
+        "told-data", "told-unit", "told-xid", "told-assigned", "told-removed", "told-doubled", "told-denied",
+        "told-unassigned", "told-remove-all", "lost",
         "heard-request", "heard-assigned", "heard-denied", "heard-check-request", "heard-check-response", "heard-remove",
         "heard-verify", "begun-request", "begun-assigned", "begun-denied", "begun-check-request", "begun-check-response",
         "begun-remove", "begun-verify",

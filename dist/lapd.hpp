@@ -150,10 +150,13 @@ enum class note_kind : uint8_t {
     assigned = LAPD_ASSIGNED,
     removed = LAPD_REMOVED,
     doubled = LAPD_DOUBLED,
-    xid_indication = LAPD_XID_INDICATION
+    xid_indication = LAPD_XID_INDICATION,
+    denied = LAPD_DENIED,
+    unassigned = LAPD_UNASSIGNED,
+    remove_all = LAPD_REMOVE_ALL
 };
 
-enum class timer_kind : uint8_t { t200 = LAPD_T200, t203 = LAPD_T203, t201 = LAPD_T201 };
+enum class timer_kind : uint8_t { t200 = LAPD_T200, t203 = LAPD_T203, t201 = LAPD_T201, t202 = LAPD_T202 };
 
 enum class order_kind : uint8_t { start = LAPD_START, stop = LAPD_STOP };
 
@@ -182,8 +185,8 @@ enum class state : uint8_t {
 inline const char *text(status of) { return lapd_status_text(static_cast<uint32_t>(of)); }
 inline const char *text(cause of) { return lapd_cause_text(static_cast<uint8_t>(of)); }
 
-/// What octets say, without a check, as a side sent them (LAPD_NETWORK or LAPD_USER): the first line that `lapdsim frame` prints
-/// of them, in front of the room, with a 0 at its end. LAPD_MOST_TEXT is room for each frame of a card.
+/// What octets say, without a check, as a side sent them (LAPD_NETWORK, LAPD_USER or LAPD_TERMINAL): the first line that
+/// `lapdsim frame` prints of them, in front of the room, with a 0 at its end. LAPD_MOST_TEXT is room for each frame of a card.
 inline status frame_text(octets of, uint16_t side, span<char> to) {
     return static_cast<status>(lapd_frame_text(at(of), of.size(), side, at(to), to.size()));
 }
@@ -305,6 +308,9 @@ public:
     status remove(uint32_t line, uint8_t tei, report &to) { return of(lapd_remove(&card_, line, tei, to.raw())); }
     status check(uint32_t line, uint8_t tei, report &to) { return of(lapd_check(&card_, line, tei, to.raw())); }
     status disown(uint32_t line, uint8_t tei, report &to) { return of(lapd_disown(&card_, line, tei, to.raw())); }
+    /// Of a terminal: it asks the network for a TEI, or to check one of its own; at another status::refused_wrong_side.
+    status ask_tei(uint32_t line, report &to) { return of(lapd_ask_tei(&card_, line, to.raw())); }
+    status verify_tei(uint32_t line, uint8_t tei, report &to) { return of(lapd_verify_tei(&card_, line, tei, to.raw())); }
     status busy(uint32_t line, service by, uint8_t tei, report &to) {
         return of(lapd_busy(&card_, line, number(by), tei, to.raw()));
     }
@@ -414,8 +420,8 @@ public:
 
     status start(const lapd_config &config) { return of(lapd_clock_start(&clock_, &config)); }
     status end() { return of(lapd_clock_free(&clock_)); }
-    status set_lengths(uint32_t t200, uint32_t t203, uint32_t t201) {
-        return of(lapd_clock_set_lengths(&clock_, t200, t203, t201));
+    status set_lengths(uint32_t t200, uint32_t t203, uint32_t t201, uint32_t t202 = 2000) {
+        return of(lapd_clock_set_lengths(&clock_, t200, t203, t201, t202));
     }
     status apply(uint32_t line, const order &one, uint64_t now) {
         const lapd_order raw = one.raw();

@@ -94,6 +94,7 @@ class Status(enum.IntEnum):
 class Side(enum.IntEnum):
     NETWORK = 0
     USER = 1
+    TERMINAL = 2
 
 
 class Service(enum.IntEnum):
@@ -113,12 +114,16 @@ class NoteKind(enum.IntEnum):
     REMOVED = 9
     DOUBLED = 10
     XID_INDICATION = 11
+    DENIED = 12
+    UNASSIGNED = 13
+    REMOVE_ALL = 14
 
 
 class TimerKind(enum.IntEnum):
     T200 = 1
     T203 = 2
     T201 = 3
+    T202 = 4
 
 
 class OrderKind(enum.IntEnum):
@@ -155,6 +160,8 @@ class Request(enum.IntEnum):
     DEACTIVATE = 10
     DOWN = 11
     DISOWN = 12
+    ASK_TEI = 13
+    VERIFY_TEI = 14
 
 
 class State(enum.IntEnum):
@@ -170,14 +177,14 @@ class State(enum.IntEnum):
 
 GROUP_TEI = 127
 MOST_NOTES, MOST_ORDERS, MOST_OCTETS, MOST_FRAME = 4, 4, 260, 264
-COUNTERS = 76
+COUNTERS = 79
 
 # ---- Structs of lapd.h ---------------------------------------------------------------------------------------------------
 
 
 class _Config(ctypes.Structure):
     _fields_ = [(name, ctypes.c_uint16) for name in ("lines", "terminals", "k", "k16", "queue", "unit_queue", "control",
-                                                     "slots", "n201", "n200", "side", "sapi")]
+                                                     "slots", "n201", "n200", "side", "seed", "sapi")]
 
 
 class _Note(ctypes.Structure):
@@ -201,7 +208,7 @@ class _Report(ctypes.Structure):
 
 
 class _Lengths(ctypes.Structure):
-    _fields_ = [(name, ctypes.c_uint32) for name in ("t200", "t203", "t201")]
+    _fields_ = [(name, ctypes.c_uint32) for name in ("t200", "t203", "t201", "t202")]
 
 
 class _Handle(ctypes.Structure):
@@ -249,7 +256,7 @@ _TAKES: Dict[str, List[Any]] = {
     "lapd_state": [_AT, _U32, _U8, _U8, _AT], "lapd_next_link": [_AT, _U32, _AT, _AT],
     "lapd_room": [_AT, _U32, _U8, _U8, _AT], "lapd_begun": [_AT, _U32, _AT], "lapd_heard": [_AT, _U32, _AT],
     "lapd_counters": [_AT, _U32, _AT], "lapd_stored": [_AT, _AT], "lapd_limit": [_AT, _AT], "lapd_lines": [_AT, _AT],
-    "lapd_clock_start": [_AT, _AT], "lapd_clock_set_lengths": [_AT, _U32, _U32, _U32], "lapd_clock_free": [_AT],
+    "lapd_clock_start": [_AT, _AT], "lapd_clock_set_lengths": [_AT, _U32, _U32, _U32, _U32], "lapd_clock_free": [_AT],
     "lapd_clock_apply_report": [_AT, _U32, _AT, _U64], "lapd_clock_due": [_AT, _U64, _AT], "lapd_clock_next": [_AT, _AT],
     "lapd_status_text": [_U32], "lapd_note_text": [_AT], "lapd_cause_text": [_U8], "lapd_counter_text": [_U32],
     "lapd_turned": [_U8], "lapd_frame_text": [_AT, _SIZE, ctypes.c_uint16, _AT, _SIZE],
@@ -361,10 +368,14 @@ class Config:
     n200: int
     side: Side = Side.NETWORK
     sapi: int = 0  # of the second service: 1 to 62; 0 means 16
+    seed: int = 0  # of a terminal: its first reference number, 0 to 65535, at random, as of random.randrange(65536)
 
     def _raw(self) -> _Config:
-        """A number that no field of the C struct holds is told as the largest, which is in no range."""
-        return _Config(*(it if 0 <= it <= 0xFFFF else 0xFFFF for it in dataclasses.astuple(self)))
+        """A number that no field of the C struct holds is told as the largest, which is in no range, except of the seed: there
+        each number is in range, and another raises a ValueError."""
+        _whole(ctypes.c_uint16, self.seed)
+        words = dataclasses.asdict(self)
+        return _Config(**{name: it if 0 <= it <= 0xFFFF else 0xFFFF for name, it in words.items()})
 
 
 class Note(NamedTuple):
@@ -539,6 +550,14 @@ class AnyCard(_Owner):
         """Tells the terminals of a TEI that is not on the line, or with 127 all, to give it up."""
         return self._ask(line, Request.DISOWN, Service.CALL, tei)
 
+    def ask_tei(self, line: int) -> Report:
+        """A terminal asks the network for a TEI."""
+        return self._ask(line, Request.ASK_TEI, Service.CALL, GROUP_TEI)
+
+    def verify_tei(self, line: int, tei: int) -> Report:
+        """A terminal asks the network to check a TEI of its own."""
+        return self._ask(line, Request.VERIFY_TEI, Service.CALL, tei)
+
     def busy(self, line: int, tei: int, service: Service = Service.CALL) -> Report:
         return self._ask(line, Request.BUSY, service, tei)
 
@@ -665,8 +684,8 @@ class _Timed(AnyCard):
     """What a card that keeps its own timers does besides: its reports have no orders. Its calls happen at the moment of
     `fall_due`, and at 0 before the first."""
 
-    def __init__(self, config: Config, t200: int = 1000, t203: int = 10000, t201: int = 1000) -> None:
-        self._lengths = _Lengths(*(_whole(_U32, it) for it in (t200, t203, t201)))
+    def __init__(self, config: Config, t200: int = 1000, t203: int = 10000, t201: int = 1000, t202: int = 2000) -> None:
+        self._lengths = _Lengths(*(_whole(_U32, it) for it in (t200, t203, t201, t202)))
         super().__init__(config)
 
     def _begin(self, config: Config) -> None:
@@ -707,8 +726,8 @@ class Clock(_Owner):
 
     _start, _free = "lapd_clock_start", "lapd_clock_free"
 
-    def set_lengths(self, t200: int, t203: int, t201: int) -> None:
-        _call("lapd_clock_set_lengths", self._at, t200, t203, t201)
+    def set_lengths(self, t200: int, t203: int, t201: int, t202: int = 2000) -> None:
+        _call("lapd_clock_set_lengths", self._at, t200, t203, t201, t202)
 
     def apply(self, line: int, report: Report, now: int) -> None:
         """Carries out the orders of a report, in order."""

@@ -215,10 +215,11 @@ LAPD_INLINE_STATUS lapd_checked_clock_start(lapd_clock *clock, const lapd_config
 }
 #define lapd_clock_start lapd_checked_clock_start
 
-LAPD_INLINE_STATUS lapd_checked_clock_set_lengths(lapd_clock *clock, uint32_t t200, uint32_t t203, uint32_t t201) {
+LAPD_INLINE_STATUS lapd_checked_clock_set_lengths(lapd_clock *clock, uint32_t t200, uint32_t t203, uint32_t t201,
+                                                  uint32_t t202) {
     if (clock == LAPD_NULL)
         return LAPD_WRONG_POINTER;
-    return lapd_clock_set_lengths(clock, t200, t203, t201);
+    return lapd_clock_set_lengths(clock, t200, t203, t201, t202);
 }
 #define lapd_clock_set_lengths lapd_checked_clock_set_lengths
 

@@ -43,3 +43,11 @@ pub mod ArrivTold
 pub mod ArrivLaw
 pub mod ArrivMet
 pub mod ArrivIdle
+pub mod InCallNotes
+pub mod InCallWalk
+pub mod InCallFair
+pub mod InCallPhase
+pub mod InCallDue
+pub mod InCallRings
+pub mod InCallThrough
+pub mod InCallUp

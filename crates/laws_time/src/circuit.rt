@@ -5,17 +5,19 @@
 //! nothing, calls that cross, an I-frame that is lost and goes again, and SABME that is heard just before N200 is used
 //! up. There are a dead line, too, and noise that makes a frame of another link. How long an answer takes at most is in
 //! `LongEnough`, and worked out in `WorkedLongEnough`. Answers that come are in `Answered` and `WorkedAnswered`. What a
-//! call through noise tells is in `Arriving`, and a run that meets its premises in `WorkedArriving`. Random and chosen
+//! call through noise tells is in `Arriving`, and a run that meets its premises in `WorkedArriving`. How soon it comes
+//! through is in `InCall` and `WorkedInCall`. Random and chosen
 //! runs broke nothing of what is open, if layer 3 asks for no unit data and is not busy, T200 is at least as long as an
 //! answer takes, and noise makes no frame.
 //!
 //! # Open
 //!
-//! That commands and answers find a place. How soon what was granted arrives on a clean line, and a call comes through.
+//! That commands and answers find a place. How soon what was granted arrives on a clean line.
 
 ghost use Rattle.laws_time.specs.circuit.Answered.{AnEnquiryIsAnswered, CommandsAreAnswered, NoNoiseIsClear, OneEnquiryIsEnough};
 ghost use Rattle.laws_time.specs.circuit.Arriving.{CallsBearNoise};
 ghost use Rattle.laws_time.specs.circuit.Ends.{EndsAreTimedCards};
+ghost use Rattle.laws_time.specs.circuit.InCall.{ACallComesThrough, N200LastsInACall};
 ghost use Rattle.laws_time.specs.circuit.LongEnough.{AnswersComeInTime};
 ghost use Rattle.laws_time.specs.circuit.WorkedAnswered.{AnEnquiryIsMet};
 
@@ -69,6 +71,20 @@ pub fn commands_are_answered()
 /// any time, in the midst of noise and traffic, too.
 pub fn calls_bear_noise()
     ensures { CallsBearNoise }
+{}
+
+/// A call comes through in time. Two cards begin, and one end calls, as [`calls_bear_noise`] has it, with any noise that
+/// makes no frame, and data and busy requests at any time.
+///
+/// For (N200 + 1) T200 of each end, less a millisecond, no end tells error G, H or I (`bears`). So in that time all that
+/// [`calls_bear_noise`] says holds.
+///
+/// Let noise end in that time, and from then on let no frame find no place at either end (`lost` of a report). Once T200 of
+/// the end that calls has run, and 2 (L + D) + 9 (c + c') octet times more, both ends are up, in state 7 or 8
+/// (`through`). (SABME goes again as T200 falls due, and then it is answered in time: Q.921 clauses 5.5.1.2 and 5.5.1.3.)
+pub fn a_call_comes_through()
+    ensures bears { N200LastsInACall }
+    ensures through { ACallComesThrough }
 {}
 
 /// Without noise from the start on, noise makes no frame (`clear`): each frame that is heard stood at that place in what

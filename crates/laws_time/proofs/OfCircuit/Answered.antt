@@ -49,7 +49,7 @@ module _ (l : Line) (fit : IsFit l) where
       nothing [] none = refl
       nothing (x ∷ xs) none = absurd (cc none)
 
-  behind-begins : BothBehind l fit (begins l)
+  pub behind-begins : BothBehind l fit (begins l)
   behind-begins =
       let pair = pair-begins l fit in
       record {
@@ -81,7 +81,7 @@ module _ (l : Line) (fit : IsFit l) where
       pub far_more : lost w.far.at ≤ lost u.far.at
       pub ready : ReadyAt u
 
-    grows-all : (bs : List Beat) (w : Clocked) → ReadyAt w → All (IsTalk l) bs → AreClear l bs w → All IsClean bs → Grows w (after l.rate bs w)
+    pub grows-all : (bs : List Beat) (w : Clocked) → ReadyAt w → All (IsTalk l) bs → AreClear l bs w → All IsClean bs → Grows w (after l.rate bs w)
     unfolding AreClear
     grows-all [] w y talk clear is_clean = record { near_more = omega arith; far_more = omega arith; ready = y }
     grows-all (b ∷ bs) w y talk clear is_clean =
@@ -93,7 +93,7 @@ module _ (l : Line) (fit : IsFit l) where
         let n0 = ln.0 in let n1 = ln.1 in let n2 = ln.2 in let f0 = lf.0 in let f1 = lf.1 in let f2 = lf.2 in let rn = rest.near_more in let rf = rest.far_more in
         record { near_more = omega (arith, n0, n1, n2, rn); far_more = omega (arith, f0, f1, f2, rf); ready = rest.ready }
 
-    stage-all : (bs : List Beat) (w : Clocked) → ReadyAt w → All (IsTalk l) bs → AreClear l bs w → All IsClean bs → Waits l n bs w → lost (after l.rate bs w).near.at ≤ base → lost (after l.rate bs w).far.at ≤ other_base
+    pub stage-all : (bs : List Beat) (w : Clocked) → ReadyAt w → All (IsTalk l) bs → AreClear l bs w → All IsClean bs → Waits l n bs w → lost (after l.rate bs w).near.at ≤ base → lost (after l.rate bs w).far.at ≤ other_base
         → start ≤ w.beats → state_at l w.near ≡ Some n → StageAt w → StageAt (after l.rate bs w)
     unfolding AreClear Waits
     stage-all [] w y talk clear is_clean states near_few far_few late was stage = stage
@@ -108,7 +108,7 @@ module _ (l : Line) (fit : IsFit l) where
         (stage-then l fit n x start clean base other_base soon_clean w y b t c clear.0 clear.1 states.0 states.1 (omega (arith, rn, near_few)) (omega (arith, rf, far_few)) late was stage)
 
     -- So it is heard in time.
-    soon-over : (w : Clocked) → ReadyAt w → StageAt w → w.beats ≤ answered_by l fit n x start clean base other_base + l.way
+    pub soon-over : (w : Clocked) → ReadyAt w → StageAt w → w.beats ≤ answered_by l fit n x start clean base other_base + l.way
     soon-over w y (inl due) =
         let h = y.pair.near_ok.but.ends in
         let text = text-low l.near l.service l.tei 0 (near l fit) w.near.at h in
@@ -123,7 +123,7 @@ module _ (l : Line) (fit : IsFit l) where
         due-soon (is_of x.answering l.far) start (answered_by l fit n x start clean base other_base) l.way w.beats (port_of w.far.at) (ring l.far l.service l.tei 0 (far l fit) h.its) (omega (arith, text, given))
         (from-here l.far l.service l.tei (far l fit) x.answering start (answered_by l fit n x start clean base other_base) l.way w.beats w.far.at h due)
 
-  same-longest : longest_text l.near.n201 / 8 ≡ longest_text l.far.n201 / 8
+  pub same-longest : longest_text l.near.n201 / 8 ≡ longest_text l.far.n201 / 8
   same-longest = ap (λ n. longest_text n / 8) fit.call.opposite.1
 
   -- From the clean beat before on.
@@ -131,7 +131,7 @@ module _ (l : Line) (fit : IsFit l) where
     abbrev w : Clocked
     w = beat l.rate w0 b
 
-    first-ready : AreClear l (b ∷ []) w0 → Ready l fit n x (w0.beats + 1) w0.beats (lost (beat l.rate w0 b).near.at) (lost (beat l.rate w0 b).far.at) (beat l.rate w0 b)
+    pub first-ready : AreClear l (b ∷ []) w0 → Ready l fit n x (w0.beats + 1) w0.beats (lost (beat l.rate w0 b).near.at) (lost (beat l.rate w0 b).far.at) (beat l.rate w0 b)
     unfolding AreClear
     first-ready clear =
         let y : Ready l fit n x (w0.beats + 1) w0.beats (lost w0.near.at) (lost w0.far.at) w0 = record {
@@ -192,7 +192,7 @@ unfolding Enquires Waits
 enquires-wait l [] w h = tt
 enquires-wait l (b ∷ bs) w h = (h.0, λ is. h.1, enquires-wait l bs (beat l.rate w b) h.2)
 
-waits-too : (l : Line) (n : ℕ) → (n ≡ 8 → ⊥) → (bs : List Beat) (w : Clocked) → WaitsIn l n bs w → Waits l n bs w
+pub waits-too : (l : Line) (n : ℕ) → (n ≡ 8 → ⊥) → (bs : List Beat) (w : Clocked) → WaitsIn l n bs w → Waits l n bs w
 unfolding WaitsIn Waits
 waits-too l n other [] w h = tt
 waits-too l n other (b ∷ bs) w h = (h.0, λ is. absurd (other is), waits-too l n other bs (beat l.rate w b) h.1)

@@ -74,7 +74,7 @@ not-five n (inl is) same = omega (arith, is, same)
 not-five n (inr is) same = omega (arith, is, same)
 
 module _ (t : Terms) where
-  leads : (e : Event) (l : Link) → (after t e l).state ≡ state_after t (as_heard t e) l
+  pub leads : (e : Event) (l : Link) → (after t e l).state ≡ state_after t (as_heard t e) l
   leads e l = (event-follows t e l).leaves.state
 
   pub all-put : (e : Event) (l : Link) → (told t e l).lost ≡ 0 → take (room t l) (put (as_heard t e) l (after t e l).state) ≡ put (as_heard t e) l (after t e l).state
@@ -92,7 +92,7 @@ module _ (t : Terms) where
   enquiry-in Established l is = absurd (cc is)
   enquiry-in TimerRecovery l is = refl
 
-  sabme-in : (to : State) (l : Link) → state_number to ≡ 5 → command_in to l ≡ as_command (Sabme true)
+  pub sabme-in : (to : State) (l : Link) → state_number to ≡ 5 → command_in to l ≡ as_command (Sabme true)
   sabme-in TeiAssigned l is = absurd (cc is)
   sabme-in AwaitingEstablishment l is = refl
   sabme-in AwaitingRelease l is = absurd (cc is)
@@ -315,6 +315,10 @@ establishment = record {
   by_frame = λ t f l is. inr refl;
   leaves = λ t f l is still number. agreement-5 t f l is still number;
 }
+
+pub establishment-asks : establishment.asking ≡ establishes
+unfolding establishment
+establishment-asks = refl
 
 pub release : Exchange 6
 release = record {

@@ -68,13 +68,13 @@ module _ (l : Line) (fit : IsFit l) (n : ℕ) (x : Exchange n) (start clean base
 
   module _ (soon_clean : clean + 1 ≤ start) (w : Clocked) (y : Ready w) (b : Beat) (talk : IsTalk l b) (is_clean : IsClean b) (near_clear : IsClearAt l.near.n201 b.near_noise (gone l.rate b w).near (gone l.rate b w).far)
       (far_clear : IsClearAt l.near.n201 b.far_noise (gone l.rate b w).far (gone l.rate b w).near) where
-    abbrev v : Clocked
+    abbrev pub v : Clocked
     v = gone l.rate b w
 
-    abbrev u : Clocked
+    abbrev pub u : Clocked
     u = beat l.rate w b
 
-    abbrev n1 : TimedEndpoint
+    abbrev pub n1 : TimedEndpoint
     n1 = comes_to (w.beats / l.rate) b.near_asks w.near
 
     abbrev f1 : TimedEndpoint
@@ -92,43 +92,43 @@ module _ (l : Line) (fit : IsFit l) (n : ℕ) (x : Exchange n) (start clean base
     abbrev d : TimedOctetCard
     d = fresh l.far l.far_lengths
 
-    abbrev p : PairAt l fit w
+    abbrev pub p : PairAt l fit w
     p = y.pair
 
-    abbrev z : Beaten w (gone l.rate b w) (beat l.rate w b) b
+    abbrev pub z : Beaten w (gone l.rate b w) (beat l.rate w b) b
     z = beaten l fit w y.pair b talk
 
     -- the ends after their requests and expiries, after their pulls, and after the octet that comes
-    abbrev near1 : Ends l.near l.service l.tei 0 fit.call.near.0 n1.at
+    abbrev pub near1 : Ends l.near l.service l.tei 0 fit.call.near.0 n1.at
     near1 = (near-come l fit w y.pair b talk).ok.but.ends
 
     abbrev far1 : Ends l.far l.service l.tei 0 fit.call.far.0 f1.at
     far1 = (far-come l fit w y.pair b talk).ok.but.ends
 
-    abbrev near2 : Ends l.near l.service l.tei 0 fit.call.near.0 v.near.at
+    abbrev pub near2 : Ends l.near l.service l.tei 0 fit.call.near.0 v.near.at
     near2 = (near-pulls l fit w y.pair b talk).ends
 
     abbrev far2 : Ends l.far l.service l.tei 0 fit.call.far.0 v.far.at
     far2 = (far-pulls l fit w y.pair b talk).ends
 
-    abbrev near_then : TimedEndpoint
+    abbrev pub near_then : TimedEndpoint
     near_then = happens (port.octet z.near.value) v.near
 
     abbrev far_then : TimedEndpoint
     far_then = happens (port.octet z.far.value) v.far
 
-    near-is : u.near ≡ without_first_octet (happens (port.octet z.near.value) v.near)
+    pub near-is : u.near ≡ without_first_octet (happens (port.octet z.near.value) v.near)
     near-is = z.near.is ∙ ap (λ o. without_first_octet (happens (port.octet (unwrap_or o z.near.value)) v.near)) is_clean.0
 
     far-is : u.far ≡ without_first_octet (happens (port.octet z.far.value) v.far)
     far-is = z.far.is ∙ ap (λ o. without_first_octet (happens (port.octet (unwrap_or o z.far.value)) v.far)) is_clean.1
 
-    near_hears : Hears l.near l.service l.tei fit.call.near.0 l.far fit.call.far.0 l.near.n201 refl (sym size) (sym opposite) v.near.at (circuit.happens (port.octet z.near.value) v.near.at) near2
+    pub near_hears : Hears l.near l.service l.tei fit.call.near.0 l.far fit.call.far.0 l.near.n201 refl (sym size) (sym opposite) v.near.at (circuit.happens (port.octet z.near.value) v.near.at) near2
     near_hears =
         hears-moved l.near l.service l.tei fit.call.near.0 l.far fit.call.far.0 l.near.n201 refl (sym size) (sym opposite) v.near v.far near2 far2
         (subst (λ o. IsClearAt l.near.n201 o v.near v.far) is_clean.0 near_clear) z.near.value z.near.more z.near.comes
 
-    abbrev near_mv : Moved l.near l.service l.tei 0 fit.call.near.0 v.near.at (circuit.happens (port.octet z.near.value) v.near.at) near2 (λ e. (f : Parts) × (e ≡ link.received (link.frame f)))
+    abbrev pub near_mv : Moved l.near l.service l.tei 0 fit.call.near.0 v.near.at (circuit.happens (port.octet z.near.value) v.near.at) near2 (λ e. (f : Parts) × (e ≡ link.received (link.frame f)))
     near_mv = near_hears.0
 
     far_hears : Hears l.far l.service l.tei fit.call.far.0 l.near fit.call.near.0 l.near.n201 (sym size) refl (sym (sides-turned l.near l.far opposite)) v.far.at (circuit.happens (port.octet z.far.value) v.far.at) far2
@@ -206,7 +206,7 @@ module _ (l : Line) (fit : IsFit l) (n : ℕ) (x : Exchange n) (start clean base
         let nn = p.near_counts.way in let ff = p.far_counts.way in (omega (arith, n, nn), omega (arith, f, ff))
 
     -- the states after the beat
-    near-state : (n : ℕ) → state_at l u.near ≡ Some n → state_number near_mv.ends.its.state ≡ n
+    pub near-state : (n : ℕ) → state_at l u.near ≡ Some n → state_number near_mv.ends.its.state ≡ n
     near-state n is =
         same-some (state_number near_mv.ends.its.state) n
         (sym (state-here l.near l.service l.tei 0 fit.call.near.0 l.lengths l.rate near_then.at near_mv.ends) ∙ ap (state_at l) (sym near-is) ∙ is)
@@ -218,7 +218,7 @@ module _ (l : Line) (fit : IsFit l) (n : ℕ) (x : Exchange n) (start clean base
 
     module _ (is_waiting : state_at l u.near ≡ Some n) (is_up : n ≡ 8 → (state_at l u.far ≡ Some 7) ⊎ (state_at l u.far ≡ Some 8)) (near_few : lost u.near.at ≤ base) (far_few : lost u.far.at ≤ other_base)
         (late : start ≤ w.beats) where
-      abbrev NearAfterPull : Type 0
+      abbrev pub NearAfterPull : Type 0
       NearAfterPull = DueAt l.near l.service l.tei 0 fit.call.near.0 x.asking start asked_by l.way w.beats v.near.at near2
 
       far-up : n ≡ 8 → is_multiple_frame far_mv.ends.its.state ≡ true
@@ -242,7 +242,7 @@ module _ (l : Line) (fit : IsFit l) (n : ℕ) (x : Exchange n) (start clean base
           far-up (let few : lost (circuit.happens (port.octet z.far.value) v.far.at) ≤ other_base = subst (λ (e : TimedEndpoint). lost e.at ≤ other_base) far-is far_few in omega (arith, few, low, f0, f1)) start answered_by l.way (w.beats + 1)
           (omega (arith, text, given, late)) (omega (arith, given, soon_heard))))
 
-      near-after : NearAfterPull → Stage u
+      pub near-after : NearAfterPull → Stage u
       near-after due = go (due-heard (is_of x.asking l.near) start asked_by l.way w.beats (port_of v.near.at) (ring l.near l.service l.tei 0 fit.call.near.0 near2.its) due)
         where
           go : IsNow (is_of x.asking l.near) start asked_by l.way w.beats (port_of v.near.at) ⊎ DueAt l.near l.service l.tei 0 fit.call.near.0 x.asking start asked_by l.way (w.beats + 1) v.near.at near2 → Stage u
@@ -283,7 +283,7 @@ module _ (l : Line) (fit : IsFit l) (n : ℕ) (x : Exchange n) (start clean base
               (λ e. (f : Parts) × (e ≡ link.received (link.frame f))) far_mv
               (λ e is. plain l.far l.service l.tei fit.call.far.0 l.near fit.call.near.0 l.near.n201 (sym size) refl (sym (sides-turned l.near l.far opposite)) e (far_mv.by e is)) later)))
 
-      near-given : length (port_of n1.at).given ≡ w.beats
+      pub near-given : length (port_of n1.at).given ≡ w.beats
       near-given = ap (λ (p : Port). length p.given) (near-come l fit w y.pair b talk).port ∙ p.near_counts.given
 
       far-given : length (port_of f1.at).given ≡ w.beats

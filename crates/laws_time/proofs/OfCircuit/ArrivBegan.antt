@@ -49,14 +49,14 @@ idle-first c service tei number way ranged within few lengths in_range rate =
 
 module _ (l : Line) (fit : IsFit l) where
   -- Nothing was asked for.
-  record IdleNow (w : Clocked) : Type 0 where
-    pair : PairNow l fit w
-    near : IsIdle l.near l.near_line l.tei w.near
-    far : IsIdle l.far l.far_line l.tei w.far
-    goes : Going l.near.n201 (port_of w.near.at) w.near.at.way []
-    comes : Going l.far.n201 (port_of w.far.at) w.far.at.way []
+  pub record IdleNow (w : Clocked) : Type 0 where
+    pub pair : PairNow l fit w
+    pub near : IsIdle l.near l.near_line l.tei w.near
+    pub far : IsIdle l.far l.far_line l.tei w.far
+    pub goes : Going l.near.n201 (port_of w.near.at) w.near.at.way []
+    pub comes : Going l.far.n201 (port_of w.far.at) w.far.at.way []
 
-  idle-begins : IdleNow (begins l)
+  pub idle-begins : IdleNow (begins l)
   idle-begins = record {
     pair = pair-begins l fit;
     near = idle-first l.near l.service l.tei l.near_line l.way fit.call.near.0 fit.call.near.1 fit.call.terminal l.lengths fit.lengths.0 l.rate;
@@ -163,13 +163,13 @@ module _ (l : Line) (fit : IsFit l) where
                 (subst (λ n. Going n (port_of vf.at) (drop 1 vf.at.way) []) fit.call.opposite.1 nh.1);
           }
 
-  all-idle : (before : List Beat) → All AsksNothing before → (w : Clocked) → IdleNow w → AreClear l before w → IdleNow (after l.rate before w)
+  pub all-idle : (before : List Beat) → All AsksNothing before → (w : Clocked) → IdleNow w → AreClear l before w → IdleNow (after l.rate before w)
   unfolding AreClear
   all-idle [] all w h clear = h
   all-idle (b ∷ before) all w h clear =
       all-idle before (All-tail AsksNothing b before all) (beat l.rate w b) (idle-beat w b h (All-head AsksNothing b before all) clear.0 clear.1) clear.2
 
-  clear-parts : (before rest : List Beat) (w : Clocked) → AreClear l (before ++ rest) w → AreClear l before w × AreClear l rest (after l.rate before w)
+  pub clear-parts : (before rest : List Beat) (w : Clocked) → AreClear l (before ++ rest) w → AreClear l before w × AreClear l rest (after l.rate before w)
   unfolding AreClear
   clear-parts [] rest w clear = (tt, clear)
   clear-parts (b ∷ before) rest w clear = let more = clear-parts before rest (beat l.rate w b) clear.2 in ((clear.0, clear.1, more.0), more.1)

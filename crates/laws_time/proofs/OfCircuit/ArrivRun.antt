@@ -82,7 +82,7 @@ module _ (l : Line) (fit : IsFit l) where
   all-both [] all = All-nil Both
   all-both (r ∷ rs) all = All-cons Both r rs (both-of r (All-head (IsAsked l) r rs all)) (all-both rs (All-tail (IsAsked l) r rs all))
 
-  all-of-link : (rs : List Request) → All (IsAsked l) rs → All (IsOfLink l.service l.tei) rs
+  pub all-of-link : (rs : List Request) → All (IsAsked l) rs → All (IsOfLink l.service l.tei) rs
   all-of-link [] all = All-nil (IsOfLink l.service l.tei)
   all-of-link (r ∷ rs) all = All-cons (IsOfLink l.service l.tei) r rs (both-of r (All-head (IsAsked l) r rs all)).0 (all-of-link rs (All-tail (IsAsked l) r rs all))
 

@@ -39,12 +39,12 @@ pub leads-one : (s : Step Event) (t : TimedOctetCard) → IsPrompt octets 0 s t 
 unfolding after_all ArePrompt
 leads-one s t prompt = record { steps = s ∷ []; leads = refl; prompt = (prompt, tt) }
 
-both-lead : (a b : List (Step Event)) (t : TimedOctetCard) → after_all octets (a ++ b) t ≡ after_all octets b (after_all octets a t)
+pub both-lead : (a b : List (Step Event)) (t : TimedOctetCard) → after_all octets (a ++ b) t ≡ after_all octets b (after_all octets a t)
 unfolding after_all
 both-lead [] b t = refl
 both-lead (s ∷ a) b t = both-lead a b (next octets s t)
 
-both-prompt : (a b : List (Step Event)) (t : TimedOctetCard) → ArePrompt octets 0 a t → ArePrompt octets 0 b (after_all octets a t) → ArePrompt octets 0 (a ++ b) t
+pub both-prompt : (a b : List (Step Event)) (t : TimedOctetCard) → ArePrompt octets 0 a t → ArePrompt octets 0 b (after_all octets a t) → ArePrompt octets 0 (a ++ b) t
 unfolding after_all ArePrompt
 both-prompt [] b t h g = g
 both-prompt (s ∷ a) b t h g = (h.0, both-prompt a b (next octets s t) h.1 g)

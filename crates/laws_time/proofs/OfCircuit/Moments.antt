@@ -32,7 +32,7 @@ awaits-in o is = grind arith
 pub not-7 : (n : ℕ) → is_waiting n ≡ true → (n == 7) ≡ false
 not-7 n is = grind (arith, eqb-true)
 
-abbrev is_own_t200 : Service → ℕ → line.Event → Bool
+abbrev pub is_own_t200 : Service → ℕ → line.Event → Bool
 is_own_t200 service tei (expiry (timers.T200 of by)) = is_own service tei of by
 is_own_t200 service tei other = false
 

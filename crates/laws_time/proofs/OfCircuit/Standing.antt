@@ -225,6 +225,10 @@ module _ (c : Config) (service : Service) (tei place : ℕ) (ranged : IsInRange 
             given = ap (λ (p : Port). p.given) same;
           }
 
+      pub expired-event : ends-expired.event ≡ Some (link.expired its)
+      unfolding ends-expired
+      expired-event = refl
+
     -- an octet comes
     module _ (value : ℕ) where
       abbrev heard : OctetEndpoint

@@ -66,17 +66,17 @@ unfolding lines.after lines.answer lines.takes_slot exchanged read_by reading he
 recovered = refl
 
 -- SABME is lost, and N200 is 1: it goes again as T200 falls due at 16, and now it is heard.
-abbrev once : Config → Config
+abbrev pub once : Config → Config
 once c = record c { n200 = 1 }
 
 abbrev begins_once : Lengths → Clocked
 begins_once ls = record { near = endpoint (once user) 0 ls 0 0; far = endpoint (once network) 0 ls 0 0; beats = 0 }
 
 -- Only flags come to the network's end.
-abbrev deaf : Beat
+abbrev pub deaf : Beat
 deaf = record plain { far_noise = Some 0x7E }
 
-abbrev asks_deaf : Beat
+abbrev pub asks_deaf : Beat
 asks_deaf = record asks { far_noise = Some 0x7E }
 
 abbrev nearly : List Beat

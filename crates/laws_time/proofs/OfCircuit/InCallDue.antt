@@ -1,0 +1,327 @@
+-- An end that rings, one thing at a time: T200 runs on, or SABME is due again; as long as no frame is lost.
+use Rattle.std.proofs.Common.{arith, ◌≡◌, ℕ, zero, suc, ◌+◌, ◌*◌, ◌<◌, ◌≤◌, ◌==◌, ◌&&◌, ◌||◌, Bool, true, false, cond, is_some, List, [], ◌∷◌, ◌++◌, length, Option, Some, None, refl, sym, ap, ◌∙◌, subst, All, ◌⊎◌, inl, inr}
+use Rattle.std.specs.Prelude.{fold}
+use Rattle.std.specs.Option.{option_map_or}
+use Rattle.std.proofs.lemmas.Bool.{true≢false}
+use Rattle.std.proofs.lemmas.List.Elements.{All-nil, All-head, All-tail}
+use Rattle.lapd_clock.specs.Moments.{moment_of}
+use Rattle.lapd_clock.specs.Timer.{Lengths, is_same}
+use Rattle.lapd_clock.specs.Timers.{Expiry, is_of}
+use Rattle.lapd_frame.specs.declared.controls.Control.{Control}
+use Rattle.lapd_frame.specs.declared.controls.Control.TheVariants.{Sabme}
+use Rattle.lapd_frame.specs.declared.services.Service.{Service}
+use Rattle.lapd_frame.specs.declared.timers.Timer.{Timer}
+use Rattle.lapd_frame.specs.declared.timers.Timer.TheVariants as timers
+use Rattle.lapd_frame.specs.Grammar.{Parts}
+use Rattle.model_bits.specs.StuffingLaws.{AreOctets}
+use Rattle.model_link.specs.declared.frames.ControlFrame.{ControlFrame}
+use Rattle.model_link.specs.declared.states.State.{State}
+use Rattle.model_link.specs.declared.states.State.TheVariants.{TeiAssigned, AwaitingEstablishment, AwaitingRelease, Established, TimerRecovery}
+use Rattle.model_link.specs.declared.terms.Terms.{Terms}
+use Rattle.model_link.specs.declared.timers.LinkTimer.{LinkTimer}
+use Rattle.model_link.specs.declared.timers.LinkTimer.TheVariants.{T200, T203}
+use Rattle.model_link.specs.Events as link
+use Rattle.model_link.specs.Events.{Event as LinkEvent, received, frame, expired}
+use Rattle.model_link.specs.Link.{Link, state_number, is_multiple_frame, may_repeat, fresh as fresh_link}
+use Rattle.model_link.specs.Machine as links
+use Rattle.model_link.specs.Machine.{after, told}
+use Rattle.model_link.specs.Told.{runs as link_runs}
+use Rattle.model_line.specs.Event as line
+use Rattle.model_line.specs.Expiry.{aim_of_expiry, at_timer}
+use Rattle.model_line.specs.Line.{Line, link_of, link_in, place_in, terms}
+use Rattle.model_line.specs.Request.{Request, SetBusy, ClearBusy, Data}
+use Rattle.model_line.specs.Requested.{aim_of_request, at_requested}
+use Rattle.model_line.specs.Sound.{IsInRange}
+use Rattle.model_line.specs.declared.config.Config.{Config}
+use Rattle.model_card.specs.Card as cards
+use Rattle.model_card.specs.Card.{state, line_at}
+use Rattle.model_card.specs.Event as frame_event
+use Rattle.model_card.specs.Event.{at}
+use Rattle.model_card.specs.Run as frame_runs
+use Rattle.model_card.specs.ports.Event.{at as octet_at}
+use Rattle.model_card.specs.ports.Port as port
+use Rattle.model_card.specs.ports.Port.{Port}
+use Rattle.model_timed.specs.Clock.{Clock, due, without_first}
+use Rattle.laws_link.specs.States.{as_heard, by_expiry, by_request, by_received, by_frame, state_after, moves, is_faulty}
+use Rattle.laws_link.specs.Waiting.{answers, commands, put, command_in, as_command}
+use Rattle.laws_trace.specs.FramesAreRead.{contents_given}
+use Rattle.laws_trace.specs.Managing.{is_on}
+use Rattle.laws_trace.specs.Observer.{Observed, View, view_of, view_behind, moment_of as moment_at}
+use Rattle.laws_trace.specs.TimersAreTimely.{is_timer_of, runs}
+use Rattle.laws_order.specs.circuit.Circuit.{Endpoint as OctetEndpoint, port_of, answered}
+use Rattle.laws_order.specs.circuit.Circuit as circuit
+use Rattle.laws_time.proofs.Falls.{dropped}
+use Rattle.laws_time.proofs.Links.{on-where, stays-on, view-then}
+use Rattle.laws_time.proofs.OctetsMean.{meant_at}
+use Rattle.laws_time.proofs.Sending.{t200-is}
+use Rattle.laws_time.proofs.OfCircuit.Acts.{IsSoon, asks-goes, fell-goes, soon-then, own-same}
+use Rattle.laws_time.proofs.OfCircuit.AnsweredEnds.{lost, lost-more, lost-asked, lost-expired, its-same, DueAt, due-same, due-moved, frame-put, text-low}
+use Rattle.laws_time.proofs.OfCircuit.AnsweredRows.{Puts, establishes, leads, sabme-in}
+use Rattle.laws_time.proofs.OfCircuit.Ends.{first-of, rest-of, stands-without}
+use Rattle.laws_time.proofs.OfCircuit.Moments.{is_own_t200, is_waiting, awaits-in, counts-on, not-anew, runs-on}
+use Rattle.laws_time.proofs.OfCircuit.Open.{half, IsOrdinary}
+use Rattle.laws_time.proofs.OfCircuit.Orders.{RunsOurs}
+use Rattle.laws_time.proofs.OfCircuit.Standing.{Ends, Moved, ends-asked, ends-expired, expired-event}
+use Rattle.laws_time.proofs.OfCircuit.Under.{EndBut, EndOk, past, all-past, all-then, here-is, next-card, o-is, q-is, clock-is, state-here}
+use Rattle.laws_time.specs.circuit.Arriving.{IsAsked}
+use Rattle.laws_time.specs.circuit.Clocked.{TimedEndpoint, happens, asks, falls}
+unfoldable use Rattle.laws_time.specs.circuit.Clocked.{fall_due}
+use Rattle.laws_time.specs.circuit.LongEnough.{IsOfLink, Line as ItsLine}
+
+-- ---- the link
+
+abbrev pub Rings : State → Type 0
+Rings s = (state_number s ≡ 5) ⊎ (state_number s ≡ 4)
+
+-- A timer expires in state 5 or 4: T200 leads from 5 to 5 or 4, and nothing else moves.
+expiry-closed : (s : State) (timer : LinkTimer) (b again : Bool) → Rings s → Rings (cond b (by_expiry s timer again) s) × (state_number (cond b (by_expiry s timer again) s) ≡ 5 → state_number s ≡ 5)
+expiry-closed s timer false again r = (r, λ e. e)
+expiry-closed TeiAssigned timer true again r = (inr refl, λ e. cc e)
+expiry-closed AwaitingEstablishment T200 true false r = (inr refl, λ e. refl)
+expiry-closed AwaitingEstablishment T200 true true r = (inl refl, λ e. refl)
+expiry-closed AwaitingEstablishment T203 true true r = (inl refl, λ e. refl)
+expiry-closed AwaitingEstablishment T203 true false r = (inl refl, λ e. refl)
+expiry-closed AwaitingRelease timer true again (inl e) = cc e
+expiry-closed AwaitingRelease timer true again (inr e) = cc e
+expiry-closed Established timer true again (inl e) = cc e
+expiry-closed Established timer true again (inr e) = cc e
+expiry-closed TimerRecovery timer true again (inl e) = cc e
+expiry-closed TimerRecovery timer true again (inr e) = cc e
+
+-- No frame leads from state 4 to 5.
+pub heard-five : (s : State) (f : Parts) (b : Bool) → Rings s → state_number (cond (is_multiple_frame s && b) AwaitingEstablishment (by_frame s f.address.command f.control)) ≡ 5 → state_number s ≡ 5
+heard-five AwaitingEstablishment f b r is = refl
+heard-five TeiAssigned f b r is = absurd (not-five f.address.command f.control is)
+  where
+    not-five : (command : Bool) (control : Control) → state_number (by_frame TeiAssigned command control) ≡ 5 → ⊥
+    not-five command control is = grind arith
+heard-five AwaitingRelease f b (inl e) is = cc e
+heard-five AwaitingRelease f b (inr e) is = cc e
+heard-five Established f b (inl e) is = cc e
+heard-five Established f b (inr e) is = cc e
+heard-five TimerRecovery f b (inl e) is = cc e
+heard-five TimerRecovery f b (inr e) is = cc e
+
+-- SABME is put again as T200 expires there.
+pub sabme-again : (t : Terms) (l : Link) → state_number (after t (expired T200) l).state ≡ 5 → link_runs T200 l.running ≡ true → Puts t establishes (expired T200) l
+sabme-again t l is run =
+    let to = (after t (expired T200) l).state in (
+      answers (as_heard t (expired T200)) l,
+      record { command = true; control = Sabme true },
+      [],
+      ap (λ fs. answers (as_heard t (expired T200)) l ++ fs) (ap (λ b. cond (moves l.state to || b) (command_in to l) []) run ∙ always (moves l.state to) (command_in to l) ∙ sabme-in t to l is),
+      refl,
+    )
+  where
+    always : (b : Bool) (fs : List ControlFrame) → cond (b || true) fs [] ≡ fs
+    always true fs = refl
+    always false fs = refl
+
+module _ (c : Config) (service : Service) (tei : ℕ) (ranged : IsInRange c) (lengths : Lengths) (rate : ℕ) where
+  abbrev its_t200 : Timer
+  its_t200 = timers.T200 service tei
+
+  abbrev EndsAt : OctetEndpoint → Type 0
+  EndsAt s = Ends c service tei 0 ranged s
+
+  abbrev pub runs_at : TimedEndpoint → Option ℕ
+  runs_at a = moment_of a.at.line (timers.T200 service tei) a.clock.running
+
+  -- T200 runs on by anything else than its expiry that leaves the link in state 5.
+  module _ (a : TimedEndpoint) (ev : port.Event) (S M : ℕ) (h : EndBut c service tei 0 ranged lengths rate S M a) (what : line.Event) (is : meant_at (octet_at a.at.line ev) a.at.card ≡ Some what)
+      (other : is_own_t200 service tei what ≡ false) (next : Ends c service tei 0 ranged (circuit.happens ev a.at)) where
+    pub on-runs : state_number h.ends.its.state ≡ 5 → state_number next.its.state ≡ 5 → runs_at (happens ev a) ≡ runs_at a
+    on-runs five then_five =
+        let number = a.at.line in
+        let before = past c service tei 0 ranged lengths rate a ev S M M h in
+        let o = (view_of c service tei number before).link in
+        let q = (view_behind c service tei number before what).link in
+        let all = all-past c service tei 0 ranged lengths rate a ev S M M h in
+        let within = h.ends.ran.within in
+        let o_is : o.state ≡ state_number h.ends.its.state = o-is c service tei 0 ranged lengths rate a ev S M M h what is in
+        let q_is : q.state ≡ state_number next.its.state = q-is c service tei 0 ranged lengths rate a ev S M M h what is next in
+        let on = on-where c before number ranged all within service tei
+        (ap is_some (ap (state number service tei) (sym (here-is c service tei 0 ranged lengths rate a ev S M M h)) ∙ state-here c service tei 0 ranged lengths rate a.at h.ends)) in
+        let then_card = next-card c service tei 0 ranged lengths rate a ev S M M h what is in
+        let all_then = all-then c service tei 0 ranged lengths rate a ev S M M h what is in
+        let on_then = ap (λ (v : View). is_on tei v.teis) (sym (view-then c service tei number before (at number what)))
+        ∙ on-where c (before ++ at number what ∷ []) number ranged all_then within service tei
+        (ap is_some (ap (state number service tei) (sym then_card) ∙ state-here c service tei 0 ranged lengths rate (circuit.happens ev a.at) next)) in
+        let by = stays-on c before number ranged all within service tei what on on_then in
+        let said = (moment_at c before number what).answer in
+        let same : q.state ≡ o.state = q_is ∙ then_five ∙ sym (o_is ∙ five) in
+        let few : q.expiries ≤ o.expiries = subst (λ (q : Observed). q.expiries ≤ o.expiries) (sym by) (counts-on c service tei what said o other) in
+        let waits : is_waiting o.state ≡ true = ap is_waiting (o_is ∙ five) in
+        let none = not-anew c before number ranged all within service tei what a.clock waits same few in
+        ap (λ (k : Clock). moment_of number (timers.T200 service tei) k.running) (clock-is c service tei 0 ranged lengths rate a ev S M M h what is)
+        ∙ runs-on c before number ranged all within service tei what a.clock waits same none
+
+  -- What is kept: T200 falls due at this moment, or SABME is due.
+  module _ (low most way heard : ℕ) (m base : ℕ) where
+    abbrev pub IsDue : (a : TimedEndpoint) → Ends c service tei 0 ranged a.at → Type 0
+    IsDue a h = (runs_at a ≡ Some m) ⊎ DueAt c service tei 0 ranged establishes low most way heard a.at h
+
+    pub record Kept (a : TimedEndpoint) (h : Ends c service tei 0 ranged a.at) : Type 0 where
+      pub low_lost : base ≤ lost a.at
+      pub rings : Rings h.its.state
+      pub due : lost a.at ≤ base → state_number h.its.state ≡ 5 → IsDue a h
+
+    pub kept-same : (a : TimedEndpoint) (h k : Ends c service tei 0 ranged a.at) → Kept a h → Kept a k
+    kept-same a h k x =
+        let same = its-same c service tei 0 ranged a.at h k in
+        record {
+          low_lost = x.low_lost;
+          rings = subst (λ (l : Link). Rings l.state) same x.rings;
+          due = λ few five. go (x.due few (ap (λ (l : Link). state_number l.state) same ∙ five));
+        }
+      where
+        go : IsDue a h → IsDue a k
+        go (inl runs_on) = inl runs_on
+        go (inr due) = inr (due-same c service tei 0 ranged establishes low most way heard a.at h k due)
+
+    abbrev pub Then : port.Event → TimedEndpoint → Type 0
+    Then ev a = (k : Ends c service tei 0 ranged (happens ev a).at) × Kept (happens ev a) k
+
+    -- Layer 3 asks for what leaves the state.
+    module _ (a : TimedEndpoint) (S M : ℕ) (h : EndBut c service tei 0 ranged lengths rate S M a) (x : Kept a h.ends) (r : Request) (its : link.Request)
+        (aims : (l : Line) → aim_of_request r l ≡ at_requested service tei its (place_in l tei)) (octets : AreOctets (contents_given r)) (mild : (s : State) → by_request s its ≡ s) where
+      mv : Moved c service tei 0 ranged a.at (circuit.happens (port.request r) a.at) h.ends (λ e. e ≡ link.requested its false)
+      mv = ends-asked c service tei 0 ranged a.at h.ends r its aims octets
+
+      same-state : mv.ends.its.state ≡ h.ends.its.state
+      same-state = ap (λ (l : Link). l.state) mv.link_is ∙ go mv.event mv.by
+        where
+          go : (v : Option LinkEvent) → ((e : LinkEvent) → v ≡ Some e → e ≡ link.requested its false) → (option_map_or (λ e. links.after (terms c service tei) e h.ends.its) v h.ends.its).state ≡ h.ends.its.state
+          go None by = refl
+          go (Some e) by =
+              ap (λ e. (links.after (terms c service tei) e h.ends.its).state) (by e refl) ∙ leads (terms c service tei) (link.requested its false) h.ends.its ∙ mild h.ends.its.state
+
+      pub asked-kept : Then (port.request r) a
+      asked-kept =
+          let more = lost-more (port.request r) a.at in let low_is = x.low_lost in (
+            mv.ends,
+            record {
+              low_lost = omega (arith, more, low_is);
+              rings = subst Rings (sym same-state) x.rings;
+              due = λ few five.
+                  let was = ap state_number (sym same-state) ∙ five in
+                  go was five (x.due (omega (arith, more, few)) was);
+            },
+          )
+        where
+          go : state_number h.ends.its.state ≡ 5 → state_number mv.ends.its.state ≡ 5 → IsDue a h.ends → IsDue (happens (port.request r) a) mv.ends
+          go was five (inl runs_now) = inl (on-runs a (port.request r) S M h (line.request r) refl refl mv.ends was five ∙ runs_now)
+          go was five (inr due) =
+              inr (due-moved c service tei 0 ranged establishes low most way heard a.at (circuit.happens (port.request r) a.at) h.ends (λ e. e ≡ link.requested its false) mv
+              (λ e is. subst IsOrdinary (sym (mv.by e is)) tt) due)
+
+    -- A timer of the link falls due: of T200 SABME is put again.
+    module _ (a : TimedEndpoint) (S M : ℕ) (h : EndOk c service tei 0 ranged lengths rate S M a) (x : Kept a h.but.ends) (e : Expiry) (falls_now : due a.clock ≡ Some e)
+        (low_given : low ≤ length (port_of a.at).given) (soon_given : length (port_of a.at).given + half c service tei 0 ranged ≤ most) where
+      abbrev gone : TimedEndpoint
+      gone = record a { clock = without_first a.clock }
+
+      abbrev but : EndBut c service tei 0 ranged lengths rate S M (record a { clock = without_first a.clock })
+      but = record {
+        ends = h.but.ends;
+        clock = stands-without a h.but.clock;
+        ours = rest-of (RunsOurs service tei) a.clock.running h.but.ours;
+        lengths_are = h.but.lengths_are;
+        early = h.but.early;
+        polls = h.but.polls;
+        finals = h.but.finals;
+      }
+
+      abbrev before : List frame_event.Event
+      before = past c service tei 0 ranged lengths rate gone (port.expiry (timers.T200 service tei)) S M M but
+
+      -- In state 5 T200 runs.
+      link-is : link_of service tei (line_at a.at.line (frame_runs.after_all (cards.fresh c) before)) ≡ h.but.ends.its
+      link-is =
+          ap (λ card. link_of service tei (line_at a.at.line card)) (sym (here-is c service tei 0 ranged lengths rate gone (port.expiry (timers.T200 service tei)) S M M but))
+          ∙ ap (λ o. option_map_or (link_in (line_at a.at.line a.at.card.card) service) o fresh_link) h.but.ends.stands.speaks.placed ∙ h.but.ends.stands.speaks.link
+
+      runs-there : state_number h.but.ends.its.state ≡ 5 → link_runs T200 h.but.ends.its.running ≡ true
+      runs-there five =
+          let o = (view_of c service tei a.at.line before).link in
+          let o_is : o.state ≡ state_number h.but.ends.its.state = o-is c service tei 0 ranged lengths rate gone (port.expiry (timers.T200 service tei)) S M M but (line.expiry (timers.T200 service tei)) refl in
+          ap (λ (l : Link). link_runs T200 l.running) (sym link-is)
+          ∙ sym (t200-is c before a.at.line ranged (all-past c service tei 0 ranged lengths rate gone (port.expiry (timers.T200 service tei)) S M M but) h.but.ends.ran.within service tei)
+          ∙ awaits-in o (ap is_waiting (o_is ∙ five))
+
+      module _ (timer : Timer) (its : LinkTimer) (aims : (l : Line) → aim_of_expiry timer l ≡ at_timer service tei its (place_in l tei)) where
+        fell_mv : Moved c service tei 0 ranged a.at (circuit.happens (port.expiry timer) a.at) h.but.ends (λ e. e ≡ link.expired its)
+        fell_mv = ends-expired c service tei 0 ranged a.at h.but.ends timer its aims
+
+        its-event : fell_mv.event ≡ Some (link.expired its)
+        unfolding fell_mv
+        its-event = expired-event c service tei 0 ranged a.at h.but.ends timer its aims
+
+        its-state : fell_mv.ends.its.state ≡ cond (link_runs its h.but.ends.its.running) (by_expiry h.but.ends.its.state its (may_repeat (terms c service tei) h.but.ends.its)) h.but.ends.its.state
+        its-state =
+            ap (λ (l : Link). l.state) (fell_mv.link_is ∙ ap (λ v. option_map_or (λ e. links.after (terms c service tei) e h.but.ends.its) v h.but.ends.its) its-event)
+            ∙ leads (terms c service tei) (link.expired its) h.but.ends.its
+
+        closed : Rings fell_mv.ends.its.state × (state_number fell_mv.ends.its.state ≡ 5 → state_number h.but.ends.its.state ≡ 5)
+        closed =
+            subst (λ s. Rings s × (state_number s ≡ 5 → state_number h.but.ends.its.state ≡ 5)) (sym its-state)
+            (expiry-closed h.but.ends.its.state its (link_runs its h.but.ends.its.running) (may_repeat (terms c service tei) h.but.ends.its) x.rings)
+
+        expired-kept : ((lost (circuit.happens (port.expiry timer) a.at) ≤ base) → state_number h.but.ends.its.state ≡ 5 → state_number fell_mv.ends.its.state ≡ 5 → IsDue (happens (port.expiry timer) gone) fell_mv.ends)
+            → Then (port.expiry timer) (record a { clock = without_first a.clock })
+        expired-kept on =
+            let more = lost-more (port.expiry timer) a.at in let low_is = x.low_lost in (
+              fell_mv.ends,
+              record { low_lost = omega (arith, more, low_is); rings = closed.0; due = λ few five. on few (closed.1 five) five },
+            )
+
+      t200-kept : Then (port.expiry (timers.T200 service tei)) (record a { clock = without_first a.clock })
+      t200-kept =
+          expired-kept (timers.T200 service tei) T200 (λ l. refl)
+          (λ few five then_five.
+          let y = fell_mv (timers.T200 service tei) T200 (λ l. refl) in
+          let ev = its-event (timers.T200 service tei) T200 (λ l. refl) in
+          let all = lost-expired c service tei 0 ranged a.at h.but.ends (timers.T200 service tei) T200 (λ l. refl) in
+          let low_is = x.low_lost in
+          let text = text-low c service tei 0 ranged a.at h.but.ends in
+          let after_five = ap (λ (l : Link). state_number l.state) (sym (y.link_is ∙ ap (λ v. option_map_or (λ e. links.after (terms c service tei) e h.but.ends.its) v h.but.ends.its) ev)) ∙ then_five in
+          inr (frame-put c service tei 0 ranged establishes low most way heard a.at (circuit.happens (port.expiry (timers.T200 service tei)) a.at) h.but.ends (λ e. e ≡ link.expired T200) y
+          (λ e is. subst IsOrdinary (sym (y.by e is)) tt) (link.expired T200) ev (sabme-again (terms c service tei) h.but.ends.its after_five (runs-there five)) (omega (arith, few, all, low_is))
+          (omega (arith, text, low_given)) soon_given))
+
+      t203-kept : e.timer ≡ timers.T203 service tei → Then (port.expiry (timers.T203 service tei)) (record a { clock = without_first a.clock })
+      t203-kept same =
+          let y = fell_mv (timers.T203 service tei) T203 (λ l. refl) in
+          let more = lost-more (port.expiry (timers.T203 service tei)) a.at in
+          expired-kept (timers.T203 service tei) T203 (λ l. refl)
+          (λ few five then_five. go five then_five (x.due (omega (arith, more, few)) five))
+        where
+          other : is_of a.at.line (timers.T200 service tei) e ≡ false
+          other = ap (λ t. (e.line == a.at.line) && is_same t (timers.T200 service tei)) same ∙ and-none (e.line == a.at.line)
+            where
+              and-none : (b : Bool) → (b && false) ≡ false
+              and-none true = refl
+              and-none false = refl
+
+          go : state_number h.but.ends.its.state ≡ 5 → state_number (fell_mv (timers.T203 service tei) T203 (λ l. refl)).ends.its.state ≡ 5 → IsDue a h.but.ends
+              → IsDue (happens (port.expiry (timers.T203 service tei)) gone) (fell_mv (timers.T203 service tei) T203 (λ l. refl)).ends
+          go five then_five (inl runs_now) =
+              inl (on-runs gone (port.expiry (timers.T203 service tei)) S M but (line.expiry (timers.T203 service tei)) refl refl (fell_mv (timers.T203 service tei) T203 (λ l. refl)).ends five then_five
+              ∙ dropped a.at.line (timers.T200 service tei) e a.clock.running a.clock.now falls_now other ∙ runs_now)
+          go five then_five (inr is_due) =
+              let y = fell_mv (timers.T203 service tei) T203 (λ l. refl) in
+              inr (due-moved c service tei 0 ranged establishes low most way heard a.at (circuit.happens (port.expiry (timers.T203 service tei)) a.at) h.but.ends (λ e. e ≡ link.expired T203) y
+              (λ e is. subst IsOrdinary (sym (y.by e is)) tt) is_due)
+
+      by-timer : (timer : Timer) → e.timer ≡ timer → is_timer_of service tei timer ≡ true → Then (port.expiry timer) (record a { clock = without_first a.clock })
+      by-timer (timers.T200 of by) same ours =
+          let own = own-same service tei of by ours in
+          subst (λ t. Then (port.expiry t) (record a { clock = without_first a.clock })) (λ i. timers.T200 (sym own.0 i) (sym own.1 i)) t200-kept
+      by-timer (timers.T203 of by) same ours =
+          let own = own-same service tei of by ours in
+          subst (λ t. Then (port.expiry t) (record a { clock = without_first a.clock })) (λ i. timers.T203 (sym own.0 i) (sym own.1 i)) (t203-kept (same ∙ (λ i. timers.T203 (own.0 i) (own.1 i))))
+      by-timer timers.T201 same ours = absurd (true≢false (sym ours))
+      by-timer timers.T202 same ours = absurd (true≢false (sym ours))
+
+      pub falls-kept : Then (port.expiry e.timer) (record a { clock = without_first a.clock })
+      falls-kept = by-timer e.timer refl (first-of (RunsOurs service tei) a.clock.running a.clock.now e h.but.ours falls_now)

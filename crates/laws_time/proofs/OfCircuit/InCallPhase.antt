@@ -1,0 +1,138 @@
+-- In a call on the circuit the end that calls rings, in state 5, and has heard nothing; or both ends are up.
+use Rattle.std.proofs.Common.{arith, ◌≡◌, ℕ, ◌+◌, ◌/◌, ◌≤◌, Bool, true, false, cond, List, [], ◌∷◌, ◌++◌, length, Option, Some, None, refl, sym, ap, ◌∙◌, subst, All, ◌⊎◌, inl, inr}
+use Rattle.lapd_frame.specs.declared.services.Service.{Service}
+use Rattle.lapd_frame.specs.Grammar.{Parts}
+use Rattle.model_link.specs.Link.{Link, state_number, is_multiple_frame}
+use Rattle.model_link.specs.TwoEnds.{Endpoint as LinkEndpoint}
+use Rattle.model_link.specs.declared.frames.ControlFrame.{ControlFrame}
+use Rattle.model_link.specs.declared.states.State.{State}
+use Rattle.model_link.specs.declared.states.State.TheVariants.{TeiAssigned, AwaitingEstablishment, AwaitingRelease, Established, TimerRecovery}
+use Rattle.model_link.specs.Sound.{IsInRange as IsInRangeTerms}
+use Rattle.model_line.specs.Event.{LineTold}
+use Rattle.model_line.specs.Line.{terms, link_in}
+use Rattle.model_line.specs.Sound.{IsInRange}
+use Rattle.model_line.specs.declared.config.Config.{Config}
+use Rattle.model_card.specs.Card.{state, line_at}
+use Rattle.laws_wire.specs.Answering.{Called, uncalled}
+unfoldable use Rattle.laws_wire.specs.Answering.{seen}
+use Rattle.laws_wire.specs.Call.{calling}
+use Rattle.laws_wire.specs.Losing.{heard_in}
+use Rattle.laws_wire.specs.Wire.{Endpoint as FrameEndpoint, Wire}
+use Rattle.laws_wire.proofs.Calling.{end, sabme}
+use Rattle.laws_wire.proofs.Held.{Held}
+use Rattle.laws_wire.proofs.LossyRun.{setting}
+use Rattle.laws_wire.proofs.Ringing.{ringing, its_sabme}
+use Rattle.laws_wire.proofs.Standing.{StationStands}
+use Rattle.laws_wire.proofs.Talking.{Face}
+use Rattle.laws_wire.proofs.UaBefore.{regranted}
+use Rattle.laws_wire.proofs.UaLostRun as run
+use Rattle.laws_wire.proofs.UaTold.{patient-goes}
+use Rattle.laws_time.proofs.OfCircuit.ArrivAs.{station, heard_of}
+use Rattle.laws_time.proofs.OfCircuit.ArrivRun.{Reached}
+use Rattle.laws_time.proofs.OfCircuit.InTime.{PairNow}
+use Rattle.laws_time.proofs.OfCircuit.Standing.{Ends}
+use Rattle.laws_time.proofs.OfCircuit.Under.{state-here}
+use Rattle.laws_time.specs.circuit.Answered.{state_at}
+use Rattle.laws_time.specs.circuit.Clocked.{TimedEndpoint, Clocked}
+use Rattle.laws_time.specs.circuit.InCall.{IsUp}
+use Rattle.laws_time.specs.circuit.LongEnough.{Line, IsFit}
+
+up-number : (s : State) → is_multiple_frame s ≡ true → (state_number s ≡ 7) ⊎ (state_number s ≡ 8)
+up-number Established up = inl refl
+up-number TimerRecovery up = inr refl
+up-number TeiAssigned up = absurd (cc up)
+up-number AwaitingEstablishment up = absurd (cc up)
+up-number AwaitingRelease up = absurd (cc up)
+
+-- The link of an end is that of its station.
+module _ (c : Config) (service : Service) (tei : ℕ) (ranged : IsInRange c) (a : TimedEndpoint) (ends : Ends c service tei 0 ranged a.at) (there : List (List ℕ)) (ts : List LineTold) (x : FrameEndpoint)
+    (is : x ≡ station there ts a.at) (n : LinkEndpoint) (stands : StationStands c service tei 0 x n) where
+  pub its-is : ends.its ≡ n.link
+  its-is = sym ends.stands.speaks.link ∙ ap (λ (x : FrameEndpoint). link_in (line_at x.line x.card) service 0) (sym is) ∙ stands.speaks.link
+
+module _ (service : Service) (tei : ℕ) (c d : Config) (p q : ℕ) (face : Face c d) (back : Face d c) (rt : IsInRangeTerms (terms c service tei)) (ru : IsInRangeTerms (terms d service tei)) where
+  -- It rings.
+  pub record Rung (v : Wire) : Type 0 where
+    pub repeats : ℕ
+    pub waiting : List ControlFrame
+    pub way : List Parts
+    pub near : Held c service tei p [] v.near (end (terms c service tei) (ringing repeats waiting) way)
+
+  pub record BothUp (v : Wire) : Type 0 where
+    pub n : LinkEndpoint
+    pub m : LinkEndpoint
+    pub near_heard : heard_in v.near ≡ [] → ⊥
+    pub near : StationStands c service tei p v.near n
+    pub far : StationStands d service tei q v.far m
+    pub near_up : is_multiple_frame n.link.state ≡ true
+    pub far_up : is_multiple_frame m.link.state ≡ true
+
+  rings-in : (P : FrameEndpoint → Type 0) (v : Wire) → run.Rs service tei c d p q face back rt ru P v → Rung v
+  rings-in P v (inl h) = record { repeats = h.repeats; waiting = []; way = []; near = h.near }
+  rings-in P v (inr (inl h)) = record { repeats = h.repeats; waiting = its_sabme ∷ []; way = []; near = h.near }
+  rings-in P v (inr (inr h)) = record { repeats = h.repeats; waiting = []; way = sabme (terms c service tei) ∷ []; near = h.near }
+
+  some-heard : (xs ys zs : List LineTold) (x : LineTold) → xs ≡ x ∷ ys ++ zs → xs ≡ [] → ⊥
+  some-heard xs ys zs x is none = cc (sym none ∙ is)
+
+  called-in : (past : List LineTold) (b : Bool) (v : Wire) → run.IsCalled service tei c d p q face back rt ru past b v → Rung v ⊎ BothUp v
+  called-in past b v (inl h) = inl (rings-in (run.Away service tei c d p q face back rt ru past b) v h)
+  called-in past b v (inr (inl h)) = inl (record { repeats = h.repeats; waiting = []; way = []; near = h.near })
+  called-in past b v (inr (inr (inl h))) = inl (record { repeats = h.repeats; waiting = []; way = []; near = h.near })
+  called-in past b v (inr (inr (inr h))) = inr (record {
+    n = h.n;
+    m = h.m;
+    near_heard = λ none. cc (sym none ∙ h.near.heard);
+    near = h.near.stands;
+    far = h.far.stands;
+    near_up = h.loose.joined.near_up;
+    far_up = h.loose.joined.far_up;
+  })
+
+  pub phase-in : (x : Called) (v : Wire) → run.Phase service tei c d p q face back rt ru x v → Rung v ⊎ BothUp v
+  phase-in x v (inl (told, sent, h)) = inl (rings-in (run.Down service tei c d p q face back rt ru) v h)
+  phase-in x v (inr (some, h)) = called-in x.told x.sent v h
+
+module _ (l : Line) (fit : IsFit l) (w : Clocked) (pair : PairNow l fit w) (r : Reached l fit (calling l.service l.tei l.near l.near_line l.far l.far_line) w) where
+  abbrev begun : Wire
+  begun = calling l.service l.tei l.near l.near_line l.far l.far_line
+
+  abbrev x : Called
+  x = seen l.service l.tei r.path.steps (calling l.service l.tei l.near l.near_line l.far l.far_line) uncalled
+
+  abbrev GoesTo : Wire → Type 0
+  GoesTo f = run.Goes l.service l.tei l.near l.far 0 0 (setting l.service l.near l.far l.near_line l.far_line l.tei fit.call).face (setting l.service l.near l.far l.near_line l.far_line l.tei fit.call).back (setting l.service l.near l.far l.near_line l.far_line l.tei fit.call).near (setting l.service l.near l.far l.near_line l.far_line l.tei fit.call).far x f
+
+  goes : GoesTo r.f
+  goes = subst GoesTo r.path.leads (patient-goes l.service l.near l.far l.near_line l.far_line l.tei r.path.steps fit.call r.path.talk r.path.patient)
+
+  near-heard : heard_in goes.v.near ≡ heard_of w.near.at.told
+  near-heard = ap (λ (f : Wire). heard_in f.near) (sym goes.is) ∙ ap heard_in r.same.near_is ∙ r.same.near_heard
+
+  near-number : (n : LinkEndpoint) → StationStands l.near l.service l.tei 0 goes.v.near n → state_at l w.near ≡ Some (state_number n.link.state)
+  near-number n stands =
+      state-here l.near l.service l.tei 0 fit.call.near.0 l.lengths l.rate w.near.at pair.near_ok.but.ends
+      ∙ ap (λ (x : Link). Some (state_number x.state))
+      (its-is l.near l.service l.tei fit.call.near.0 w.near pair.near_ok.but.ends r.same.there r.same.ts goes.v.near (ap (λ (f : Wire). f.near) (sym goes.is) ∙ r.same.near_is) n stands)
+
+  far-number : (m : LinkEndpoint) → StationStands l.far l.service l.tei 0 goes.v.far m → state_at l w.far ≡ Some (state_number m.link.state)
+  far-number m stands =
+      state-here l.far l.service l.tei 0 fit.call.far.0 l.far_lengths l.rate w.far.at pair.far_ok.but.ends
+      ∙ ap (λ (x : Link). Some (state_number x.state))
+      (its-is l.far l.service l.tei fit.call.far.0 w.far pair.far_ok.but.ends r.same.back r.same.us r.f.far r.same.far_is m
+      (subst (λ (s : FrameEndpoint). StationStands l.far l.service l.tei 0 s m) (ap (λ (f : Wire). f.far) (sym goes.is)) (regranted l.far l.service l.tei 0 goes.v.far m (goes.earlier ++ goes.v.far.granted) stands)))
+
+  up-at : (a : TimedEndpoint) (n : LinkEndpoint) → state_at l a ≡ Some (state_number n.link.state) → is_multiple_frame n.link.state ≡ true → IsUp l a
+  up-at a n is up = go (up-number n.link.state up)
+    where
+      go : (state_number n.link.state ≡ 7) ⊎ (state_number n.link.state ≡ 8) → IsUp l a
+      go (inl e) = inl (is ∙ ap (λ n. Some n) e)
+      go (inr e) = inr (is ∙ ap (λ n. Some n) e)
+
+  pub in-call : ((state_at l w.near ≡ Some 5) × (heard_of w.near.at.told ≡ [])) ⊎ ((heard_of w.near.at.told ≡ [] → ⊥) × IsUp l w.near × IsUp l w.far)
+  in-call = go (phase-in l.service l.tei l.near l.far 0 0 (setting l.service l.near l.far l.near_line l.far_line l.tei fit.call).face (setting l.service l.near l.far l.near_line l.far_line l.tei fit.call).back (setting l.service l.near l.far l.near_line l.far_line l.tei fit.call).near (setting l.service l.near l.far l.near_line l.far_line l.tei fit.call).far x goes.v goes.phase)
+    where
+      go : Rung l.service l.tei l.near l.far 0 0 (setting l.service l.near l.far l.near_line l.far_line l.tei fit.call).face (setting l.service l.near l.far l.near_line l.far_line l.tei fit.call).back (setting l.service l.near l.far l.near_line l.far_line l.tei fit.call).near (setting l.service l.near l.far l.near_line l.far_line l.tei fit.call).far goes.v ⊎ BothUp l.service l.tei l.near l.far 0 0 (setting l.service l.near l.far l.near_line l.far_line l.tei fit.call).face (setting l.service l.near l.far l.near_line l.far_line l.tei fit.call).back (setting l.service l.near l.far l.near_line l.far_line l.tei fit.call).near (setting l.service l.near l.far l.near_line l.far_line l.tei fit.call).far goes.v
+          → ((state_at l w.near ≡ Some 5) × (heard_of w.near.at.told ≡ [])) ⊎ ((heard_of w.near.at.told ≡ [] → ⊥) × IsUp l w.near × IsUp l w.far)
+      go (inl h) = inl (near-number (end (terms l.near l.service l.tei) (ringing h.repeats h.waiting) h.way) h.near.stands, sym near-heard ∙ h.near.heard)
+      go (inr h) = inr (λ none. h.near_heard (near-heard ∙ none), up-at w.near h.n (near-number h.n h.near) h.near_up, up-at w.far h.m (far-number h.m h.far) h.far_up)

@@ -1,0 +1,325 @@
+-- An end that rings on a line without noise: within T200 SABME goes again, and then it is answered in time.
+use Rattle.std.proofs.Common.{arith, ◌≡◌, ℕ, ◌+◌, ◌-◌, ◌*◌, ◌/◌, ◌<◌, ◌≤◌, ◌&&◌, Bool, true, false, cond, List, [], ◌∷◌, ◌++◌, length, Option, Some, None, option_map, refl, sym, ap, ◌∙◌, subst, All, ◌⊎◌, inl, inr}
+use Rattle.std.specs.List.{AllByRecursion}
+use Rattle.std.specs.Option.{option_map_or}
+use Rattle.std.proofs.lemmas.List.Elements.{All-head, All-tail}
+use Rattle.std.proofs.Math.Nat.{lt-div-mul-add, mul-div-le}
+use Rattle.std.proofs.lemmas.Nat.{mul-le}
+use Rattle.lapd_clock.specs.Moments.{moment_of}
+use Rattle.lapd_clock.specs.Timer.{Lengths}
+use Rattle.lapd_clock.specs.Timers.{Expiry, is_of}
+use Rattle.lapd_frame.specs.declared.services.Service.{Service}
+use Rattle.lapd_frame.specs.declared.timers.Timer.{Timer}
+use Rattle.lapd_frame.specs.declared.timers.Timer.TheVariants as timers
+use Rattle.lapd_frame.specs.Grammar.{Parts}
+use Rattle.model_bits.specs.Stream as stream
+use Rattle.model_link.specs.declared.states.State.{State}
+use Rattle.model_link.specs.declared.states.State.TheVariants.{TeiAssigned, AwaitingEstablishment, AwaitingRelease, Established, TimerRecovery}
+use Rattle.model_link.specs.declared.terms.Terms.{Terms}
+use Rattle.model_link.specs.declared.timers.LinkTimer.TheVariants.{T200}
+use Rattle.model_link.specs.Events as link
+use Rattle.model_link.specs.Events.{Event as LinkEvent, received, frame, overlong}
+use Rattle.model_link.specs.Link.{Link, state_number, is_multiple_frame}
+use Rattle.model_link.specs.Machine as links
+use Rattle.model_link.specs.Machine.{after as link_after}
+use Rattle.model_line.specs.Event as line
+use Rattle.model_line.specs.Line.{terms}
+use Rattle.model_line.specs.Sound.{IsInRange}
+use Rattle.model_line.specs.declared.config.Config.{Config}
+use Rattle.model_card.specs.Card.{state}
+use Rattle.model_card.specs.Event as frame_event
+use Rattle.model_card.specs.ports.Event.{Event, at as octet_at}
+use Rattle.model_card.specs.ports.Port as port
+use Rattle.model_card.specs.ports.Port.{Port, gained}
+use Rattle.model_timed.specs.Clock.{obeyed}
+use Rattle.model_timed.specs.Frames as timed_frames
+use Rattle.model_timed.specs.Octets.{octets, fresh}
+use Rattle.model_timed.specs.Timed.{Step, after_all, ArePrompt}
+use Rattle.laws_link.specs.States.{is_overlong, is_faulty, state_after}
+use Rattle.laws_trace.specs.Observer.{Observed}
+use Rattle.laws_wire.specs.Answering.{IsAsked as IsAskedOfLink}
+use Rattle.laws_order.specs.circuit.Circuit.{port_of}
+use Rattle.laws_order.specs.circuit.Circuit as circuit
+use Rattle.laws_time.proofs.Before.{Goes as TimedGoes, before-goes, begins as timed-begins}
+use Rattle.laws_time.proofs.Links.{state-is}
+use Rattle.laws_time.proofs.OctetsMean.{inside, meant_at, orders-are, steps-inside, prompt-inside, frame_steps}
+use Rattle.laws_time.proofs.Walk.{seen}
+use Rattle.laws_time.proofs.OfCircuit.Answered.{Waits, Grows, grows-all, stage-all, soon-over, same-longest}
+use Rattle.laws_time.proofs.OfCircuit.AnsweredBeat.{same-some}
+use Rattle.laws_time.proofs.OfCircuit.AnsweredBeats.{PairAt, near-come, near-pulls}
+use Rattle.laws_time.proofs.OfCircuit.AnsweredEnds.{lost, its-same, DueAt}
+use Rattle.laws_time.proofs.OfCircuit.AnsweredRows.{establishment, establishment-asks, leads}
+use Rattle.laws_time.proofs.OfCircuit.AnsweredRun.{Ready, Stage, asked_by, answered_by, ready-then, near-lost, near1, near2, near_mv, near_then, near-is, near-state, near-after, near-given, z, n1, v, u}
+use Rattle.laws_time.proofs.OfCircuit.Beats.{Gone}
+use Rattle.laws_time.proofs.OfCircuit.Ends.{Leads, Rests}
+use Rattle.laws_time.proofs.OfCircuit.InCallDue.{Rings, Kept, IsDue, runs_at, on-runs, heard-five}
+use Rattle.laws_time.proofs.OfCircuit.InCallRings.{KeptAt, comes-kept, pull-kept}
+use Rattle.laws_time.proofs.OfCircuit.LongEnough.{by_now, soon, near-low, near-high, near-gone, in-all}
+use Rattle.laws_time.proofs.OfCircuit.Moments.{awaits-in, is_waiting}
+use Rattle.laws_time.proofs.OfCircuit.Open.{half}
+use Rattle.laws_time.proofs.OfCircuit.Standing.{Ends, Moved}
+use Rattle.laws_time.proofs.OfCircuit.Under.{EndOk, state-here}
+use Rattle.laws_time.specs.circuit.Answered.{IsClean, state_at}
+use Rattle.laws_time.specs.circuit.Clocked.{TimedEndpoint, Clocked, Beat, gone, beat, after, happens, comes_to, without_first_octet}
+use Rattle.laws_time.specs.circuit.Ends.{card_of}
+use Rattle.laws_time.specs.circuit.LongEnough.{Line, IsFit, IsTalk, IsOfLink, IsClearAt, answered_in}
+unfoldable use Rattle.laws_time.specs.circuit.LongEnough.{AreClear}
+unfoldable use Rattle.laws_time.proofs.OfCircuit.Answered.{Waits}
+
+-- A frame that is heard leads to state 5 from there.
+five-was : (s : State) (f : Bool) → Rings s → state_number (cond (is_multiple_frame s && f) AwaitingEstablishment s) ≡ 5 → state_number s ≡ 5
+five-was AwaitingEstablishment f r is = refl
+five-was TeiAssigned f r is = is
+five-was AwaitingRelease f (inl e) is = cc e
+five-was AwaitingRelease f (inr e) is = cc e
+five-was Established f (inl e) is = cc e
+five-was Established f (inr e) is = cc e
+five-was TimerRecovery f (inl e) is = cc e
+five-was TimerRecovery f (inr e) is = cc e
+
+heard-was : (t : Terms) (f : Parts) (l : Link) → Rings l.state → state_number (link_after t (received (frame f)) l).state ≡ 5 → state_number l.state ≡ 5
+heard-was t f l rings is = go (is_overlong t f.control f.info) (ap state_number (sym (leads t (received (frame f)) l)) ∙ is)
+  where
+    go : (b : Bool) → state_number (state_after t (received (cond b overlong (frame f))) l) ≡ 5 → state_number l.state ≡ 5
+    go true is = five-was l.state (is_faulty overlong l) rings is
+    go false is = heard-five l.state f (is_faulty (frame f) l) rings is
+
+-- A timer that runs is not due where none is.
+first-or : (number now : ℕ) (timer : Timer) (e : Expiry) (es : List Expiry) (m : ℕ) → now < e.moment → (moment_of number timer es ≡ Some m → now < m) → (b : Bool) → cond b (Some e.moment) (moment_of number timer es) ≡ Some m → now < m
+first-or number now timer e es m first rest true is = subst (λ n. now < n) (same e.moment m is) first
+  where
+    same : (a b : ℕ) → Some a ≡ Some b → a ≡ b
+    same a b e = cc e
+first-or number now timer e es m first rest false is = rest is
+
+later-than : (number now : ℕ) (timer : Timer) (xs : List Expiry) (m : ℕ) → AllByRecursion (λ x. now < x.moment) xs → moment_of number timer xs ≡ Some m → now < m
+later-than number now timer [] m all is = cc is
+later-than number now timer (e ∷ es) m all is = first-or number now timer e es m all.0 (later-than number now timer es m all.1) (is_of number timer e) is
+
+-- In state 5 T200 of an end falls due within its length.
+module _ (c : Config) (service : Service) (tei : ℕ) (ranged : IsInRange c) (lengths : Lengths) (a : TimedEndpoint) (h : Ends c service tei 0 ranged a.at) (first : Leads (fresh c lengths) (card_of a))
+    (five : state a.at.line service tei a.at.card.card ≡ Some 5) where
+  abbrev number : ℕ
+  number = a.at.line
+
+  abbrev steps : List (Step frame_event.Event)
+  steps = frame_steps first.steps (fresh c lengths)
+
+  abbrev events : List frame_event.Event
+  events = timed_frames.events_of steps (timed_frames.fresh c lengths)
+
+  there : TimedGoes c lengths 0 number ranged h.ran.within service tei events (timed_frames.after_all steps (timed_frames.fresh c lengths))
+  there = before-goes c lengths 0 number ranged h.ran.within service tei [] (timed_frames.fresh c lengths) steps (timed-begins c lengths 0 number ranged h.ran.within service tei) (prompt-inside 0 first.steps (fresh c lengths) first.prompt)
+
+  same-card : timed_frames.after_all steps (timed_frames.fresh c lengths) ≡ inside (card_of a)
+  same-card = sym (steps-inside first.steps (fresh c lengths)) ∙ ap inside first.leads
+
+  o-five : (seen c lengths 0 number ranged h.ran.within service tei events).state ≡ 5
+  o-five =
+      state-is c events number ranged there.stands.all h.ran.within service tei 5
+      (ap (state number service tei) (sym there.stands.card) ∙ ap (λ (t : timed_frames.TimedCard). state number service tei t.card) same-card ∙ five)
+
+  pub t200-there : (m : ℕ) × (moment_of a.at.line (timers.T200 service tei) a.clock.running ≡ Some m) × (m ≤ a.clock.now + lengths.t200)
+  t200-there =
+      let o = seen c lengths 0 number ranged h.ran.within service tei events in
+      let d = there.timers_are T200 (awaits-in o (ap is_waiting o-five)) in (
+        d.0,
+        ap (λ (t : timed_frames.TimedCard). moment_of number (timers.T200 service tei) t.clock.running) (sym same-card) ∙ d.1,
+        subst (λ (t : timed_frames.TimedCard). d.0 ≤ t.clock.now + lengths.t200) same-card d.3,
+      )
+
+module _ (l : Line) (fit : IsFit l) (clean base other_base m : ℕ) where
+  abbrev runs_now : TimedEndpoint → Option ℕ
+  runs_now a = runs_at l.near l.service l.tei fit.call.near.0 l.lengths l.rate a
+
+  abbrev ReadyAt : ℕ → Clocked → Type 0
+  ReadyAt start w = Ready l fit 5 establishment start clean base other_base w
+
+  abbrev StageAt : ℕ → Clocked → Type 0
+  StageAt start w = Stage l fit 5 establishment start clean base other_base w
+
+  ready-at : (start begin : ℕ) (w : Clocked) → ReadyAt start w → ReadyAt begin w
+  ready-at start begin w y = record { pair = y.pair; near_low = y.near_low; far_low = y.far_low; near_comes = y.near_comes; far_comes = y.far_comes }
+
+  -- A beat.
+  module _ (w : Clocked) (soon_clean : clean + 1 ≤ w.beats) (y : ReadyAt w.beats w) (b : Beat) (talk : IsTalk l b) (asked : All (λ r. IsOfLink l.service l.tei r × IsAskedOfLink l.service l.tei r) b.near_asks)
+      (is_clean : IsClean b) (near_clear : IsClearAt l.near.n201 b.near_noise (gone l.rate b w).near (gone l.rate b w).far) (far_clear : IsClearAt l.near.n201 b.far_noise (gone l.rate b w).far (gone l.rate b w).near)
+      (five : state_number y.pair.near_ok.but.ends.its.state ≡ 5) (five_then : state_at l (beat l.rate w b).near ≡ Some 5) (near_few : lost (beat l.rate w b).near.at ≤ base) (far_few : lost (beat l.rate w b).far.at ≤ other_base)
+      (runs_m : runs_now w.near ≡ Some m) where
+    abbrev start : ℕ
+    start = w.beats
+
+    abbrev most : ℕ
+    most = asked_by l fit 5 establishment w.beats clean base other_base
+
+    abbrev KeptNow : (a : TimedEndpoint) → Ends l.near l.service l.tei 0 fit.call.near.0 a.at → Type 0
+    KeptNow a h = KeptAt l.near l.service l.tei fit.call.near.0 l.lengths l.rate start most l.way start m base a h
+
+    abbrev p : PairAt l fit w
+    p = y.pair
+
+    first : KeptNow w.near p.near_ok.but.ends
+    first = record { low_lost = y.near_low; rings = inl five; due = λ few five. inl runs_m }
+
+    abbrev come : TimedEndpoint
+    come = comes_to (w.beats / l.rate) b.near_asks w.near
+
+    came : KeptNow come (near-come l fit w p b talk).ok.but.ends
+    came =
+        let c = fit.call in
+        comes-kept l.near l.service l.tei c.near.0 l.lengths l.rate start most l.way start m base w.beats (omega arith) (omega arith) l.way (w.beats / l.rate) w.beats p.S
+        (by_now l fit.some c.near.0 c.far.0 c.opposite.0 c.opposite.1 fit.t200 (fresh l.near l.lengths) (fresh l.far l.far_lengths) p.S2) b.near_asks w.near p.near_ok p.both.near
+        (near-low l fit.some c.near.0 c.far.0 c.opposite.0 c.opposite.1 fit.t200 (fresh l.near l.lengths) (fresh l.far l.far_lengths) w p b talk)
+        (near-high l fit.some c.near.0 c.far.0 c.opposite.0 c.opposite.1 fit.t200 (fresh l.near l.lengths) (fresh l.far l.far_lengths) w p b talk) p.near_counts
+        (soon l fit.some c.near.0 c.far.0 c.opposite.0 c.opposite.1 fit.t200 (fresh l.near l.lengths) (fresh l.far l.far_lengths) w p b talk) asked talk.0 refl first (near-come l fit w p b talk).ok.but.ends
+
+    given : length (port_of come.at).given ≡ w.beats
+    given = ap (λ (p : Port). length p.given) (near-come l fit w p b talk).port ∙ p.near_counts.given
+
+    pulled : KeptNow (gone l.rate b w).near (near-pulls l fit w p b talk).ends
+    pulled =
+        let so_many = given in
+        pull-kept l.near l.service l.tei fit.call.near.0 l.lengths l.rate start most l.way start m base come (near-come l fit w p b talk).S'
+        (by_now l fit.some fit.call.near.0 fit.call.far.0 fit.call.opposite.0 fit.call.opposite.1 fit.t200 (fresh l.near l.lengths) (fresh l.far l.far_lengths) p.S2) (near-come l fit w p b talk).ok came
+        (near-pulls l fit w p b talk) (omega (arith, so_many))
+
+    abbrev hears_mv : Moved l.near l.service l.tei 0 fit.call.near.0 (gone l.rate b w).near.at
+        (circuit.happens (port.octet (z l fit 5 establishment start clean base other_base soon_clean w y b talk is_clean near_clear far_clear).near.value) (gone l.rate b w).near.at) (near-pulls l fit w p b talk).ends
+        (λ e. (f : Parts) × (e ≡ link.received (link.frame f)))
+    hears_mv = near_mv l fit 5 establishment start clean base other_base soon_clean w y b talk is_clean near_clear far_clear
+
+    abbrev value : ℕ
+    value = (z l fit 5 establishment start clean base other_base soon_clean w y b talk is_clean near_clear far_clear).near.value
+
+    five-now : state_number hears_mv.ends.its.state ≡ 5
+    five-now = near-state l fit 5 establishment start clean base other_base soon_clean w y b talk is_clean near_clear far_clear 5 five_then
+
+    five-pulled : state_number (near-pulls l fit w p b talk).ends.its.state ≡ 5
+    five-pulled = go hears_mv.event hears_mv.by refl
+      where
+        go : (v : Option LinkEvent) → ((e : LinkEvent) → v ≡ Some e → (f : Parts) × (e ≡ link.received (link.frame f))) → hears_mv.event ≡ v → state_number (near-pulls l fit w p b talk).ends.its.state ≡ 5
+        go None by is =
+            ap (λ (x : Link). state_number x.state)
+            (sym (hears_mv.link_is ∙ ap (λ v. option_map_or (λ e. links.after (terms l.near l.service l.tei) e (near-pulls l fit w p b talk).ends.its) v (near-pulls l fit w p b talk).ends.its) is)) ∙ five-now
+        go (Some e) by is =
+            let f = by e refl in
+            heard-was (terms l.near l.service l.tei) f.0 (near-pulls l fit w p b talk).ends.its pulled.rings
+            (ap (λ e. state_number (links.after (terms l.near l.service l.tei) e (near-pulls l fit w p b talk).ends.its).state) (sym f.1)
+            ∙ ap (λ (x : Link). state_number x.state)
+            (sym (hears_mv.link_is ∙ ap (λ v. option_map_or (λ e. links.after (terms l.near l.service l.tei) e (near-pulls l fit w p b talk).ends.its) v (near-pulls l fit w p b talk).ends.its) is)) ∙ five-now)
+
+    abbrev vn : TimedEndpoint
+    vn = (gone l.rate b w).near
+
+    g : Gone l.service l.tei l.way l.lengths l.rate l.near fit.call.near.0 (w.beats / l.rate) w.beats p.S
+        (by_now l fit.some fit.call.near.0 fit.call.far.0 fit.call.opposite.0 fit.call.opposite.1 fit.t200 (fresh l.near l.lengths) (fresh l.far l.far_lengths) p.S2) (gone l.rate b w).near
+    g = near-gone l fit.some fit.call.near.0 fit.call.far.0 fit.call.opposite.0 fit.call.opposite.1 fit.t200 (fresh l.near l.lengths) (fresh l.far l.far_lengths) w p b talk near_clear far_clear
+
+    -- T200 runs on as an octet is heard.
+    on-heard : runs_now (happens (port.octet value) vn) ≡ runs_now vn
+    on-heard = go (gained vn.at.card.card.config.n201 (port_of vn.at).received value) refl
+      where
+        go : (o : Option stream.Event) → gained vn.at.card.card.config.n201 (port_of vn.at).received value ≡ o → runs_now (happens (port.octet value) vn) ≡ runs_now vn
+        go None is =
+            ap (λ os. moment_of vn.at.line (timers.T200 l.service l.tei) (obeyed vn.at.line os vn.clock).running)
+            (orders-are (octet_at vn.at.line (port.octet value)) vn.at.card None (ap (option_map line.hears) is))
+        go (Some e) is =
+            on-runs l.near l.service l.tei fit.call.near.0 l.lengths l.rate vn (port.octet value) g.S'
+            (by_now l fit.some fit.call.near.0 fit.call.far.0 fit.call.opposite.0 fit.call.opposite.1 fit.t200 (fresh l.near l.lengths) (fresh l.far l.far_lengths) p.S2) g.ok.but (line.hears e)
+            (ap (option_map line.hears) is) refl hears_mv.ends
+            (ap (λ (x : Link). state_number x.state) (its-same l.near l.service l.tei 0 fit.call.near.0 vn.at g.ok.but.ends (near-pulls l fit w p b talk).ends) ∙ five-pulled) five-now
+
+    pub rings-on : (runs_now (beat l.rate w b).near ≡ Some m) ⊎ StageAt w.beats (beat l.rate w b)
+    rings-on =
+        let few = (near-lost l fit 5 establishment start clean base other_base soon_clean w y b talk is_clean near_clear far_clear).2 in
+        go (pulled.due (omega (arith, few, near_few)) five-pulled)
+      where
+        go : IsDue l.near l.service l.tei fit.call.near.0 l.lengths l.rate start most l.way start m base vn (near-pulls l fit w p b talk).ends → (runs_now (beat l.rate w b).near ≡ Some m) ⊎ StageAt w.beats (beat l.rate w b)
+        go (inl runs_v) =
+            inl (ap runs_now (near-is l fit 5 establishment start clean base other_base soon_clean w y b talk is_clean near_clear far_clear) ∙ on-heard ∙ runs_v)
+        go (inr due) =
+            inr (near-after l fit 5 establishment start clean base other_base soon_clean w y b talk is_clean near_clear far_clear five_then (λ e. absurd (cc e)) near_few far_few (omega arith)
+            (subst (λ kind. DueAt l.near l.service l.tei 0 fit.call.near.0 kind start most l.way start vn.at (near-pulls l fit w p b talk).ends) (sym establishment-asks) due))
+
+  -- So many beats, as long as it rings: T200 runs on, or SABME went again in a beat by then.
+  pub record Again (w : Clocked) : Type 0 where
+    pub since : ℕ
+    pub late : clean + 1 ≤ since
+    pub soon : since ≤ m * l.rate
+    pub stage : StageAt since w
+
+  -- The moment of T200 has not come.
+  not-come : (w : Clocked) → PairAt l fit w → runs_now w.near ≡ Some m → w.beats ≤ m * l.rate
+  not-come w p runs_m =
+      by ((w.beats - 1) / l.rate) (lt-div-mul-add {a = w.beats - 1} {b = l.rate} fit.some)
+      (subst (λ n. n < m) p.both.near_now (later-than w.near.at.line w.near.clock.now (timers.T200 l.service l.tei) w.near.clock.running m p.both.near.later runs_m))
+    where
+      by : (q : ℕ) → w.beats - 1 < q * l.rate + l.rate → q < m → w.beats ≤ m * l.rate
+      by q high less =
+          let up = mul-le (q + 1) l.rate m l.rate (omega (arith, less)) (omega arith) in
+          let is : (q + 1) * l.rate ≡ q * l.rate + l.rate = grind arith in
+          omega (arith, up, is, high)
+
+  abbrev number_at : (w : Clocked) → PairAt l fit w → ℕ
+  number_at w p = state_number p.near_ok.but.ends.its.state
+
+  five-of : (w : Clocked) (p : PairAt l fit w) → state_at l w.near ≡ Some 5 → number_at w p ≡ 5
+  five-of w p is = same-some (number_at w p) 5 (sym (state-here l.near l.service l.tei 0 fit.call.near.0 l.lengths l.rate w.near.at p.near_ok.but.ends) ∙ is)
+
+  abbrev AskBoth : Beat → Type 0
+  AskBoth b = All (λ r. IsOfLink l.service l.tei r × IsAskedOfLink l.service l.tei r) b.near_asks
+
+  pub all-ring : (bs : List Beat) (w : Clocked) → clean + 1 ≤ w.beats → ReadyAt w.beats w → All (IsTalk l) bs → All AskBoth bs → AreClear l bs w → All IsClean bs → Waits l 5 bs w → state_at l w.near ≡ Some 5
+      → runs_now w.near ≡ Some m → lost (after l.rate bs w).near.at ≤ base → lost (after l.rate bs w).far.at ≤ other_base → (runs_now (after l.rate bs w).near ≡ Some m) ⊎ Again (after l.rate bs w)
+  unfolding AreClear Waits
+  all-ring [] w late y talk asked clear is_clean states five runs_m near_few far_few = inl runs_m
+  all-ring (b ∷ bs) w late y talk asked clear is_clean states five runs_m near_few far_few =
+      let t = All-head (IsTalk l) b bs talk in
+      let ts = All-tail (IsTalk l) b bs talk in
+      let c = All-head IsClean b bs is_clean in
+      let cs = All-tail IsClean b bs is_clean in
+      let u = beat l.rate w b in
+      let ready : ReadyAt w.beats (beat l.rate w b) = ready-then l fit 5 establishment w.beats clean base other_base late w y b t c clear.0 clear.1 in
+      let rest = grows-all l fit 5 establishment w.beats clean base other_base late bs u ready ts clear.2 cs in
+      let n = rest.near_more in let f = rest.far_more in
+      let one = rings-on w late y b t (All-head AskBoth b bs asked) c clear.0 clear.1 (five-of w y.pair five) states.0 (omega (arith, n, near_few)) (omega (arith, f, far_few)) runs_m in
+      elim one [
+        | inl runs_on ↦ all-ring bs u (omega (arith, late)) (ready-at w.beats u.beats u ready) ts (All-tail AskBoth b bs asked) clear.2 cs states.2 states.0 runs_on near_few far_few
+        | inr stage ↦
+            inr (record {
+              since = w.beats;
+              late = late;
+              soon = not-come w y.pair runs_m;
+              stage = stage-all l fit 5 establishment w.beats clean base other_base late bs u ready ts clear.2 cs states.2 near_few far_few (omega arith) states.0 stage;
+            })
+      ]
+
+-- So it rings no longer than T200 and an answer's time.
+module _ (l : Line) (fit : IsFit l) (clean base other_base m : ℕ) where
+  pub rings-shortly : (w last : Clocked) (n : ℕ) → PairAt l fit w → 1 ≤ w.beats → m ≤ w.near.clock.now + l.lengths.t200 → last.beats ≡ w.beats + n → Ready l fit 5 establishment w.beats clean base other_base last
+      → (runs_at l.near l.service l.tei fit.call.near.0 l.lengths l.rate last.near ≡ Some m) ⊎ Again l fit clean base other_base m last → n < l.lengths.t200 * l.rate + answered_in l.near l.far l.way
+  rings-shortly w last n p some_beats low so_many y = by
+    where
+      -- the moment of T200, in beats
+      m_low : m * l.rate + 1 ≤ w.beats + l.lengths.t200 * l.rate
+      m_low =
+          let now_is = p.both.near_now in
+          let up = mul-le m l.rate (w.near.clock.now + l.lengths.t200) l.rate low (omega arith) in
+          let spread : (w.near.clock.now + l.lengths.t200) * l.rate ≡ l.rate * w.near.clock.now + l.lengths.t200 * l.rate = grind arith in
+          let whole = mul-div-le (w.beats - 1) l.rate in
+          let now_low : l.rate * w.near.clock.now ≤ w.beats - 1 = subst (λ n. l.rate * n ≤ w.beats - 1) (sym now_is) whole in
+          omega (arith, up, spread, now_low, some_beats)
+
+      by : (runs_at l.near l.service l.tei fit.call.near.0 l.lengths l.rate last.near ≡ Some m) ⊎ Again l fit clean base other_base m last → n < l.lengths.t200 * l.rate + answered_in l.near l.far l.way
+      by (inl runs_m) =
+          let come = not-come l fit clean base other_base m last y.pair runs_m in
+          let low_is = m_low in
+          let some = in-all l fit.some fit.call.near.0 fit.call.far.0 fit.call.opposite.0 fit.call.opposite.1 fit.t200 (fresh l.near l.lengths) (fresh l.far l.far_lengths) 0 in
+          omega (arith, come, low_is, so_many, some)
+      by (inr again) =
+          let bound = soon-over l fit 5 establishment again.since clean base other_base again.late last (ready-at l fit clean base other_base m w.beats again.since last y) again.stage in
+          let soon = again.soon in
+          let low_is = m_low in
+          let few = establishment.few in
+          let some = in-all l fit.some fit.call.near.0 fit.call.far.0 fit.call.opposite.0 fit.call.opposite.1 fit.t200 (fresh l.near l.lengths) (fresh l.far l.far_lengths) 0 in
+          omega (arith, bound, soon, low_is, so_many, few, some)

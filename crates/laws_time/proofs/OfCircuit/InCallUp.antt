@@ -1,0 +1,197 @@
+-- A call comes through: T200 and an answer's time after noise has ended both ends are up.
+use Rattle.std.proofs.Common.{arith, ◌≡◌, ℕ, ◌+◌, ◌*◌, ◌<◌, ◌≤◌, List, [], ◌∷◌, ◌++◌, length, Option, Some, refl, sym, ap, ◌∙◌, subst, All, ◌⊎◌, inl, inr, append_assoc, append-nil, length-append}
+use Rattle.std.specs.List.{list_any}
+use Rattle.std.proofs.lemmas.Grind.{flat_map-append}
+use Rattle.std.proofs.lemmas.List.Elements.{All-nil, All-cons, All-head, All-tail}
+use Rattle.std.proofs.lemmas.List.Folds.{list_any-append}
+use Rattle.std.proofs.lemmas.List.Sums.{fold-append}
+use Rattle.model_line.specs.Event.{LineTold}
+use Rattle.model_line.specs.Request.{Request, Data, SetBusy, ClearBusy}
+use Rattle.laws_line.proofs.OfCard.Meanwhile.{all-left, all-right}
+use Rattle.laws_wire.specs.Answering.{IsAsked as IsAskedOfLink}
+use Rattle.laws_wire.specs.Losing.{for_layer_3}
+use Rattle.laws_time.proofs.OfCircuit.Answered.{Waits, behind-begins, first-ready, grows-all, beats-then, clear-parts}
+unfoldable use Rattle.laws_time.proofs.OfCircuit.Answered.{Waits}
+use Rattle.laws_time.proofs.OfCircuit.AnsweredBeats.{BothBehind, behind-all}
+use Rattle.laws_time.proofs.OfCircuit.AnsweredEnds.{lost}
+use Rattle.laws_time.proofs.OfCircuit.AnsweredRows.{establishment}
+use Rattle.laws_time.proofs.OfCircuit.AnsweredRun.{Ready}
+use Rattle.laws_time.proofs.OfCircuit.ArrivAs.{heard_of}
+use Rattle.laws_time.proofs.OfCircuit.ArrivBegan.{reached}
+use Rattle.laws_time.proofs.OfCircuit.ArrivFair.{neither}
+use Rattle.laws_time.proofs.OfCircuit.InCallFair.{BothWalk, walks-all, n200-lasts-in-a-call}
+use Rattle.laws_time.proofs.OfCircuit.InCallPhase.{in-call}
+use Rattle.laws_time.proofs.OfCircuit.InCallThrough.{t200-there, all-ring, rings-shortly}
+use Rattle.laws_time.proofs.OfCircuit.InTime.{PairNow, near_card, far_card, pair-begins}
+use Rattle.laws_time.proofs.OfCircuit.LongEnough.{all-pairs, pair-then}
+use Rattle.laws_time.specs.circuit.Answered.{IsClean, IsUndisturbed, begun, state_at, lost_at}
+use Rattle.laws_time.specs.circuit.Arriving.{IsIdle, IsAsked, AreAsked, calls, errors_at, is_used_up}
+use Rattle.laws_time.specs.circuit.Clocked.{Clocked, Beat, beat, after}
+use Rattle.laws_time.specs.circuit.InCall.{IsShort, IsUp, ACallComesThrough}
+use Rattle.laws_time.specs.circuit.LongEnough.{Line, IsFit, IsTalk, IsOfLink, answered_in, begins}
+unfoldable use Rattle.laws_time.specs.circuit.LongEnough.{AreClear}
+
+front-none : (xs ys : List LineTold) → xs ++ ys ≡ [] → xs ≡ []
+front-none [] ys is = refl
+front-none (x ∷ xs) ys is = absurd (cc is)
+
+both-asked : (l : Line) (rs : List Request) → All (IsAsked l) rs → All (λ r. IsOfLink l.service l.tei r × IsAskedOfLink l.service l.tei r) rs
+both-asked l [] all = All-nil (λ r. IsOfLink l.service l.tei r × IsAskedOfLink l.service l.tei r)
+both-asked l (r ∷ rs) all =
+    All-cons (λ r. IsOfLink l.service l.tei r × IsAskedOfLink l.service l.tei r) r rs (both r (All-head (IsAsked l) r rs all)) (both-asked l rs (All-tail (IsAsked l) r rs all))
+  where
+    both : (r : Request) → IsAsked l r → IsOfLink l.service l.tei r × IsAskedOfLink l.service l.tei r
+    both (Data s t contents) is = (is, (is.0, is.1))
+    both (SetBusy s t) is = (is, is)
+    both (ClearBusy s t) is = (is, is)
+    both other is = absurd is
+
+module _ (l : Line) (before noisy clean : List Beat) (b c : Beat) (nothing : All IsIdle before) (asked : All (AreAsked l) (b ∷ noisy ++ c ∷ clean)) (h : IsUndisturbed l (before ++ calls l b ∷ noisy) c clean)
+    (short : IsShort l (length (noisy ++ c ∷ clean))) where
+  abbrev first : List Beat
+  first = before ++ calls l b ∷ noisy
+
+  abbrev v : Clocked
+  v = after l.rate (before ++ calls l b ∷ noisy) (begins l)
+
+  abbrev w : Clocked
+  w = beat l.rate (after l.rate (before ++ calls l b ∷ noisy) (begins l)) c
+
+  -- A part of the beats without noise, and the rest.
+  module _ (done rest : List Beat) (all : done ++ rest ≡ clean) where
+    abbrev some : List Beat
+    some = before ++ calls l b ∷ (noisy ++ c ∷ done)
+
+    same-list : some ≡ (before ++ calls l b ∷ noisy) ++ c ∷ done
+    same-list = sym (append_assoc before (calls l b ∷ noisy) (c ∷ done))
+
+    pub same-world : after l.rate some (begins l) ≡ after l.rate done w
+    same-world = ap (λ bs. after l.rate bs (begins l)) same-list ∙ fold-append (beat l.rate) (begins l) first (c ∷ done)
+
+    whole : ((before ++ calls l b ∷ noisy) ++ c ∷ done) ++ rest ≡ (before ++ calls l b ∷ noisy) ++ c ∷ clean
+    whole = append_assoc first (c ∷ done) rest ∙ ap (λ bs. first ++ c ∷ bs) all
+
+    some-clear : AreClear l some (begins l)
+    some-clear =
+        subst (λ bs. AreClear l bs (begins l)) (sym same-list)
+        (clear-parts l h.fit (first ++ c ∷ done) rest (begins l) (subst (λ bs. AreClear l bs (begins l)) (sym whole) h.clear)).0
+
+    some-talk : All (IsTalk l) some
+    some-talk = subst (All (IsTalk l)) (sym same-list) (all-left (IsTalk l) (first ++ c ∷ done) rest (subst (All (IsTalk l)) (sym whole) h.talk))
+
+    some-asked : All (AreAsked l) (b ∷ noisy ++ c ∷ done)
+    some-asked =
+        all-left (AreAsked l) (b ∷ noisy ++ c ∷ done) rest (subst (All (AreAsked l)) (ap (λ bs. b ∷ bs) (sym (append_assoc noisy (c ∷ done) rest ∙ ap (λ bs. noisy ++ c ∷ bs) all))) asked)
+
+    some-short : IsShort l (length (noisy ++ c ∷ done))
+    some-short =
+        let few = length-append noisy (c ∷ done) in let many = length-append noisy (c ∷ clean) in let parts = sym (ap length all) ∙ length-append done rest in
+        let near = short.0 in let far = short.1 in (omega (arith, few, many, parts, near), omega (arith, few, many, parts, far))
+
+    pair : PairNow l h.fit (after l.rate some (begins l))
+    pair =
+        let k = h.fit.call in
+        all-pairs l h.fit.some k.near.0 k.far.0 k.opposite.0 k.opposite.1 h.fit.t200 (near_card l h.fit) (far_card l h.fit) some some-talk (begins l) some-clear (pair-begins l h.fit)
+
+    abbrev InCall : Clocked → Type 0
+    InCall w = ((state_at l w.near ≡ Some 5) × (heard_of w.near.at.told ≡ [])) ⊎ ((heard_of w.near.at.told ≡ [] → ⊥) × IsUp l w.near × IsUp l w.far)
+
+    pub call-now : InCall (after l.rate done w)
+    call-now =
+        let u = after l.rate some (begins l) in
+        let none = n200-lasts-in-a-call l before (noisy ++ c ∷ done) b h.fit nothing some-asked some-clear some-short in
+        let fair = neither (list_any is_used_up (errors_at u.near)) (list_any is_used_up (errors_at u.far)) (sym (list_any-append is_used_up (errors_at u.near) (errors_at u.far)) ∙ none) in
+        subst InCall same-world
+        (in-call l h.fit u pair
+        (reached l h.fit before b (noisy ++ c ∷ done) nothing (All-head (AreAsked l) b (noisy ++ c ∷ done) some-asked) (All-tail (AreAsked l) b (noisy ++ c ∷ done) some-asked) some-clear fair))
+
+  -- The beats without noise.
+  parts : AreClear l (before ++ calls l b ∷ noisy) (begins l) × AreClear l (c ∷ clean) v
+  parts = clear-parts l h.fit first (c ∷ clean) (begins l) h.clear
+
+  talk-c : All (IsTalk l) (c ∷ clean)
+  talk-c = all-right (IsTalk l) first (c ∷ clean) h.talk
+
+  behind : BothBehind l h.fit v
+  behind = behind-all l h.fit first (begins l) (all-left (IsTalk l) first (c ∷ clean) h.talk) parts.0 (behind-begins l h.fit)
+
+  -- If it rings in the end, it rang all the time.
+  module _ (five : state_at l (after l.rate clean w).near ≡ Some 5) (unheard : heard_of (after l.rate clean w).near.at.told ≡ []) where
+    rang : (done rest : List Beat) → done ++ rest ≡ clean → AreClear l rest (after l.rate done w) → PairNow l h.fit (after l.rate done w) → All (IsTalk l) rest → state_at l (after l.rate done w).near ≡ Some 5
+    rang done rest all clear p talk = go (call-now done rest all)
+      where
+        walk : BothWalk l h.fit (after l.rate done w) (after l.rate rest (after l.rate done w))
+        walk = walks-all l h.fit rest (after l.rate done w) p talk clear
+
+        last : after l.rate rest (after l.rate done w) ≡ after l.rate clean w
+        last = sym (fold-append (beat l.rate) w done rest) ∙ ap (λ bs. after l.rate bs w) all
+
+        none : heard_of (after l.rate done w).near.at.told ≡ []
+        none =
+            front-none (heard_of (after l.rate done w).near.at.told) (heard_of walk.near.more)
+            (sym (flat_map-append for_layer_3 (after l.rate done w).near.at.told walk.near.more) ∙ ap heard_of (sym walk.near.grows) ∙ ap (λ (u : Clocked). heard_of u.near.at.told) last ∙ unheard)
+
+        go : ((state_at l (after l.rate done w).near ≡ Some 5) × (heard_of (after l.rate done w).near.at.told ≡ [])) ⊎ ((heard_of (after l.rate done w).near.at.told ≡ [] → ⊥) × IsUp l (after l.rate done w).near × IsUp l (after l.rate done w).far)
+            → state_at l (after l.rate done w).near ≡ Some 5
+        go (inl x) = x.0
+        go (inr x) = absurd (x.0 none)
+
+    waits : (done rest : List Beat) → done ++ rest ≡ clean → AreClear l rest (after l.rate done w) → PairNow l h.fit (after l.rate done w) → All (IsTalk l) rest → Waits l 5 rest (after l.rate done w)
+    unfolding Waits AreClear
+    waits done [] all clear p talk = tt
+    waits done (d ∷ rest) all clear p talk =
+        let k = h.fit.call in
+        let at_done = after l.rate done w in
+        let t = All-head (IsTalk l) d rest talk in
+        let ts = All-tail (IsTalk l) d rest talk in
+        let u : Clocked = beat l.rate (after l.rate done w) d in
+        let then : after l.rate (done ++ d ∷ []) w ≡ beat l.rate (after l.rate done w) d = fold-append (beat l.rate) w done (d ∷ []) in
+        let more : (done ++ d ∷ []) ++ rest ≡ clean = append_assoc done (d ∷ []) rest ∙ all in
+        let q = pair-then l h.fit.some k.near.0 k.far.0 k.opposite.0 k.opposite.1 h.fit.t200 (near_card l h.fit) (far_card l h.fit) at_done p d t clear.0 clear.1 in
+        let clear_then = subst (AreClear l rest) (sym then) clear.2 in
+        let q_then = subst (PairNow l h.fit) (sym then) q in (
+          subst (λ (u : Clocked). state_at l u.near ≡ Some 5) then (rang (done ++ d ∷ []) rest more clear_then q_then ts),
+          (λ e. absurd (cc e)),
+          subst (Waits l 5 rest) then (waits (done ++ d ∷ []) rest more clear_then q_then ts),
+        )
+
+    -- So it rang no longer than T200 and an answer's time.
+    short-ring : length clean < l.lengths.t200 * l.rate + answered_in l.near l.far l.way
+    unfolding AreClear
+    short-ring =
+        let k = h.fit.call in
+        let t = All-head (IsTalk l) c clean talk-c in
+        let ts = All-tail (IsTalk l) c clean talk-c in
+        let is_clean = All-head IsClean c clean h.clean in
+        let p = pair-then l h.fit.some k.near.0 k.far.0 k.opposite.0 k.opposite.1 h.fit.t200 (near_card l h.fit) (far_card l h.fit) v behind.pair c t parts.1.0 parts.1.1 in
+        let in_5 = rang [] clean refl parts.1.2 p ts in
+        let falls = t200-there l.near l.service l.tei k.near.0 l.lengths w.near p.near_ok.but.ends p.both.near_leads in_5 in
+        let base = lost w.near.at in let other_base = lost w.far.at in
+        let y = first-ready l h.fit 5 establishment v behind c t is_clean (parts.1.0, parts.1.1, tt) in
+        let cleans = All-tail IsClean c clean h.clean in
+        let rest = grows-all l h.fit 5 establishment w.beats v.beats base other_base (omega arith) clean w y ts parts.1.2 cleans in
+        let same : begun l first c ≡ w = fold-append (beat l.rate) (begins l) first (c ∷ []) in
+        let near_kept : lost (after l.rate clean w).near.at ≡ lost w.near.at = subst (λ (u : Clocked). lost (after l.rate clean u).near.at ≡ lost u.near.at) same h.near_kept in
+        let far_kept : lost (after l.rate clean w).far.at ≡ lost w.far.at = subst (λ (u : Clocked). lost (after l.rate clean u).far.at ≡ lost u.far.at) same h.far_kept in
+        let asked_clean = all-asked clean (all-right (AreAsked l) (c ∷ []) clean (all-right (AreAsked l) (b ∷ noisy) (c ∷ clean) asked)) in
+        rings-shortly l h.fit v.beats base other_base falls.0 w (after l.rate clean w) (length clean) p (omega arith) falls.2 (beats-then l.rate clean w) rest.ready
+        (all-ring l h.fit v.beats base other_base falls.0 clean w (omega arith) y ts asked_clean parts.1.2 cleans (waits [] clean refl parts.1.2 p ts) in_5 falls.1 (omega (arith, near_kept)) (omega (arith, far_kept)))
+      where
+        all-asked : (bs : List Beat) → All (AreAsked l) bs → All (λ (b : Beat). All (λ r. IsOfLink l.service l.tei r × IsAskedOfLink l.service l.tei r) b.near_asks) bs
+        all-asked [] all = All-nil (λ (b : Beat). All (λ r. IsOfLink l.service l.tei r × IsAskedOfLink l.service l.tei r) b.near_asks)
+        all-asked (d ∷ bs) all =
+            All-cons (λ (b : Beat). All (λ r. IsOfLink l.service l.tei r × IsAskedOfLink l.service l.tei r) b.near_asks) d bs (both-asked l d.near_asks (All-head (AreAsked l) d bs all).0)
+            (all-asked bs (All-tail (AreAsked l) d bs all))
+
+  pub both-up : l.lengths.t200 * l.rate + answered_in l.near l.far l.way ≤ length clean → IsUp l (after l.rate clean w).near × IsUp l (after l.rate clean w).far
+  both-up long = go (call-now clean [] (append-nil clean))
+    where
+      go : ((state_at l (after l.rate clean w).near ≡ Some 5) × (heard_of (after l.rate clean w).near.at.told ≡ []))
+          ⊎ ((heard_of (after l.rate clean w).near.at.told ≡ [] → ⊥) × IsUp l (after l.rate clean w).near × IsUp l (after l.rate clean w).far) → IsUp l (after l.rate clean w).near × IsUp l (after l.rate clean w).far
+      go (inl x) = let soon = short-ring x.0 x.1 in absurd (omega (arith, soon, long))
+      go (inr x) = (x.1, x.2)
+
+pub a-call-comes-through : ACallComesThrough
+a-call-comes-through l before noisy clean b c nothing asked h short long =
+    subst (λ (w : Clocked). IsUp l (after l.rate clean w).near × IsUp l (after l.rate clean w).far)
+    (sym (fold-append (beat l.rate) (begins l) (before ++ calls l b ∷ noisy) (c ∷ []))) (both-up l before noisy clean b c nothing asked h short long)

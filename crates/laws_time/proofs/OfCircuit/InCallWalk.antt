@@ -1,0 +1,266 @@
+-- Prompt steps from one end of the circuit to another. If its link's N200 is not used up by them, no error that says so is told there.
+use Rattle.std.proofs.Common.{arith, ◌≡◌, ℕ, zero, suc, ◌+◌, ◌*◌, ◌<◌, ◌≤◌, ◌==◌, ◌||◌, Bool, true, false, cond, is_some, List, [], ◌∷◌, ◌++◌, length, Option, Some, None, option_map, refl, sym, ap, ◌∙◌, subst, All, append-nil, append_assoc, eq-eqb, filter}
+use Rattle.std.specs.Prelude.{fold, flat_map}
+use Rattle.std.specs.List.{list_any}
+use Rattle.std.specs.Option.{option_map_or, unwrap_or}
+use Rattle.std.proofs.lemmas.List.Elements.{All-head, All-tail}
+use Rattle.std.proofs.lemmas.List.Folds.{list_any-append}
+use Rattle.lapd_clock.specs.Timer.{Lengths}
+use Rattle.lapd_clock.specs.Timers.{Expiry}
+use Rattle.lapd_frame.specs.declared.notes.Note.{Note}
+use Rattle.lapd_frame.specs.declared.services.Service.{Service}
+use Rattle.lapd_frame.specs.declared.timers.Timer.{Timer}
+use Rattle.model_bits.specs.Stream as stream
+use Rattle.model_line.specs.Event as line
+use Rattle.model_line.specs.Event.{LineTold}
+use Rattle.model_line.specs.Request.{Request}
+use Rattle.model_line.specs.Sound.{IsInRange}
+use Rattle.model_line.specs.declared.config.Config.{Config}
+use Rattle.model_card.specs.Card.{Card}
+use Rattle.model_card.specs.Event as frames
+use Rattle.model_card.specs.Machine as machine
+use Rattle.model_card.specs.ports.Event.{Event, at as octet_at}
+use Rattle.model_card.specs.ports.Port as port
+use Rattle.model_card.specs.ports.Port.{Port, gained, is_due}
+use Rattle.model_timed.specs.Clock.{due, without_first}
+use Rattle.model_timed.specs.Octets.{TimedOctetCard, octets, IsNoExpiry}
+use Rattle.model_timed.specs.Timed.{Step, happens as step_happens, falls_due, after as next, with_expiry, expiry_at}
+unfoldable use Rattle.model_timed.specs.Timed.{after_all, ArePrompt}
+use Rattle.laws_line.specs.Heard.{notes_of}
+use Rattle.laws_trace.specs.News.{is_news}
+use Rattle.laws_trace.specs.TimersAreTimely.{is_timer_of}
+use Rattle.laws_wire.specs.Wire.{tells_nothing}
+use Rattle.laws_order.specs.circuit.Circuit.{port_of, answered, told_by}
+use Rattle.laws_order.specs.circuit.Circuit as circuit
+use Rattle.laws_time.proofs.ArrivalsErrors.{Used}
+use Rattle.laws_time.proofs.OctetsMean.{meant_at, notes-are}
+use Rattle.laws_time.proofs.OfCircuit.Acts.{IsSoon, asks-goes, all-asked, fell-goes, soon-then}
+use Rattle.laws_time.proofs.OfCircuit.ArrivFair.{codes, codes-append, IsFair}
+use Rattle.laws_time.proofs.OfCircuit.Beats.{Counts, at-moment, comes-on}
+use Rattle.laws_time.proofs.OfCircuit.Ends.{Leads, Rests, at_time, time-comes, both-lead, both-prompt, first-of}
+use Rattle.laws_time.proofs.OfCircuit.InCallNotes.{used-split, all-own}
+use Rattle.laws_time.proofs.OfCircuit.Orders.{RunsOurs}
+use Rattle.laws_time.proofs.OfCircuit.Under.{EndBut, EndOk, all-past, all-then, here-is, past}
+use Rattle.laws_time.specs.circuit.Arriving.{error_in, is_used_up}
+use Rattle.laws_time.specs.circuit.Clocked.{TimedEndpoint, happens, asks, falls, comes_to, hears, without_first_octet}
+unfoldable use Rattle.laws_time.specs.circuit.Clocked.{fall_due}
+use Rattle.laws_time.specs.circuit.Ends.{card_of}
+use Rattle.laws_time.specs.circuit.LongEnough.{IsOfLink, asked}
+use Rattle.laws_time.specs.Silence.{news_in}
+unfoldable use Rattle.laws_time.specs.Silence.{news}
+use Rattle.laws_time.specs.Watched.{of_octets, notes_in}
+
+pub fair-both : (ts us : List LineTold) → IsFair ts → IsFair us → IsFair (ts ++ us)
+fair-both ts us first then =
+    ap (list_any is_used_up) (codes-append ts us) ∙ list_any-append is_used_up (codes ts) (codes us) ∙ (λ i. first i || then i)
+
+-- The errors of an answer.
+codes-told : (a : port.Answer) → codes (told_by a) ≡ flat_map error_in (notes_in a)
+codes-told (port.told t) = go (tells_nothing t) t.notes refl refl
+  where
+    go : (b : Bool) (ns : List Note) → tells_nothing t ≡ b → t.notes ≡ ns → codes (cond (tells_nothing t) [] (record t { orders = [] } ∷ [])) ≡ flat_map error_in t.notes
+    go true [] e is = grind (arith, e, is)
+    go true (n ∷ ns) e is = grind (arith, e, is)
+    go false ns e is = ap (λ b. codes (cond b [] (record t { orders = [] } ∷ []))) e ∙ ap (flat_map error_in) (append-nil t.notes)
+codes-told (port.refused why) = refl
+codes-told (port.pulled value begun orders) = refl
+
+-- What is no expiry means none.
+none-means : (n201 : ℕ) (ev : port.Event) (p : Port) (timer : Timer) → IsNoExpiry ev → port.meant n201 ev p ≡ Some (line.expiry timer) → ⊥
+none-means n201 (port.octet value) p timer none is = go (gained n201 p.received value) is
+  where
+    go : (o : Option stream.Event) → option_map line.hears o ≡ Some (line.expiry timer) → ⊥
+    go None is = cc is
+    go (Some e) is = cc is
+none-means n201 (port.expiry other) p timer none is = none
+none-means n201 (port.request r) p timer none is = cc is
+none-means n201 port.pull p timer none is = go (is_due p) is
+  where
+    go : (b : Bool) → cond b (Some line.next) None ≡ Some (line.expiry timer) → ⊥
+    go true is = cc is
+    go false is = cc is
+
+module _ (service : Service) (tei : ℕ) where
+  abbrev pub Quiet : ℕ → List (Step Event) → TimedOctetCard → Type 0
+  Quiet number steps t = Used (news of_octets service tei number steps t) ≡ false
+
+  pub record Walks (a u : TimedEndpoint) : Type 0 where
+    pub steps : List (Step Event)
+    pub leads : after_all octets steps (card_of a) ≡ card_of u
+    pub prompt : ArePrompt octets 0 steps (card_of a)
+    pub line : u.at.line ≡ a.at.line
+    pub more : List LineTold
+    pub grows : u.at.told ≡ a.at.told ++ more
+    pub fair : Quiet a.at.line steps (card_of a) → IsFair a.at.told → IsFair u.at.told
+
+  pub walks-none : (a : TimedEndpoint) → Walks a a
+  unfolding after_all ArePrompt
+  walks-none a = record { steps = []; leads = refl; prompt = tt; line = refl; more = []; grows = sym (append-nil a.at.told); fair = λ quiet fair. fair }
+
+  -- Nothing is told.
+  pub walks-still : (a u : TimedEndpoint) → Leads (card_of a) (card_of u) → u.at.line ≡ a.at.line → u.at.told ≡ a.at.told → Walks a u
+  walks-still a u l line told = record {
+    steps = l.steps;
+    leads = l.leads;
+    prompt = l.prompt;
+    line = line;
+    more = [];
+    grows = told ∙ sym (append-nil a.at.told);
+    fair = λ quiet fair. subst IsFair (sym told) fair;
+  }
+
+  news-both : (number : ℕ) (xs ys : List (Step Event)) (t : TimedOctetCard)
+      → news of_octets service tei number (xs ++ ys) t ≡ news of_octets service tei number xs t ++ news of_octets service tei number ys (after_all octets xs t)
+  unfolding news after_all
+  news-both number [] ys t = refl
+  news-both number (s ∷ xs) ys t =
+      let first = news_in of_octets service tei number (Rattle.model_timed.specs.Timed.event_of octets s t) t.card in
+      ap (λ ns. first ++ ns) (news-both number xs ys (next octets s t))
+      ∙ sym (append_assoc first (news of_octets service tei number xs (next octets s t)) (news of_octets service tei number ys (after_all octets xs (next octets s t))))
+
+  pub walks-both : (a u v : TimedEndpoint) → Walks a u → Walks u v → Walks a v
+  walks-both a u v g k = record {
+    steps = g.steps ++ k.steps;
+    leads = both-lead g.steps k.steps (card_of a) ∙ ap (after_all octets k.steps) g.leads ∙ k.leads;
+    prompt = both-prompt g.steps k.steps (card_of a) g.prompt (subst (ArePrompt octets 0 k.steps) (sym g.leads) k.prompt);
+    line = k.line ∙ g.line;
+    more = g.more ++ k.more;
+    grows = k.grows ∙ ap (λ ts. ts ++ k.more) g.grows ∙ append_assoc a.at.told g.more k.more;
+    fair = λ quiet fair.
+        let parts = used-split (news of_octets service tei a.at.line g.steps (card_of a)) (news of_octets service tei a.at.line k.steps (after_all octets g.steps (card_of a)))
+        (ap Used (sym (news-both a.at.line g.steps k.steps (card_of a))) ∙ quiet) in
+        k.fair (subst (λ n. Quiet n k.steps (card_of u)) (sym g.line) (subst (Quiet a.at.line k.steps) g.leads parts.1)) (g.fair parts.0 fair);
+  }
+
+  abbrev Noted : port.Event → TimedEndpoint → Type 0
+  Noted ev a = Used (news_in of_octets service tei a.at.line (Some (octet_at a.at.line ev)) a.at.card) ≡ false → IsFair (told_by (answered ev a.at))
+
+  -- Something happens,
+  walks-event : (ev : port.Event) (a : TimedEndpoint) → IsNoExpiry ev → a.at.line < a.at.card.card.config.lines → Noted ev a → Walks a (happens ev a)
+  unfolding after_all ArePrompt news
+  walks-event ev a none within noted = record {
+    steps = step_happens (octet_at a.at.line ev) ∷ [];
+    leads = refl;
+    prompt = ((within, none), tt);
+    line = refl;
+    more = told_by (answered ev a.at);
+    grows = refl;
+    fair = λ quiet fair.
+        fair-both a.at.told (told_by (answered ev a.at)) fair
+        (noted (used-split (news_in of_octets service tei a.at.line (Some (octet_at a.at.line ev)) a.at.card) [] quiet).0);
+  }
+
+  -- or what is due falls due.
+  abbrev due_event : TimedEndpoint → Option Expiry → Option Event
+  due_event a o = option_map (expiry_at octets) o
+
+  walks-due : (a : TimedEndpoint) (x : Expiry) → due a.clock ≡ Some x → x.line ≡ a.at.line → Noted (port.expiry x.timer) a → Walks a (falls a x)
+  unfolding after_all ArePrompt news
+  walks-due a x is own noted = record {
+    steps = falls_due ∷ [];
+    leads = ap (λ o. option_map_or (with_expiry octets (card_of a)) o (card_of a)) is ∙ ap (λ line. with_expiry octets (card_of a) (record x { line = line })) own;
+    prompt = (tt, tt);
+    line = refl;
+    more = told_by (answered (port.expiry x.timer) a.at);
+    grows = refl;
+    fair = λ quiet fair.
+        let first : Used (news_in of_octets service tei a.at.line (option_map (expiry_at octets) (due a.clock)) a.at.card) ≡ false =
+        (used-split (news_in of_octets service tei a.at.line (option_map (expiry_at octets) (due a.clock)) a.at.card) [] quiet).0 in
+        let its : Used (news_in of_octets service tei a.at.line (Some (octet_at x.line (port.expiry x.timer))) a.at.card) ≡ false =
+        subst (λ o. Used (news_in of_octets service tei a.at.line (option_map (expiry_at octets) o) a.at.card) ≡ false) is first in
+        fair-both a.at.told (told_by (answered (port.expiry x.timer) a.at)) fair
+        (noted (subst (λ n. Used (news_in of_octets service tei a.at.line (Some (octet_at n (port.expiry x.timer))) a.at.card) ≡ false) own its));
+  }
+
+  module _ (c : Config) (ranged : IsInRange c) (lengths : Lengths) (rate : ℕ) where
+    abbrev EndAt : ℕ → ℕ → TimedEndpoint → Type 0
+    EndAt S M a = EndOk c service tei 0 ranged lengths rate S M a
+
+    -- What is told by an event, of which no T200 of another link is one.
+    module _ (a : TimedEndpoint) (ev : port.Event) (S M : ℕ) (h : EndBut c service tei 0 ranged lengths rate S M a)
+        (ours : (what : line.Event) → meant_at (octet_at a.at.line ev) a.at.card ≡ Some what → (timer : Timer) → what ≡ line.expiry timer → is_timer_of service tei timer ≡ true) where
+      abbrev number : ℕ
+      number = a.at.line
+
+      abbrev noted_now : List Note
+      noted_now = notes_in (answered ev a.at)
+
+      told-fair : Noted ev a
+      told-fair quiet = ap (list_any is_used_up) (codes-told (answered ev a.at)) ∙ go (meant_at (octet_at a.at.line ev) a.at.card) refl
+        where
+          own-quiet : Used (filter (is_news service tei) noted_now) ≡ false
+          own-quiet = ap (λ b. Used (cond b (filter (is_news service tei) noted_now) [])) (sym (eq-eqb a.at.line a.at.line refl)) ∙ quiet
+
+          go : (o : Option line.Event) → meant_at (octet_at a.at.line ev) a.at.card ≡ o → Used noted_now ≡ false
+          go None is = ap Used (notes-are (octet_at a.at.line ev) a.at.card None is)
+          go (Some what) is =
+              let its = past c service tei 0 ranged lengths rate a ev S M M h in
+              let there = here-is c service tei 0 ranged lengths rate a ev S M M h in
+              let same : noted_now ≡ notes_of (machine.answer (frames.at a.at.line what) (Rattle.model_card.specs.Run.after_all (Rattle.model_card.specs.Card.fresh c) its)) =
+              notes-are (octet_at a.at.line ev) a.at.card (Some what) is ∙ ap (λ (card : Card). notes_of (machine.answer (frames.at a.at.line what) card)) there in
+              ap Used same
+              ∙ all-own c a.at.line ranged h.ends.ran.within its (all-past c service tei 0 ranged lengths rate a ev S M M h) what (all-then c service tei 0 ranged lengths rate a ev S M M h what is) service tei
+              (ours what is) (subst (λ ns. Used (filter (is_news service tei) ns) ≡ false) same own-quiet)
+
+    -- So it is at an end, for anything but an expiry,
+    pub event-walks : (ev : port.Event) (a : TimedEndpoint) (S M : ℕ) → EndAt S M a → IsNoExpiry ev → Walks a (happens ev a)
+    event-walks ev a S M h none =
+        walks-event ev a none h.but.clock.within
+        (told-fair a ev S M h.but (λ what is timer same. absurd (none-means a.at.card.card.config.n201 ev (port_of a.at) timer none (is ∙ ap (λ what. Some what) same))))
+
+    -- and for what is due, which is its own.
+    due-walks : (a : TimedEndpoint) (S M : ℕ) → EndAt S M a → (x : Expiry) → due a.clock ≡ Some x → Walks a (falls a x)
+    due-walks a S M h x is =
+        walks-due a x is (first-of (λ x. x.line ≡ a.at.line) a.clock.running a.clock.now x h.but.clock.here is)
+        (told-fair a (port.expiry x.timer) S M h.but (λ what means timer same.
+        subst (λ t. is_timer_of service tei t ≡ true) (same-timer x.timer timer (means ∙ ap (λ what. Some what) same)) (first-of (RunsOurs service tei) a.clock.running a.clock.now x h.but.ours is)))
+      where
+        same-timer : (s t : Timer) → Some (line.expiry s) ≡ Some (line.expiry t) → s ≡ t
+        same-timer s t is = cc is
+
+    asks-walk : (rs : List Request) (S M : ℕ) (a : TimedEndpoint) → EndAt S M a → IsSoon c service tei 0 ranged lengths rate a → All (IsOfLink service tei) rs → Walks a (fold asks a rs)
+    asks-walk [] S M a h soon all = walks-none a
+    asks-walk (r ∷ rs) S M a h soon all =
+        let u = happens (port.request r) a in
+        let one = asks-goes c service tei 0 ranged lengths rate a S M h soon r (All-head (IsOfLink service tei) r rs all) in
+        walks-both a u (fold asks u rs) (event-walks (port.request r) a S M h tt)
+        (asks-walk rs one.S' M u one.ok (soon-then c service tei 0 ranged lengths rate S M a u one soon) (All-tail (IsOfLink service tei) r rs all))
+
+    fell-then : (n S M : ℕ) (a : TimedEndpoint) → EndAt S M a → IsSoon c service tei 0 ranged lengths rate a
+        → ((S' : ℕ) (u : TimedEndpoint) → EndAt S' M u → IsSoon c service tei 0 ranged lengths rate u → Walks u (fall_due n u))
+        → (o : Option Expiry) → due a.clock ≡ o → Walks a (fall_due n (option_map_or (falls a) o a))
+    fell-then n S M a h soon rest None is = rest S a h soon
+    fell-then n S M a h soon rest (Some x) is =
+        let one = fell-goes c service tei 0 ranged lengths rate a S M h soon x is in
+        walks-both a (falls a x) (fall_due n (falls a x)) (due-walks a S M h x is) (rest one.S' (falls a x) one.ok (soon-then c service tei 0 ranged lengths rate S M a (falls a x) one soon))
+
+    falls-walk : (n S M : ℕ) (a : TimedEndpoint) → EndAt S M a → IsSoon c service tei 0 ranged lengths rate a → Walks a (fall_due n a)
+    unfolding fall_due
+    falls-walk zero S M a h soon = walks-none a
+    falls-walk (suc n) S M a h soon = fell-then n S M a h soon (λ S' u k later. falls-walk n S' M u k later) (due a.clock) refl
+
+    -- The moment comes, with what is asked and what falls due; an octet is pulled,
+    module _ (transit moment n S M : ℕ) (rs : List Request) (a : TimedEndpoint) (h : EndAt S M a) (rests : Rests a) (low : a.clock.now ≤ moment) (high : moment ≤ a.clock.now + 1)
+        (counts : Counts service tei transit lengths rate c ranged n a) (soon : n + 1 ≤ (moment + 1) * rate) (all : All (IsOfLink service tei) rs) where
+      pub time-walks : Walks a (at_time moment a)
+      time-walks = walks-still a (at_time moment a) (time-comes moment a rests low high).1 refl refl
+
+      pub pulled-walks : Walks (at_time moment a) (happens port.pull (comes_to moment rs a))
+      pulled-walks =
+          let t = at_time moment a in
+          let u = asked moment rs a in
+          let v = comes_to moment rs a in
+          let ok = at-moment service tei transit lengths rate c ranged moment n S M rs a h rests low high counts soon all in
+          let given = counts.given in
+          let soon_now : IsSoon c service tei 0 ranged lengths rate t = omega (arith, given, soon) in
+          let first = all-asked c service tei 0 ranged lengths rate S M rs t ok soon_now all in
+          let then = comes-on service tei transit lengths rate c ranged moment n S M rs a h rests low high counts soon all (length u.clock.running) in
+          walks-both t v (happens port.pull v)
+          (walks-both t u v (asks-walk rs S M t ok soon_now all) (falls-walk (length u.clock.running) first.S' M u first.ok (soon-then c service tei 0 ranged lengths rate S M t u first soon_now)))
+          (event-walks port.pull v then.S' M then.ok tt)
+
+    -- and one is heard.
+    pub heard-walks : (noise : Option ℕ) (way : List ℕ) (S M : ℕ) (a : TimedEndpoint) → EndAt S M a → Walks a (without_first_octet (hears noise way a))
+    heard-walks noise [] S M a h = let k = walks-none a in record { steps = k.steps; leads = k.leads; prompt = k.prompt; line = k.line; more = k.more; grows = k.grows; fair = k.fair }
+    heard-walks noise (value ∷ more) S M a h =
+        let k = event-walks (port.octet (unwrap_or noise value)) a S M h tt in record { steps = k.steps; leads = k.leads; prompt = k.prompt; line = k.line; more = k.more; grows = k.grows; fair = k.fair }

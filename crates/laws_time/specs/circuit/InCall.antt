@@ -1,0 +1,36 @@
+-- A call in time: how long it bears noise, and how soon it comes through once there is none.
+use Rattle.std.specs.Prelude.{◌≡◌, ◌≤◌, ℕ, ◌+◌, ◌*◌, false, List, ◌∷◌, ◌++◌, length, All, Some, ◌⊎◌}
+use Rattle.std.specs.List.{list_any}
+use Rattle.lapd_clock.specs.Timer.{Lengths}
+use Rattle.model_line.specs.declared.config.Config.{Config}
+use Rattle.laws_time.specs.circuit.Answered.{IsUndisturbed, begun, state_at}
+use Rattle.laws_time.specs.circuit.Arriving.{IsIdle, AreAsked, calls, errors_at, is_used_up}
+use Rattle.laws_time.specs.circuit.Clocked.{TimedEndpoint, Beat, after}
+use Rattle.laws_time.specs.circuit.LongEnough.{Line, IsFit, AreClear, answered_in, begins}
+
+-- An end is up: its link is in state 7 or 8.
+abbrev pub IsUp : Line → TimedEndpoint → Type 0
+IsUp l s = (state_at l s ≡ Some 7) ⊎ (state_at l s ≡ Some 8)
+
+-- So many beats are fewer than (N200 + 1) T200 of each end by a millisecond, as moments are whole.
+abbrev pub IsShortAt : Line → ℕ → Config → Lengths → Type 0
+IsShortAt l n c lengths = n + l.rate ≤ (c.n200 + 1) * lengths.t200 * l.rate
+
+abbrev pub IsShort : Line → ℕ → Type 0
+IsShort l n = IsShortAt l n l.near l.lengths × IsShortAt l n l.far l.far_lengths
+
+-- So long no end tells that N200 is used up, whatever noise there is.
+abbrev pub N200LastsInACall : Type 0
+N200LastsInACall =
+    (l : Line) (before bs : List Beat) (b : Beat) → IsFit l → All IsIdle before → All (AreAsked l) (b ∷ bs) →
+    AreClear l (before ++ calls l b ∷ bs) (begins l) → IsShort l (length bs) → let w = after l.rate (before ++ calls l b ∷ bs) (begins l) in
+    list_any is_used_up (errors_at w.near ++ errors_at w.far) ≡ false
+
+-- A call comes through. Noise ends, and no frame finds no place from then on: so once T200 of the end that calls has run, and an answer
+-- has had its time, both ends are up.
+abbrev pub ACallComesThrough : Type 0
+ACallComesThrough =
+    (l : Line) (before noisy clean : List Beat) (b c : Beat) → All IsIdle before → All (AreAsked l) (b ∷ noisy ++ c ∷ clean) →
+    IsUndisturbed l (before ++ calls l b ∷ noisy) c clean → IsShort l (length (noisy ++ c ∷ clean)) →
+    l.lengths.t200 * l.rate + answered_in l.near l.far l.way ≤ length clean →
+    let w = after l.rate clean (begun l (before ++ calls l b ∷ noisy) c) in IsUp l w.near × IsUp l w.far

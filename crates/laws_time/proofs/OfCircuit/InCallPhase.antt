@@ -1,5 +1,6 @@
 -- In a call on the circuit the end that calls rings, in state 5, and has heard nothing; or both ends are up.
-use Rattle.std.proofs.Common.{arith, ◌≡◌, ℕ, ◌+◌, ◌/◌, ◌≤◌, Bool, true, false, cond, List, [], ◌∷◌, ◌++◌, length, Option, Some, None, refl, sym, ap, ◌∙◌, subst, All, ◌⊎◌, inl, inr}
+use Rattle.std.proofs.Common.{arith, ◌≡◌, ℕ, ◌+◌, ◌/◌, ◌≤◌, ◌==◌, Bool, true, false, cond, List, [], ◌∷◌, ◌++◌, length, map, Option, Some, None, refl, sym, ap, ◌∙◌, subst, All, ◌⊎◌, inl, inr}
+use Rattle.std.proofs.lemmas.Bool.{true≢false}
 use Rattle.lapd_frame.specs.declared.services.Service.{Service}
 use Rattle.lapd_frame.specs.Grammar.{Parts}
 use Rattle.model_link.specs.Link.{Link, state_number, is_multiple_frame}
@@ -13,11 +14,11 @@ use Rattle.model_line.specs.Line.{terms, link_in}
 use Rattle.model_line.specs.Sound.{IsInRange}
 use Rattle.model_line.specs.declared.config.Config.{Config}
 use Rattle.model_card.specs.Card.{state, line_at}
-use Rattle.laws_wire.specs.Answering.{Called, uncalled}
+use Rattle.laws_wire.specs.Answering.{Called, uncalled, seeing, with_sabme, takes_sabme, renewed, error_f}
 unfoldable use Rattle.laws_wire.specs.Answering.{seen}
-use Rattle.laws_wire.specs.Call.{calling}
+use Rattle.laws_wire.specs.Call.{calling, confirmed, indicated, data_told}
 use Rattle.laws_wire.specs.Losing.{heard_in}
-use Rattle.laws_wire.specs.Wire.{Endpoint as FrameEndpoint, Wire}
+use Rattle.laws_wire.specs.Wire.{Endpoint as FrameEndpoint, Wire, requests, expires, sends, receives, loses, StepAt, at_near, at_far, doing}
 use Rattle.laws_wire.proofs.Calling.{end, sabme}
 use Rattle.laws_wire.proofs.Held.{Held}
 use Rattle.laws_wire.proofs.LossyRun.{setting}
@@ -34,7 +35,7 @@ use Rattle.laws_time.proofs.OfCircuit.Standing.{Ends}
 use Rattle.laws_time.proofs.OfCircuit.Under.{state-here}
 use Rattle.laws_time.specs.circuit.Answered.{state_at}
 use Rattle.laws_time.specs.circuit.Clocked.{TimedEndpoint, Clocked}
-use Rattle.laws_time.specs.circuit.InCall.{IsUp}
+use Rattle.laws_time.specs.circuit.InCall.{IsUp, WasTold}
 use Rattle.laws_time.specs.circuit.LongEnough.{Line, IsFit}
 
 up-number : (s : State) → is_multiple_frame s ≡ true → (state_number s ≡ 7) ⊎ (state_number s ≡ 8)
@@ -61,7 +62,8 @@ module _ (service : Service) (tei : ℕ) (c d : Config) (p q : ℕ) (face : Face
   pub record BothUp (v : Wire) : Type 0 where
     pub n : LinkEndpoint
     pub m : LinkEndpoint
-    pub near_heard : heard_in v.near ≡ [] → ⊥
+    pub near_told : (more : List LineTold) × (heard_in v.near ≡ confirmed service tei ∷ more)
+    pub far_told : (more : List LineTold) × (heard_in v.far ≡ indicated service tei ∷ more)
     pub near : StationStands c service tei p v.near n
     pub far : StationStands d service tei q v.far m
     pub near_up : is_multiple_frame n.link.state ≡ true
@@ -72,26 +74,51 @@ module _ (service : Service) (tei : ℕ) (c d : Config) (p q : ℕ) (face : Face
   rings-in P v (inr (inl h)) = record { repeats = h.repeats; waiting = its_sabme ∷ []; way = []; near = h.near }
   rings-in P v (inr (inr h)) = record { repeats = h.repeats; waiting = []; way = sabme (terms c service tei) ∷ []; near = h.near }
 
-  some-heard : (xs ys zs : List LineTold) (x : LineTold) → xs ≡ x ∷ ys ++ zs → xs ≡ [] → ⊥
-  some-heard xs ys zs x is none = cc (sym none ∙ is)
+  -- What the end that is called was told of SABME begins with the indication.
+  abbrev pub Begins : List LineTold → Type 0
+  Begins told = (told ≡ []) ⊎ ((rest : List LineTold) × (told ≡ indicated service tei ∷ rest))
 
-  called-in : (past : List LineTold) (b : Bool) (v : Wire) → run.IsCalled service tei c d p q face back rt ru past b v → Rung v ⊎ BothUp v
-  called-in past b v (inl h) = inl (rings-in (run.Away service tei c d p q face back rt ru past b) v h)
-  called-in past b v (inr (inl h)) = inl (record { repeats = h.repeats; waiting = []; way = []; near = h.near })
-  called-in past b v (inr (inr (inl h))) = inl (record { repeats = h.repeats; waiting = []; way = []; near = h.near })
-  called-in past b v (inr (inr (inr h))) = inr (record {
+  one-more : (told : List LineTold) (other : LineTold) → Begins told → Begins (told ++ cond (length told == 0) (indicated service tei) other ∷ [])
+  one-more told other (inl none) = inr ([], ap (λ ts. ts ++ cond (length ts == 0) (indicated service tei) other ∷ []) none)
+  one-more told other (inr (rest, is)) =
+      let last = cond (length told == 0) (indicated service tei) other in (inr (rest ++ last ∷ [], ap (λ ts. ts ++ last ∷ []) is))
+
+  begins-step : (x : Called) (k : StepAt) (w : Wire) → Begins x.told → Begins (seeing service tei k w x).told
+  begins-step x (at_near act) w h = h
+  begins-step x (at_far (requests r)) w h = h
+  begins-step x (at_far (expires timer)) w h = h
+  begins-step x (at_far sends) w h = h
+  begins-step x (at_far receives) w h = go (takes_sabme w)
+    where
+      go : (b : Bool) → Begins (cond b (with_sabme service tei (length w.far.granted) x) x).told
+      go true = one-more x.told (cond x.sent (renewed service tei) (error_f service tei)) h
+      go false = h
+  begins-step x (at_far loses) w h = h
+
+  pub begins-all : (ds : List StepAt) (w : Wire) (x : Called) → Begins x.told → Begins (seen service tei ds w x).told
+  unfolding seen
+  begins-all [] w x h = h
+  begins-all (k ∷ ds) w x h = begins-all ds (doing k w) (seeing service tei k w x) (begins-step x k w h)
+
+  called-in : (past rest : List LineTold) → past ≡ indicated service tei ∷ rest → (b : Bool) (v : Wire) → run.IsCalled service tei c d p q face back rt ru past b v → Rung v ⊎ BothUp v
+  called-in past rest begun b v (inl h) = inl (rings-in (run.Away service tei c d p q face back rt ru past b) v h)
+  called-in past rest begun b v (inr (inl h)) = inl (record { repeats = h.repeats; waiting = []; way = []; near = h.near })
+  called-in past rest begun b v (inr (inr (inl h))) = inl (record { repeats = h.repeats; waiting = []; way = []; near = h.near })
+  called-in past rest begun b v (inr (inr (inr h))) = inr (record {
     n = h.n;
     m = h.m;
-    near_heard = λ none. cc (sym none ∙ h.near.heard);
+    near_told = (map (data_told service tei) h.n.delivered, h.near.heard);
+    far_told = (rest ++ map (data_told service tei) h.m.delivered, h.far.heard ∙ ap (λ ts. ts ++ map (data_told service tei) h.m.delivered) begun);
     near = h.near.stands;
     far = h.far.stands;
     near_up = h.loose.joined.near_up;
     far_up = h.loose.joined.far_up;
   })
 
-  pub phase-in : (x : Called) (v : Wire) → run.Phase service tei c d p q face back rt ru x v → Rung v ⊎ BothUp v
-  phase-in x v (inl (told, sent, h)) = inl (rings-in (run.Down service tei c d p q face back rt ru) v h)
-  phase-in x v (inr (some, h)) = called-in x.told x.sent v h
+  pub phase-in : (x : Called) (v : Wire) → Begins x.told → run.Phase service tei c d p q face back rt ru x v → Rung v ⊎ BothUp v
+  phase-in x v first (inl (told, sent, h)) = inl (rings-in (run.Down service tei c d p q face back rt ru) v h)
+  phase-in x v (inl none) (inr (some, h)) = absurd (true≢false (sym (ap (λ ts. length ts == 0) none) ∙ some))
+  phase-in x v (inr (rest, is)) (inr (some, h)) = called-in x.told rest is x.sent v h
 
 module _ (l : Line) (fit : IsFit l) (w : Clocked) (pair : PairNow l fit w) (r : Reached l fit (calling l.service l.tei l.near l.near_line l.far l.far_line) w) where
   abbrev begun : Wire
@@ -109,6 +136,9 @@ module _ (l : Line) (fit : IsFit l) (w : Clocked) (pair : PairNow l fit w) (r : 
   near-heard : heard_in goes.v.near ≡ heard_of w.near.at.told
   near-heard = ap (λ (f : Wire). heard_in f.near) (sym goes.is) ∙ ap heard_in r.same.near_is ∙ r.same.near_heard
 
+  far-heard : heard_in goes.v.far ≡ heard_of w.far.at.told
+  far-heard = ap (λ (f : Wire). heard_in f.far) (sym goes.is) ∙ ap heard_in r.same.far_is ∙ r.same.far_heard
+
   near-number : (n : LinkEndpoint) → StationStands l.near l.service l.tei 0 goes.v.near n → state_at l w.near ≡ Some (state_number n.link.state)
   near-number n stands =
       state-here l.near l.service l.tei 0 fit.call.near.0 l.lengths l.rate w.near.at pair.near_ok.but.ends
@@ -122,6 +152,10 @@ module _ (l : Line) (fit : IsFit l) (w : Clocked) (pair : PairNow l fit w) (r : 
       (its-is l.far l.service l.tei fit.call.far.0 w.far pair.far_ok.but.ends r.same.back r.same.us r.f.far r.same.far_is m
       (subst (λ (s : FrameEndpoint). StationStands l.far l.service l.tei 0 s m) (ap (λ (f : Wire). f.far) (sym goes.is)) (regranted l.far l.service l.tei 0 goes.v.far m (goes.earlier ++ goes.v.far.granted) stands)))
 
+  -- The call came through.
+  abbrev CameThrough : Type 0
+  CameThrough = IsUp l w.near × IsUp l w.far × WasTold (confirmed l.service l.tei) w.near × WasTold (indicated l.service l.tei) w.far
+
   up-at : (a : TimedEndpoint) (n : LinkEndpoint) → state_at l a ≡ Some (state_number n.link.state) → is_multiple_frame n.link.state ≡ true → IsUp l a
   up-at a n is up = go (up-number n.link.state up)
     where
@@ -129,10 +163,21 @@ module _ (l : Line) (fit : IsFit l) (w : Clocked) (pair : PairNow l fit w) (r : 
       go (inl e) = inl (is ∙ ap (λ n. Some n) e)
       go (inr e) = inr (is ∙ ap (λ n. Some n) e)
 
-  pub in-call : ((state_at l w.near ≡ Some 5) × (heard_of w.near.at.told ≡ [])) ⊎ ((heard_of w.near.at.told ≡ [] → ⊥) × IsUp l w.near × IsUp l w.far)
-  in-call = go (phase-in l.service l.tei l.near l.far 0 0 (setting l.service l.near l.far l.near_line l.far_line l.tei fit.call).face (setting l.service l.near l.far l.near_line l.far_line l.tei fit.call).back (setting l.service l.near l.far l.near_line l.far_line l.tei fit.call).near (setting l.service l.near l.far l.near_line l.far_line l.tei fit.call).far x goes.v goes.phase)
+  pub in-call : ((state_at l w.near ≡ Some 5) × (heard_of w.near.at.told ≡ [])) ⊎ ((heard_of w.near.at.told ≡ [] → ⊥) × CameThrough)
+  in-call = go (phase-in l.service l.tei l.near l.far 0 0 (setting l.service l.near l.far l.near_line l.far_line l.tei fit.call).face (setting l.service l.near l.far l.near_line l.far_line l.tei fit.call).back (setting l.service l.near l.far l.near_line l.far_line l.tei fit.call).near (setting l.service l.near l.far l.near_line l.far_line l.tei fit.call).far x goes.v
+      (begins-all l.service l.tei l.near l.far 0 0 (setting l.service l.near l.far l.near_line l.far_line l.tei fit.call).face (setting l.service l.near l.far l.near_line l.far_line l.tei fit.call).back (setting l.service l.near l.far l.near_line l.far_line l.tei fit.call).near (setting l.service l.near l.far l.near_line l.far_line l.tei fit.call).far r.path.steps (calling l.service l.tei l.near l.near_line l.far l.far_line) uncalled (inl refl)) goes.phase)
     where
       go : Rung l.service l.tei l.near l.far 0 0 (setting l.service l.near l.far l.near_line l.far_line l.tei fit.call).face (setting l.service l.near l.far l.near_line l.far_line l.tei fit.call).back (setting l.service l.near l.far l.near_line l.far_line l.tei fit.call).near (setting l.service l.near l.far l.near_line l.far_line l.tei fit.call).far goes.v ⊎ BothUp l.service l.tei l.near l.far 0 0 (setting l.service l.near l.far l.near_line l.far_line l.tei fit.call).face (setting l.service l.near l.far l.near_line l.far_line l.tei fit.call).back (setting l.service l.near l.far l.near_line l.far_line l.tei fit.call).near (setting l.service l.near l.far l.near_line l.far_line l.tei fit.call).far goes.v
-          → ((state_at l w.near ≡ Some 5) × (heard_of w.near.at.told ≡ [])) ⊎ ((heard_of w.near.at.told ≡ [] → ⊥) × IsUp l w.near × IsUp l w.far)
+          → ((state_at l w.near ≡ Some 5) × (heard_of w.near.at.told ≡ [])) ⊎ ((heard_of w.near.at.told ≡ [] → ⊥) × CameThrough)
       go (inl h) = inl (near-number (end (terms l.near l.service l.tei) (ringing h.repeats h.waiting) h.way) h.near.stands, sym near-heard ∙ h.near.heard)
-      go (inr h) = inr (λ none. h.near_heard (near-heard ∙ none), up-at w.near h.n (near-number h.n h.near) h.near_up, up-at w.far h.m (far-number h.m h.far) h.far_up)
+      go (inr h) =
+          let near : heard_of w.near.at.told ≡ confirmed l.service l.tei ∷ h.near_told.0 = sym near-heard ∙ h.near_told.1 in
+          inr (
+            (λ none. cc (sym none ∙ near)),
+            (
+              up-at w.near h.n (near-number h.n h.near) h.near_up,
+              up-at w.far h.m (far-number h.m h.far) h.far_up,
+              (h.near_told.0, near),
+              (h.far_told.0, sym far-heard ∙ h.far_told.1),
+            ),
+          )

@@ -9,6 +9,7 @@ use Rattle.model_line.specs.Event.{LineTold}
 use Rattle.model_line.specs.Request.{Request, Data, SetBusy, ClearBusy}
 use Rattle.laws_line.proofs.OfCard.Meanwhile.{all-left, all-right}
 use Rattle.laws_wire.specs.Answering.{IsAsked as IsAskedOfLink}
+use Rattle.laws_wire.specs.Call.{confirmed, indicated}
 use Rattle.laws_wire.specs.Losing.{for_layer_3}
 use Rattle.laws_time.proofs.OfCircuit.Answered.{Waits, behind-begins, first-ready, grows-all, beats-then, clear-parts}
 unfoldable use Rattle.laws_time.proofs.OfCircuit.Answered.{Waits}
@@ -27,9 +28,13 @@ use Rattle.laws_time.proofs.OfCircuit.LongEnough.{all-pairs, pair-then}
 use Rattle.laws_time.specs.circuit.Answered.{IsClean, IsUndisturbed, begun, state_at, lost_at}
 use Rattle.laws_time.specs.circuit.Arriving.{IsIdle, IsAsked, AreAsked, calls, errors_at, is_used_up}
 use Rattle.laws_time.specs.circuit.Clocked.{Clocked, Beat, beat, after}
-use Rattle.laws_time.specs.circuit.InCall.{IsShort, IsUp, ACallComesThrough}
+use Rattle.laws_time.specs.circuit.InCall.{IsShort, IsUp, WasTold, ACallComesThrough}
 use Rattle.laws_time.specs.circuit.LongEnough.{Line, IsFit, IsTalk, IsOfLink, answered_in, begins}
 unfoldable use Rattle.laws_time.specs.circuit.LongEnough.{AreClear}
+
+-- Both ends are up, and were told so.
+abbrev CameThrough : Line → Clocked → Type 0
+CameThrough l w = IsUp l w.near × IsUp l w.far × WasTold (confirmed l.service l.tei) w.near × WasTold (indicated l.service l.tei) w.far
 
 front-none : (xs ys : List LineTold) → xs ++ ys ≡ [] → xs ≡ []
 front-none [] ys is = refl
@@ -94,7 +99,7 @@ module _ (l : Line) (before noisy clean : List Beat) (b c : Beat) (nothing : All
         all-pairs l h.fit.some k.near.0 k.far.0 k.opposite.0 k.opposite.1 h.fit.t200 (near_card l h.fit) (far_card l h.fit) some some-talk (begins l) some-clear (pair-begins l h.fit)
 
     abbrev InCall : Clocked → Type 0
-    InCall w = ((state_at l w.near ≡ Some 5) × (heard_of w.near.at.told ≡ [])) ⊎ ((heard_of w.near.at.told ≡ [] → ⊥) × IsUp l w.near × IsUp l w.far)
+    InCall w = ((state_at l w.near ≡ Some 5) × (heard_of w.near.at.told ≡ [])) ⊎ ((heard_of w.near.at.told ≡ [] → ⊥) × CameThrough l w)
 
     pub call-now : InCall (after l.rate done w)
     call-now =
@@ -131,7 +136,7 @@ module _ (l : Line) (before noisy clean : List Beat) (b c : Beat) (nothing : All
             front-none (heard_of (after l.rate done w).near.at.told) (heard_of walk.near.more)
             (sym (flat_map-append for_layer_3 (after l.rate done w).near.at.told walk.near.more) ∙ ap heard_of (sym walk.near.grows) ∙ ap (λ (u : Clocked). heard_of u.near.at.told) last ∙ unheard)
 
-        go : ((state_at l (after l.rate done w).near ≡ Some 5) × (heard_of (after l.rate done w).near.at.told ≡ [])) ⊎ ((heard_of (after l.rate done w).near.at.told ≡ [] → ⊥) × IsUp l (after l.rate done w).near × IsUp l (after l.rate done w).far)
+        go : ((state_at l (after l.rate done w).near ≡ Some 5) × (heard_of (after l.rate done w).near.at.told ≡ [])) ⊎ ((heard_of (after l.rate done w).near.at.told ≡ [] → ⊥) × CameThrough l (after l.rate done w))
             → state_at l (after l.rate done w).near ≡ Some 5
         go (inl x) = x.0
         go (inr x) = absurd (x.0 none)
@@ -183,15 +188,15 @@ module _ (l : Line) (before noisy clean : List Beat) (b c : Beat) (nothing : All
             All-cons (λ (b : Beat). All (λ r. IsOfLink l.service l.tei r × IsAskedOfLink l.service l.tei r) b.near_asks) d bs (both-asked l d.near_asks (All-head (AreAsked l) d bs all).0)
             (all-asked bs (All-tail (AreAsked l) d bs all))
 
-  pub both-up : l.lengths.t200 * l.rate + answered_in l.near l.far l.way ≤ length clean → IsUp l (after l.rate clean w).near × IsUp l (after l.rate clean w).far
+  pub both-up : l.lengths.t200 * l.rate + answered_in l.near l.far l.way ≤ length clean → CameThrough l (after l.rate clean w)
   both-up long = go (call-now clean [] (append-nil clean))
     where
       go : ((state_at l (after l.rate clean w).near ≡ Some 5) × (heard_of (after l.rate clean w).near.at.told ≡ []))
-          ⊎ ((heard_of (after l.rate clean w).near.at.told ≡ [] → ⊥) × IsUp l (after l.rate clean w).near × IsUp l (after l.rate clean w).far) → IsUp l (after l.rate clean w).near × IsUp l (after l.rate clean w).far
+          ⊎ ((heard_of (after l.rate clean w).near.at.told ≡ [] → ⊥) × CameThrough l (after l.rate clean w)) → CameThrough l (after l.rate clean w)
       go (inl x) = let soon = short-ring x.0 x.1 in absurd (omega (arith, soon, long))
-      go (inr x) = (x.1, x.2)
+      go (inr x) = x.1
 
 pub a-call-comes-through : ACallComesThrough
 a-call-comes-through l before noisy clean b c nothing asked h short long =
-    subst (λ (w : Clocked). IsUp l (after l.rate clean w).near × IsUp l (after l.rate clean w).far)
+    subst (λ (w : Clocked). CameThrough l (after l.rate clean w))
     (sym (fold-append (beat l.rate) (begins l) (before ++ calls l b ∷ noisy) (c ∷ []))) (both-up l before noisy clean b c nothing asked h short long)

@@ -1,8 +1,11 @@
 -- A call in time: how long it bears noise, and how soon it comes through once there is none.
-use Rattle.std.specs.Prelude.{◌≡◌, ◌≤◌, ℕ, ◌+◌, ◌*◌, false, List, ◌∷◌, ◌++◌, length, All, Some, ◌⊎◌}
+use Rattle.std.specs.Prelude.{◌≡◌, ◌≤◌, ℕ, ◌+◌, ◌*◌, false, List, ◌∷◌, ◌++◌, length, flat_map, All, Some, ◌⊎◌}
 use Rattle.std.specs.List.{list_any}
 use Rattle.lapd_clock.specs.Timer.{Lengths}
+use Rattle.model_line.specs.Event.{LineTold}
 use Rattle.model_line.specs.declared.config.Config.{Config}
+use Rattle.laws_wire.specs.Call.{confirmed, indicated}
+use Rattle.laws_wire.specs.Losing.{for_layer_3}
 use Rattle.laws_time.specs.circuit.Answered.{IsUndisturbed, begun, state_at}
 use Rattle.laws_time.specs.circuit.Arriving.{IsIdle, AreAsked, calls, errors_at, is_used_up}
 use Rattle.laws_time.specs.circuit.Clocked.{TimedEndpoint, Beat, after}
@@ -11,6 +14,10 @@ use Rattle.laws_time.specs.circuit.LongEnough.{Line, IsFit, AreClear, answered_i
 -- An end is up: its link is in state 7 or 8.
 abbrev pub IsUp : Line → TimedEndpoint → Type 0
 IsUp l s = (state_at l s ≡ Some 7) ⊎ (state_at l s ≡ Some 8)
+
+-- Layer 3 of an end was told this, first of all. (What is dropped is not counted.)
+abbrev pub WasTold : LineTold → TimedEndpoint → Type 0
+WasTold first s = (more : List LineTold) × (flat_map for_layer_3 s.at.told ≡ first ∷ more)
 
 -- So many beats are fewer than (N200 + 1) T200 of each end by a millisecond, as moments are whole.
 abbrev pub IsShortAt : Line → ℕ → Config → Lengths → Type 0
@@ -27,10 +34,11 @@ N200LastsInACall =
     list_any is_used_up (errors_at w.near ++ errors_at w.far) ≡ false
 
 -- A call comes through. Noise ends, and no frame finds no place from then on: so once T200 of the end that calls has run, and an answer
--- has had its time, both ends are up.
+-- has had its time, both ends are up; the one that calls was told so, and the other that it was called.
 abbrev pub ACallComesThrough : Type 0
 ACallComesThrough =
     (l : Line) (before noisy clean : List Beat) (b c : Beat) → All IsIdle before → All (AreAsked l) (b ∷ noisy ++ c ∷ clean) →
     IsUndisturbed l (before ++ calls l b ∷ noisy) c clean → IsShort l (length (noisy ++ c ∷ clean)) →
     l.lengths.t200 * l.rate + answered_in l.near l.far l.way ≤ length clean →
-    let w = after l.rate clean (begun l (before ++ calls l b ∷ noisy) c) in IsUp l w.near × IsUp l w.far
+    let w = after l.rate clean (begun l (before ++ calls l b ∷ noisy) c) in
+    IsUp l w.near × IsUp l w.far × WasTold (confirmed l.service l.tei) w.near × WasTold (indicated l.service l.tei) w.far

@@ -73,7 +73,7 @@ pub fn calls_bear_noise()
     ensures { CallsBearNoise }
 {}
 
-/// A call comes through in time. Two cards begin, and one end calls, as [`calls_bear_noise`] has it, with any noise that
+/// A call outlasts noise. Two cards begin, and one end calls, as [`calls_bear_noise`] has it, with any noise that
 /// makes no frame, and data and busy requests at any time.
 ///
 /// For (N200 + 1) T200 of each end, less a millisecond, no end tells error G, H or I (`bears`). So in that time all that
@@ -82,7 +82,7 @@ pub fn calls_bear_noise()
 /// Let noise end in that time, and from then on let no frame find no place at either end (`lost` of a report). Once T200 of
 /// the end that calls has run, and 2 (L + D) + 9 (c + c') octet times more, both ends are up, in state 7 or 8
 /// (`through`). (SABME goes again as T200 falls due, and then it is answered in time: Q.921 clauses 5.5.1.2 and 5.5.1.3.)
-pub fn a_call_comes_through()
+pub fn a_call_outlasts_noise()
     ensures bears { N200LastsInACall }
     ensures through { ACallComesThrough }
 {}

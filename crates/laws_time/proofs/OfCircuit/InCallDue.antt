@@ -1,9 +1,7 @@
 -- An end that rings, one thing at a time: T200 runs on, or SABME is due again; as long as no frame is lost.
-use Rattle.std.proofs.Common.{arith, ◌≡◌, ℕ, zero, suc, ◌+◌, ◌*◌, ◌<◌, ◌≤◌, ◌==◌, ◌&&◌, ◌||◌, Bool, true, false, cond, is_some, List, [], ◌∷◌, ◌++◌, length, Option, Some, None, refl, sym, ap, ◌∙◌, subst, All, ◌⊎◌, inl, inr}
-use Rattle.std.specs.Prelude.{fold}
+use Rattle.std.proofs.Common.{arith, ◌≡◌, ℕ, ◌+◌, ◌≤◌, ◌==◌, ◌&&◌, ◌||◌, Bool, true, false, cond, is_some, List, [], ◌∷◌, ◌++◌, length, Option, Some, None, refl, sym, ap, ◌∙◌, subst, ◌⊎◌, inl, inr}
 use Rattle.std.specs.Option.{option_map_or}
 use Rattle.std.proofs.lemmas.Bool.{true≢false}
-use Rattle.std.proofs.lemmas.List.Elements.{All-nil, All-head, All-tail}
 use Rattle.lapd_clock.specs.Moments.{moment_of}
 use Rattle.lapd_clock.specs.Timer.{Lengths, is_same}
 use Rattle.lapd_clock.specs.Timers.{Expiry, is_of}
@@ -29,7 +27,7 @@ use Rattle.model_link.specs.Told.{runs as link_runs}
 use Rattle.model_line.specs.Event as line
 use Rattle.model_line.specs.Expiry.{aim_of_expiry, at_timer}
 use Rattle.model_line.specs.Line.{Line, link_of, link_in, place_in, terms}
-use Rattle.model_line.specs.Request.{Request, SetBusy, ClearBusy, Data}
+use Rattle.model_line.specs.Request.{Request}
 use Rattle.model_line.specs.Requested.{aim_of_request, at_requested}
 use Rattle.model_line.specs.Sound.{IsInRange}
 use Rattle.model_line.specs.declared.config.Config.{Config}
@@ -42,20 +40,20 @@ use Rattle.model_card.specs.ports.Event.{at as octet_at}
 use Rattle.model_card.specs.ports.Port as port
 use Rattle.model_card.specs.ports.Port.{Port}
 use Rattle.model_timed.specs.Clock.{Clock, due, without_first}
-use Rattle.laws_link.specs.States.{as_heard, by_expiry, by_request, by_received, by_frame, state_after, moves, is_faulty}
-use Rattle.laws_link.specs.Waiting.{answers, commands, put, command_in, as_command}
+use Rattle.laws_link.specs.States.{as_heard, by_expiry, by_request, by_frame, moves}
+use Rattle.laws_link.specs.Waiting.{answers, command_in}
 use Rattle.laws_trace.specs.FramesAreRead.{contents_given}
 use Rattle.laws_trace.specs.Managing.{is_on}
 use Rattle.laws_trace.specs.Observer.{Observed, View, view_of, view_behind, moment_of as moment_at}
-use Rattle.laws_trace.specs.TimersAreTimely.{is_timer_of, runs}
+use Rattle.laws_trace.specs.TimersAreTimely.{is_timer_of}
 use Rattle.laws_order.specs.circuit.Circuit.{Endpoint as OctetEndpoint, port_of, answered}
 use Rattle.laws_order.specs.circuit.Circuit as circuit
 use Rattle.laws_time.proofs.Falls.{dropped}
 use Rattle.laws_time.proofs.Links.{on-where, stays-on, view-then}
 use Rattle.laws_time.proofs.OctetsMean.{meant_at}
 use Rattle.laws_time.proofs.Sending.{t200-is}
-use Rattle.laws_time.proofs.OfCircuit.Acts.{IsSoon, asks-goes, fell-goes, soon-then, own-same}
-use Rattle.laws_time.proofs.OfCircuit.AnsweredEnds.{lost, lost-more, lost-asked, lost-expired, its-same, DueAt, due-same, due-moved, frame-put, text-low}
+use Rattle.laws_time.proofs.OfCircuit.Acts.{own-same}
+use Rattle.laws_time.proofs.OfCircuit.AnsweredEnds.{lost, lost-more, lost-expired, its-same, DueAt, due-same, due-moved, frame-put, text-low}
 use Rattle.laws_time.proofs.OfCircuit.AnsweredRows.{Puts, establishes, leads, sabme-in}
 use Rattle.laws_time.proofs.OfCircuit.Ends.{first-of, rest-of, stands-without}
 use Rattle.laws_time.proofs.OfCircuit.Moments.{is_own_t200, is_waiting, awaits-in, counts-on, not-anew, runs-on}
@@ -63,10 +61,8 @@ use Rattle.laws_time.proofs.OfCircuit.Open.{half, IsOrdinary}
 use Rattle.laws_time.proofs.OfCircuit.Orders.{RunsOurs}
 use Rattle.laws_time.proofs.OfCircuit.Standing.{Ends, Moved, ends-asked, ends-expired, expired-event}
 use Rattle.laws_time.proofs.OfCircuit.Under.{EndBut, EndOk, past, all-past, all-then, here-is, next-card, o-is, q-is, clock-is, state-here}
-use Rattle.laws_time.specs.circuit.Arriving.{IsAsked}
-use Rattle.laws_time.specs.circuit.Clocked.{TimedEndpoint, happens, asks, falls}
+use Rattle.laws_time.specs.circuit.Clocked.{TimedEndpoint, happens}
 unfoldable use Rattle.laws_time.specs.circuit.Clocked.{fall_due}
-use Rattle.laws_time.specs.circuit.LongEnough.{IsOfLink, Line as ItsLine}
 
 -- ---- the link
 

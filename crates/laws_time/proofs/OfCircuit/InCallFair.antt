@@ -1,5 +1,5 @@
 -- In the first (N200 + 1) T200 of a call N200 is not used up, whatever noise there is.
-use Rattle.std.proofs.Common.{arith, ◌≡◌, ℕ, ◌+◌, ◌-◌, ◌*◌, ◌/◌, ◌<◌, ◌≤◌, ◌||◌, false, List, [], ◌∷◌, ◌++◌, length, map, Option, Some, refl, sym, ap, ◌∙◌, subst, All, ◌⊎◌, inl, inr}
+use Rattle.std.proofs.Common.{arith, ◌≡◌, ℕ, ◌+◌, ◌-◌, ◌*◌, ◌/◌, ◌<◌, ◌≤◌, ◌||◌, false, List, [], ◌∷◌, ◌++◌, length, map, Some, refl, sym, ap, ◌∙◌, subst, All, ◌⊎◌, inl, inr}
 use Rattle.std.specs.List.{list_any}
 use Rattle.std.proofs.lemmas.Bool.{cases_lt}
 use Rattle.std.proofs.lemmas.List.Elements.{All-nil, All-head, All-tail, All-cons}
@@ -15,9 +15,8 @@ use Rattle.model_line.specs.Request.{Establish}
 use Rattle.model_line.specs.Sound.{IsInRange}
 use Rattle.model_line.specs.declared.config.Config.{Config}
 use Rattle.model_card.specs.Card.{state, line_at}
-use Rattle.model_card.specs.ports.Event.{Event}
 use Rattle.model_timed.specs.Octets.{TimedOctetCard, octets, fresh}
-use Rattle.model_timed.specs.Timed.{Step, after_all, ArePrompt}
+use Rattle.model_timed.specs.Timed.{after_all, ArePrompt}
 use Rattle.laws_wire.specs.Call as call
 use Rattle.laws_wire.specs.Call.{data_told}
 use Rattle.laws_wire.specs.Wire.{Endpoint as FrameEndpoint}

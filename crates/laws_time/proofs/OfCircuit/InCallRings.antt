@@ -20,11 +20,10 @@ use Rattle.model_line.specs.declared.config.Config.{Config}
 use Rattle.model_card.specs.ports.Event.{at as octet_at}
 use Rattle.model_card.specs.ports.Port as port
 use Rattle.model_card.specs.ports.Port.{Port, is_due}
-use Rattle.model_timed.specs.Clock.{Clock, due, obeyed}
+use Rattle.model_timed.specs.Clock.{due, obeyed}
 use Rattle.laws_link.specs.States.{by_request}
 use Rattle.laws_order.specs.circuit.Circuit.{port_of}
-use Rattle.laws_order.specs.circuit.Circuit as circuit
-use Rattle.laws_time.proofs.OctetsMean.{meant_at, orders-are}
+use Rattle.laws_time.proofs.OctetsMean.{orders-are}
 use Rattle.laws_time.proofs.OfCircuit.Acts.{IsSoon, asks-goes, all-asked, fell-goes, soon-then}
 use Rattle.laws_time.proofs.OfCircuit.AnsweredEnds.{lost-more, due-pull}
 use Rattle.laws_time.proofs.OfCircuit.AnsweredRows.{establishes, offer-stays}

@@ -1,5 +1,5 @@
 -- An end that rings on a line without noise: within T200 SABME goes again, and then it is answered in time.
-use Rattle.std.proofs.Common.{arith, ◌≡◌, ℕ, ◌+◌, ◌-◌, ◌*◌, ◌/◌, ◌<◌, ◌≤◌, ◌&&◌, Bool, true, false, cond, List, [], ◌∷◌, ◌++◌, length, Option, Some, None, option_map, refl, sym, ap, ◌∙◌, subst, All, ◌⊎◌, inl, inr}
+use Rattle.std.proofs.Common.{arith, ◌≡◌, ℕ, ◌+◌, ◌-◌, ◌*◌, ◌/◌, ◌<◌, ◌≤◌, ◌&&◌, Bool, true, false, cond, List, [], ◌∷◌, length, Option, Some, None, option_map, refl, sym, ap, ◌∙◌, subst, All, ◌⊎◌, inl, inr}
 use Rattle.std.specs.List.{AllByRecursion}
 use Rattle.std.specs.Option.{option_map_or}
 use Rattle.std.proofs.lemmas.List.Elements.{All-head, All-tail}
@@ -28,39 +28,37 @@ use Rattle.model_line.specs.Sound.{IsInRange}
 use Rattle.model_line.specs.declared.config.Config.{Config}
 use Rattle.model_card.specs.Card.{state}
 use Rattle.model_card.specs.Event as frame_event
-use Rattle.model_card.specs.ports.Event.{Event, at as octet_at}
+use Rattle.model_card.specs.ports.Event.{at as octet_at}
 use Rattle.model_card.specs.ports.Port as port
 use Rattle.model_card.specs.ports.Port.{Port, gained}
 use Rattle.model_timed.specs.Clock.{obeyed}
 use Rattle.model_timed.specs.Frames as timed_frames
-use Rattle.model_timed.specs.Octets.{octets, fresh}
-use Rattle.model_timed.specs.Timed.{Step, after_all, ArePrompt}
+use Rattle.model_timed.specs.Octets.{fresh}
+use Rattle.model_timed.specs.Timed.{Step}
 use Rattle.laws_link.specs.States.{is_overlong, is_faulty, state_after}
-use Rattle.laws_trace.specs.Observer.{Observed}
 use Rattle.laws_wire.specs.Answering.{IsAsked as IsAskedOfLink}
 use Rattle.laws_order.specs.circuit.Circuit.{port_of}
 use Rattle.laws_order.specs.circuit.Circuit as circuit
 use Rattle.laws_time.proofs.Before.{Goes as TimedGoes, before-goes, begins as timed-begins}
 use Rattle.laws_time.proofs.Links.{state-is}
-use Rattle.laws_time.proofs.OctetsMean.{inside, meant_at, orders-are, steps-inside, prompt-inside, frame_steps}
+use Rattle.laws_time.proofs.OctetsMean.{inside, orders-are, steps-inside, prompt-inside, frame_steps}
 use Rattle.laws_time.proofs.Walk.{seen}
-use Rattle.laws_time.proofs.OfCircuit.Answered.{Waits, Grows, grows-all, stage-all, soon-over, same-longest}
+use Rattle.laws_time.proofs.OfCircuit.Answered.{Waits, grows-all, stage-all, soon-over}
 use Rattle.laws_time.proofs.OfCircuit.AnsweredBeat.{same-some}
 use Rattle.laws_time.proofs.OfCircuit.AnsweredBeats.{PairAt, near-come, near-pulls}
 use Rattle.laws_time.proofs.OfCircuit.AnsweredEnds.{lost, its-same, DueAt}
 use Rattle.laws_time.proofs.OfCircuit.AnsweredRows.{establishment, establishment-asks, leads}
-use Rattle.laws_time.proofs.OfCircuit.AnsweredRun.{Ready, Stage, asked_by, answered_by, ready-then, near-lost, near1, near2, near_mv, near_then, near-is, near-state, near-after, near-given, z, n1, v, u}
+use Rattle.laws_time.proofs.OfCircuit.AnsweredRun.{Ready, Stage, asked_by, ready-then, near-lost, near_mv, near-is, near-state, near-after, z}
 use Rattle.laws_time.proofs.OfCircuit.Beats.{Gone}
-use Rattle.laws_time.proofs.OfCircuit.Ends.{Leads, Rests}
-use Rattle.laws_time.proofs.OfCircuit.InCallDue.{Rings, Kept, IsDue, runs_at, on-runs, heard-five}
+use Rattle.laws_time.proofs.OfCircuit.Ends.{Leads}
+use Rattle.laws_time.proofs.OfCircuit.InCallDue.{Rings, IsDue, runs_at, on-runs, heard-five}
 use Rattle.laws_time.proofs.OfCircuit.InCallRings.{KeptAt, comes-kept, pull-kept}
 use Rattle.laws_time.proofs.OfCircuit.LongEnough.{by_now, soon, near-low, near-high, near-gone, in-all}
 use Rattle.laws_time.proofs.OfCircuit.Moments.{awaits-in, is_waiting}
-use Rattle.laws_time.proofs.OfCircuit.Open.{half}
 use Rattle.laws_time.proofs.OfCircuit.Standing.{Ends, Moved}
-use Rattle.laws_time.proofs.OfCircuit.Under.{EndOk, state-here}
+use Rattle.laws_time.proofs.OfCircuit.Under.{state-here}
 use Rattle.laws_time.specs.circuit.Answered.{IsClean, state_at}
-use Rattle.laws_time.specs.circuit.Clocked.{TimedEndpoint, Clocked, Beat, gone, beat, after, happens, comes_to, without_first_octet}
+use Rattle.laws_time.specs.circuit.Clocked.{TimedEndpoint, Clocked, Beat, gone, beat, after, happens, comes_to}
 use Rattle.laws_time.specs.circuit.Ends.{card_of}
 use Rattle.laws_time.specs.circuit.LongEnough.{Line, IsFit, IsTalk, IsOfLink, IsClearAt, answered_in}
 unfoldable use Rattle.laws_time.specs.circuit.LongEnough.{AreClear}

@@ -1,5 +1,5 @@
 -- A call comes through: T200 and an answer's time after noise has ended both ends are up.
-use Rattle.std.proofs.Common.{arith, ◌≡◌, ℕ, ◌+◌, ◌*◌, ◌<◌, ◌≤◌, List, [], ◌∷◌, ◌++◌, length, Option, Some, refl, sym, ap, ◌∙◌, subst, All, ◌⊎◌, inl, inr, append_assoc, append-nil, length-append}
+use Rattle.std.proofs.Common.{arith, ◌≡◌, ◌+◌, ◌*◌, ◌<◌, ◌≤◌, List, [], ◌∷◌, ◌++◌, length, Some, refl, sym, ap, ◌∙◌, subst, All, ◌⊎◌, inl, inr, append_assoc, append-nil, length-append}
 use Rattle.std.specs.List.{list_any}
 use Rattle.std.proofs.lemmas.Grind.{flat_map-append}
 use Rattle.std.proofs.lemmas.List.Elements.{All-nil, All-cons, All-head, All-tail}
@@ -16,7 +16,6 @@ unfoldable use Rattle.laws_time.proofs.OfCircuit.Answered.{Waits}
 use Rattle.laws_time.proofs.OfCircuit.AnsweredBeats.{BothBehind, behind-all}
 use Rattle.laws_time.proofs.OfCircuit.AnsweredEnds.{lost}
 use Rattle.laws_time.proofs.OfCircuit.AnsweredRows.{establishment}
-use Rattle.laws_time.proofs.OfCircuit.AnsweredRun.{Ready}
 use Rattle.laws_time.proofs.OfCircuit.ArrivAs.{heard_of}
 use Rattle.laws_time.proofs.OfCircuit.ArrivBegan.{reached}
 use Rattle.laws_time.proofs.OfCircuit.ArrivFair.{neither}
@@ -25,11 +24,11 @@ use Rattle.laws_time.proofs.OfCircuit.InCallPhase.{in-call}
 use Rattle.laws_time.proofs.OfCircuit.InCallThrough.{t200-there, all-ring, rings-shortly}
 use Rattle.laws_time.proofs.OfCircuit.InTime.{PairNow, near_card, far_card, pair-begins}
 use Rattle.laws_time.proofs.OfCircuit.LongEnough.{all-pairs, pair-then}
-use Rattle.laws_time.specs.circuit.Answered.{IsClean, IsUndisturbed, begun, state_at, lost_at}
+use Rattle.laws_time.specs.circuit.Answered.{IsClean, IsUndisturbed, begun, state_at}
 use Rattle.laws_time.specs.circuit.Arriving.{IsIdle, IsAsked, AreAsked, calls, errors_at, is_used_up}
 use Rattle.laws_time.specs.circuit.Clocked.{Clocked, Beat, beat, after}
 use Rattle.laws_time.specs.circuit.InCall.{IsShort, IsUp, WasTold, ACallComesThrough}
-use Rattle.laws_time.specs.circuit.LongEnough.{Line, IsFit, IsTalk, IsOfLink, answered_in, begins}
+use Rattle.laws_time.specs.circuit.LongEnough.{Line, IsTalk, IsOfLink, answered_in, begins}
 unfoldable use Rattle.laws_time.specs.circuit.LongEnough.{AreClear}
 
 -- Both ends are up, and were told so.

@@ -1,5 +1,5 @@
 -- Prompt steps from one end of the circuit to another. If its link's N200 is not used up by them, no error that says so is told there.
-use Rattle.std.proofs.Common.{arith, ◌≡◌, ℕ, zero, suc, ◌+◌, ◌*◌, ◌<◌, ◌≤◌, ◌==◌, ◌||◌, Bool, true, false, cond, is_some, List, [], ◌∷◌, ◌++◌, length, Option, Some, None, option_map, refl, sym, ap, ◌∙◌, subst, All, append-nil, append_assoc, eq-eqb, filter}
+use Rattle.std.proofs.Common.{arith, ◌≡◌, ℕ, zero, suc, ◌+◌, ◌*◌, ◌<◌, ◌≤◌, ◌||◌, Bool, true, false, cond, List, [], ◌∷◌, ◌++◌, length, Option, Some, None, option_map, refl, sym, ap, ◌∙◌, subst, All, append-nil, append_assoc, eq-eqb, filter}
 use Rattle.std.specs.Prelude.{fold, flat_map}
 use Rattle.std.specs.List.{list_any}
 use Rattle.std.specs.Option.{option_map_or, unwrap_or}
@@ -22,7 +22,7 @@ use Rattle.model_card.specs.Machine as machine
 use Rattle.model_card.specs.ports.Event.{Event, at as octet_at}
 use Rattle.model_card.specs.ports.Port as port
 use Rattle.model_card.specs.ports.Port.{Port, gained, is_due}
-use Rattle.model_timed.specs.Clock.{due, without_first}
+use Rattle.model_timed.specs.Clock.{due}
 use Rattle.model_timed.specs.Octets.{TimedOctetCard, octets, IsNoExpiry}
 use Rattle.model_timed.specs.Timed.{Step, happens as step_happens, falls_due, after as next, with_expiry, expiry_at}
 unfoldable use Rattle.model_timed.specs.Timed.{after_all, ArePrompt}
@@ -31,7 +31,6 @@ use Rattle.laws_trace.specs.News.{is_news}
 use Rattle.laws_trace.specs.TimersAreTimely.{is_timer_of}
 use Rattle.laws_wire.specs.Wire.{tells_nothing}
 use Rattle.laws_order.specs.circuit.Circuit.{port_of, answered, told_by}
-use Rattle.laws_order.specs.circuit.Circuit as circuit
 use Rattle.laws_time.proofs.ArrivalsErrors.{Used}
 use Rattle.laws_time.proofs.OctetsMean.{meant_at, notes-are}
 use Rattle.laws_time.proofs.OfCircuit.Acts.{IsSoon, asks-goes, all-asked, fell-goes, soon-then}

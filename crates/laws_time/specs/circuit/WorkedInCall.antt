@@ -14,7 +14,7 @@ use Rattle.model_card.specs.ports.Card as ports
 use Rattle.laws_wire.specs.Worked.{user, network}
 use Rattle.laws_time.specs.circuit.Answered.{state_at}
 use Rattle.laws_time.specs.circuit.Arriving.{errors_at}
-use Rattle.laws_time.specs.circuit.Clocked.{Clocked, Beat, plain, after, fall_due}
+use Rattle.laws_time.specs.circuit.Clocked.{Clocked, plain, after, fall_due}
 use Rattle.laws_time.specs.circuit.InCall.{IsShortAt}
 use Rattle.laws_time.specs.circuit.LongEnough.{Line, begins}
 use Rattle.laws_time.specs.circuit.Worked.{once, deaf, asks_deaf}

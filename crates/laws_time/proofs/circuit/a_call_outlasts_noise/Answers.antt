@@ -1,7 +1,7 @@
--- Hand-written answers for `a_call_comes_through`.
+-- Hand-written answers for `a_call_outlasts_noise`.
 use Rattle.laws_time.proofs.OfCircuit.InCallFair.{n200-lasts-in-a-call}
 use Rattle.laws_time.proofs.OfCircuit.InCallUp.{a-call-comes-through}
-use Rattle.laws_time.proofs.circuit.a_call_comes_through.Goals as goal
+use Rattle.laws_time.proofs.circuit.a_call_outlasts_noise.Goals as goal
 
 pub returns-clause-bears : goal.returns-clause-bears
 returns-clause-bears c = n200-lasts-in-a-call

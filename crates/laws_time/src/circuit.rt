@@ -6,9 +6,8 @@
 //! up. There are a dead line, too, and noise that makes a frame of another link. How long an answer takes at most is in
 //! `LongEnough`, and worked out in `WorkedLongEnough`. Answers that come are in `Answered` and `WorkedAnswered`. What a
 //! call through noise tells is in `Arriving`, and a run that meets its premises in `WorkedArriving`. How soon it comes
-//! through is in `InCall` and `WorkedInCall`. Random and chosen
-//! runs broke nothing of what is open, if layer 3 asks for no unit data and is not busy, T200 is at least as long as an
-//! answer takes, and noise makes no frame.
+//! through is in `InCall` and `WorkedInCall`. Random and chosen runs broke nothing of what is open, if layer 3 asks for
+//! no unit data and is not busy, T200 is at least as long as an answer takes, and noise makes no frame.
 //!
 //! # Open
 //!
@@ -17,7 +16,7 @@
 ghost use Rattle.laws_time.specs.circuit.Answered.{AnEnquiryIsAnswered, CommandsAreAnswered, NoNoiseIsClear, OneEnquiryIsEnough};
 ghost use Rattle.laws_time.specs.circuit.Arriving.{CallsBearNoise};
 ghost use Rattle.laws_time.specs.circuit.Ends.{EndsAreTimedCards};
-ghost use Rattle.laws_time.specs.circuit.InCall.{ACallComesThrough, N200LastsInACall};
+ghost use Rattle.laws_time.specs.circuit.InCall.{ACallOutlastsNoise, N200LastsInACall};
 ghost use Rattle.laws_time.specs.circuit.LongEnough.{AnswersComeInTime};
 ghost use Rattle.laws_time.specs.circuit.WorkedAnswered.{AnEnquiryIsMet};
 
@@ -73,18 +72,19 @@ pub fn calls_bear_noise()
     ensures { CallsBearNoise }
 {}
 
-/// A call outlasts noise. Two cards begin, and one end calls, as [`calls_bear_noise`] has it, with any noise that
-/// makes no frame, and data and busy requests at any time.
+/// A call outlasts noise. Two cards begin, and one end calls, as [`calls_bear_noise`] has it, with any noise that makes no
+/// frame, and with data and busy requests at any time.
 ///
-/// For (N200 + 1) T200 of each end, less a millisecond, no end tells error G, H or I (`bears`). So in that time all that
-/// [`calls_bear_noise`] says holds.
+/// For (N200 + 1) T200 of each end, less a millisecond, no end tells error G, H or I (`bears`). So all that
+/// [`calls_bear_noise`] says holds in that time.
 ///
 /// Let noise end in that time, and from then on let no frame find no place at either end (`lost` of a report). Once T200 of
-/// the end that calls has run, and 2 (L + D) + 9 (c + c') octet times more, both ends are up, in state 7 or 8
-/// (`through`). (SABME goes again as T200 falls due, and then it is answered in time: Q.921 clauses 5.5.1.2 and 5.5.1.3.)
+/// the end that calls has run, and 2 (L + D) + 9 (c + c') octet times more, both ends are up, in state 7 or 8 (`through`).
+/// Layer 3 of the end that calls was told the confirm of the establishment first of all, and that of the other the
+/// indication. (SABME goes again as T200 falls due, and then it is answered in time: Q.921 clauses 5.5.1.2 and 5.5.1.3.)
 pub fn a_call_outlasts_noise()
     ensures bears { N200LastsInACall }
-    ensures through { ACallComesThrough }
+    ensures through { ACallOutlastsNoise }
 {}
 
 /// Without noise from the start on, noise makes no frame (`clear`): each frame that is heard stood at that place in what

@@ -27,7 +27,7 @@ use Rattle.laws_time.proofs.OfCircuit.LongEnough.{all-pairs, pair-then}
 use Rattle.laws_time.specs.circuit.Answered.{IsClean, IsUndisturbed, begun, state_at}
 use Rattle.laws_time.specs.circuit.Arriving.{IsIdle, IsAsked, AreAsked, calls, errors_at, is_used_up}
 use Rattle.laws_time.specs.circuit.Clocked.{Clocked, Beat, beat, after}
-use Rattle.laws_time.specs.circuit.InCall.{IsShort, IsUp, WasTold, ACallComesThrough}
+use Rattle.laws_time.specs.circuit.InCall.{IsShort, IsUp, WasTold, ACallOutlastsNoise}
 use Rattle.laws_time.specs.circuit.LongEnough.{Line, IsTalk, IsOfLink, answered_in, begins}
 unfoldable use Rattle.laws_time.specs.circuit.LongEnough.{AreClear}
 
@@ -195,7 +195,7 @@ module _ (l : Line) (before noisy clean : List Beat) (b c : Beat) (nothing : All
       go (inl x) = let soon = short-ring x.0 x.1 in absurd (omega (arith, soon, long))
       go (inr x) = x.1
 
-pub a-call-comes-through : ACallComesThrough
-a-call-comes-through l before noisy clean b c nothing asked h short long =
+pub a-call-outlasts-noise : ACallOutlastsNoise
+a-call-outlasts-noise l before noisy clean b c h =
     subst (λ (w : Clocked). CameThrough l (after l.rate clean w))
-    (sym (fold-append (beat l.rate) (begins l) (before ++ calls l b ∷ noisy) (c ∷ []))) (both-up l before noisy clean b c nothing asked h short long)
+    (sym (fold-append (beat l.rate) (begins l) (before ++ calls l b ∷ noisy) (c ∷ []))) (both-up l before noisy clean b c h.idle h.asked h.undisturbed h.short h.long)

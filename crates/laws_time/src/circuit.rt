@@ -78,10 +78,11 @@ pub fn calls_bear_noise()
 /// For (N200 + 1) T200 of each end, less a millisecond, no end tells error G, H or I (`bears`). So all that
 /// [`calls_bear_noise`] says holds in that time.
 ///
-/// Let noise end in that time, and from then on let no frame find no place at either end (`lost` of a report). Once T200 of
-/// the end that calls has run, and 2 (L + D) + 9 (c + c') octet times more, both ends are up, in state 7 or 8 (`through`).
-/// Layer 3 of the end that calls was told the confirm of the establishment first of all, and that of the other the
-/// indication. (SABME goes again as T200 falls due, and then it is answered in time: Q.921 clauses 5.5.1.2 and 5.5.1.3.)
+/// Let noise end in that time, and then let no frame find no place at either end (`lost` of a report). Once T200 of the end
+/// that calls has run, and 2 (L + D) + 9 (c + c') octet times more, both ends are up, in state 7 or 8 (`through`). They stay
+/// so in that time, even if noise comes again. Layer 3 of the end that calls was told the confirm of the establishment
+/// first of all, and that of the other the indication. (SABME goes again as T200 falls due, and then it is answered in
+/// time: Q.921 clauses 5.5.1.2 and 5.5.1.3. Busy requests may take all places.)
 pub fn a_call_outlasts_noise()
     ensures bears { N200LastsInACall }
     ensures through { ACallOutlastsNoise }

@@ -2,7 +2,7 @@
 use Rattle.std.proofs.Common.{arith, ◌≡◌, ◌+◌, ◌*◌, ◌<◌, ◌≤◌, List, [], ◌∷◌, ◌++◌, length, Some, refl, sym, ap, ◌∙◌, subst, All, ◌⊎◌, inl, inr, append_assoc, append-nil, length-append}
 use Rattle.std.specs.List.{list_any}
 use Rattle.std.proofs.lemmas.Grind.{flat_map-append}
-use Rattle.std.proofs.lemmas.List.Elements.{All-nil, All-cons, All-head, All-tail}
+use Rattle.std.proofs.lemmas.List.Elements.{All-nil, All-cons, All-append, All-head, All-tail}
 use Rattle.std.proofs.lemmas.List.Folds.{list_any-append}
 use Rattle.std.proofs.lemmas.List.Sums.{fold-append}
 use Rattle.model_line.specs.Event.{LineTold}
@@ -19,7 +19,7 @@ use Rattle.laws_time.proofs.OfCircuit.AnsweredRows.{establishment}
 use Rattle.laws_time.proofs.OfCircuit.ArrivAs.{heard_of}
 use Rattle.laws_time.proofs.OfCircuit.ArrivBegan.{reached}
 use Rattle.laws_time.proofs.OfCircuit.ArrivFair.{neither}
-use Rattle.laws_time.proofs.OfCircuit.InCallFair.{BothWalk, walks-all, n200-lasts-in-a-call}
+use Rattle.laws_time.proofs.OfCircuit.InCallFair.{BothWalk, walks-all, talk-all, n200-lasts-in-a-call}
 use Rattle.laws_time.proofs.OfCircuit.InCallPhase.{in-call}
 use Rattle.laws_time.proofs.OfCircuit.InCallThrough.{t200-there, all-ring, rings-shortly}
 use Rattle.laws_time.proofs.OfCircuit.InTime.{PairNow, near_card, far_card, pair-begins}
@@ -27,8 +27,8 @@ use Rattle.laws_time.proofs.OfCircuit.LongEnough.{all-pairs, pair-then}
 use Rattle.laws_time.specs.circuit.Answered.{IsClean, IsUndisturbed, begun, state_at}
 use Rattle.laws_time.specs.circuit.Arriving.{IsIdle, IsAsked, AreAsked, calls, errors_at, is_used_up}
 use Rattle.laws_time.specs.circuit.Clocked.{Clocked, Beat, beat, after}
-use Rattle.laws_time.specs.circuit.InCall.{IsShort, IsUp, WasTold, ACallOutlastsNoise}
-use Rattle.laws_time.specs.circuit.LongEnough.{Line, IsTalk, IsOfLink, answered_in, begins}
+use Rattle.laws_time.specs.circuit.InCall.{IsShort, IsUp, WasTold, Outlasts, ACallOutlastsNoise}
+use Rattle.laws_time.specs.circuit.LongEnough.{Line, IsFit, IsTalk, IsOfLink, answered_in, begins}
 unfoldable use Rattle.laws_time.specs.circuit.LongEnough.{AreClear}
 
 -- Both ends are up, and were told so.
@@ -195,7 +195,84 @@ module _ (l : Line) (before noisy clean : List Beat) (b c : Beat) (nothing : All
       go (inl x) = let soon = short-ring x.0 x.1 in absurd (omega (arith, soon, long))
       go (inr x) = x.1
 
+clear-both : (l : Line) (bs more : List Beat) (w : Clocked) → AreClear l bs w → AreClear l more (after l.rate bs w) → AreClear l (bs ++ more) w
+unfolding AreClear
+clear-both l [] more w clear then = then
+clear-both l (b ∷ bs) more w clear then = (clear.0, clear.1, clear-both l bs more (beat l.rate w b) clear.2 then)
+
+none-begins : (x : LineTold) (xs : List LineTold) → x ∷ xs ≡ [] → ⊥
+none-begins x xs e = cc e
+
+-- Whatever comes then.
+module _ (l : Line) (before noisy clean later : List Beat) (b c : Beat) (h : Outlasts l before noisy clean later b c) where
+  abbrev fit : IsFit l
+  fit = h.undisturbed.fit
+
+  abbrev start : List Beat
+  start = before ++ calls l b ∷ noisy
+
+  abbrev up_by : Clocked
+  up_by = after l.rate clean (begun l (before ++ calls l b ∷ noisy) c)
+
+  -- without what comes then
+  asked-first : All (AreAsked l) (b ∷ noisy ++ c ∷ clean)
+  asked-first = all-left (AreAsked l) (b ∷ noisy ++ c ∷ clean) later h.asked
+
+  short-first : IsShort l (length (noisy ++ c ∷ clean))
+  short-first =
+      let parts = length-append (noisy ++ c ∷ clean) later in
+      let near = h.short.0 in let far = h.short.1 in (omega (arith, parts, near), omega (arith, parts, far))
+
+  up-first : CameThrough l up_by
+  up-first =
+      subst (λ (w : Clocked). CameThrough l (after l.rate clean w)) (sym (fold-append (beat l.rate) (begins l) start (c ∷ [])))
+      (both-up l before noisy clean b c h.idle asked-first h.undisturbed short-first h.long)
+
+  -- all beats
+  abbrev all_beats : List Beat
+  all_beats = before ++ calls l b ∷ (noisy ++ c ∷ clean ++ later)
+
+  same-beats : all_beats ≡ (start ++ c ∷ clean) ++ later
+  same-beats = sym (append_assoc before (calls l b ∷ (noisy ++ c ∷ clean)) later) ∙ ap (λ bs. bs ++ later) (sym (append_assoc before (calls l b ∷ noisy) (c ∷ clean)))
+
+  first-world : after l.rate (start ++ c ∷ clean) (begins l) ≡ up_by
+  first-world =
+      fold-append (beat l.rate) (begins l) start (c ∷ clean) ∙ ap (λ (w : Clocked). after l.rate clean w) (sym (fold-append (beat l.rate) (begins l) start (c ∷ [])))
+
+  last-world : after l.rate all_beats (begins l) ≡ after l.rate later up_by
+  last-world =
+      ap (λ bs. after l.rate bs (begins l)) same-beats ∙ fold-append (beat l.rate) (begins l) (start ++ c ∷ clean) later ∙ ap (λ (w : Clocked). after l.rate later w) first-world
+
+  whole-clear : AreClear l all_beats (begins l)
+  whole-clear =
+      subst (λ bs. AreClear l bs (begins l)) (sym same-beats)
+      (clear-both l (start ++ c ∷ clean) later (begins l) h.undisturbed.clear (subst (AreClear l later) (sym first-world) h.clear))
+
+  later-talk : All (IsTalk l) later
+  later-talk = talk-all l fit later (all-right (AreAsked l) (b ∷ noisy ++ c ∷ clean) later h.asked)
+
+  pair-at : (bs : List Beat) → All (IsTalk l) bs → AreClear l bs (begins l) → PairNow l fit (after l.rate bs (begins l))
+  pair-at bs talk clear =
+      let k = fit.call in
+      all-pairs l fit.some k.near.0 k.far.0 k.opposite.0 k.opposite.1 fit.t200 (near_card l fit) (far_card l fit) bs talk (begins l) clear (pair-begins l fit)
+
+  stays-up : CameThrough l (after l.rate later up_by)
+  stays-up =
+      let u = after l.rate all_beats (begins l) in
+      let none = n200-lasts-in-a-call l before (noisy ++ c ∷ clean ++ later) b fit h.idle h.asked whole-clear h.short in
+      let fair = neither (list_any is_used_up (errors_at u.near)) (list_any is_used_up (errors_at u.far)) (sym (list_any-append is_used_up (errors_at u.near) (errors_at u.far)) ∙ none) in
+      let first_pair = subst (PairNow l fit) first-world (pair-at (start ++ c ∷ clean) h.undisturbed.talk h.undisturbed.clear) in
+      let whole_talk = subst (All (IsTalk l)) (sym same-beats) (All-append (IsTalk l) (start ++ c ∷ clean) later h.undisturbed.talk later-talk) in
+      let walk = walks-all l fit later up_by first_pair later-talk h.clear in
+      subst (CameThrough l) last-world
+      (elim (in-call l fit u (pair-at all_beats whole_talk whole-clear)
+      (reached l fit before b (noisy ++ c ∷ clean ++ later) h.idle (All-head (AreAsked l) b (noisy ++ c ∷ clean ++ later) h.asked) (All-tail (AreAsked l) b (noisy ++ c ∷ clean ++ later) h.asked) whole-clear fair)) [
+        | inl x ↦
+            let unheard = front-none (heard_of up_by.near.at.told) (heard_of walk.near.more)
+            (sym (flat_map-append for_layer_3 up_by.near.at.told walk.near.more) ∙ ap heard_of (sym walk.near.grows) ∙ ap (λ (w : Clocked). heard_of w.near.at.told) (sym last-world) ∙ x.1) in
+            absurd (none-begins (confirmed l.service l.tei) up-first.2.0 (sym up-first.2.1 ∙ unheard))
+        | inr x ↦ x.1
+      ])
+
 pub a-call-outlasts-noise : ACallOutlastsNoise
-a-call-outlasts-noise l before noisy clean b c h =
-    subst (λ (w : Clocked). CameThrough l (after l.rate clean w))
-    (sym (fold-append (beat l.rate) (begins l) (before ++ calls l b ∷ noisy) (c ∷ []))) (both-up l before noisy clean b c h.idle h.asked h.undisturbed h.short h.long)
+a-call-outlasts-noise l before noisy clean later b c h = stays-up l before noisy clean later b c h

@@ -33,18 +33,19 @@ N200LastsInACall =
     AreClear l (before ++ calls l b ∷ bs) (begins l) → IsShort l (length bs) → let w = after l.rate (before ++ calls l b ∷ bs) (begins l) in
     list_any is_used_up (errors_at w.near ++ errors_at w.far) ≡ false
 
--- A call, noise, a beat without noise, and as many more as T200 of the end that calls and an answer take at most. N200 lasts so long,
--- and no frame finds no place once noise has ended.
-pub record Outlasts (l : Line) (before noisy clean : List Beat) (b c : Beat) : Type 0 where
+-- A call, noise, a beat without noise, and as many more as T200 of the end that calls and an answer take at most; then anything. N200
+-- lasts so long, and until then no frame finds no place once noise has ended.
+pub record Outlasts (l : Line) (before noisy clean later : List Beat) (b c : Beat) : Type 0 where
   pub idle : All IsIdle before
-  pub asked : All (AreAsked l) (b ∷ noisy ++ c ∷ clean)
+  pub asked : All (AreAsked l) (b ∷ noisy ++ c ∷ clean ++ later)
   pub undisturbed : IsUndisturbed l (before ++ calls l b ∷ noisy) c clean
-  pub short : IsShort l (length (noisy ++ c ∷ clean))
+  pub clear : AreClear l later (after l.rate clean (begun l (before ++ calls l b ∷ noisy) c))
+  pub short : IsShort l (length (noisy ++ c ∷ clean ++ later))
   pub long : l.lengths.t200 * l.rate + answered_in l.near l.far l.way ≤ length clean
 
--- Then both ends are up; the one that calls was told so, and the other that it was called.
+-- Then both ends are up, and stay so; the one that calls was told so, and the other that it was called.
 abbrev pub ACallOutlastsNoise : Type 0
 ACallOutlastsNoise =
-    (l : Line) (before noisy clean : List Beat) (b c : Beat) → Outlasts l before noisy clean b c →
-    let w = after l.rate clean (begun l (before ++ calls l b ∷ noisy) c) in
+    (l : Line) (before noisy clean later : List Beat) (b c : Beat) → Outlasts l before noisy clean later b c →
+    let w = after l.rate later (after l.rate clean (begun l (before ++ calls l b ∷ noisy) c)) in
     IsUp l w.near × IsUp l w.far × WasTold (confirmed l.service l.tei) w.near × WasTold (indicated l.service l.tei) w.far

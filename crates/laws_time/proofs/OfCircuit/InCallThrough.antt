@@ -68,11 +68,11 @@ unfoldable use Rattle.laws_time.proofs.OfCircuit.Answered.{Waits}
 five-was : (s : State) (f : Bool) → Rings s → state_number (cond (is_multiple_frame s && f) AwaitingEstablishment s) ≡ 5 → state_number s ≡ 5
 five-was AwaitingEstablishment f r is = refl
 five-was TeiAssigned f r is = is
-five-was AwaitingRelease f (inl e) is = cc e
+five-was AwaitingRelease f (inl e) is = e
 five-was AwaitingRelease f (inr e) is = cc e
-five-was Established f (inl e) is = cc e
+five-was Established f (inl e) is = e
 five-was Established f (inr e) is = cc e
-five-was TimerRecovery f (inl e) is = cc e
+five-was TimerRecovery f (inl e) is = e
 five-was TimerRecovery f (inr e) is = cc e
 
 heard-was : (t : Terms) (f : Parts) (l : Link) → Rings l.state → state_number (link_after t (received (frame f)) l).state ≡ 5 → state_number l.state ≡ 5

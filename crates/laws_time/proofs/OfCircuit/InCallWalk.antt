@@ -16,15 +16,17 @@ use Rattle.model_line.specs.Event.{LineTold}
 use Rattle.model_line.specs.Request.{Request}
 use Rattle.model_line.specs.Sound.{IsInRange}
 use Rattle.model_line.specs.declared.config.Config.{Config}
+use Rattle.model_card.specs.Card as cards
 use Rattle.model_card.specs.Card.{Card}
 use Rattle.model_card.specs.Event as frames
 use Rattle.model_card.specs.Machine as machine
+use Rattle.model_card.specs.Run as frame_runs
 use Rattle.model_card.specs.ports.Event.{Event, at as octet_at}
 use Rattle.model_card.specs.ports.Port as port
 use Rattle.model_card.specs.ports.Port.{Port, gained, is_due}
 use Rattle.model_timed.specs.Clock.{due}
 use Rattle.model_timed.specs.Octets.{TimedOctetCard, octets, IsNoExpiry}
-use Rattle.model_timed.specs.Timed.{Step, happens as step_happens, falls_due, after as next, with_expiry, expiry_at}
+use Rattle.model_timed.specs.Timed.{Step, happens as step_happens, falls_due, after as next, with_expiry, expiry_at, event_of}
 unfoldable use Rattle.model_timed.specs.Timed.{after_all, ArePrompt}
 use Rattle.laws_line.specs.Heard.{notes_of}
 use Rattle.laws_trace.specs.News.{is_news}
@@ -113,7 +115,7 @@ module _ (service : Service) (tei : ℕ) where
   unfolding news after_all
   news-both number [] ys t = refl
   news-both number (s ∷ xs) ys t =
-      let first = news_in of_octets service tei number (Rattle.model_timed.specs.Timed.event_of octets s t) t.card in
+      let first = news_in of_octets service tei number (event_of octets s t) t.card in
       ap (λ ns. first ++ ns) (news-both number xs ys (next octets s t))
       ∙ sym (append_assoc first (news of_octets service tei number xs (next octets s t)) (news of_octets service tei number ys (after_all octets xs (next octets s t))))
 
@@ -150,9 +152,6 @@ module _ (service : Service) (tei : ℕ) where
   }
 
   -- or what is due falls due.
-  abbrev due_event : TimedEndpoint → Option Expiry → Option Event
-  due_event a o = option_map (expiry_at octets) o
-
   walks-due : (a : TimedEndpoint) (x : Expiry) → due a.clock ≡ Some x → x.line ≡ a.at.line → Noted (port.expiry x.timer) a → Walks a (falls a x)
   unfolding after_all ArePrompt news
   walks-due a x is own noted = record {
@@ -195,7 +194,7 @@ module _ (service : Service) (tei : ℕ) where
           go (Some what) is =
               let its = past c service tei 0 ranged lengths rate a ev S M M h in
               let there = here-is c service tei 0 ranged lengths rate a ev S M M h in
-              let same : noted_now ≡ notes_of (machine.answer (frames.at a.at.line what) (Rattle.model_card.specs.Run.after_all (Rattle.model_card.specs.Card.fresh c) its)) =
+              let same : noted_now ≡ notes_of (machine.answer (frames.at a.at.line what) (frame_runs.after_all (cards.fresh c) its)) =
               notes-are (octet_at a.at.line ev) a.at.card (Some what) is ∙ ap (λ (card : Card). notes_of (machine.answer (frames.at a.at.line what) card)) there in
               ap Used same
               ∙ all-own c a.at.line ranged h.ends.ran.within its (all-past c service tei 0 ranged lengths rate a ev S M M h) what (all-then c service tei 0 ranged lengths rate a ev S M M h what is) service tei

@@ -43,3 +43,11 @@ pub mod ArrivTold
 pub mod ArrivLaw
 pub mod ArrivMet
 pub mod ArrivIdle
+pub mod InBeatsAs
+pub mod InBeatsIdle
+pub mod InBeatsRun
+pub mod InBeatsTold
+pub mod InBeatsDue
+pub mod InBeats
+pub mod InBeatsMet
+pub mod InBeatsRest

@@ -8,3 +8,5 @@ pub mod WorkedLongEnough
 pub mod WorkedAnswered
 pub mod Arriving
 pub mod WorkedArriving
+pub mod InBeats
+pub mod WorkedInBeats

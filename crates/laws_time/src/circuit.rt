@@ -16,6 +16,7 @@
 ghost use Rattle.laws_time.specs.circuit.Answered.{AnEnquiryIsAnswered, CommandsAreAnswered, NoNoiseIsClear, OneEnquiryIsEnough};
 ghost use Rattle.laws_time.specs.circuit.Arriving.{CallsBearNoise};
 ghost use Rattle.laws_time.specs.circuit.Ends.{EndsAreTimedCards};
+ghost use Rattle.laws_time.specs.circuit.InBeats.{ACallTakesBeats, MessagesTakeBeats, NoneFallsDueBefore};
 ghost use Rattle.laws_time.specs.circuit.LongEnough.{AnswersComeInTime};
 ghost use Rattle.laws_time.specs.circuit.WorkedAnswered.{AnEnquiryIsMet};
 
@@ -77,4 +78,27 @@ pub fn calls_bear_noise()
 pub fn no_noise_makes_no_frame()
     ensures clear { NoNoiseIsClear }
     ensures met { AnEnquiryIsMet }
+{}
+
+/// A call takes so many beats. Two cards of octets begin on one line with their clocks. In the first beat layer 3 of one
+/// end asks for the establishment of a link. Then layer 3 of either end asks to send octets, at any time. There is no
+/// noise, and no timer falls due. Let u requests for data be granted in the whole call. Then (2 + 2 u) (2 L + D) octet
+/// times after the last request each end was told one establishment, and all data that the other was granted to send:
+/// in order, each once, and nothing else (`told`). So no error was told. L is the longest frame in octets, and D octets
+/// are in transit.
+///
+/// The same holds of a link at rest (`since`). Without noise anything of the link was asked for, and timers fell due.
+/// Then both ends are in state 7, neither side is busy, all that was sent is acknowledged, and no frame is in transit.
+/// From there on only data is asked for, and no timer falls due. Let u requests be granted since. Then 2 u (2 L + D)
+/// octet times after the last each end was told all that the other was granted since, and nothing else.
+///
+/// When no timer falls due is a matter of numbers (`undue`). Let none that runs at either end fall due before a moment,
+/// as `lapd_next_moment` says, and let each that is started run until then at least. Then none falls due before, whatever
+/// is asked for, and whatever noise there is. So the bounds hold of a call that is over within its first T200, and of a
+/// link at rest within T200, if T203 does not fall due. (A T200 that is too short brings error C,
+/// `specs/circuit/WorkedArriving`. Noise delays a call, `WorkedInBeats`.)
+pub fn a_call_takes_beats()
+    ensures told { ACallTakesBeats }
+    ensures since { MessagesTakeBeats }
+    ensures undue { NoneFallsDueBefore }
 {}

@@ -50,4 +50,5 @@ pub mod InBeatsTold
 pub mod InBeatsDue
 pub mod InBeats
 pub mod InBeatsMet
+pub mod InBeatsKept
 pub mod InBeatsRest

@@ -2,10 +2,9 @@
 use Rattle.std.proofs.Common.{arith, ◌≡◌, ℕ, zero, suc, ◌+◌, ◌*◌, ◌-◌, ◌/◌, ◌≤◌, ◌<◌, ◌||◌, false, List, [], ◌∷◌, ◌++◌, length, map, replicate, drop, refl, sym, ap, ◌∙◌, subst, All, append-nil}
 use Rattle.std.specs.Prelude.{fold}
 use Rattle.std.proofs.lemmas.List.{length-replicate}
-use Rattle.std.proofs.lemmas.List.Elements.{All-nil, All-cons, All-append, All-head, All-tail}
-use Rattle.std.proofs.lemmas.List.Sums.{fold-append}
+use Rattle.std.proofs.lemmas.List.Elements.{All-nil, All-cons, All-head, All-tail}
 use Rattle.model_bits.specs.StuffingLaws.{AreOctets}
-use Rattle.model_bits.specs.Sent.{Item, idle}
+use Rattle.model_bits.specs.Sent.{idle}
 use Rattle.model_bits.specs.Stream.{heard_in}
 use Rattle.model_line.specs.Request.{Request, Establish, Data, Assign}
 use Rattle.model_line.specs.Event as line
@@ -40,7 +39,7 @@ use Rattle.laws_time.specs.circuit.InBeats.{IsDataOf, AsksData, IsUndue, IsToldA
 unfoldable use Rattle.laws_time.specs.circuit.InBeats.{NoneFallsDue}
 use Rattle.laws_time.specs.circuit.LongEnough.{Line, begins}
 unfoldable use Rattle.laws_time.specs.circuit.LongEnough.{pulling}
-use Rattle.laws_time.proofs.OfCircuit.InBeatsAs.{Alike, alike-asked, As, Twin, plus, first-way}
+use Rattle.laws_time.proofs.OfCircuit.InBeatsAs.{Alike, alike-asked, Twin, plus, first-way}
 use Rattle.laws_time.proofs.OfCircuit.InBeatsIdle as idles
 use Rattle.laws_time.proofs.OfCircuit.InBeatsIdle.{opened, first-port, first-station}
 use Rattle.laws_time.proofs.OfCircuit.InBeatsRun as run
@@ -60,10 +59,6 @@ alike-of s u same = record {
 none-among : (k : ℕ) → frames_among (replicate k idle ++ []) ≡ []
 none-among zero = refl
 none-among (suc k) = none-among k
-
-grows : (x k : ℕ) → replicate k x ++ x ∷ [] ≡ x ∷ replicate k x
-grows x zero = refl
-grows x (suc k) = ap (λ l. x ∷ l) (grows x k)
 
 abbrev pub Octets : Request → Type 0
 Octets r = AsksOctets (port.request r)
@@ -141,7 +136,7 @@ module _ (l : Line) (c : Config) (ranged : IsInRange c) (number : ℕ) (within :
   first-end a is = subst (λ s. Twin l.way c (circuit.happens port.pull s) (fold ask pulled_first rs)) (sym is) first-twin
 
   pub first-long : (fold ask pulled_first rs).way ≡ 0x7E ∷ replicate l.way 0x7E
-  first-long = way-asked rs pulled_first ∙ as_idle.way ∙ grows 0x7E l.way
+  first-long = way-asked rs pulled_first ∙ as_idle.way ∙ idles.grows 0x7E l.way [] ∙ ap (λ w. 0x7E ∷ w) (append-nil (replicate l.way 0x7E))
 
 pub long-both : (l : Line) (near : IsInRange l.near) (far : IsInRange l.far) (x y : Endpoint) → x.way ≡ 0x7E ∷ replicate l.way 0x7E → y.way ≡ 0x7E ∷ replicate l.way 0x7E
     → run.IsLong l near far (both_hear x y)

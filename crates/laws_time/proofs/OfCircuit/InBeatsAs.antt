@@ -1,5 +1,5 @@
 -- An end of the clocked circuit is one of the circuit without clocks, as if the flags in transit at first had been pulled there.
-use Rattle.std.proofs.Common.{arith, ◌≡◌, ℕ, zero, suc, ◌<◌, Bool, cond, List, [], ◌∷◌, ◌++◌, length, drop, replicate, take, Option, Some, None, is_some, option_map, refl, sym, ap, ◌∙◌, subst, append_assoc}
+use Rattle.std.proofs.Common.{◌≡◌, ℕ, zero, suc, ◌<◌, Bool, cond, List, [], ◌∷◌, ◌++◌, length, drop, replicate, take, Option, Some, None, is_some, option_map, refl, sym, ap, ◌∙◌, append_assoc}
 use Rattle.std.specs.Option.{option_map_or}
 use Rattle.model_bits.specs.Bits.{number_of}
 unfoldable use Rattle.model_bits.specs.Bits.{low_bits}

@@ -1,5 +1,5 @@
 -- No timer falls due before a moment, if none that runs does, and each that is started runs until then.
-use Rattle.std.proofs.Common.{arith, ◌≡◌, ℕ, zero, suc, ◌+◌, ◌*◌, ◌/◌, ◌<◌, ◌≤◌, Bool, true, false, cond, List, [], ◌∷◌, length, Option, Some, None, refl, sym, ap, ◌∙◌, subst, nat_le}
+use Rattle.std.proofs.Common.{arith, ◌≡◌, ℕ, zero, suc, ◌+◌, ◌*◌, ◌/◌, ◌<◌, ◌≤◌, false, cond, List, [], ◌∷◌, length, Option, Some, None, refl, sym, ap, ◌∙◌, subst, nat_le}
 use Rattle.std.specs.List.{AllByRecursion}
 use Rattle.std.specs.Option.{option_map_or, unwrap_or}
 use Rattle.std.specs.Prelude.{fold}
@@ -17,7 +17,7 @@ use Rattle.laws_time.specs.circuit.Clocked.{TimedEndpoint, Clocked, Beat, first,
 unfoldable use Rattle.laws_time.specs.circuit.Clocked.{fall_due}
 use Rattle.laws_time.specs.circuit.InBeats.{FallsDueFrom, NoneFallsDueBefore, IsUndue}
 unfoldable use Rattle.laws_time.specs.circuit.InBeats.{NoneFallsDue}
-use Rattle.laws_time.specs.circuit.LongEnough.{Line, asked, begins}
+use Rattle.laws_time.specs.circuit.LongEnough.{Line, begins}
 use Rattle.laws_time.proofs.Moments.{now-stays, lengths-stay}
 use Rattle.laws_time.proofs.OfCircuit.Ends.{at_time, rest-of}
 use Rattle.laws_time.proofs.OfCircuit.Prompt.{all-obeyed, div-stays}

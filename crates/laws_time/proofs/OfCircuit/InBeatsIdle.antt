@@ -1,18 +1,16 @@
 -- An end of the circuit at which nothing was asked, after some pulls: flags are in transit, and the card is as it began.
-use Rattle.std.proofs.Common.{arith, ◌≡◌, ℕ, zero, suc, ◌+◌, ◌<◌, ◌≤◌, Bool, true, false, cond, List, [], ◌∷◌, ◌++◌, length, replicate, Option, Some, None, refl, sym, ap, ◌∙◌, subst, All, append_assoc, append-nil}
+use Rattle.std.proofs.Common.{arith, ◌≡◌, ℕ, zero, suc, ◌+◌, ◌<◌, ◌≤◌, true, false, cond, List, [], ◌∷◌, ◌++◌, length, replicate, Option, Some, None, refl, sym, ap, ◌∙◌, subst, append_assoc}
 use Rattle.std.proofs.lemmas.List.Elements.{All-nil}
-use Rattle.model_bits.specs.Bits.{number_of}
 unfoldable use Rattle.model_bits.specs.Bits.{low_bits}
 use Rattle.model_bits.specs.Framer.{runs_low}
-use Rattle.model_bits.specs.Sent.{Item, idle}
+use Rattle.model_bits.specs.Sent.{idle}
 use Rattle.lapd_frame.specs.declared.services.Service.{Service}
 use Rattle.model_line.specs.Event as line
 use Rattle.model_line.specs.Event.{gave, next}
-use Rattle.model_line.specs.Request.{Request, Assign}
+use Rattle.model_line.specs.Request.{Assign}
 use Rattle.model_line.specs.Sound.{IsInRange}
 use Rattle.model_line.specs.declared.config.Config.{Config}
 use Rattle.model_card.proofs.OfPorts.GoingOut.{fresh_at}
-use Rattle.model_card.specs.Event as frames
 use Rattle.model_card.specs.ports.Card.{fresh}
 unfoldable use Rattle.model_card.specs.ports.Card.{answer, meant}
 unfoldable use Rattle.model_card.specs.ports.Run.{after_all, meant_all}
@@ -25,17 +23,17 @@ use Rattle.laws_trace.specs.FramesAreRead.{GivesOctets}
 use Rattle.laws_wire.specs.Call as call
 use Rattle.laws_wire.specs.Wire as wire
 use Rattle.laws_wire.specs.Wire.{Endpoint as FrameEndpoint}
-use Rattle.laws_order.specs.circuit.Circuit.{Endpoint, port_of, happens, answered}
+use Rattle.laws_order.specs.circuit.Circuit.{Endpoint, port_of, happens}
 use Rattle.laws_order.specs.circuit.Through.{octet_endpoint, assigned}
 use Rattle.laws_order.proofs.OfCircuit.AsFrames.{as_station, if_meant, asked-as, pulled-as}
 use Rattle.laws_order.proofs.OfCircuit.Projected.{port-after, asked-way}
 use Rattle.laws_order.proofs.OfCircuit.Ran.{Ran, goes-on, within-ports}
 unfoldable use Rattle.laws_time.specs.circuit.LongEnough.{pulling}
 use Rattle.laws_time.proofs.OfCircuit.ArrivIdle.{untaken, idle-answer}
-use Rattle.laws_time.proofs.OfCircuit.InBeatsAs.{plus, left-plus, after-plus, answer-plus, said_of, meaning, ran-way}
+use Rattle.laws_time.proofs.OfCircuit.InBeatsAs.{plus, left-plus, after-plus, answer-plus, said_of, meaning}
 
 -- A list of the same.
-grows : {A : Type 0} (x : A) (k : ℕ) (xs : List A) → replicate k x ++ (x ∷ xs) ≡ x ∷ (replicate k x ++ xs)
+pub grows : {A : Type 0} (x : A) (k : ℕ) (xs : List A) → replicate k x ++ (x ∷ xs) ≡ x ∷ (replicate k x ++ xs)
 grows x zero xs = refl
 grows x (suc k) xs = ap (λ l. x ∷ l) (grows x k xs)
 

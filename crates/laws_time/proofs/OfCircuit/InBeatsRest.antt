@@ -1,293 +1,52 @@
 -- A link at rest on a line without noise: so many beats after the last request all is told that was granted since.
-use Rattle.std.proofs.Common.{arith, ◌≡◌, ℕ, zero, suc, ◌+◌, ◌*◌, ◌-◌, ◌/◌, ◌≤◌, ◌<◌, List, [], ◌∷◌, ◌++◌, length, map, drop, replicate, Option, None, Some, refl, sym, ap, ◌∙◌, subst, All, append-nil, append_assoc}
-use Rattle.std.specs.Option.{option_map_or, unwrap_or}
-use Rattle.std.specs.Prelude.{fold}
+use Rattle.std.proofs.Common.{arith, ◌≡◌, ℕ, zero, suc, ◌+◌, ◌*◌, ◌-◌, ◌≤◌, List, [], ◌∷◌, ◌++◌, length, map, drop, replicate, refl, sym, ap, ◌∙◌, subst, All, append_assoc}
 use Rattle.std.proofs.lemmas.List.{length-drop}
-use Rattle.std.proofs.lemmas.List.Elements.{All-nil, All-cons, All-head, All-tail}
-use Rattle.lapd_clock.specs.Timer.{Lengths, AreInRange}
-use Rattle.lapd_clock.specs.Timers.{Expiry}
-use Rattle.lapd_frame.specs.declared.services.Service.{Service}
+use Rattle.std.proofs.lemmas.List.Elements.{All-head, All-tail}
 use Rattle.model_bits.specs.Sent.{Item, idle}
 use Rattle.model_bits.specs.Stream.{heard_in}
-use Rattle.model_line.specs.Event as line
 use Rattle.model_line.specs.Event.{LineTold}
-use Rattle.model_line.specs.Request.{Request, Establish, Release, SetBusy, ClearBusy, Data}
 use Rattle.model_line.specs.Sound.{IsInRange}
-use Rattle.model_line.specs.declared.config.Config.{Config}
 unfoldable use Rattle.model_card.specs.ports.Card.{answer}
-use Rattle.model_card.specs.ports.Codec.{frames_among, octet_pulled}
-use Rattle.model_card.specs.ports.Port as port
-use Rattle.model_card.specs.ports.Port.{Port, answer_of}
-use Rattle.model_timed.specs.Clock.{due, without_first}
+use Rattle.model_card.specs.ports.Codec.{frames_among}
+use Rattle.model_card.specs.ports.Port.{Port}
 use Rattle.laws_wire.specs.Call as call
 use Rattle.laws_wire.specs.Call.{CanCall, IsBeginningOf, ToldInOrder, data_told}
-use Rattle.laws_wire.specs.Facing.{Face, Delivers, IsToldSince as ToldSince, most_turns, unsent_at, due_since, own_link}
+use Rattle.laws_wire.specs.Facing.{Delivers, IsToldSince as ToldSince, most_turns, unsent_at, due_since, own_link}
 use Rattle.laws_wire.specs.Wire as wire
 use Rattle.laws_wire.specs.Wire.{Endpoint as FrameEndpoint, Wire, IsStill}
 unfoldable use Rattle.laws_wire.specs.Wire.{doing_all as wire_doing_all, turns as wire_turns}
 use Rattle.laws_wire.proofs.Delivering.{cards-deliver}
 use Rattle.laws_order.specs.circuit.Beats.{longest}
-use Rattle.laws_order.specs.circuit.Circuit as circuit
-use Rattle.laws_order.specs.circuit.Circuit.{Endpoint, Circuit, port_of, sends, receives, StepAt, acting, turned}
+use Rattle.laws_order.specs.circuit.Circuit.{Endpoint, Circuit, port_of, StepAt}
 unfoldable use Rattle.laws_order.specs.circuit.Circuit.{doing_all}
 unfoldable use Rattle.laws_order.proofs.OfCircuit.Onward.{many}
-use Rattle.laws_order.proofs.OfCircuit.Onward.{many-stay}
 use Rattle.laws_order.proofs.OfCircuit.AsFrames.{as_station}
-use Rattle.laws_order.proofs.OfCircuit.OneWay.{Carries, framed}
-use Rattle.laws_order.proofs.OfCircuit.Projected.{as_wire, Fits, Follows, other-way, one-act, port-after, asked-way}
-use Rattle.laws_order.proofs.OfCircuit.Ran.{Ran, AsksOctets, goes-on, within-ports}
+use Rattle.laws_order.proofs.OfCircuit.OneWay.{framed}
+use Rattle.laws_order.proofs.OfCircuit.Projected.{as_wire, Follows}
 use Rattle.laws_order.proofs.OfCircuit.Through.{all-heard}
 use Rattle.laws_time.specs.circuit.Answered.{IsClean}
-use Rattle.laws_time.specs.circuit.Clocked.{TimedEndpoint, Clocked, Beat, plain, happens, asks, falls, comes_to, gone, beat, after, clean}
+use Rattle.laws_time.specs.circuit.Clocked.{Clocked, Beat, plain, beat, after, clean}
 unfoldable use Rattle.laws_time.specs.circuit.Clocked.{fall_due}
-use Rattle.laws_time.specs.circuit.InBeats.{AsksData, IsUndue, granted_in, as_frames, HasNoneLeft, IsAtRest, IsToldSince, Begins, MessagesTakeBeats}
+use Rattle.laws_time.specs.circuit.InBeats.{AsksData, granted_in, as_frames, IsAtRest, IsToldSince, Begins, MessagesTakeBeats}
 unfoldable use Rattle.laws_time.specs.circuit.InBeats.{NoneFallsDue}
-use Rattle.laws_time.specs.circuit.LongEnough.{Line, IsOfLink, IsTalk, begins}
-use Rattle.laws_time.proofs.OfCircuit.Ends.{at_time}
-use Rattle.laws_time.proofs.OfCircuit.InBeats.{Octets, pulled_first, as_idle, first-end, first-long, long-both, carries-none}
-use Rattle.laws_time.proofs.OfCircuit.InBeatsAs.{Alike, Twin, twin-event, plus, first-way}
-use Rattle.laws_time.proofs.OfCircuit.InBeatsDue.{none-at-first}
-use Rattle.laws_time.proofs.OfCircuit.Prompt.{long}
-use Rattle.laws_time.proofs.OfCircuit.InBeatsIdle as idles
+use Rattle.laws_time.specs.circuit.LongEnough.{Line, IsTalk, begins}
+use Rattle.laws_time.proofs.OfCircuit.InBeatsAs.{Alike, plus}
+use Rattle.laws_time.proofs.OfCircuit.InBeatsKept.{Kept, all-kept, first-kept, fits, fits-far}
 use Rattle.laws_time.proofs.OfCircuit.InBeatsRun as run
 unfoldable use Rattle.laws_time.proofs.OfCircuit.InBeatsRun.{all_steps}
 use Rattle.laws_time.proofs.OfCircuit.InBeatsRun.{ask, both_hear, comes-at, undue-parts, plain-clean}
 use Rattle.laws_time.proofs.OfCircuit.InBeatsTold.{Comes, all-told}
-
--- ---- what is asked for, and what falls due, leaves the port and what is in transit
-
-abbrev IsSilent : port.Event → Type 0
-IsSilent (port.request r) = Unit {0}
-IsSilent (port.expiry timer) = Unit {0}
-IsSilent other = ⊥
-
-none-pulled : (o : Option line.Answer) → octet_pulled (option_map_or answer_of o (port.told line.nothing)) ≡ []
-none-pulled o = grind arith
-
-silent-way : (e : port.Event) → IsSilent e → (s : Endpoint) → (circuit.happens e s).way ≡ s.way
-unfolding answer
-silent-way (port.request r) is s = asked-way r s
-silent-way (port.expiry timer) is s = ap (λ os. s.way ++ os) (none-pulled _) ∙ append-nil s.way
-silent-way other is s = absurd is
-
-silent-port : (e : port.Event) → IsSilent e → (s : Endpoint) → s.line < length s.card.ports → port_of (circuit.happens e s) ≡ port_of s
-silent-port (port.request r) is s inside = port-after s (port.request r) inside
-silent-port (port.expiry timer) is s inside = port-after s (port.expiry timer) inside
-silent-port other is s inside = absurd is
-
-of-octets : (service : Service) (tei : ℕ) (r : Request) → IsOfLink service tei r → AsksOctets (port.request r)
-of-octets service tei (Establish s t) is = All-nil (λ octet. octet < 256)
-of-octets service tei (Release s t) is = All-nil (λ octet. octet < 256)
-of-octets service tei (SetBusy s t) is = All-nil (λ octet. octet < 256)
-of-octets service tei (ClearBusy s t) is = All-nil (λ octet. octet < 256)
-of-octets service tei (Data s t contents) is = is.2
-of-octets service tei other is = absurd is
-
-module _ (k size : ℕ) (service : Service) (tei : ℕ) (c d : Config) (ranged : IsInRange c) (y : Endpoint) (there back : List (List ℕ)) where
-  -- An end of the circuit for a clocked one, with the same in transit.
-  record Stood (s : Endpoint) : Type 0 where
-    u : Endpoint
-    twin : Twin k c s u
-    follows : Follows size c d (record { near = u; far = y }) there back
-    long : length u.way ≡ k
-
-  follows-silent : (e : port.Event) → IsSilent e → AsksOctets e → (u : Endpoint) → Follows size c d (record { near = u; far = y }) there back
-      → Follows size c d (record { near = circuit.happens e u; far = y }) there back
-  follows-silent e is octets u h =
-      let same = silent-port e is u (within-ports c ranged u h.near) in
-      record {
-        near = goes-on c u e octets h.near;
-        far = h.far;
-        goes = subst (λ p. Carries size p (circuit.happens e u).way (port_of y).received there) (sym same)
-            (subst (λ way. Carries size (port_of u) way (port_of y).received there) (sym (silent-way e is u)) h.goes);
-        comes = subst (λ (p : Port). Carries size (port_of y) y.way p.received back) (sym same) h.comes;
-      }
-
-  stood-one : (e : port.Event) → IsSilent e → AsksOctets e → (s : Endpoint) → Stood s → Stood (circuit.happens e s)
-  stood-one e is octets s h = record { u = circuit.happens e h.u; twin = twin-event k c ranged e octets s h.u h.twin; follows = follows-silent e is octets h.u h.follows; long = ap length (silent-way e is h.u) ∙ h.long }
-
-  stood-asks : (rs : List Request) → All (IsOfLink service tei) rs → (a : TimedEndpoint) → Stood a.at → Stood (fold asks a rs).at
-  stood-asks [] all a h = h
-  stood-asks (r ∷ rs) all a h =
-      stood-asks rs (All-tail (IsOfLink service tei) r rs all) (asks a r)
-      (stood-one (port.request r) tt (of-octets service tei r (All-head (IsOfLink service tei) r rs all)) a.at h)
-
-  stood-fell : (a : TimedEndpoint) (o : Option Expiry) → Stood a.at → Stood (option_map_or (falls a) o a).at
-  stood-fell a None h = h
-  stood-fell a (Some x) h = stood-one (port.expiry x.timer) tt tt a.at h
-
-  stood-falls : (n : ℕ) (a : TimedEndpoint) → Stood a.at → Stood (fall_due n a).at
-  unfolding fall_due
-  stood-falls zero a h = h
-  stood-falls (suc n) a h = stood-falls n (option_map_or (falls a) (due a.clock) a) (stood-fell a (due a.clock) h)
-
-  stood-comes : (moment : ℕ) (rs : List Request) → All (IsOfLink service tei) rs → (a : TimedEndpoint) → Stood a.at → Stood (comes_to moment rs a).at
-  stood-comes moment rs all a h = let b = fold asks (at_time moment a) rs in stood-falls (length b.clock.running) b (stood-asks rs all (at_time moment a) h)
-
-  follows-asks : (rs : List Request) → All Octets rs → (u : Endpoint) → Follows size c d (record { near = u; far = y }) there back → Follows size c d (record { near = fold ask u rs; far = y }) there back
-  follows-asks [] all u h = h
-  follows-asks (r ∷ rs) all u h = follows-asks rs (All-tail Octets r rs all) (ask u r) (follows-silent (port.request r) tt (All-head Octets r rs all) u h)
-
--- ---- beat for beat
 
 frames-plus : (k : ℕ) (items : List Item) → frames_among (replicate k idle ++ items) ≡ frames_among items
 frames-plus zero items = refl
 frames-plus (suc k) items = frames-plus k items
 
 module _ (l : Line) (fit : Begins l) where
-  abbrev can : CanCall l.near l.near_line l.far l.far_line l.tei
-  can = fit.call
-
   abbrev near : IsInRange l.near
   near = fit.call.near.0
 
   abbrev far : IsInRange l.far
   far = fit.call.far.0
-
-  abbrev size : ℕ
-  size = l.near.n201
-
-  fits : Fits l.near.n201 l.near
-  fits = record { ranged = fit.call.near.0; size = refl }
-
-  fits-far : Fits l.near.n201 l.far
-  fits-far = record { ranged = fit.call.far.0; size = sym fit.call.opposite.1 }
-
-  -- The circuit for the clocked one, and the frames in transit on it.
-  record Kept (w : Clocked) : Type 0 where
-    v : Circuit
-    sim : run.Sim l fit.call.near.0 fit.call.far.0 w v
-    there : List (List ℕ)
-    back : List (List ℕ)
-    follows : Follows l.near.n201 l.near l.far v there back
-    long : run.IsLong l fit.call.near.0 fit.call.far.0 v
-
-  record Moved (v : Circuit) : Type 0 where
-    there : List (List ℕ)
-    back : List (List ℕ)
-    follows : Follows l.near.n201 l.near l.far v there back
-
-  -- what was pulled is received
-  hear-both : (x y : Endpoint) (there back : List (List ℕ)) → Follows l.near.n201 l.near l.far (record { near = x; far = y }) there back → Moved (both_hear x y)
-  hear-both x y there back h =
-      let v : Circuit = record { near = x; far = y } in
-      let one = one-act l.near.n201 l.near l.far fits fits-far v there back h l.service l.tei receives tt in
-      let u = acting receives v in
-      let two = one-act l.near.n201 l.far l.near fits-far fits (turned u) one.back' one.there' (other-way l.near.n201 l.near l.far u one.there' one.back' one.follows) l.service l.tei receives tt in
-      record { there = two.back'; back = two.there'; follows = other-way l.near.n201 l.far l.near (acting receives (turned u)) two.there' two.back' two.follows }
-
-  -- both are pulled
-  pull-both : (x y : Endpoint) (there back : List (List ℕ)) → Follows l.near.n201 l.near l.far (record { near = x; far = y }) there back
-      → Moved (record { near = circuit.happens port.pull x; far = circuit.happens port.pull y })
-  pull-both x y there back h =
-      let v : Circuit = record { near = x; far = y } in
-      let one = one-act l.near.n201 l.near l.far fits fits-far v there back h l.service l.tei sends tt in
-      let u = acting sends v in
-      let two = one-act l.near.n201 l.far l.near fits-far fits (turned u) one.back' one.there' (other-way l.near.n201 l.near l.far u one.there' one.back' one.follows) l.service l.tei sends tt in
-      record { there = two.back'; back = two.there'; follows = other-way l.near.n201 l.far l.near (acting sends (turned u)) two.there' two.back' two.follows }
-
-  many-one : (x y : Endpoint) → doing_all (many 1) (record { near = x; far = y }) ≡ both_hear (circuit.happens port.pull x) (circuit.happens port.pull y)
-  unfolding doing_all many
-  many-one x y = refl
-
-  pulled-long : (x y : Endpoint) → length x.way ≡ l.way → length y.way ≡ l.way → run.IsLong l fit.call.near.0 fit.call.far.0 (both_hear (circuit.happens port.pull x) (circuit.happens port.pull y))
-  pulled-long x y here there =
-      let s = many-stay 1 (record { near = x; far = y }) in
-      subst (run.IsLong l fit.call.near.0 fit.call.far.0) (many-one x y) (record { near = s.near ∙ here; far = s.far ∙ there })
-
-  one-kept : (b : Beat) → IsTalk l b → IsClean b → (w : Clocked) → Kept w → Kept (beat l.rate w b)
-  one-kept b talk is_clean w h =
-      let moment = w.beats / l.rate in
-      let a = comes_to moment b.near_asks w.near in
-      let z = comes_to moment b.far_asks w.far in
-      let n = stood-comes l.way l.near.n201 l.service l.tei l.near l.far near h.v.far h.there h.back moment b.near_asks talk.0 w.near
-      (record { u = h.v.near; twin = h.sim.near; follows = h.follows; long = h.long.near }) in
-      let f = stood-comes l.way l.near.n201 l.service l.tei l.far l.near far n.u h.back h.there moment b.far_asks talk.1 w.far
-      (record { u = h.v.far; twin = h.sim.far; follows = other-way l.near.n201 l.near l.far (record { near = n.u; far = h.v.far }) h.there h.back n.follows; long = h.long.far }) in
-      let x = circuit.happens port.pull n.u in
-      let y = circuit.happens port.pull f.u in
-      let p = pull-both n.u f.u h.there h.back (other-way l.near.n201 l.far l.near (record { near = f.u; far = n.u }) h.back h.there f.follows) in
-      let q = hear-both x y p.there p.back p.follows in
-      record {
-        v = both_hear x y;
-        sim = run.sim-heard l near far b is_clean (gone l.rate b w) x y (twin-event l.way l.near near port.pull tt a.at n.u n.twin) (twin-event l.way l.far far port.pull tt z.at f.u f.twin);
-        there = q.there;
-        back = q.back;
-        follows = q.follows;
-        long = pulled-long n.u f.u n.long f.long;
-      }
-
-  all-kept : (bs : List Beat) → All (IsTalk l) bs → All IsClean bs → (w : Clocked) → Kept w → Kept (after l.rate bs w)
-  all-kept [] talk is_clean w h = h
-  all-kept (b ∷ bs) talk is_clean w h =
-      all-kept bs (All-tail (IsTalk l) b bs talk) (All-tail IsClean b bs is_clean) (beat l.rate w b) (one-kept b (All-head (IsTalk l) b bs talk) (All-head IsClean b bs is_clean) w h)
-
-  -- ---- the first beat
-
-  octets-of : (rs : List Request) → All (IsOfLink l.service l.tei) rs → All Octets rs
-  octets-of [] all = All-nil Octets
-  octets-of (r ∷ rs) all =
-      All-cons Octets r rs (of-octets l.service l.tei r (All-head (IsOfLink l.service l.tei) r rs all)) (octets-of rs (All-tail (IsOfLink l.service l.tei) r rs all))
-
-  module _ (b : Beat) (talk : IsTalk l b) (is_clean : IsClean b) where
-    undue : IsUndue ((begins l).beats / l.rate) b.near_asks (begins l).near × IsUndue ((begins l).beats / l.rate) b.far_asks (begins l).far
-    unfolding NoneFallsDue
-    undue =
-        let some = fit.some in
-        let none = none-at-first l (b ∷ []) 1 fit.some (long l.lengths fit.lengths.0) (long l.far_lengths fit.lengths.1) (omega (arith, some)) in (none.0, none.1)
-
-    near-octets : All Octets b.near_asks
-    near-octets = octets-of b.near_asks talk.0
-
-    far-octets : All Octets b.far_asks
-    far-octets = octets-of b.far_asks talk.1
-
-    abbrev n0 : Endpoint
-    n0 = pulled_first l l.near near l.near_line can.near.1 can.terminal b.near_asks near-octets
-
-    abbrev f0 : Endpoint
-    f0 = pulled_first l l.far far l.far_line can.far.1 can.terminal b.far_asks far-octets
-
-    idle-near : idles.Idle l.service l.near near l.near_line l.tei can.near.1 can.terminal l.way n0
-    idle-near = as_idle l l.near near l.near_line can.near.1 can.terminal b.near_asks near-octets
-
-    idle-far : idles.Idle l.service l.far far l.far_line l.tei can.far.1 can.terminal l.way f0
-    idle-far = as_idle l l.far far l.far_line can.far.1 can.terminal b.far_asks far-octets
-
-    abbrev x : Endpoint
-    x = fold ask n0 b.near_asks
-
-    abbrev y : Endpoint
-    y = fold ask f0 b.far_asks
-
-    follows-first : Follows l.near.n201 l.near l.far (record { near = n0; far = f0 }) [] []
-    follows-first = record {
-      near = idle-near.ran;
-      far = idle-far.ran;
-      goes = carries-none l.near.n201 l.way (port_of n0) (port_of f0) n0.way idle-near.port idle-near.way (ap (λ (p : Port). p.received) idle-far.port);
-      comes = carries-none l.near.n201 l.way (port_of f0) (port_of n0) f0.way idle-far.port idle-far.way (ap (λ (p : Port). p.received) idle-near.port);
-    }
-
-    follows-asked : Follows l.near.n201 l.near l.far (record { near = x; far = y }) [] []
-    follows-asked =
-        let one = follows-asks l.way l.near.n201 l.service l.tei l.near l.far near f0 [] [] b.near_asks near-octets n0 follows-first in
-        let two = follows-asks l.way l.near.n201 l.service l.tei l.far l.near far x [] [] b.far_asks far-octets f0 (other-way l.near.n201 l.near l.far (record { near = x; far = f0 }) [] [] one) in
-        other-way l.near.n201 l.far l.near (record { near = y; far = x }) [] [] two
-
-    first-kept : Kept (beat l.rate (begins l) b)
-    first-kept =
-        let moment = (begins l).beats / l.rate in
-        let q = hear-both x y [] [] follows-asked in
-        record {
-          v = both_hear x y;
-          sim = run.sim-heard l near far b is_clean (gone l.rate b (begins l)) x y
-              (first-end l l.near near l.near_line can.near.1 can.terminal b.near_asks near-octets (comes_to moment b.near_asks (begins l).near) (comes-at moment b.near_asks (begins l).near undue.0))
-              (first-end l l.far far l.far_line can.far.1 can.terminal b.far_asks far-octets (comes_to moment b.far_asks (begins l).far) (comes-at moment b.far_asks (begins l).far undue.1));
-          there = q.there;
-          back = q.back;
-          follows = q.follows;
-          long = long-both l near far x y (first-long l l.near near l.near_line can.near.1 can.terminal b.near_asks near-octets) (first-long l l.far far l.far_line can.far.1 can.terminal b.far_asks far-octets);
-        }
 
   -- ---- at rest
 
@@ -310,7 +69,7 @@ module _ (l : Line) (fit : Begins l) where
       let few = length-drop link.s link.contents in
       nothing (drop link.s link.contents) (omega (arith, none, few))
 
-  module _ (r : Clocked) (k : Kept r) (rest : IsAtRest l r) where
+  module _ (r : Clocked) (k : Kept l fit r) (rest : IsAtRest l r) where
     abbrev v : Circuit
     v = k.v
 
@@ -394,7 +153,7 @@ module _ (l : Line) (fit : Begins l) where
           let c = ap length k.sim.near.same.alike.granted in let d = ap length k.sim.far.same.alike.granted in
           let same_count : 2 * (granted_in w - granted_in r) ≡ 0 + 2 * (length u.near.granted + length u.far.granted - (length v.near.granted + length v.far.granted)) = omega (arith, a, b, c, d) in
           let told =
-          all-told l.service l.tei l.near l.far l.near.n201 l.way fits fits-far k.v follows 0 NearDue FarDue comes n ds (run.all-data l near far bs data_alone) (run.many-data l near far)
+          all-told l.service l.tei l.near l.far l.near.n201 l.way (fits l fit) (fits-far l fit) k.v follows 0 NearDue FarDue comes n ds (run.all-data l near far bs data_alone) (run.many-data l near far)
           (omega (arith, few)) (omega (arith, few_far)) (subst (λ g. g * (longest l.near.n201 + (longest l.near.n201 + l.way)) ≤ n) same_count enough) in
           record {
             near = sym z.near.same.alike.told ∙ told.0 ∙ ap NearDue z.far.same.alike.granted;

@@ -1,15 +1,13 @@
 -- The beats of the clocked circuit, without noise and with no timer that falls due, are done on the circuit without clocks.
-use Rattle.std.proofs.Common.{arith, ◌≡◌, ℕ, zero, suc, ◌/◌, ◌<◌, List, [], ◌∷◌, ◌++◌, length, drop, replicate, Option, None, refl, sym, ap, ◌∙◌, subst, All}
+use Rattle.std.proofs.Common.{◌≡◌, ℕ, zero, suc, ◌/◌, List, [], ◌∷◌, ◌++◌, length, replicate, Option, None, refl, sym, ap, ◌∙◌, subst, All}
 use Rattle.std.specs.Prelude.{fold}
 use Rattle.std.specs.Option.{option_map_or, unwrap_or}
 use Rattle.std.proofs.lemmas.List.Elements.{All-nil, All-cons, All-head, All-tail}
-use Rattle.model_bits.specs.StuffingLaws.{AreOctets}
 use Rattle.model_line.specs.Request.{Request, Data}
 use Rattle.model_line.specs.Sound.{IsInRange}
 use Rattle.model_line.specs.declared.config.Config.{Config}
 use Rattle.model_card.specs.ports.Port as port
 use Rattle.model_timed.specs.Clock.{due}
-use Rattle.laws_trace.specs.FramesAreRead.{contents_given}
 use Rattle.laws_order.specs.circuit.Circuit as circuit
 use Rattle.laws_order.specs.circuit.Circuit.{Endpoint, Circuit, requests, sends, receives, StepAt, at_near, at_far, with_first_of, without_first}
 unfoldable use Rattle.laws_order.specs.circuit.Circuit.{doing_all}

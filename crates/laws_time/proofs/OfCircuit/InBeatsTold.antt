@@ -1,12 +1,12 @@
 -- On the circuit without clocks: in how many beats all is told, if so many turns are left for it at most.
-use Rattle.std.proofs.Common.{arith, ◌≡◌, ℕ, suc, ◌+◌, ◌*◌, ◌-◌, ◌≤◌, Bool, true, false, ◌||◌, cond, List, [], ◌∷◌, ◌++◌, length, Option, None, Some, is_some, option_map, refl, sym, ap, ◌∙◌, subst, All, append-nil, append_assoc}
+use Rattle.std.proofs.Common.{arith, ◌≡◌, ℕ, suc, ◌+◌, ◌*◌, ◌-◌, ◌≤◌, Bool, true, false, cond, List, [], ◌∷◌, ◌++◌, length, None, Some, is_some, option_map, refl, sym, ap, ◌∙◌, subst, All, append-nil, append_assoc}
 use Rattle.std.specs.Prelude.{option_to_list}
 use Rattle.std.proofs.Math.Nat.{suc-mul}
 use Rattle.std.proofs.lemmas.List.{append_cancel_left}
 use Rattle.std.proofs.lemmas.List.Elements.{All-append, All-nil, All-cons, All-head, All-tail}
 use Rattle.lapd_frame.specs.declared.services.Service.{Service}
 use Rattle.model_line.specs.Event.{LineTold}
-use Rattle.model_line.specs.Request.{Request, Data}
+use Rattle.model_line.specs.Request.{Data}
 use Rattle.model_line.specs.declared.config.Config.{Config}
 use Rattle.model_bits.specs.StuffingLaws.{AreOctets}
 use Rattle.model_card.specs.ports.Port.{gained, is_due}
@@ -17,16 +17,16 @@ use Rattle.laws_wire.specs.Wire.{Wire, IsStill}
 unfoldable use Rattle.laws_wire.specs.Wire.{doing_all as wire_doing_all, turns as wire_turns}
 use Rattle.laws_wire.proofs.RestedRounds.{doing-append}
 use Rattle.laws_order.specs.circuit.Beats.{longest}
-use Rattle.laws_order.specs.circuit.Circuit.{Endpoint, Circuit, Step, requests, sends, receives, StepAt, at_near, at_far, doing, port_of, turned}
+use Rattle.laws_order.specs.circuit.Circuit.{Endpoint, Circuit, Step, requests, sends, receives, StepAt, at_near, at_far, doing, port_of}
 unfoldable use Rattle.laws_order.specs.circuit.Circuit.{doing_all}
 use Rattle.laws_order.specs.circuit.Through.{IsTalk}
 use Rattle.laws_order.proofs.OfCircuit.Beats.{finds}
 use Rattle.laws_order.proofs.OfCircuit.Comes.{block}
-use Rattle.laws_order.proofs.OfCircuit.Onward.{acts-append, meant-append, many-append, many-mute, many-add}
+use Rattle.laws_order.proofs.OfCircuit.Onward.{acts-append, meant-append, many-append, many-add}
 unfoldable use Rattle.laws_order.proofs.OfCircuit.Onward.{many}
-use Rattle.laws_order.proofs.OfCircuit.Projected.{as_wire, hearing_means, act_meant, doing_meant, Fits, Follows, Done, all-done}
+use Rattle.laws_order.proofs.OfCircuit.Projected.{as_wire, hearing_means, doing_meant, Fits, Follows, Done, all-done}
 unfoldable use Rattle.laws_order.proofs.OfCircuit.Projected.{doings_meant}
-use Rattle.laws_order.proofs.OfCircuit.Takings.{all-talk, takings, takings-append, on_ways, all-paid}
+use Rattle.laws_order.proofs.OfCircuit.Takings.{takings, takings-append, on_ways, all-paid}
 
 -- What was told stays told.
 front-is-all : (all told now more rest : List LineTold) → told ≡ all → now ≡ told ++ more → now ++ rest ≡ all → now ≡ all

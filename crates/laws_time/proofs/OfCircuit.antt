@@ -52,3 +52,4 @@ pub mod InBeats
 pub mod InBeatsMet
 pub mod InBeatsKept
 pub mod InBeatsRest
+pub mod InBeatsRestMet

@@ -1,6 +1,5 @@
 -- The worked call meets the premises: so after 144 beats more all is told.
-use Rattle.std.proofs.Common.{arith, ◌≡◌, ◌≤◌, ◌<◌, false, List, [], ◌∷◌, ◌++◌, length, replicate, refl, sym, subst, All}
-use Rattle.std.proofs.lemmas.List.{length-replicate}
+use Rattle.std.proofs.Common.{arith, ◌≡◌, ◌≤◌, ◌<◌, false, [], ◌∷◌, ◌++◌, length, replicate, refl, sym, subst, All}
 use Rattle.std.proofs.lemmas.List.Elements.{All-nil, All-cons, All-append}
 use Rattle.lapd_clock.specs.Timer.{Timer, T200, T203, T201, T202, duration}
 use Rattle.lapd_frame.specs.declared.services.Service.TheVariants.{Call}
@@ -18,17 +17,17 @@ use Rattle.laws_time.proofs.OfCircuit.InBeats.{a-call-takes-beats}
 use Rattle.laws_time.proofs.OfCircuit.InBeatsRun.{plain-data, plain-clean}
 use Rattle.laws_time.proofs.OfCircuit.InBeatsDue.{none-at-first}
 
-can : CanCall user 0 network 0 0
+pub can : CanCall user 0 network 0 0
 unfolding sapi_fault
 can = record { near = (refl, omega arith); far = (refl, omega arith); opposite = (refl, refl); terminal = omega arith }
 
 one : IsDataOf its_line (Data Call 0 (0xAB ∷ []))
 one = (refl, refl, All-cons (λ octet. octet < 256) 0xAB [] (omega arith) (All-nil (λ octet. octet < 256)))
 
-abbrev sends : Beat
+abbrev pub sends : Beat
 sends = record plain { near_asks = Data Call 0 (0xAB ∷ []) ∷ [] }
 
-asks-one : AsksData its_line sends
+pub asks-one : AsksData its_line sends
 asks-one = (All-cons (IsDataOf its_line) (Data Call 0 (0xAB ∷ [])) [] one (All-nil (IsDataOf its_line)), All-nil (IsDataOf its_line))
 
 all-data : All (AsksData its_line) (plain ∷ talks)

@@ -1,5 +1,6 @@
 -- Worked values: how many beats are enough for a call, and what comes of one if noise takes its SABME. Each computes.
-use Rattle.std.specs.Prelude.{◌≡◌, false, List, [], ◌∷◌, ◌++◌, length, replicate, None, Some, refl}
+use Rattle.std.specs.Prelude.{◌≡◌, ℕ, false, List, [], ◌∷◌, ◌++◌, replicate, None, Some, refl}
+use Rattle.lapd_clock.specs.Timer.{T203}
 use Rattle.lapd_frame.specs.declared.addresses.Side.TheVariants.{Network, User}
 use Rattle.lapd_frame.specs.declared.services.Service.TheVariants.{Call}
 use Rattle.lapd_frame.specs.Reading.{reading, header_of, control_of, unnumbered_of, supervisory_of}
@@ -12,9 +13,10 @@ use Rattle.model_line.specs.Machine as lines
 use Rattle.model_line.specs.Request.{Data}
 use Rattle.model_line.specs.declared.config.Config.{Config}
 use Rattle.model_card.specs.ports.Card as ports
+use Rattle.model_timed.specs.Clock.{Clock}
 use Rattle.laws_order.specs.circuit.Beats.{enough_beats}
 use Rattle.laws_time.specs.circuit.Arriving.{calls}
-use Rattle.laws_time.specs.circuit.Clocked.{Beat, plain, after, fall_due}
+use Rattle.laws_time.specs.circuit.Clocked.{Clocked, Beat, plain, after, fall_due}
 use Rattle.laws_time.specs.circuit.InBeats.{granted_in}
 use Rattle.laws_time.specs.circuit.LongEnough.{Line, begins}
 
@@ -55,3 +57,19 @@ deaf = record plain { far_noise = Some 0x7E }
 not_yet : (after 1 (calls its_line deaf ∷ replicate 11 deaf ++ replicate 61 plain) (begins its_line)).near.at.told ≡ []
 unfolding lines.after lines.answer lines.takes_slot exchanged read_by reading header_of control_of unnumbered_of supervisory_of teis.course teis.refusal seq distance_of named low_bits ports.after ports.answer ports.meant fall_due
 not_yet = refl
+
+-- After twenty beats of the call the link is at rest.
+abbrev pub rested : Clocked
+rested = after 1 (calls its_line plain ∷ replicate 19 plain) (begins its_line)
+
+-- Then 72 beats are enough for a content, and no timer falls due in the next 73: T203 at either end runs until later.
+abbrev pub runs_until : ℕ → Clock
+runs_until moment = record { lengths = its_line.lengths; running = record { moment = moment; line = 0; timer = T203 Call 0 } ∷ []; now = 19 }
+
+pub near_clock : rested.near.clock ≡ runs_until 10013
+unfolding lines.after lines.answer lines.takes_slot exchanged read_by reading header_of control_of unnumbered_of supervisory_of teis.course teis.refusal seq distance_of named low_bits ports.after ports.answer ports.meant fall_due
+near_clock = refl
+
+pub far_clock : rested.far.clock ≡ runs_until 10007
+unfolding lines.after lines.answer lines.takes_slot exchanged read_by reading header_of control_of unnumbered_of supervisory_of teis.course teis.refusal seq distance_of named low_bits ports.after ports.answer ports.meant fall_due
+far_clock = refl

@@ -5,13 +5,15 @@
 //! nothing, calls that cross, an I-frame that is lost and goes again, and SABME that is heard just before N200 is used
 //! up. There are a dead line, too, and noise that makes a frame of another link. How long an answer takes at most is in
 //! `LongEnough`, and worked out in `WorkedLongEnough`. Answers that come are in `Answered` and `WorkedAnswered`. What a
-//! call through noise tells is in `Arriving`, and a run that meets its premises in `WorkedArriving`. Random and chosen
+//! call through noise tells is in `Arriving`, and a run that meets its premises in `WorkedArriving`. How many beats a
+//! call without noise takes is in `InBeats` and `WorkedInBeats`. Random and chosen
 //! runs broke nothing of what is open, if layer 3 asks for no unit data and is not busy, T200 is at least as long as an
 //! answer takes, and noise makes no frame.
 //!
 //! # Open
 //!
-//! That commands and answers find a place. How soon what was granted arrives on a clean line, and a call comes through.
+//! That commands and answers find a place. How soon what was granted arrives as timers fall due, and a call comes
+//! through.
 
 ghost use Rattle.laws_time.specs.circuit.Answered.{AnEnquiryIsAnswered, CommandsAreAnswered, NoNoiseIsClear, OneEnquiryIsEnough};
 ghost use Rattle.laws_time.specs.circuit.Arriving.{CallsBearNoise};

@@ -53,3 +53,4 @@ pub mod InBeatsMet
 pub mod InBeatsKept
 pub mod InBeatsRest
 pub mod InBeatsRestMet
+pub mod InBeatsFrames

@@ -18,7 +18,7 @@
 ghost use Rattle.laws_time.specs.circuit.Answered.{AnEnquiryIsAnswered, CommandsAreAnswered, NoNoiseIsClear, OneEnquiryIsEnough};
 ghost use Rattle.laws_time.specs.circuit.Arriving.{CallsBearNoise};
 ghost use Rattle.laws_time.specs.circuit.Ends.{EndsAreTimedCards};
-ghost use Rattle.laws_time.specs.circuit.InBeats.{ACallTakesBeats, MessagesTakeBeats, NoneFallsDueBefore};
+ghost use Rattle.laws_time.specs.circuit.InBeats.{ACallTakesBeats, FramesComeInBeats, MessagesTakeBeats, NoneFallsDueBefore};
 ghost use Rattle.laws_time.specs.circuit.LongEnough.{AnswersComeInTime};
 ghost use Rattle.laws_time.specs.circuit.WorkedAnswered.{AnEnquiryIsMet};
 
@@ -103,4 +103,11 @@ pub fn a_call_takes_beats()
     ensures told { ACallTakesBeats }
     ensures since { MessagesTakeBeats }
     ensures undue { NoneFallsDueBefore }
+{}
+
+/// Frames come in so many beats. On a line without noise each frame that an end put on its line is received whole L + D
+/// octet times later, in order. It holds at any time from the first octet on, whatever layer 3 of either end asks for of
+/// the link, and whichever timers fall due. L is the longest frame in octets, and D octets are in transit.
+pub fn frames_come_in_beats()
+    ensures { FramesComeInBeats }
 {}

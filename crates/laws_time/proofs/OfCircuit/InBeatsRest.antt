@@ -37,7 +37,7 @@ unfoldable use Rattle.laws_time.proofs.OfCircuit.InBeatsRun.{all_steps}
 use Rattle.laws_time.proofs.OfCircuit.InBeatsRun.{ask, both_hear, comes-at, undue-parts, plain-clean}
 use Rattle.laws_time.proofs.OfCircuit.InBeatsTold.{Comes, all-told}
 
-frames-plus : (k : ℕ) (items : List Item) → frames_among (replicate k idle ++ items) ≡ frames_among items
+pub frames-plus : (k : ℕ) (items : List Item) → frames_among (replicate k idle ++ items) ≡ frames_among items
 frames-plus zero items = refl
 frames-plus (suc k) items = frames-plus k items
 

@@ -83,6 +83,18 @@ MessagesTakeBeats =
     let w = after l.rate bs r in let longest_frame = longest l.near.n201 in
     2 * (granted_in w - granted_in r) * (longest_frame + (longest_frame + l.way)) ≤ n → IsToldSince l r (clean l.rate n w)
 
+-- Each frame that was put on its line by an end stands in what the other has received, in order, before anything else.
+abbrev pub HasReceived : Line → TimedEndpoint → TimedEndpoint → Type 0
+HasReceived l s other =
+    (more : List stream.Event) × (stream.heard_in l.near.n201 (port_of other.at).received ≡ map (λ octets. stream.frame octets) (frames_among (port_of s.at).items) ++ more)
+
+-- Without noise it is so L + D beats later, whatever is asked for and whichever timers fall due.
+abbrev pub FramesComeInBeats : Type 0
+FramesComeInBeats =
+    (l : Line) (b : Beat) (before bs : List Beat) → Begins l → All (IsTalk l) (b ∷ before) → All (IsTalk l) bs → All IsClean (b ∷ before) → All IsClean bs →
+    longest l.near.n201 + l.way ≤ length bs → let w = after l.rate (b ∷ before) (begins l) in let u = after l.rate bs w in
+    HasReceived l w.near u.far × HasReceived l w.far u.near
+
 -- Nothing that runs at an end falls due before a moment, and each timer that is started there runs until then at least.
 pub record FallsDueFrom (t : ℕ) (s : TimedEndpoint) : Type 0 where
   pub running : All (λ x. t ≤ x.moment) s.clock.running

@@ -52,5 +52,5 @@ pub mod InBeats
 pub mod InBeatsMet
 pub mod InBeatsKept
 pub mod InBeatsRest
-pub mod InBeatsRestMet
 pub mod InBeatsFrames
+pub mod InBeatsRestMet

@@ -105,9 +105,10 @@ pub fn a_call_takes_beats()
     ensures undue { NoneFallsDueBefore }
 {}
 
-/// Frames come in so many beats. On a line without noise each frame that an end put on its line is received whole L + D
-/// octet times later, in order. It holds at any time from the first octet on, whatever layer 3 of either end asks for of
-/// the link, and whichever timers fall due. L is the longest frame in octets, and D octets are in transit.
+/// Frames come in so many beats. On a line without noise each frame that an end has put on its line is received whole
+/// L + D octet times later, in order. It holds from any beat on, whatever layer 3 of either end asks for of the link, and
+/// whichever timers fall due. L is the longest of the frames that were put there up to then, in octets, and D octets are
+/// in transit.
 pub fn frames_come_in_beats()
     ensures { FramesComeInBeats }
 {}

@@ -1,5 +1,5 @@
--- A worked link is at rest: so after 72 beats more all is told that is granted then.
-use Rattle.std.proofs.Common.{arith, ◌≡◌, ℕ, zero, suc, ◌+◌, ◌-◌, ◌*◌, ◌≤◌, ◌<◌, false, List, [], ◌∷◌, ◌++◌, map, replicate, Some, refl, sym, ap, ◌∙◌, subst, All}
+-- A worked link is at rest: so after 72 beats more all is told that is granted then. And its SABME comes in nine beats.
+use Rattle.std.proofs.Common.{arith, ◌≡◌, ℕ, zero, suc, ◌+◌, ◌-◌, ◌*◌, ◌≤◌, ◌<◌, false, List, [], ◌∷◌, ◌++◌, length, map, replicate, Some, refl, sym, ap, ◌∙◌, subst, All}
 use Rattle.std.proofs.lemmas.List.Elements.{All-nil, All-cons}
 use Rattle.lapd_clock.specs.Timer.{T203, AreInRange}
 use Rattle.lapd_clock.specs.Timers.{Expiry}
@@ -28,11 +28,12 @@ use Rattle.laws_order.specs.circuit.Circuit.{port_of}
 use Rattle.laws_order.proofs.OfCircuit.Ran.{sound, config}
 use Rattle.laws_time.specs.circuit.Answered.{IsClean}
 use Rattle.laws_time.specs.circuit.Arriving.{calls}
-use Rattle.laws_time.specs.circuit.Clocked.{TimedEndpoint, Beat, plain, beat, after, clean, fall_due}
-use Rattle.laws_time.specs.circuit.InBeats.{AsksData, Begins, IsAtRest, IsToldSince, FallsDueFrom, granted_in, as_frames}
+use Rattle.laws_time.specs.circuit.Clocked.{TimedEndpoint, Clocked, Beat, plain, beat, after, clean, fall_due}
+use Rattle.laws_time.specs.circuit.InBeats.{AreShort, HasReceived, AsksData, Begins, IsAtRest, IsToldSince, FallsDueFrom, granted_in, as_frames}
 use Rattle.laws_time.specs.circuit.LongEnough.{IsOfLink, IsTalk, begins}
 use Rattle.laws_time.specs.circuit.WorkedInBeats.{its_line, user, network, rested, near_clock, far_clock}
 use Rattle.laws_time.proofs.OfCircuit.InBeatsDue.{none-falls-due-before}
+use Rattle.laws_time.proofs.OfCircuit.InBeatsFrames.{frames-come-in-beats}
 use Rattle.laws_time.proofs.OfCircuit.InBeatsKept.{Kept, all-kept, first-kept}
 use Rattle.laws_time.proofs.OfCircuit.InBeatsMet.{can, sends, asks-one}
 use Rattle.laws_time.proofs.OfCircuit.InBeatsRest.{messages-take-beats}
@@ -166,3 +167,25 @@ told-then =
     (All-cons (AsksData its_line) sends [] asks-one (All-nil (AsksData its_line))) (All-cons IsClean rings (replicate 19 plain) (refl, refl) (plain-clean 19)) (All-cons IsClean sends [] (refl, refl) (All-nil IsClean)) at-rest
     (none-falls-due-before its_line (rings ∷ replicate 19 plain) (sends ∷ replicate 72 plain) 93 (omega arith) (later 10013 (omega arith) rested.near near_clock) (later 10007 (omega arith) rested.far far_clock) (omega arith))
     (subst (λ g. 2 * g * (longest 8 + (longest 8 + 0)) ≤ 72) (sym one-granted) (omega arith))
+
+-- ---- SABME comes
+
+-- After three beats SABME is on the line, and nine beats later it was received.
+abbrev rung : Clocked
+rung = after 1 (rings ∷ replicate 2 plain) (begins its_line)
+
+rung-items : ((port_of rung.near.at).items ≡ frame (0x00 ∷ 0x01 ∷ 0x7F ∷ []) ∷ []) × ((port_of rung.far.at).items ≡ idle ∷ idle ∷ [])
+unfolding lines.after lines.answer lines.takes_slot exchanged read_by reading header_of control_of unnumbered_of supervisory_of teis.course teis.refusal seq distance_of named low_bits ports.after ports.answer ports.meant fall_due
+rung-items = (refl, refl)
+
+short : AreShort 0 rung.near × AreShort 0 rung.far
+short = (
+  subst (λ items. All (λ (octets : List ℕ). length octets ≤ 4) (frames_among items)) (sym rung-items.0)
+      (All-cons (λ (octets : List ℕ). length octets ≤ 4) (0x00 ∷ 0x01 ∷ 0x7F ∷ []) [] (omega arith) (All-nil (λ (octets : List ℕ). length octets ≤ 4))),
+  subst (λ items. All (λ (octets : List ℕ). length octets ≤ 4) (frames_among items)) (sym rung-items.1) (All-nil (λ (octets : List ℕ). length octets ≤ 4)),
+)
+
+sabme-comes : HasReceived its_line rung.near (clean 1 9 rung).far × HasReceived its_line rung.far (clean 1 9 rung).near
+sabme-comes =
+    frames-come-in-beats its_line rings (replicate 2 plain) (replicate 9 plain) 0 fit (All-cons (IsTalk its_line) rings (replicate 2 plain) rings-talk (plain-talk 2)) (plain-talk 9)
+    (All-cons IsClean rings (replicate 2 plain) (refl, refl) (plain-clean 2)) (plain-clean 9) (omega arith) short.0 short.1

@@ -88,11 +88,15 @@ abbrev pub HasReceived : Line → TimedEndpoint → TimedEndpoint → Type 0
 HasReceived l s other =
     (more : List stream.Event) × (stream.heard_in l.near.n201 (port_of other.at).received ≡ map (λ octets. stream.frame octets) (frames_among (port_of s.at).items) ++ more)
 
--- Without noise it is so L + D beats later, whatever is asked for and whichever timers fall due.
+-- Each has at most so many octets of information. (Address and control field have at most four.)
+abbrev pub AreShort : ℕ → TimedEndpoint → Type 0
+AreShort m s = All (λ octets. length octets ≤ m + 4) (frames_among (port_of s.at).items)
+
+-- Without noise it is so L + D beats later, whatever is asked for and whichever timers fall due, if L is the longest of these frames.
 abbrev pub FramesComeInBeats : Type 0
 FramesComeInBeats =
-    (l : Line) (b : Beat) (before bs : List Beat) → Begins l → All (IsTalk l) (b ∷ before) → All (IsTalk l) bs → All IsClean (b ∷ before) → All IsClean bs →
-    longest l.near.n201 + l.way ≤ length bs → let w = after l.rate (b ∷ before) (begins l) in let u = after l.rate bs w in
+    (l : Line) (b : Beat) (before bs : List Beat) (m : ℕ) → Begins l → All (IsTalk l) (b ∷ before) → All (IsTalk l) bs → All IsClean (b ∷ before) → All IsClean bs →
+    longest m + l.way ≤ length bs → let w = after l.rate (b ∷ before) (begins l) in let u = after l.rate bs w in AreShort m w.near → AreShort m w.far →
     HasReceived l w.near u.far × HasReceived l w.far u.near
 
 -- Nothing that runs at an end falls due before a moment, and each timer that is started there runs until then at least.

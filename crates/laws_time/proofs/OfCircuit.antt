@@ -51,3 +51,14 @@ pub mod InCallDue
 pub mod InCallRings
 pub mod InCallThrough
 pub mod InCallUp
+pub mod InBeatsAs
+pub mod InBeatsIdle
+pub mod InBeatsRun
+pub mod InBeatsTold
+pub mod InBeatsDue
+pub mod InBeats
+pub mod InBeatsMet
+pub mod InBeatsKept
+pub mod InBeatsRest
+pub mod InBeatsFrames
+pub mod InBeatsRestMet

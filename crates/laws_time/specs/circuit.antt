@@ -10,3 +10,5 @@ pub mod Arriving
 pub mod WorkedArriving
 pub mod InCall
 pub mod WorkedInCall
+pub mod InBeats
+pub mod WorkedInBeats

@@ -6,17 +6,19 @@
 //! up. There are a dead line, too, and noise that makes a frame of another link. How long an answer takes at most is in
 //! `LongEnough`, and worked out in `WorkedLongEnough`. Answers that come are in `Answered` and `WorkedAnswered`. What a
 //! call through noise tells is in `Arriving`, and a run that meets its premises in `WorkedArriving`. How soon it comes
-//! through is in `InCall` and `WorkedInCall`. Random and chosen runs broke nothing of what is open, if layer 3 asks for
-//! no unit data and is not busy, T200 is at least as long as an answer takes, and noise makes no frame.
+//! through is in `InCall` and `WorkedInCall`. How many beats a call without noise takes is in `InBeats` and
+//! `WorkedInBeats`. Random and chosen runs broke nothing of what is open, if layer 3 asks for no unit data and is not
+//! busy, T200 is at least as long as an answer takes, and noise makes no frame.
 //!
 //! # Open
 //!
-//! That commands and answers find a place. How soon what was granted arrives on a clean line.
+//! That commands and answers find a place. How soon what was granted arrives as timers fall due.
 
 ghost use Rattle.laws_time.specs.circuit.Answered.{AnEnquiryIsAnswered, CommandsAreAnswered, NoNoiseIsClear, OneEnquiryIsEnough};
 ghost use Rattle.laws_time.specs.circuit.Arriving.{CallsBearNoise};
 ghost use Rattle.laws_time.specs.circuit.Ends.{EndsAreTimedCards};
 ghost use Rattle.laws_time.specs.circuit.InCall.{ACallOutlastsNoise, N200LastsInACall};
+ghost use Rattle.laws_time.specs.circuit.InBeats.{ACallTakesBeats, FramesComeInBeats, MessagesTakeBeats, NoneFallsDueBefore};
 ghost use Rattle.laws_time.specs.circuit.LongEnough.{AnswersComeInTime};
 ghost use Rattle.laws_time.specs.circuit.WorkedAnswered.{AnEnquiryIsMet};
 
@@ -94,4 +96,35 @@ pub fn a_call_outlasts_noise()
 pub fn no_noise_makes_no_frame()
     ensures clear { NoNoiseIsClear }
     ensures met { AnEnquiryIsMet }
+{}
+
+/// A call takes so many beats. Two cards of octets begin on one line with their clocks. In the first beat layer 3 of one
+/// end asks for the establishment of a link. Then layer 3 of either end asks to send octets, at any time. There is no
+/// noise, and no timer falls due. Let u requests for data be granted in the whole call. Then (2 + 2 u) (2 L + D) octet
+/// times after the last request each end was told one establishment, and all data that the other was granted to send:
+/// in order, each once, and nothing else (`told`). So no error was told. L is the longest frame in octets, and D octets
+/// are in transit.
+///
+/// The same holds of a link at rest (`since`). Without noise anything of the link was asked for, and timers fell due.
+/// Then both ends are in state 7, neither side is busy, all that was sent is acknowledged, and no frame is in transit.
+/// From there on only data is asked for, and no timer falls due. Let u requests be granted since. Then 2 u (2 L + D)
+/// octet times after the last each end was told all that the other was granted since, and nothing else.
+///
+/// When no timer falls due is a matter of numbers (`undue`). Let none that runs at either end fall due before a moment,
+/// as `lapd_next_moment` says, and let each that is started run until then at least. Then none falls due before, whatever
+/// is asked for, and whatever noise there is. So the bounds hold of a call that is over within its first T200, and of a
+/// link at rest within T200, if T203 does not fall due. (A T200 that is too short brings error C,
+/// `specs/circuit/WorkedArriving`. Noise delays a call, `WorkedInBeats`.)
+pub fn a_call_takes_beats()
+    ensures told { ACallTakesBeats }
+    ensures since { MessagesTakeBeats }
+    ensures undue { NoneFallsDueBefore }
+{}
+
+/// Frames come in so many beats. On a line without noise each frame that an end has put on its line is received whole
+/// L + D octet times later, in order. It holds from any beat on, whatever layer 3 of either end asks for of the link, and
+/// whichever timers fall due. L is the longest of the frames that were put there up to then, in octets, and D octets are
+/// in transit.
+pub fn frames_come_in_beats()
+    ensures { FramesComeInBeats }
 {}

@@ -42,7 +42,7 @@ use Rattle.laws_time.proofs.OfCircuit.Standing.{bare}
 use Rattle.lapd_frame.specs.declared.services.Service.{Service}
 
 -- A call for the next frame that gives none leaves the station.
-untaken : (s : FrameEndpoint) → wire.answered next s ≡ gave None → wire.happens next s ≡ s
+pub untaken : (s : FrameEndpoint) → wire.answered next s ≡ gave None → wire.happens next s ≡ s
 unfolding line_after line_answer takes_slot
 untaken s none = by (taken s.card.config (line_at s.line s.card)) refl
   where
@@ -58,7 +58,7 @@ untaken s none = by (taken s.card.config (line_at s.line s.card)) refl
         λ i. record { card = card i; line = s.line; way = way i; granted = granted i; told = told i }
 
 -- A card that has just begun, with the TEI assigned, gives none.
-idle-answer : (service : Service) (c : Config) (ranged : IsInRange c) (number tei : ℕ) (within : number < c.lines) (few : tei ≤ 126) → wire.answered next (call.assigned c number tei) ≡ gave None
+pub idle-answer : (service : Service) (c : Config) (ranged : IsInRange c) (number tei : ℕ) (within : number < c.lines) (few : tei ≤ 126) → wire.answered next (call.assigned c number tei) ≡ gave None
 idle-answer service c ranged number tei within few =
     let h = (answers service tei c ranged few number within).stands in
     let s = call.assigned c number tei in

@@ -46,7 +46,7 @@ use Rattle.laws_time.proofs.OfCircuit.Taken.{text, Took}
 use Rattle.model_line.specs.Taken.{own_side}
 
 -- A control frame takes at most 72 bits.
-stuffed-longest : (b : List Bool) → 5 * length (stuffed b) ≤ 6 * length b
+pub stuffed-longest : (b : List Bool) → 5 * length (stuffed b) ≤ 6 * length b
 stuffed-longest [] = omega arith
 stuffed-longest (true ∷ true ∷ true ∷ true ∷ true ∷ b) = let more = stuffed-longest b in omega (arith, more)
 stuffed-longest (x ∷ b) = let more = stuffed-longest b in omega (arith, more)

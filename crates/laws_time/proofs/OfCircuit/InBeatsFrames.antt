@@ -1,0 +1,212 @@
+-- Without noise each frame that was put on the line is received so many beats later.
+use Rattle.std.proofs.Common.{arith, ◌≡◌, ℕ, suc, ◌+◌, ◌≤◌, List, [], ◌∷◌, ◌++◌, length, take, drop, refl, sym, ap, ◌∙◌, subst, All, inl, inr, append-nil, append_assoc, length-append}
+use Rattle.std.specs.Prelude.{flat_map}
+use Rattle.std.proofs.lemmas.List.{length-drop, length-map, take-append-drop, length-take-le}
+use Rattle.std.proofs.lemmas.List.Elements.{All-nil, All-cons, All-head, All-tail, All-take, All-drop}
+use Rattle.std.proofs.lemmas.List.Sums.{fold-append}
+use Rattle.model_bits.specs.Bits.{bits}
+use Rattle.model_bits.specs.Framer.{item_octets}
+use Rattle.model_bits.specs.Sent.{Item, idle, frame, item_text, line_text}
+use Rattle.model_bits.proofs.BitLemmas.{length-bits}
+use Rattle.model_bits.proofs.Division.Unique.{length-check}
+use Rattle.model_card.proofs.OfPorts.LastItem.{IsCut}
+use Rattle.laws_line.proofs.OfCard.Meanwhile.{all-right}
+use Rattle.model_bits.specs.Stream as stream
+use Rattle.model_bits.specs.Stream.{heard_in}
+use Rattle.model_line.specs.declared.config.Config.{Config}
+use Rattle.model_card.specs.ports.Codec.{frames_among}
+use Rattle.model_card.specs.ports.Port.{Port, left_of}
+use Rattle.model_card.specs.ports.Pulls.{longest_text}
+use Rattle.model_card.specs.ports.Sound.{IsSoundPort}
+use Rattle.laws_order.specs.circuit.Beats.{longest}
+use Rattle.laws_order.specs.circuit.Circuit.{Endpoint, port_of}
+use Rattle.laws_order.proofs.OfCircuit.Coming.{IsBehind, all-out}
+use Rattle.laws_order.proofs.OfCircuit.OneWay.{Carries, framed, out, heard-beyond, frames_among-append}
+use Rattle.laws_order.proofs.OfCircuit.Projected.{Fits}
+use Rattle.laws_order.proofs.OfCircuit.Ran.{Ran, sound-port, on-line}
+use Rattle.laws_time.specs.circuit.Answered.{IsClean}
+use Rattle.laws_time.specs.circuit.Clocked.{Clocked, Beat, beat, after}
+use Rattle.laws_time.specs.circuit.InBeats.{Begins, AreShort, HasReceived, FramesComeInBeats}
+use Rattle.laws_time.specs.circuit.LongEnough.{Line, IsTalk, begins}
+use Rattle.laws_time.proofs.OfCircuit.AnsweredBits.{longer-begins}
+use Rattle.laws_time.proofs.OfCircuit.InBeatsAs.{plus}
+use Rattle.laws_time.proofs.OfCircuit.Open.{stuffed-longest}
+use Rattle.laws_time.proofs.OfCircuit.InBeatsKept.{Kept, one-kept, all-kept, first-kept, fits, fits-far, On, Beaten}
+use Rattle.laws_time.proofs.OfCircuit.InBeatsRest.{frames-plus}
+
+-- ---- what so many beats make of a port
+
+record Grown (size n : ℕ) (p q : Port) : Type 0 where
+  more : List ℕ
+  given : q.given ≡ p.given ++ more
+  long : length more ≡ n
+  received : length q.received ≡ length p.received + n
+  on : (items : List Item) (most a : ℕ) → On size items most p a → On size items most q (a + n)
+
+grown-none : (size : ℕ) (p : Port) → Grown size 0 p p
+grown-none size p = record {
+  more = [];
+  given = sym (append-nil p.given);
+  long = refl;
+  received = omega arith;
+  on = λ items most a h. subst (On size items most p) (let e : a ≡ a + 0 = omega arith in e) h;
+}
+
+grown-one : (size n : ℕ) (p q r : Port) → Beaten size p q → Grown size n q r → Grown size (suc n) p r
+grown-one size n p q r h g =
+    let first = h.received in let rest = g.received in let long = g.long in
+    record {
+      more = h.value ∷ g.more;
+      given = g.given ∙ ap (λ os. os ++ g.more) h.given ∙ append_assoc p.given (h.value ∷ []) g.more;
+      long = omega (arith, long);
+      received = omega (arith, first, rest);
+      on = λ items most a x. subst (On size items most r) (let e : (a + 1) + n ≡ a + suc n = omega arith in e) (g.on items most (a + 1) (h.on items most a x));
+    }
+
+-- ---- so few bits are left of frames that are so short
+
+text-longest : (m : ℕ) (item : Item) → item_octets item ≤ m + 4 → length (item_text item) ≤ longest_text m
+text-longest m item few = grind (arith, stuffed-longest, length-append, length-bits, length-check)
+
+line-longer : (front : List Item) (last : Item) → length (line_text (front ++ last ∷ [])) ≡ length (line_text front) + length (item_text last)
+line-longer [] last = let same = ap length (append-nil (item_text last)) in omega (arith, same)
+line-longer (item ∷ front) last =
+    let rest = line-longer front last in
+    let one = length-append (item_text item) (flat_map item_text (front ++ last ∷ [])) in let two = length-append (item_text item) (flat_map item_text front) in omega (arith, rest, one, two)
+
+all-small : (m : ℕ) (items : List Item) → All (λ (octets : List ℕ). length octets ≤ m + 4) (frames_among items) → All (λ item. item_octets item ≤ m + 4) items
+all-small m [] h = All-nil (λ item. item_octets item ≤ m + 4)
+all-small m (idle ∷ items) h = All-cons (λ item. item_octets item ≤ m + 4) idle items (omega arith) (all-small m items h)
+all-small m (frame octets ∷ items) h =
+    All-cons (λ item. item_octets item ≤ m + 4) (frame octets) items (All-head (λ (octets : List ℕ). length octets ≤ m + 4) octets (frames_among items) h)
+    (all-small m items (All-tail (λ (octets : List ℕ). length octets ≤ m + 4) octets (frames_among items) h))
+
+left-few : (m : ℕ) (p : Port) → IsCut p.items p.given → All (λ item. item_octets item ≤ m + 4) p.items → length (left_of p) ≤ longest_text m
+left-few m p (inl none) small =
+    let all = ap (λ items. length (line_text items)) none in let left = length-drop (length (bits p.given)) (line_text p.items) in omega (arith, all, left)
+left-few m p (inr h) small =
+    let all = ap (λ items. length (line_text items)) h.items_are ∙ line-longer h.front h.last in
+    let its = subst (All (λ item. item_octets item ≤ m + 4)) h.items_are small in
+    let last = All-head (λ item. item_octets item ≤ m + 4) h.last [] (all-right (λ item. item_octets item ≤ m + 4) h.front (h.last ∷ []) its) in
+    let short = text-longest m h.last last in
+    let before = h.before in
+    let left = length-drop (length (bits p.given)) (line_text p.items) in
+    omega (arith, all, left, before, short)
+
+-- ---- from one end to the other
+
+behind-then : (size m : ℕ) (items : List Item) (q : Port) → On size items (longest_text m) q (0 + longest m) → IsBehind size items (longest_text m) q.items
+behind-then size m items q o = grind arith
+
+module _ (size m : ℕ) (c : Config) (fits : Fits size c) where
+  -- What was there has been given.
+  module _ (s : Endpoint) (ran : Ran c s) (received : List ℕ) (frames : List (List ℕ)) (carries : Carries size (port_of s) s.way received frames) (items : List Item)
+      (behind : IsBehind size items (longest_text m) (port_of s).items) where
+    sound : IsSoundPort size (port_of s)
+    sound = subst (λ n. IsSoundPort n (port_of s)) fits.size (sound-port c fits.ranged s ran)
+
+    given-heard : (more : List stream.Event) × (heard_in size (port_of s).given ≡ framed (frames_among items) ++ more)
+    given-heard =
+        let o = out size (port_of s) s.way received frames carries sound (on-line c fits.ranged s ran) in
+        let new = frames_among (behind.item ∷ behind.more) in
+        let all : framed (frames_among items) ++ framed new ≡ heard_in size (port_of s).given ++ framed o.on_its_way =
+        sym (framed-append (frames_among items) new) ∙ sym (ap framed (ap frames_among behind.is ∙ frames_among-append items (behind.item ∷ behind.more))) ∙ o.heard in
+        let enough = all-out size c fits s ran received frames carries items (longest_text m) behind in
+        let few = length-map (frames_among items) (λ octets. stream.frame octets) in
+        let x = longer-begins (framed (frames_among items)) (framed new) (heard_in size (port_of s).given) (framed o.on_its_way) all (omega (arith, enough, few)) in
+        (x.0, x.1)
+      where
+        framed-append : (xs ys : List (List ℕ)) → framed (xs ++ ys) ≡ framed xs ++ framed ys
+        framed-append [] ys = refl
+        framed-append (x ∷ xs) ys = ap (λ es. stream.frame x ∷ es) (framed-append xs ys)
+
+  -- Then it is received.
+  comes-so : (first then : List ℕ) (more received way : List ℕ) (frames : List stream.Event) (heard : List stream.Event) → then ≡ first ++ more → then ≡ received ++ way → length first ≤ length received
+      → heard_in size first ≡ frames ++ heard → (rest : List stream.Event) × (heard_in size received ≡ frames ++ rest)
+  comes-so first then more received way frames heard grown carried few is =
+      let x = longer-begins first more received way (sym grown ∙ carried) few in
+      let y = heard-beyond size first x.0 in
+      (heard ++ y.0, ap (heard_in size) x.1 ∙ y.1 ∙ ap (λ h. h ++ y.0) is ∙ append_assoc frames heard y.0)
+
+module _ (l : Line) (fit : Begins l) where
+  abbrev size : ℕ
+  size = l.near.n201
+
+  -- so many beats
+  record Ahead (n : ℕ) (w w' : Clocked) (h : Kept l fit w) : Type 0 where
+    kept : Kept l fit w'
+    near : Grown l.near.n201 n (port_of h.v.near) (port_of kept.v.near)
+    far : Grown l.near.n201 n (port_of h.v.far) (port_of kept.v.far)
+
+  ahead : (bs : List Beat) → All (IsTalk l) bs → All IsClean bs → (w : Clocked) (h : Kept l fit w) → Ahead (length bs) w (after l.rate bs w) h
+  ahead [] talk is_clean w h = record { kept = h; near = grown-none l.near.n201 (port_of h.v.near); far = grown-none l.near.n201 (port_of h.v.far) }
+  ahead (b ∷ bs) talk is_clean w h =
+      let one = one-kept l fit b (All-head (IsTalk l) b bs talk) (All-head IsClean b bs is_clean) w h in
+      let rest = ahead bs (All-tail (IsTalk l) b bs talk) (All-tail IsClean b bs is_clean) (beat l.rate w b) one.kept in
+      record {
+        kept = rest.kept;
+        near = grown-one l.near.n201 (length bs) (port_of h.v.near) (port_of one.kept.v.near) (port_of rest.kept.v.near) one.near rest.near;
+        far = grown-one l.near.n201 (length bs) (port_of h.v.far) (port_of one.kept.v.far) (port_of rest.kept.v.far) one.far rest.far;
+      }
+
+  -- What was there in the beginning has been given in the middle, and received in the end.
+  one-way : (m : ℕ) (c : Config) (fits : Fits l.near.n201 c) (s0 s1 r0 r1 r2 s2 : Endpoint) → Ran c s0 → Ran c s1 → (n : ℕ) → Grown l.near.n201 (longest m) (port_of s0) (port_of s1) → Grown l.near.n201 n (port_of s1) (port_of s2)
+      → Grown l.near.n201 (longest m) (port_of r0) (port_of r1) → Grown l.near.n201 n (port_of r1) (port_of r2) → (frames0 frames1 frames2 : List (List ℕ)) → Carries l.near.n201 (port_of s0) s0.way (port_of r0).received frames0
+      → Carries l.near.n201 (port_of s1) s1.way (port_of r1).received frames1 → Carries l.near.n201 (port_of s2) s2.way (port_of r2).received frames2 → length s0.way ≡ l.way → l.way ≤ n
+      → All (λ (octets : List ℕ). length octets ≤ m + 4) (frames_among (port_of s0).items)
+      → (more : List stream.Event) × (heard_in l.near.n201 (port_of r2).received ≡ framed (frames_among (port_of s0).items) ++ more)
+  one-way m c fits s0 s1 r0 r1 r2 s2 ran0 ran1 n g h k more_received frames0 frames1 frames2 first then last long enough small =
+      let items = (port_of s0).items in
+      let few = left-few m (port_of s0) (on-line c fits.ranged s0 ran0).cut (all-small m items small) in
+      let on = g.on items (longest_text m) 0 (inr (refl, omega (arith, few))) in
+      let behind = behind-then size m items (port_of s1) on in
+      let x = given-heard size m c fits s1 ran1 (port_of r1).received frames1 then items behind in
+      let a = ap length g.given ∙ length-append (port_of s0).given g.more in let b = g.long in
+      let c0 = ap length first.given ∙ length-append (port_of r0).received s0.way in
+      let d = k.received in let e = more_received.received in
+      comes-so size m c fits (port_of s1).given (port_of s2).given h.more (port_of r2).received s2.way (framed (frames_among items)) x.0 h.given last.given (omega (arith, a, b, c0, d, e, long, enough)) x.1
+
+  as-frames : (q p : Port) → p ≡ plus l.way q → frames_among p.items ≡ frames_among q.items
+  as-frames q p is = ap (λ (p : Port). frames_among p.items) is ∙ frames-plus l.way q.items
+
+  same-frames : (q : Port) (p : Port) → p ≡ plus l.way q → framed (frames_among p.items) ≡ framed (frames_among q.items)
+  same-frames q p is = ap framed (as-frames q p is)
+
+  to-clocked : (p q : Port) (s r : Port) → p ≡ plus l.way s → q ≡ plus l.way r → (more : List stream.Event) × (heard_in l.near.n201 q.received ≡ framed (frames_among p.items) ++ more)
+      → (more : List stream.Event) × (heard_in l.near.n201 r.received ≡ framed (frames_among s.items) ++ more)
+  to-clocked p q s r here there x =
+      (x.0, sym (ap (λ (q : Port). heard_in l.near.n201 q.received) there) ∙ x.1 ∙ ap (λ fs. fs ++ x.0) (same-frames s p here))
+
+  module _ (w : Clocked) (h : Kept l fit w) (bs more : List Beat) (talk : All (IsTalk l) bs) (talk_more : All (IsTalk l) more) (is_clean : All IsClean bs) (clean_more : All IsClean more)
+      (m : ℕ) (long : length bs ≡ longest m) (enough : l.way ≤ length more) where
+    one : Ahead (length bs) w (after l.rate bs w) h
+    one = ahead bs talk is_clean w h
+
+    two : Ahead (length more) (after l.rate bs w) (after l.rate more (after l.rate bs w)) one.kept
+    two = ahead more talk_more clean_more (after l.rate bs w) one.kept
+
+    received : AreShort m w.near → AreShort m w.far
+        → HasReceived l w.near (after l.rate more (after l.rate bs w)).far × HasReceived l w.far (after l.rate more (after l.rate bs w)).near
+    received small small_far =
+        let v = h.v in let u = one.kept.v in let z = two.kept.v in
+        let a = h.follows in let b = one.kept.follows in let c = two.kept.follows in
+        let near_one = subst (λ n. Grown size n (port_of v.near) (port_of u.near)) long one.near in
+        let far_one = subst (λ n. Grown size n (port_of v.far) (port_of u.far)) long one.far in
+        let there = one-way m l.near (fits l fit) v.near u.near v.far u.far z.far z.near a.near b.near (length more) near_one two.near far_one two.far h.there one.kept.there two.kept.there a.goes b.goes c.goes h.long.near enough (subst (All (λ (octets : List ℕ). length octets ≤ m + 4)) (sym (as-frames (port_of w.near.at) (port_of v.near) h.sim.near.same.port)) small) in
+        let back = one-way m l.far (fits-far l fit) v.far u.far v.near u.near z.near z.far a.far b.far (length more) far_one two.far near_one two.near h.back one.kept.back two.kept.back a.comes b.comes c.comes h.long.far enough (subst (All (λ (octets : List ℕ). length octets ≤ m + 4)) (sym (as-frames (port_of w.far.at) (port_of v.far) h.sim.far.same.port)) small_far) in (
+          to-clocked (port_of v.near) (port_of z.far) (port_of w.near.at) (port_of (after l.rate more (after l.rate bs w)).far.at) h.sim.near.same.port two.kept.sim.far.same.port there,
+          to-clocked (port_of v.far) (port_of z.near) (port_of w.far.at) (port_of (after l.rate more (after l.rate bs w)).near.at) h.sim.far.same.port two.kept.sim.near.same.port back,
+        )
+
+pub frames-come-in-beats : FramesComeInBeats
+frames-come-in-beats l b before bs m fit talk talk_bs clean_before is_clean = λ enough small small_far.
+    let first = first-kept l fit b (All-head (IsTalk l) b before talk) (All-head IsClean b before clean_before) in
+    let w = after l.rate (b ∷ before) (begins l) in
+    let h = all-kept l fit before (All-tail (IsTalk l) b before talk) (All-tail IsClean b before clean_before) (beat l.rate (begins l) b) first in
+    let n = longest m in
+    let long = length-take-le n bs (omega (arith, enough)) in
+    let rest = length-drop n bs in
+    let x = received l fit w h (take n bs) (drop n bs) (All-take (IsTalk l) n bs talk_bs) (All-drop (IsTalk l) n bs talk_bs) (All-take IsClean n bs is_clean) (All-drop IsClean n bs is_clean)
+    m long (omega (arith, rest, enough)) small small_far in
+    let same : after l.rate (drop n bs) (after l.rate (take n bs) w) ≡ after l.rate bs w = sym (fold-append (beat l.rate) w (take n bs) (drop n bs)) ∙ ap (λ es. after l.rate es w) (take-append-drop n bs) in
+    subst (λ (u : Clocked). HasReceived l w.near u.far × HasReceived l w.far u.near) same x

@@ -1,0 +1,56 @@
+-- The worked call meets the premises: so after 144 beats more all is told.
+use Rattle.std.proofs.Common.{arith, ◌≡◌, ◌≤◌, ◌<◌, false, [], ◌∷◌, ◌++◌, length, replicate, refl, sym, subst, All}
+use Rattle.std.proofs.lemmas.List.Elements.{All-nil, All-cons, All-append}
+use Rattle.lapd_clock.specs.Timer.{Timer, T200, T203, T201, T202, duration}
+use Rattle.lapd_frame.specs.declared.services.Service.TheVariants.{Call}
+use Rattle.model_line.specs.Config.{sapi_fault}
+use Rattle.model_line.specs.Request.{Data}
+use Rattle.laws_wire.specs.Call.{CanCall}
+use Rattle.laws_order.specs.circuit.Beats.{enough_beats}
+use Rattle.laws_time.specs.circuit.Answered.{IsClean}
+use Rattle.laws_time.specs.circuit.Arriving.{calls}
+use Rattle.laws_time.specs.circuit.Clocked.{Beat, plain, after, clean}
+use Rattle.laws_time.specs.circuit.InBeats.{IsDataOf, AsksData, IsToldAll}
+use Rattle.laws_time.specs.circuit.LongEnough.{begins}
+use Rattle.laws_time.specs.circuit.WorkedInBeats.{its_line, user, network, talks, one_granted}
+use Rattle.laws_time.proofs.OfCircuit.InBeats.{a-call-takes-beats}
+use Rattle.laws_time.proofs.OfCircuit.InBeatsRun.{plain-data, plain-clean}
+use Rattle.laws_time.proofs.OfCircuit.InBeatsDue.{none-at-first}
+
+pub can : CanCall user 0 network 0 0
+unfolding sapi_fault
+can = record { near = (refl, omega arith); far = (refl, omega arith); opposite = (refl, refl); terminal = omega arith }
+
+one : IsDataOf its_line (Data Call 0 (0xAB ∷ []))
+one = (refl, refl, All-cons (λ octet. octet < 256) 0xAB [] (omega arith) (All-nil (λ octet. octet < 256)))
+
+abbrev pub sends : Beat
+sends = record plain { near_asks = Data Call 0 (0xAB ∷ []) ∷ [] }
+
+pub asks-one : AsksData its_line sends
+asks-one = (All-cons (IsDataOf its_line) (Data Call 0 (0xAB ∷ [])) [] one (All-nil (IsDataOf its_line)), All-nil (IsDataOf its_line))
+
+all-data : All (AsksData its_line) (plain ∷ talks)
+all-data =
+    All-append (AsksData its_line) (replicate 16 plain) (sends ∷ []) (plain-data its_line can.near.0 can.far.0 16) (All-cons (AsksData its_line) sends [] asks-one (All-nil (AsksData its_line)))
+
+all-clean : All IsClean (plain ∷ talks)
+all-clean = All-append IsClean (replicate 16 plain) (sends ∷ []) (plain-clean 16) (All-cons IsClean sends [] (refl, refl) (All-nil IsClean))
+
+runs : (timer : Timer) → 161 ≤ duration its_line.lengths timer
+runs (T200 service tei) = omega arith
+runs (T203 service tei) = omega arith
+runs T201 = omega arith
+runs T202 = omega arith
+
+long : length (calls its_line plain ∷ (talks ++ replicate 144 plain)) ≡ 161
+long = refl
+
+enough : enough_beats 8 0 false 1 ≤ 144
+enough = omega arith
+
+told-all : IsToldAll its_line (clean 1 144 (after 1 (calls its_line plain ∷ talks) (begins its_line)))
+told-all =
+    a-call-takes-beats its_line plain talks 144 can all-data all-clean
+    (none-at-first its_line (calls its_line plain ∷ (talks ++ replicate 144 plain)) 161 (omega arith) runs runs (omega (arith, long)))
+    (subst (λ g. enough_beats 8 0 false g ≤ 144) (sym one_granted) enough)

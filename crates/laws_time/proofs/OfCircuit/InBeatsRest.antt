@@ -1,0 +1,167 @@
+-- A link at rest on a line without noise: so many beats after the last request all is told that was granted since.
+use Rattle.std.proofs.Common.{arith, ◌≡◌, ℕ, zero, suc, ◌+◌, ◌*◌, ◌-◌, ◌≤◌, List, [], ◌∷◌, ◌++◌, length, map, drop, replicate, refl, sym, ap, ◌∙◌, subst, All, append_assoc}
+use Rattle.std.proofs.lemmas.List.{length-drop}
+use Rattle.std.proofs.lemmas.List.Elements.{All-head, All-tail}
+use Rattle.model_bits.specs.Sent.{Item, idle}
+use Rattle.model_bits.specs.Stream.{heard_in}
+use Rattle.model_line.specs.Event.{LineTold}
+use Rattle.model_line.specs.Sound.{IsInRange}
+unfoldable use Rattle.model_card.specs.ports.Card.{answer}
+use Rattle.model_card.specs.ports.Codec.{frames_among}
+use Rattle.model_card.specs.ports.Port.{Port}
+use Rattle.laws_wire.specs.Call as call
+use Rattle.laws_wire.specs.Call.{CanCall, IsBeginningOf, ToldInOrder, data_told}
+use Rattle.laws_wire.specs.Facing.{Delivers, IsToldSince as ToldSince, most_turns, unsent_at, due_since, own_link}
+use Rattle.laws_wire.specs.Wire as wire
+use Rattle.laws_wire.specs.Wire.{Endpoint as FrameEndpoint, Wire, IsStill}
+unfoldable use Rattle.laws_wire.specs.Wire.{doing_all as wire_doing_all, turns as wire_turns}
+use Rattle.laws_wire.proofs.Delivering.{cards-deliver}
+use Rattle.laws_order.specs.circuit.Beats.{longest}
+use Rattle.laws_order.specs.circuit.Circuit.{Endpoint, Circuit, port_of, StepAt}
+unfoldable use Rattle.laws_order.specs.circuit.Circuit.{doing_all}
+unfoldable use Rattle.laws_order.proofs.OfCircuit.Onward.{many}
+use Rattle.laws_order.proofs.OfCircuit.AsFrames.{as_station}
+use Rattle.laws_order.proofs.OfCircuit.OneWay.{framed}
+use Rattle.laws_order.proofs.OfCircuit.Projected.{as_wire, Follows}
+use Rattle.laws_order.proofs.OfCircuit.Through.{all-heard}
+use Rattle.laws_time.specs.circuit.Answered.{IsClean}
+use Rattle.laws_time.specs.circuit.Clocked.{Clocked, Beat, plain, beat, after, clean}
+unfoldable use Rattle.laws_time.specs.circuit.Clocked.{fall_due}
+use Rattle.laws_time.specs.circuit.InBeats.{AsksData, granted_in, as_frames, IsAtRest, IsToldSince, Begins, MessagesTakeBeats}
+unfoldable use Rattle.laws_time.specs.circuit.InBeats.{NoneFallsDue}
+use Rattle.laws_time.specs.circuit.LongEnough.{Line, IsTalk, begins}
+use Rattle.laws_time.proofs.OfCircuit.InBeatsAs.{Alike, plus}
+use Rattle.laws_time.proofs.OfCircuit.InBeatsKept.{Kept, all-kept, first-kept, fits, fits-far}
+use Rattle.laws_time.proofs.OfCircuit.InBeatsRun as run
+unfoldable use Rattle.laws_time.proofs.OfCircuit.InBeatsRun.{all_steps}
+use Rattle.laws_time.proofs.OfCircuit.InBeatsRun.{ask, both_hear, comes-at, undue-parts, plain-clean}
+use Rattle.laws_time.proofs.OfCircuit.InBeatsTold.{Comes, all-told}
+
+pub frames-plus : (k : ℕ) (items : List Item) → frames_among (replicate k idle ++ items) ≡ frames_among items
+frames-plus zero items = refl
+frames-plus (suc k) items = frames-plus k items
+
+module _ (l : Line) (fit : Begins l) where
+  abbrev near : IsInRange l.near
+  near = fit.call.near.0
+
+  abbrev far : IsInRange l.far
+  far = fit.call.far.0
+
+  -- ---- at rest
+
+  station-same : (s u : Endpoint) → Alike s u → as_station [] u ≡ as_station [] s
+  station-same s u h = λ i. record { card = h.card i; line = h.line i; way = []; granted = h.granted i; told = h.told i }
+
+  none-way : (p q r s : Port) (frames : List (List ℕ)) → p ≡ plus l.way q → r ≡ plus l.way s → framed (frames_among q.items) ≡ heard_in l.near.n201 s.received
+      → framed (frames_among p.items) ≡ heard_in l.near.n201 r.received ++ framed frames → frames ≡ []
+  none-way p q r s frames here there all are =
+      all-heard l.near.n201 p r.received frames
+      (ap (λ (p : Port). framed (frames_among p.items)) here ∙ ap framed (frames-plus l.way q.items) ∙ all ∙ ap (λ (r : Port). heard_in l.near.n201 r.received) (sym there)) are
+
+  nothing : (xs : List (List ℕ)) → length xs ≡ 0 → xs ≡ []
+  nothing [] none = refl
+  nothing (x ∷ xs) none = absurd (omega (arith, none))
+
+  unsent-none : (s : FrameEndpoint) → most_turns l.service l.tei s ≡ 0 → unsent_at l.service l.tei s ≡ []
+  unsent-none s none =
+      let link = own_link l.service l.tei s in
+      let few = length-drop link.s link.contents in
+      nothing (drop link.s link.contents) (omega (arith, none, few))
+
+  module _ (r : Clocked) (k : Kept l fit r) (rest : IsAtRest l r) where
+    abbrev v : Circuit
+    v = k.v
+
+    follows : Follows l.near.n201 l.near l.far k.v [] []
+    follows =
+        let there = none-way (port_of v.near) (port_of r.near.at) (port_of v.far) (port_of r.far.at) k.there k.sim.near.same.port k.sim.far.same.port rest.near.received k.follows.goes.are in
+        let back = none-way (port_of v.far) (port_of r.far.at) (port_of v.near) (port_of r.near.at) k.back k.sim.far.same.port k.sim.near.same.port rest.far.received k.follows.comes.are in
+        subst (λ b. Follows l.near.n201 l.near l.far k.v [] b) back (subst (λ t. Follows l.near.n201 l.near l.far k.v t k.back) there k.follows)
+
+    abbrev f : Wire
+    f = as_wire [] [] k.v
+
+    abbrev g : Wire
+    g = record { near = as_frames r.near; far = as_frames r.far }
+
+    same : as_wire [] [] k.v ≡ record { near = as_frames r.near; far = as_frames r.far }
+    same =
+        let n = station-same r.near.at v.near k.sim.near.same.alike in let m = station-same r.far.at v.far k.sim.far.same.alike in
+        λ i. record { near = n i; far = m i }
+
+    abbrev NearDue : List (List ℕ) → List LineTold
+    NearDue granted = r.near.at.told ++ map (data_told l.service l.tei) (drop (length r.far.at.granted) granted)
+
+    abbrev FarDue : List (List ℕ) → List LineTold
+    FarDue granted = r.far.at.told ++ map (data_told l.service l.tei) (drop (length r.near.at.granted) granted)
+
+    -- one end
+    module _ (before now other other_now : FrameEndpoint) (still : Type 0) (none : unsent_at l.service l.tei other ≡ []) (h : ToldSince still (due_since l.service l.tei other other_now) before now) where
+      due-is : before.told ++ due_since l.service l.tei other other_now ≡ before.told ++ map (data_told l.service l.tei) (drop (length other.granted) other_now.granted)
+      due-is = ap (λ xs. before.told ++ map (data_told l.service l.tei) (xs ++ drop (length other.granted) other_now.granted)) none
+
+      since-begins : IsBeginningOf (before.told ++ map (data_told l.service l.tei) (drop (length other.granted) other_now.granted)) now.told
+      since-begins =
+          (h.2.0.0, ap (λ t. t ++ h.2.0.0) h.1 ∙ append_assoc before.told h.0 h.2.0.0 ∙ ap (λ t. before.told ++ t) h.2.0.1 ∙ due-is)
+
+      since-all : still → now.told ≡ before.told ++ map (data_told l.service l.tei) (drop (length other.granted) other_now.granted)
+      since-all s = h.1 ∙ ap (λ t. before.told ++ t) (h.2.1 s) ∙ due-is
+
+    comes-there : (es : List wire.StepAt) → All (call.IsTalk l.service l.tei) es → Comes l.service l.tei 0 NearDue FarDue g es
+    comes-there es talk =
+        let last = wire_doing_all es g in
+        let h : Delivers l.service l.tei (wire_turns es g) g (wire_doing_all es g) = cards-deliver l.service l.tei es g rest.face talk in
+        let turns = h.turns in let none = rest.near.sent in let none_far = rest.far.sent in
+        let no_near = unsent-none (as_frames r.near) rest.near.sent in let no_far = unsent-none (as_frames r.far) rest.far.sent in
+        record {
+          turns = omega (arith, turns, none, none_far);
+          near = since-begins g.near last.near g.far last.far (IsStill last) no_far h.near;
+          far = since-begins g.far last.far g.near last.near (IsStill last) no_near h.far;
+          near_all = since-all g.near last.near g.far last.far (IsStill last) no_far h.near;
+          far_all = since-all g.far last.far g.near last.near (IsStill last) no_near h.far;
+        }
+
+    comes : (es : List wire.StepAt) → All (call.IsTalk l.service l.tei) es → Comes l.service l.tei 0 NearDue FarDue (as_wire [] [] k.v) es
+    comes es talk = subst (λ f. Comes l.service l.tei 0 NearDue FarDue f es) (sym same) (comes-there es talk)
+
+    module _ (bs : List Beat) (n : ℕ) (data_alone : All (AsksData l) bs) (are_clean : All IsClean bs) (undue : NoneFallsDue l.rate (bs ++ replicate n plain) r) (is_long : run.IsLong l fit.call.near.0 fit.call.far.0 k.v) where
+      abbrev w : Clocked
+      w = after l.rate bs r
+
+      abbrev ds : List StepAt
+      ds = all_steps bs
+
+      parts : NoneFallsDue l.rate bs r × NoneFallsDue l.rate (replicate n plain) (after l.rate bs r)
+      parts = undue-parts l.rate bs (replicate n plain) r undue
+
+      sim : run.Sim l near far w (doing_all (all_steps bs) k.v)
+      sim = run.all-beats l near far bs data_alone are_clean r parts.0 k.v k.sim
+
+      last-sim : run.Sim l near far (clean l.rate n w) (doing_all (many n) (doing_all (all_steps bs) k.v))
+      last-sim =
+          subst (λ es. run.Sim l near far (clean l.rate n w) (doing_all es (doing_all (all_steps bs) k.v))) (run.plain-steps l near far n)
+          (run.all-beats l near far (replicate n plain) (run.plain-data l near far n) (plain-clean n) w parts.1 (doing_all (all_steps bs) k.v) sim)
+
+      told-since : 2 * (granted_in w - granted_in r) * (longest l.near.n201 + (longest l.near.n201 + l.way)) ≤ n → IsToldSince l r (clean l.rate n w)
+      told-since enough =
+          let s = sim in let z = last-sim in
+          let u = doing_all ds k.v in
+          let x = run.all-long l near far bs k.v is_long in
+          let few = x.near in let few_far = x.far in
+          let a = ap length s.near.same.alike.granted in let b = ap length s.far.same.alike.granted in
+          let c = ap length k.sim.near.same.alike.granted in let d = ap length k.sim.far.same.alike.granted in
+          let same_count : 2 * (granted_in w - granted_in r) ≡ 0 + 2 * (length u.near.granted + length u.far.granted - (length v.near.granted + length v.far.granted)) = omega (arith, a, b, c, d) in
+          let told =
+          all-told l.service l.tei l.near l.far l.near.n201 l.way (fits l fit) (fits-far l fit) k.v follows 0 NearDue FarDue comes n ds (run.all-data l near far bs data_alone) (run.many-data l near far)
+          (omega (arith, few)) (omega (arith, few_far)) (subst (λ g. g * (longest l.near.n201 + (longest l.near.n201 + l.way)) ≤ n) same_count enough) in
+          record {
+            near = sym z.near.same.alike.told ∙ told.0 ∙ ap NearDue z.far.same.alike.granted;
+            far = sym z.far.same.alike.told ∙ told.1 ∙ ap FarDue z.near.same.alike.granted;
+          }
+
+pub messages-take-beats : MessagesTakeBeats
+messages-take-beats l b before bs n fit talk data_alone clean_before are_clean = λ rest undue enough.
+    let first = first-kept l fit b (All-head (IsTalk l) b before talk) (All-head IsClean b before clean_before) in
+    let k = all-kept l fit before (All-tail (IsTalk l) b before talk) (All-tail IsClean b before clean_before) (beat l.rate (begins l) b) first in
+    told-since l fit (after l.rate (b ∷ before) (begins l)) k rest bs n data_alone are_clean undue k.long enough

@@ -1,0 +1,191 @@
+-- A worked link is at rest: so after 72 beats more all is told that is granted then. And its SABME comes in nine beats.
+use Rattle.std.proofs.Common.{arith, ◌≡◌, ℕ, zero, suc, ◌+◌, ◌-◌, ◌*◌, ◌≤◌, ◌<◌, false, List, [], ◌∷◌, ◌++◌, length, map, replicate, Some, refl, sym, ap, ◌∙◌, subst, All}
+use Rattle.std.proofs.lemmas.List.Elements.{All-nil, All-cons}
+use Rattle.lapd_clock.specs.Timer.{T203, AreInRange}
+use Rattle.lapd_clock.specs.Timers.{Expiry}
+use Rattle.lapd_frame.specs.declared.services.Service.TheVariants.{Call}
+use Rattle.lapd_frame.specs.Reading.{reading, header_of, control_of, unnumbered_of, supervisory_of}
+use Rattle.lapd_frame.specs.Senders.{exchanged, reading as read_by}
+use Rattle.lapd_seq.specs.Circle.{distance_of, named}
+use Rattle.lapd_seq.specs.Numbers.{seq}
+use Rattle.lapd_tei.specs.Events as teis
+use Rattle.model_bits.specs.Bits.{low_bits}
+use Rattle.model_line.specs.Machine as lines
+use Rattle.model_line.specs.Request.{Establish}
+use Rattle.model_card.specs.ports.Card as ports
+use Rattle.model_bits.specs.Sent.{Item, idle, frame}
+use Rattle.model_bits.specs.Stream as stream
+use Rattle.model_card.specs.Sound.{IsSound}
+use Rattle.model_card.specs.ports.Codec.{frames_among}
+use Rattle.model_line.specs.Line.{state_of}
+use Rattle.model_line.specs.declared.config.Config.{Config}
+use Rattle.model_timed.specs.Clock.{Clock}
+use Rattle.laws_wire.specs.Call.{AreOpposite}
+use Rattle.laws_wire.specs.Facing.{Face, Speaks, own_link, line_of, is_busy, frames_at, own_frames_at, most_turns}
+use Rattle.laws_wire.specs.Wire.{Endpoint}
+use Rattle.laws_order.specs.circuit.Beats.{longest}
+use Rattle.laws_order.specs.circuit.Circuit.{port_of}
+use Rattle.laws_order.proofs.OfCircuit.Ran.{sound, config}
+use Rattle.laws_time.specs.circuit.Answered.{IsClean}
+use Rattle.laws_time.specs.circuit.Arriving.{calls}
+use Rattle.laws_time.specs.circuit.Clocked.{TimedEndpoint, Clocked, Beat, plain, beat, after, clean, fall_due}
+use Rattle.laws_time.specs.circuit.InBeats.{AreShort, HasReceived, AsksData, Begins, IsAtRest, IsToldSince, FallsDueFrom, granted_in, as_frames}
+use Rattle.laws_time.specs.circuit.LongEnough.{IsOfLink, IsTalk, begins}
+use Rattle.laws_time.specs.circuit.WorkedInBeats.{its_line, user, network, rested, near_clock, far_clock}
+use Rattle.laws_time.proofs.OfCircuit.InBeatsDue.{none-falls-due-before}
+use Rattle.laws_time.proofs.OfCircuit.InBeatsFrames.{frames-come-in-beats}
+use Rattle.laws_time.proofs.OfCircuit.InBeatsKept.{Kept, all-kept, first-kept}
+use Rattle.laws_time.proofs.OfCircuit.InBeatsMet.{can, sends, asks-one}
+use Rattle.laws_time.proofs.OfCircuit.InBeatsRest.{messages-take-beats}
+use Rattle.laws_time.proofs.OfCircuit.InBeatsRun.{plain-clean}
+
+in-range : AreInRange its_line.lengths
+in-range = record { t200 = omega arith; t203 = omega arith; t201 = omega arith; t202 = omega arith; t200_most = omega arith; t203_most = omega arith; t201_most = omega arith; t202_most = omega arith }
+
+fit : Begins its_line
+fit = record { call = can; some = omega arith; lengths = (in-range, in-range) }
+
+abbrev rings : Beat
+rings = calls its_line plain
+
+rings-talk : IsTalk its_line rings
+rings-talk = (All-cons (IsOfLink Call 0) (Establish Call 0) [] (refl, refl) (All-nil (IsOfLink Call 0)), All-nil (IsOfLink Call 0))
+
+plain-talk : (n : ℕ) → All (IsTalk its_line) (replicate n plain)
+plain-talk zero = All-nil (IsTalk its_line)
+plain-talk (suc n) = All-cons (IsTalk its_line) plain (replicate n plain) (All-nil (IsOfLink Call 0), All-nil (IsOfLink Call 0)) (plain-talk n)
+
+kept : Kept its_line fit rested
+kept = all-kept its_line fit (replicate 19 plain) (plain-talk 19) (plain-clean 19) (beat 1 (begins its_line) rings) (first-kept its_line fit rings rings-talk (refl, refl))
+
+-- What is seen at the two ends.
+record AreSeen (s u : Endpoint) : Type 0 where
+  state : state_of Call 0 (line_of s) ≡ Some 7
+  free : is_busy (own_link Call 0 s) ≡ false
+  alone : frames_at s ≡ own_frames_at Call 0 s
+  received : (own_link Call 0 u).r ≡ (own_link Call 0 s).s
+  acknowledged : (own_link Call 0 s).a ≡ (own_link Call 0 s).s
+  sent : most_turns Call 0 s ≡ 0
+
+near-seen : AreSeen (as_frames rested.near) (as_frames rested.far)
+unfolding lines.after lines.answer lines.takes_slot exchanged read_by reading header_of control_of unnumbered_of supervisory_of teis.course teis.refusal seq distance_of named low_bits ports.after ports.answer ports.meant fall_due
+near-seen = record { state = refl; free = refl; alone = refl; received = refl; acknowledged = refl; sent = refl }
+
+far-seen : AreSeen (as_frames rested.far) (as_frames rested.near)
+unfolding lines.after lines.answer lines.takes_slot exchanged read_by reading header_of control_of unnumbered_of supervisory_of teis.course teis.refusal seq distance_of named low_bits ports.after ports.answer ports.meant fall_due
+far-seen = record { state = refl; free = refl; alone = refl; received = refl; acknowledged = refl; sent = refl }
+
+configs : (rested.near.at.card.card.config ≡ user) × (rested.far.at.card.card.config ≡ network)
+configs = (config user can.near.0 rested.near.at kept.sim.near.ran, config network can.far.0 rested.far.at kept.sim.far.ran)
+
+speaks : (c : Config) (s u : Endpoint) → IsSound s.card → s.card.config ≡ c → s.line < c.lines → AreSeen s u → Speaks Call 0 s u
+speaks c s u sound_card is within h = record {
+  card = (sound_card, subst (λ (k : Config). s.line < k.lines) (sym is) within);
+  state = h.state;
+  free = h.free;
+  alone = h.alone;
+  received = h.received;
+  owes = λ less. let same = h.acknowledged in absurd (omega (arith, less, same));
+}
+
+faces : Face Call 0 (record { near = as_frames rested.near; far = as_frames rested.far })
+faces =
+    let opposite = can.opposite in (
+      speaks user (as_frames rested.near) (as_frames rested.far) (sound user can.near.0 rested.near.at kept.sim.near.ran).card configs.0 kept.sim.near.ran.within near-seen,
+      speaks network (as_frames rested.far) (as_frames rested.near) (sound network can.far.0 rested.far.at kept.sim.far.ran).card configs.1 kept.sim.far.ran.within far-seen,
+      subst (λ k. AreOpposite k rested.far.at.card.card.config) (sym configs.0) (subst (AreOpposite user) (sym configs.1) opposite),
+    )
+
+-- SABME and UA went, and flags.
+abbrev near_items : List Item
+near_items = frame (0x00 ∷ 0x01 ∷ 0x7F ∷ []) ∷ replicate 13 idle
+
+abbrev far_items : List Item
+far_items = replicate 7 idle ++ (frame (0x00 ∷ 0x01 ∷ 0x73 ∷ []) ∷ replicate 6 idle)
+
+abbrev far_received : List ℕ
+far_received = 0x7E ∷ 0x00 ∷ 0x01 ∷ 0xDF ∷ 0xC8 ∷ 0xA8 ∷ replicate 14 0xFC
+
+abbrev near_received : List ℕ
+near_received = replicate 8 0x7E ++ (0x00 ∷ 0x01 ∷ 0x73 ∷ 0x08 ∷ 0x9E ∷ replicate 7 0x7E)
+
+near-items : (port_of rested.near.at).items ≡ near_items
+unfolding lines.after lines.answer lines.takes_slot exchanged read_by reading header_of control_of unnumbered_of supervisory_of teis.course teis.refusal seq distance_of named low_bits ports.after ports.answer ports.meant fall_due
+near-items = refl
+
+far-items : (port_of rested.far.at).items ≡ far_items
+unfolding lines.after lines.answer lines.takes_slot exchanged read_by reading header_of control_of unnumbered_of supervisory_of teis.course teis.refusal seq distance_of named low_bits ports.after ports.answer ports.meant fall_due
+far-items = refl
+
+far-received : (port_of rested.far.at).received ≡ far_received
+unfolding lines.after lines.answer lines.takes_slot exchanged read_by reading header_of control_of unnumbered_of supervisory_of teis.course teis.refusal seq distance_of named low_bits ports.after ports.answer ports.meant fall_due
+far-received = refl
+
+near-received : (port_of rested.near.at).received ≡ near_received
+unfolding lines.after lines.answer lines.takes_slot exchanged read_by reading header_of control_of unnumbered_of supervisory_of teis.course teis.refusal seq distance_of named low_bits ports.after ports.answer ports.meant fall_due
+near-received = refl
+
+sabme-heard : map (λ octets. stream.frame octets) (frames_among near_items) ≡ stream.heard_in 8 far_received
+unfolding low_bits
+sabme-heard = refl
+
+ua-heard : map (λ octets. stream.frame octets) (frames_among far_items) ≡ stream.heard_in 8 near_received
+unfolding low_bits
+ua-heard = refl
+
+near-arrived : map (λ octets. stream.frame octets) (frames_among (port_of rested.near.at).items) ≡ stream.heard_in 8 (port_of rested.far.at).received
+near-arrived = ap (λ items. map (λ octets. stream.frame octets) (frames_among items)) near-items ∙ sabme-heard ∙ sym (ap (stream.heard_in 8) far-received)
+
+far-arrived : map (λ octets. stream.frame octets) (frames_among (port_of rested.far.at).items) ≡ stream.heard_in 8 (port_of rested.near.at).received
+far-arrived = ap (λ items. map (λ octets. stream.frame octets) (frames_among items)) far-items ∙ ua-heard ∙ sym (ap (stream.heard_in 8) near-received)
+
+at-rest : IsAtRest its_line rested
+at-rest = record { face = faces; near = record { received = near-arrived; sent = near-seen.sent }; far = record { received = far-arrived; sent = far-seen.sent } }
+
+-- One content is granted then.
+one-granted : granted_in (after 1 (sends ∷ []) rested) - granted_in rested ≡ 1
+unfolding lines.after lines.answer lines.takes_slot exchanged read_by reading header_of control_of unnumbered_of supervisory_of teis.course teis.refusal seq distance_of named low_bits ports.after ports.answer ports.meant fall_due
+one-granted = refl
+
+abbrev its_t203 : ℕ → Expiry
+its_t203 moment = record { moment = moment; line = 0; timer = T203 Call 0 }
+
+later : (moment : ℕ) → 93 ≤ moment → (s : TimedEndpoint) → s.clock ≡ record { lengths = its_line.lengths; running = its_t203 moment ∷ []; now = 19 } → FallsDueFrom 93 s
+later moment long s is =
+    subst (λ (c : Clock). FallsDueFrom 93 (record s { clock = c })) (sym is)
+    (record {
+      running = All-cons (λ (x : Expiry). 93 ≤ x.moment) (its_t203 moment) [] long (All-nil (λ (x : Expiry). 93 ≤ x.moment));
+      t200 = omega arith;
+      t203 = omega arith;
+      t201 = omega arith;
+      t202 = omega arith;
+    })
+
+told-then : IsToldSince its_line rested (clean 1 72 (after 1 (sends ∷ []) rested))
+told-then =
+    messages-take-beats its_line rings (replicate 19 plain) (sends ∷ []) 72 fit (All-cons (IsTalk its_line) rings (replicate 19 plain) rings-talk (plain-talk 19))
+    (All-cons (AsksData its_line) sends [] asks-one (All-nil (AsksData its_line))) (All-cons IsClean rings (replicate 19 plain) (refl, refl) (plain-clean 19)) (All-cons IsClean sends [] (refl, refl) (All-nil IsClean)) at-rest
+    (none-falls-due-before its_line (rings ∷ replicate 19 plain) (sends ∷ replicate 72 plain) 93 (omega arith) (later 10013 (omega arith) rested.near near_clock) (later 10007 (omega arith) rested.far far_clock) (omega arith))
+    (subst (λ g. 2 * g * (longest 8 + (longest 8 + 0)) ≤ 72) (sym one-granted) (omega arith))
+
+-- ---- SABME comes
+
+-- After three beats SABME is on the line, and nine beats later it was received.
+abbrev rung : Clocked
+rung = after 1 (rings ∷ replicate 2 plain) (begins its_line)
+
+rung-items : ((port_of rung.near.at).items ≡ frame (0x00 ∷ 0x01 ∷ 0x7F ∷ []) ∷ []) × ((port_of rung.far.at).items ≡ idle ∷ idle ∷ [])
+unfolding lines.after lines.answer lines.takes_slot exchanged read_by reading header_of control_of unnumbered_of supervisory_of teis.course teis.refusal seq distance_of named low_bits ports.after ports.answer ports.meant fall_due
+rung-items = (refl, refl)
+
+short : AreShort 0 rung.near × AreShort 0 rung.far
+short = (
+  subst (λ items. All (λ (octets : List ℕ). length octets ≤ 4) (frames_among items)) (sym rung-items.0)
+      (All-cons (λ (octets : List ℕ). length octets ≤ 4) (0x00 ∷ 0x01 ∷ 0x7F ∷ []) [] (omega arith) (All-nil (λ (octets : List ℕ). length octets ≤ 4))),
+  subst (λ items. All (λ (octets : List ℕ). length octets ≤ 4) (frames_among items)) (sym rung-items.1) (All-nil (λ (octets : List ℕ). length octets ≤ 4)),
+)
+
+sabme-comes : HasReceived its_line rung.near (clean 1 9 rung).far × HasReceived its_line rung.far (clean 1 9 rung).near
+sabme-comes =
+    frames-come-in-beats its_line rings (replicate 2 plain) (replicate 9 plain) 0 fit (All-cons (IsTalk its_line) rings (replicate 2 plain) rings-talk (plain-talk 2)) (plain-talk 9)
+    (All-cons IsClean rings (replicate 2 plain) (refl, refl) (plain-clean 2)) (plain-clean 9) (omega arith) short.0 short.1

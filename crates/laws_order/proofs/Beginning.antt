@@ -11,7 +11,7 @@ use Rattle.laws_wire.specs.Wire.{acting, at_near, at_far, doing, doing_all, with
 use Rattle.laws_order.proofs.Acknowledged.{place-of, acknowledged-now}
 use Rattle.laws_order.proofs.Pairs.{link_here, facing, Pair, IsWell, proper}
 
--- ---- stations and their pasts
+-- ---- endpoints and their pasts
 
 pub past-well : (s : Endpoint) → Past s → IsWell s
 past-well s p = assumption (subst card_sound.IsSound (sym p.is) (frames_always_sound (fresh s.card.config) p.events (fresh_is_sound s.card.config p.line.0) p.at_lines))
@@ -171,7 +171,7 @@ module _ (service : Service) (tei : ℕ) where
   abbrev pub link_known : Endpoint → Known
   link_known s = known_of (link_here service tei s)
 
-  -- what the second station has received of the contents of the first
+  -- what the second endpoint has received of the contents of the first
   abbrev pub had : Endpoint → Endpoint → List (List ℕ)
   had s u = take (link_here service tei u).r (link_here service tei s).contents
 

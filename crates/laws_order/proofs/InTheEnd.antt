@@ -1,6 +1,6 @@
 -- A release is told in the end: to the end that releases, whose RC counts the expiries of T200, and to the other before that.
 use Rattle.laws_order.proofs.Vocabulary.{◌≡◌, ℕ, ◌≤◌, Bool, true, false, List, [], ◌∷◌, ◌++◌, refl, sym, ap, ◌∙◌, arith, append-nil, true≢false, ◌⊎◌, inl, inr, All, list_any, All-nil, All-cons, All-head, All-tail, Service, other_side, AwaitingRelease, Link, is_multiple_frame, came, hears, expiry, request, next, Line, has_tei, terms, deactivates, Seen, Endpoint, Wire, requests, expires, sends}
-use Rattle.laws_order.proofs.Vocabulary.{receives, turned, Event, line_of, AnyStep, step, disturbed, befalling, AnyStepAt, by_near, by_far, IsPossible, IsPossibleAt, happening, happening_all, events_here, seen_by, seen_at_near, seen_near, seen_far, t200s, IsToldAtLast, ReleasesAreTold, StaysThere, IsNotDeactivated, BothAreTold, ends_by, StaysEstablished, news, IsToldOfRelease, flat_map-append}
+use Rattle.laws_order.proofs.Vocabulary.{receives, turned, Event, line_of, AnyStep, step, disturbed, any_acting, AnyStepAt, any_near, any_far, IsPossible, IsPossibleAt, any_doing, any_doing_all, events_here, seen_by, seen_at_near, seen_near, seen_far, t200s, IsToldAtLast, ReleasesAreTold, StaysThere, IsNotDeactivated, BothAreTold, ends_by, StaysEstablished, news, IsToldOfRelease, flat_map-append}
 use Rattle.laws_order.proofs.Vocabulary.{news_in, own_side, heard_side}
 use Rattle.laws_order.proofs.Beginning.{past-well, six-here, six-runs, on-here, begins-pair}
 use Rattle.laws_order.proofs.Down.{Speaks}
@@ -35,42 +35,42 @@ module _ (service : Service) (tei : ℕ) where
   abbrev Reached : Wire → Type 0
   Reached w = Both w ⊎ (Over w × IsDown w)
 
-  near-on : (deed : AnyStep) (w : Wire) → IsPossibleAt service tei w.near deed → Over w → (IsDown w → IsDown (befalling deed w)) × (IsDown (befalling deed w) → Over (befalling deed w))
-  near-on deed w is (contents, a, k, small, dm, h) =
-      let x = near-goes service tei contents a k small deed w dm is h in (x.0, λ down. (contents, a, k, small, dm, x.1 down))
+  near-on : (act : AnyStep) (w : Wire) → IsPossibleAt service tei w.near act → Over w → (IsDown w → IsDown (any_acting act w)) × (IsDown (any_acting act w) → Over (any_acting act w))
+  near-on act w is (contents, a, k, small, dm, h) =
+      let x = near-goes service tei contents a k small act w dm is h in (x.0, λ down. (contents, a, k, small, dm, x.1 down))
 
-  far-on : (deed : AnyStep) (w : Wire) → IsPossibleAt service tei w.far deed → StaysEstablished service tei (seen_by deed (turned w)) → Over w → Over (turned (befalling deed (turned w)))
-  far-on deed w is stays (contents, a, k, small, dm, h) = (contents, a, k, small, _, far-goes service tei contents a k small deed w dm is h stays)
+  far-on : (act : AnyStep) (w : Wire) → IsPossibleAt service tei w.far act → StaysEstablished service tei (seen_by act (turned w)) → Over w → Over (turned (any_acting act (turned w)))
+  far-on act w is stays (contents, a, k, small, dm, h) = (contents, a, k, small, _, far-goes service tei contents a k small act w dm is h stays)
 
   pair-over : (w : Wire) → Both w → Over w
   pair-over w (dn, dm, h) = (_, _, _, _, dm, pair-lasts service tei w dn dm h)
 
-  near-reaches : (deed : AnyStep) (w : Wire) → IsPossibleAt service tei w.near deed → Reached w → Reached (befalling deed w)
-  near-reaches deed w is (inl (dn, dm, h)) = go (near-led service tei deed w dn dm is h)
+  near-reaches : (act : AnyStep) (w : Wire) → IsPossibleAt service tei w.near act → Reached w → Reached (any_acting act w)
+  near-reaches act w is (inl (dn, dm, h)) = go (near-led service tei act w dn dm is h)
     where
-      go : Falls service tei (befalling deed w) (seen_by deed w) ⊎ Led service tei w (befalling deed w) dn dm (seen_by deed w) → Reached (befalling deed w)
-      go (inl fallen) = inr ((near-on deed w is (pair-over w (dn, dm, h))).1 fallen.1, fallen.1)
+      go : Falls service tei (any_acting act w) (seen_by act w) ⊎ Led service tei w (any_acting act w) dn dm (seen_by act w) → Reached (any_acting act w)
+      go (inl fallen) = inr ((near-on act w is (pair-over w (dn, dm, h))).1 fallen.1, fallen.1)
       go (inr x) = inl (_, dm, x.pair)
-  near-reaches deed w is (inr (over, down)) = let x = near-on deed w is over in inr (x.1 (x.0 down), x.0 down)
+  near-reaches act w is (inr (over, down)) = let x = near-on act w is over in inr (x.1 (x.0 down), x.0 down)
 
-  far-reaches : (deed : AnyStep) (w : Wire) → IsPossibleAt service tei w.far deed → StaysEstablished service tei (seen_by deed (turned w)) → Reached w → Reached (turned (befalling deed (turned w)))
-  far-reaches deed w is stays (inl (dn, dm, h)) =
+  far-reaches : (act : AnyStep) (w : Wire) → IsPossibleAt service tei w.far act → StaysEstablished service tei (seen_by act (turned w)) → Reached w → Reached (turned (any_acting act (turned w)))
+  far-reaches act w is stays (inl (dn, dm, h)) =
       let v : Wire = turned w in
-      elim (near-led service tei deed (turned w) dm dn is (turned-pair service tei w dn dm h)) [
+      elim (near-led service tei act (turned w) dm dn is (turned-pair service tei w dn dm h)) [
         | inl fallen ↦ absurd (true≢false (sym fallen.0 ∙ stays))
-        | inr x ↦ inl (dn, _, turned-pair service tei (befalling deed v) _ dn x.pair)
+        | inr x ↦ inl (dn, _, turned-pair service tei (any_acting act v) _ dn x.pair)
       ]
-  far-reaches deed w is stays (inr (over, down)) = inr (far-on deed w is stays over, ap (λ (y : Link). is_multiple_frame y.state) (other-link service tei deed (turned w)) ∙ down)
+  far-reaches act w is stays (inr (over, down)) = inr (far-on act w is stays over, ap (λ (y : Link). is_multiple_frame y.state) (other-link service tei act (turned w)) ∙ down)
 
-  reaches : (hs : List AnyStepAt) (w : Wire) → All (IsOpen w) hs → StaysEstablished service tei (seen_far hs w) → Reached w → Reached (happening_all hs w)
-  unfolding seen_far happening_all
+  reaches : (hs : List AnyStepAt) (w : Wire) → All (IsOpen w) hs → StaysEstablished service tei (seen_far hs w) → Reached w → Reached (any_doing_all hs w)
+  unfolding seen_far any_doing_all
   reaches [] w all stays h = h
-  reaches (by_near deed ∷ hs) w all stays h =
-      reaches hs (befalling deed w) (later service tei (by_near deed) hs w all) stays (near-reaches deed w (All-head (IsOpen w) (by_near deed) hs all) h)
-  reaches (by_far deed ∷ hs) w all stays h =
-      let w' = turned (befalling deed (turned w)) in
-      let stay = both-stay service tei (seen_by deed (turned w)) (seen_far hs w') stays in
-      reaches hs w' (later service tei (by_far deed) hs w all) stay.1 (far-reaches deed w (All-head (IsOpen w) (by_far deed) hs all) stay.0 h)
+  reaches (any_near act ∷ hs) w all stays h =
+      reaches hs (any_acting act w) (later service tei (any_near act) hs w all) stays (near-reaches act w (All-head (IsOpen w) (any_near act) hs all) h)
+  reaches (any_far act ∷ hs) w all stays h =
+      let w' = turned (any_acting act (turned w)) in
+      let stay = both-stay service tei (seen_by act (turned w)) (seen_far hs w') stays in
+      reaches hs w' (later service tei (any_far act) hs w all) stay.1 (far-reaches act w (All-head (IsOpen w) (any_far act) hs all) stay.0 h)
 
   over-six : (w : Wire) → (Here w).state ≡ AwaitingRelease → Reached w → Over w
   over-six w is (inl (dn, dm, h)) = absurd (true≢false (sym h.joined.near_up ∙ (ap is_multiple_frame is)))
@@ -92,33 +92,33 @@ module _ (service : Service) (tei : ℕ) where
     one : (e : Event) → NotHeard service tei w.near.card.config e → deactivates service tei e ≡ false → All P (e ∷ [])
     one e none active = All-cons P e [] (record { heard = none-heard service tei w.near.card.config Speaks e none; stays = on; active = active }) (All-nil P)
 
-    deed-confirmless : (deed : AnyStep) → IsPossibleAt service tei w.near deed → IsNotDeactivated service tei (by_near deed) → Over w → All P (events_here deed w)
-    deed-confirmless (step (requests r)) is active h = one (request r) (λ octets e. cc e) active
-    deed-confirmless (step (expires timer)) is active h = one (expiry timer) (λ octets e. cc e) refl
-    deed-confirmless (step sends) is active h = one next (λ octets e. cc e) refl
-    deed-confirmless (step receives) is active (contents, a, k, small, dm, h) = first-confirmless w.near w.far w.far.way l h.sides h.speech on
-    deed-confirmless (disturbed what) is active h = one (hears what) (not-heard service tei w.near.card.config what is) refl
-    deed-confirmless other is active h = All-nil P
+    act-confirmless : (act : AnyStep) → IsPossibleAt service tei w.near act → IsNotDeactivated service tei (any_near act) → Over w → All P (events_here act w)
+    act-confirmless (step (requests r)) is active h = one (request r) (λ octets e. cc e) active
+    act-confirmless (step (expires timer)) is active h = one (expiry timer) (λ octets e. cc e) refl
+    act-confirmless (step sends) is active h = one next (λ octets e. cc e) refl
+    act-confirmless (step receives) is active (contents, a, k, small, dm, h) = first-confirmless w.near w.far w.far.way l h.sides h.speech on
+    act-confirmless (disturbed what) is active h = one (hears what) (not-heard service tei w.near.card.config what is) refl
+    act-confirmless other is active h = All-nil P
 
     all-confirmless : (h : AnyStepAt) → IsOpen w h → IsNotDeactivated service tei h → Over w → All P (events_at service tei h w)
-    all-confirmless (by_near deed) is active over = deed-confirmless deed is active over
-    all-confirmless (by_far deed) is active over = All-nil P
+    all-confirmless (any_near act) is active over = act-confirmless act is active over
+    all-confirmless (any_far act) is active over = All-nil P
 
   there-first : (hs : List AnyStepAt) (w : Wire) → StaysThere service tei hs w → has_tei tei (line_of w.near) ≡ true
   unfolding StaysThere
   there-first [] w h = on-here service tei w.near h
   there-first (x ∷ hs) w h = on-here service tei w.near h.0
 
-  then-over : (h : AnyStepAt) (w : Wire) → IsOpen w h → StaysEstablished service tei (seen_far (h ∷ []) w) → Over w → IsDown (happening h w) → Over (happening h w)
+  then-over : (h : AnyStepAt) (w : Wire) → IsOpen w h → StaysEstablished service tei (seen_far (h ∷ []) w) → Over w → IsDown (any_doing h w) → Over (any_doing h w)
   unfolding seen_far
-  then-over (by_near deed) w is stays over down = (near-on deed w is over).1 down
-  then-over (by_far deed) w is stays over down = far-on deed w is (both-stay service tei (seen_by deed (turned w)) [] stays).0 over
+  then-over (any_near act) w is stays over down = (near-on act w is over).1 down
+  then-over (any_far act) w is stays over down = far-on act w is (both-stay service tei (seen_by act (turned w)) [] stays).0 over
 
   far-split : (h : AnyStepAt) (hs : List AnyStepAt) (w : Wire) → StaysEstablished service tei (seen_far (h ∷ hs) w)
-      → StaysEstablished service tei (seen_far (h ∷ []) w) × StaysEstablished service tei (seen_far hs (happening h w))
+      → StaysEstablished service tei (seen_far (h ∷ []) w) × StaysEstablished service tei (seen_far hs (any_doing h w))
   unfolding seen_far
-  far-split (by_near deed) hs w stays = (refl, stays)
-  far-split (by_far deed) hs w stays = grind (arith, both-stay, append-nil)
+  far-split (any_near act) hs w stays = (refl, stays)
+  far-split (any_far act) hs w stays = grind (arith, both-stay, append-nil)
 
   never : (hs : List AnyStepAt) (w : Wire) → IsWell w.near → (Here w).state ≡ AwaitingRelease → Over w → All (IsOpen w) hs → StaysThere service tei hs w → All (IsNotDeactivated service tei) hs
       → StaysEstablished service tei (seen_far hs w) → news service tei (seen_near hs w) ≡ Confirm service tei → ⊥
@@ -130,7 +130,7 @@ module _ (service : Service) (tei : ℕ) where
       (step-six service tei w w' t es well is o)
     where
       w' : Wire
-      w' = happening h w
+      w' = any_doing h w
 
       t : List Seen
       t = seen_at_near h w
@@ -171,7 +171,7 @@ pub both-are-told : BothAreTold
 both-are-told service tei w p q before behind rest possible lasts is possible' keeps quiet told = go (list_any (ends_by service tei) (seen_far behind v)) refl
   where
     v : Wire
-    v = happening_all before w
+    v = any_doing_all before w
 
     go : (b : Bool) → list_any (ends_by service tei) (seen_far behind v) ≡ b → b ≡ true
     go true e = refl

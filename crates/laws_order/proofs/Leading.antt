@@ -1,11 +1,11 @@
 -- Two cards whose links face each other: where anything that happens at one of them leads.
 use Rattle.laws_order.proofs.Vocabulary.{arith, ◌≡◌, ℕ, Bool, true, false, cond, List, [], ◌∷◌, ◌++◌, drop, Result, Ok, Err, refl, sym, ap, ◌∙◌, subst, append-nil, ◌⊎◌, inl, inr, get_or-set_other, ReadFault, Service, Parts, other_side, reading, Link, LinkEndpoint, Joined, joined-turned, done-at, came, Config, hears, expiry, request, next, heard_side, link_of, line_at, after_is_sound, by_room}
-use Rattle.laws_order.proofs.Vocabulary.{Seen, seen, Endpoint, Wire, requests, expires, sends, receives, loses, answered, happens, without_first, Event, is_of_link, of_link_in, of_link_at, AnyStep, step, disturbed, elsewhere, IsNotOf, IsElsewhere, IsPossibleAt, elsewhere_on, befalling, seen_by, data_noted, data_granted, of_link_on, stream_frame, StreamEvent, FramesEvent, link_frame, LinkEvent}
+use Rattle.laws_order.proofs.Vocabulary.{Seen, seen, Endpoint, Wire, requests, expires, sends, receives, loses, answered, happens, without_first, Event, is_of_link, of_link_in, of_link_at, AnyStep, step, disturbed, elsewhere, IsNotOf, IsElsewhere, IsPossibleAt, elsewhere_on, any_acting, seen_by, data_noted, data_granted, of_link_on, stream_frame, StreamEvent, FramesEvent, link_frame, LinkEvent}
 use Rattle.laws_order.proofs.Vocabulary.{requested, offer, expired, received, nat_lt, at, frame_comes, own_side}
 use Rattle.model_link.specs.TwoEnds as two
 use Rattle.model_card.specs.Machine.{after}
 use Rattle.laws_order.proofs.Does.{Has, Does, IsKind}
-use Rattle.laws_order.proofs.Pairs.{frame-same, link_here, facing, Pair, Led, Falls, station-does, leaves-still, leaves-granted, linked, granted-by, up-by, expired-still, asked-still, offer-still}
+use Rattle.laws_order.proofs.Pairs.{frame-same, link_here, facing, Pair, Led, Falls, endpoint-does, leaves-still, leaves-granted, linked, granted-by, up-by, expired-still, asked-still, offer-still}
 
 module _ (service : Service) (tei : ℕ) where
   -- The same is seen, and the same end stands there.
@@ -46,7 +46,7 @@ module _ (service : Service) (tei : ℕ) where
     by-kind x none other is kind = absurd kind
 
     pub event-led : NotHeard s.card.config e → Falls service tei w' t ⊎ Led service tei w w' dn dm t
-    event-led none = go (station-does service tei s h.near h.joined.near_up e)
+    event-led none = go (endpoint-does service tei s h.near h.joined.near_up e)
       where
         go : Does s.card.config service tei (link_here service tei s) (link_here service tei (happens e s)) e (answered e s) → Falls service tei w' t ⊎ Led service tei w w' dn dm t
         go (inl ended) = inl ended
@@ -156,7 +156,7 @@ module _ (service : Service) (tei : ℕ) where
 
       pub frame-led : Falls service tei later shown ⊎ Led service tei before later dn dm shown
       frame-led =
-          elim (station-does service tei near h.near h.joined.near_up heard) [
+          elim (endpoint-does service tei near h.near h.joined.near_up heard) [
             | inl ended ↦ inl ended
             | inr (inl x) ↦
                 inr (arrives (
@@ -180,13 +180,13 @@ module _ (service : Service) (tei : ℕ) where
       grind (arith, facing, append-nil, link_here)
 
   takes-led : (near far : Endpoint) (way : List (List ℕ)) (dn dm : List (List ℕ)) → let w : Wire = record { near = near; far = record far { way = way } } in
-      Pair service tei w dn dm → let t = seen_by (step receives) w in Falls service tei (befalling (step receives) w) t ⊎ Led service tei w (befalling (step receives) w) dn dm t
+      Pair service tei w dn dm → let t = seen_by (step receives) w in Falls service tei (any_acting (step receives) w) t ⊎ Led service tei w (any_acting (step receives) w) dn dm t
   takes-led near far [] dn dm h = inr (unchanged (record { near = near; far = record far { way = [] } }) dn dm h)
   takes-led near far (octets ∷ rest) dn dm h =
       let w : Wire = record { near = near; far = record far { way = octets ∷ rest } } in
       let e = hears (came near.card.config.n201 octets) in
       let t = seen e (answered e near) in
-      seen-so w (befalling (step receives) w) dn dm t (t ++ []) (sym (append-nil t)) (frame-led near far octets rest dn dm h)
+      seen-so w (any_acting (step receives) w) dn dm t (t ++ []) (sym (append-nil t)) (frame-led near far octets rest dn dm h)
 
   -- another line
   pub other-line : (s : Endpoint) (e : FramesEvent) → IsElsewhere s e → line_at s.line (after e s.card) ≡ line_at s.line s.card
@@ -213,8 +213,8 @@ module _ (service : Service) (tei : ℕ) where
   pub not-heard : (c : Config) (what : StreamEvent) → IsNotOf service tei c what → NotHeard c (hears what)
   not-heard c what is octets e = grind arith
 
-  pub near-led : (deed : AnyStep) (w : Wire) (dn dm : List (List ℕ)) → IsPossibleAt service tei w.near deed → Pair service tei w dn dm
-      → let t = seen_by deed w in Falls service tei (befalling deed w) t ⊎ Led service tei w (befalling deed w) dn dm t
+  pub near-led : (act : AnyStep) (w : Wire) (dn dm : List (List ℕ)) → IsPossibleAt service tei w.near act → Pair service tei w dn dm
+      → let t = seen_by act w in Falls service tei (any_acting act w) t ⊎ Led service tei w (any_acting act w) dn dm t
   near-led (step (requests r)) w dn dm is h =
       let t = seen (request r) (answered (request r) w.near) in
       seen-so w _ dn dm t (t ++ []) (sym (append-nil t)) (event-led w dn dm h (request r) (λ octets e. cc e))

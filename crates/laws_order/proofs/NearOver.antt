@@ -1,12 +1,12 @@
 -- The far end lasts in its establishment, and that of the near end is over: what happens at the near end.
 use Rattle.laws_order.proofs.Vocabulary.{arith, ◌≡◌, ℕ, ◌+◌, ◌≤◌, false, IsTrue, List, [], ◌∷◌, ◌++◌, length, take, sym, ap, ◌∙◌, subst, true≢false, ◌⊎◌, Control, Service, Parts, other_side, reading, State, Link, is_multiple_frame, frames_of, came, Config, hears, expiry, request, next, heard_side, link_of, terms, after_is_sound, Endpoint, Wire, requests, expires, sends, receives, loses, happens}
-use Rattle.laws_order.proofs.Vocabulary.{Event, of_link_at, AnyStep, step, disturbed, elsewhere, IsElsewhere, IsPossibleAt, elsewhere_on, befalling, of_link_on, stream_frame, FramesEvent, at, own_side}
+use Rattle.laws_order.proofs.Vocabulary.{Event, of_link_at, AnyStep, step, disturbed, elsewhere, IsElsewhere, IsPossibleAt, elsewhere_on, any_acting, of_link_on, stream_frame, FramesEvent, at, own_side}
 use Rattle.laws_order.proofs.Down.{Speaks}
 use Rattle.laws_order.proofs.Lasting.{Calls, calls-report, calls-plain, speaks-answered, speaks-unheeded, Brought, brought-tail, brought-front, brought-more, brought-plain}
 use Rattle.laws_order.proofs.Leading.{Read, read, none_of_it, one_of_it, NotHeard, not-heard, other-line}
 use Rattle.laws_order.proofs.Pairs.{link_here, IsWell, way_here}
 use Rattle.laws_order.proofs.Putting.{Each, Awaited, each-back}
-use Rattle.laws_order.proofs.Saying.{Grown, NotUi, HeardIs, on_line, station-down, station-goes}
+use Rattle.laws_order.proofs.Saying.{Grown, NotUi, HeardIs, on_line, endpoint-down, endpoint-goes}
 
 all-awaited : (to : State) → Awaited Calls to
 all-awaited to = grind arith
@@ -15,7 +15,7 @@ module _ (service : Service) (tei : ℕ) where
   abbrev line_of : Endpoint → List Parts
   line_of s = on_line service tei s
 
-  -- The first frame on the way of a station is one of the link, or not.
+  -- The first frame on the way of an endpoint is one of the link, or not.
   pub data IsFirst (s : Endpoint) (octets : List ℕ) (rest : List (List ℕ)) : Type 0 where
     other_first : of_link_at service tei (own_side s.card.config) octets ≡ [] → line_of (record s { way = octets ∷ rest }) ≡ line_of (record s { way = rest }) → IsFirst s octets rest
     its_first : (f : Parts) → of_link_at service tei (own_side s.card.config) octets ≡ f ∷ [] → line_of (record s { way = octets ∷ rest }) ≡ f ∷ line_of (record s { way = rest }) → IsFirst s octets rest
@@ -76,13 +76,13 @@ module _ (service : Service) (tei : ℕ) where
     by-event : (w : Wire) (dm : List (List ℕ)) → Lasts w dm → (e : Event) (way : List (List ℕ)) → Each Speaks (line_of (record w.far { way = way }))
         → HeardIs w.near.card.config service tei Speaks e → GoesOn w (record { near = happens e w.near; far = record w.far { way = way } }) dm
     by-event w dm h e way speech heard = (
-      λ down. station-down service tei w.near h.near e down (λ octets f is its. speaks-unheeded f.control (heard octets f is its)),
+      λ down. endpoint-down service tei w.near h.near e down (λ octets f is its. speaks-unheeded f.control (heard octets f is its)),
       λ down. record {
         near = (record { sound = after_is_sound w.near.card (at w.near.line e) h.near.sound h.near.within; within = h.near.within });
         far = record { sound = h.far.sound; within = h.far.within };
         sides = h.sides;
         up = h.up;
-        line = then (station-goes service tei w.near h.near e Calls calls-report calls-plain (λ octets f is its. speaks-answered Calls f.control (heard octets f is its))
+        line = then (endpoint-goes service tei w.near h.near e Calls calls-report calls-plain (λ octets f is its. speaks-answered Calls f.control (heard octets f is its))
             (all-awaited (link_here service tei (happens e w.near)).state) (λ up. absurd (true≢false (sym up ∙ down)))
             (each-back NotUi (way_here service tei w.near) waits (brought-plain contents (a + k) r (line_of w.near) h.line)));
         low = h.low;
@@ -103,14 +103,14 @@ module _ (service : Service) (tei : ℕ) where
         then o = grind (arith, brought-more, brought-front, way_here)
 
     near-takes : (near far : Endpoint) (way : List (List ℕ)) (dm : List (List ℕ)) → let w : Wire = record { near = near; far = record far { way = way } } in
-        Lasts w dm → GoesOn w (befalling (step receives) w) dm
+        Lasts w dm → GoesOn w (any_acting (step receives) w) dm
     near-takes near far [] dm h = (λ down. down, λ down. h)
     near-takes near far (octets ∷ rest) dm h =
         let x = first-speaks near far h.sides octets rest h.speech in
         by-event (record { near = near; far = record far { way = octets ∷ rest } }) dm h (hears (came near.card.config.n201 octets)) rest x.0 x.1
 
     near-loses : (near far : Endpoint) (way : List (List ℕ)) (dm : List (List ℕ)) → let w : Wire = record { near = record near { way = way }; far = far } in
-        Lasts w dm → Lasts (befalling (step loses) w) dm
+        Lasts w dm → Lasts (any_acting (step loses) w) dm
     near-loses near far [] dm h = h
     near-loses near far (octets ∷ rest) dm h = go (first-is near octets rest)
       where
@@ -138,7 +138,7 @@ module _ (service : Service) (tei : ℕ) where
           },
         )
 
-    pub near-goes : (deed : AnyStep) (w : Wire) (dm : List (List ℕ)) → IsPossibleAt service tei w.near deed → Lasts w dm → GoesOn w (befalling deed w) dm
+    pub near-goes : (act : AnyStep) (w : Wire) (dm : List (List ℕ)) → IsPossibleAt service tei w.near act → Lasts w dm → GoesOn w (any_acting act w) dm
     near-goes (step (requests r)) w dm is h = by-event w dm h (request r) w.far.way h.speech (none-heard w.near.card.config Speaks (request r) (λ octets e. cc e))
     near-goes (step (expires timer)) w dm is h = by-event w dm h (expiry timer) w.far.way h.speech (none-heard w.near.card.config Speaks (expiry timer) (λ octets e. cc e))
     near-goes (step sends) w dm is h = by-event w dm h next w.far.way h.speech (none-heard w.near.card.config Speaks next (λ octets e. cc e))

@@ -1,6 +1,6 @@
 -- The far end lasts in its establishment, and that of the near end is over: what happens at the far end.
 use Rattle.laws_order.proofs.Vocabulary.{◌≡◌, ℕ, ◌+◌, ◌≤◌, cond, IsTrue, List, [], ◌∷◌, ◌++◌, length, take, Option, None, refl, sym, ap, ◌∙◌, subst, append-nil, true≢false, inl, inr, arith, option_to_list, Seq, seq, is_seq, Control, Information, ReceiveReady, ReceiveNotReady, Reject, Service, Parts, other_side, State, Terms, Link, is_multiple_frame, frames_of, Means, frame-taken, came, hears}
-use Rattle.laws_order.proofs.Vocabulary.{expiry, request, next, link_of, terms, after_is_sound, Seen, seen, offer-tells_nothing, frames_given, Endpoint, Wire, requests, expires, sends, receives, loses, answered, happens, frames_by, turned, sides-turned, flat_map-append, Event, of_link_in, of_link_at, AnyStep, step, disturbed, elsewhere, IsElsewhere, IsPossibleAt, elsewhere_on, befalling, seen_by}
+use Rattle.laws_order.proofs.Vocabulary.{expiry, request, next, link_of, terms, after_is_sound, Seen, seen, offer-tells_nothing, frames_given, Endpoint, Wire, requests, expires, sends, receives, loses, answered, happens, frames_by, turned, sides-turned, flat_map-append, Event, of_link_in, of_link_at, AnyStep, step, disturbed, elsewhere, IsElsewhere, IsPossibleAt, elsewhere_on, any_acting, seen_by}
 use Rattle.laws_order.proofs.Vocabulary.{data_noted, StaysEstablished, of_link_on, FramesEvent, link_frame, LinkEvent, cleared, requested, offer, expired, received, after, course, told, at, event-delivers, none-delivered, timer-delivers, own_side, heard_side}
 use Rattle.laws_order.proofs.Does.{Has, Does, IsKind}
 use Rattle.laws_order.proofs.Down.{Speaks}
@@ -8,7 +8,7 @@ use Rattle.laws_order.proofs.Lasting.{speaks-report, speaks-plain, speaks-answer
 use Rattle.laws_order.proofs.Leading.{NotHeard, not-heard, other-line}
 use Rattle.laws_order.proofs.LinkEnds.{Ended, sabme-ends, disc-ends}
 use Rattle.laws_order.proofs.NearOver.{Lasts, IsFirst, other_first, its_first, first-is, comes-so}
-use Rattle.laws_order.proofs.Pairs.{request-grows, timer-same, offer-same, link_here, proper, way_here, station-does}
+use Rattle.laws_order.proofs.Pairs.{request-grows, timer-same, offer-same, link_here, proper, way_here, endpoint-does}
 use Rattle.laws_order.proofs.Putting.{Each, AnsweredAt, Awaited, each-back, each-append}
 use Rattle.laws_order.proofs.Saying.{NotUi, each-as, event-grows, on_line}
 
@@ -149,7 +149,7 @@ module _ (service : Service) (tei : ℕ) where
         by-far : ((f : Parts) → IsKind far.card.config service tei e (received (link_frame f))
             → (top : ℕ) × (l.r ≤ top) × Brings contents (a + k) l.r top f.info f.control × Brought contents (a + k) top (line_of (record near { way = way })))
             → Brought contents (a + k) l.r (line_of (record near { way = way })) → Last w' (dm ++ data_noted service tei t)
-        by-far first line = go (station-does service tei far h.far h.up e)
+        by-far first line = go (endpoint-does service tei far h.far h.up e)
           where
             go : Does far.card.config service tei l l' e (answered e far) → Last w' (dm ++ data_noted service tei t)
             go (inl ended) = absurd (true≢false (sym ended.0 ∙ stays))
@@ -174,7 +174,7 @@ module _ (service : Service) (tei : ℕ) where
     unchanged w dm h = subst (Last w) (sym (append-nil dm)) h
 
     far-takes : (near far : Endpoint) (way : List (List ℕ)) (dm : List (List ℕ)) → let w : Wire = record { near = record near { way = way }; far = far } in
-        Last w dm → let t = seen_by (step receives) (turned w) in StaysEstablished service tei t → Then (turned (befalling (step receives) (turned w))) dm t
+        Last w dm → let t = seen_by (step receives) (turned w) in StaysEstablished service tei t → Then (turned (any_acting (step receives) (turned w))) dm t
     far-takes near far [] dm h stays = unchanged (record { near = record near { way = [] }; far = far }) dm h
     far-takes near far (octets ∷ rest) dm h stays =
         let e = hears (came far.card.config.n201 octets) in
@@ -205,7 +205,7 @@ module _ (service : Service) (tei : ℕ) where
             (brought-tail contents (a + k) r g (line_of (record near { way = rest })) line)
 
     far-loses : (near far : Endpoint) (way : List (List ℕ)) (dm : List (List ℕ)) → Last (record { near = near; far = record far { way = way } }) dm
-        → Last (turned (befalling (step loses) (record { near = record far { way = way }; far = near }))) dm
+        → Last (turned (any_acting (step loses) (record { near = record far { way = way }; far = near }))) dm
     far-loses near far o dm h = grind (arith, first-is, other_first, its_first)
 
     far-elsewhere : (w : Wire) (dm : List (List ℕ)) (e : FramesEvent) → IsElsewhere w.far e → Last w dm → Last (record w { far = elsewhere_on e w.far }) dm
@@ -226,8 +226,8 @@ module _ (service : Service) (tei : ℕ) where
           accepted = x.5;
         }
 
-    pub far-goes : (deed : AnyStep) (w : Wire) (dm : List (List ℕ)) → IsPossibleAt service tei w.far deed → Last w dm
-        → let t = seen_by deed (turned w) in StaysEstablished service tei t → Then (turned (befalling deed (turned w))) dm t
+    pub far-goes : (act : AnyStep) (w : Wire) (dm : List (List ℕ)) → IsPossibleAt service tei w.far act → Last w dm
+        → let t = seen_by act (turned w) in StaysEstablished service tei t → Then (turned (any_acting act (turned w))) dm t
     far-goes (step (requests r)) w dm is h stays = unheard w dm h (request r) (λ octets e. cc e) stays
     far-goes (step (expires timer)) w dm is h stays = unheard w dm h (expiry timer) (λ octets e. cc e) stays
     far-goes (step sends) w dm is h stays = unheard w dm h next (λ octets e. cc e) stays

@@ -1,6 +1,6 @@
 -- Whole runs of two cards whose links face each other.
 use Rattle.laws_order.proofs.Vocabulary.{arith, ◌≡◌, ℕ, suc, ◌≤◌, false, List, [], ◌∷◌, ◌++◌, take, drop, refl, sym, ap, ◌∙◌, subst, append-nil, append_assoc, true≢false, ◌⊎◌, inl, inr, All, list_any, All-nil, All-cons, All-head, All-tail, list_any-append, Service, other_side, Link, is_multiple_frame, joined-turned, rising-low, terms, Seen, IsFront, Endpoint, Wire, turned, sides-turned}
-use Rattle.laws_order.proofs.Vocabulary.{flat_map-append, AnyStep, befalling, AnyStepAt, by_near, by_far, IsPossible, seen_by, seen_near, seen_far, noted_in, data_noted, data_granted, ends_by, StaysEstablished, Past, known, FaceInStep, kept_by, DeliveredInOrder, or_parts}
+use Rattle.laws_order.proofs.Vocabulary.{flat_map-append, AnyStep, any_acting, AnyStepAt, any_near, any_far, IsPossible, seen_by, seen_near, seen_far, noted_in, data_noted, data_granted, ends_by, StaysEstablished, Past, known, FaceInStep, kept_by, DeliveredInOrder, or_parts}
 use Rattle.model_link.proofs.Direction.{line_of}
 use Rattle.laws_order.proofs.Beginning.{had, begins-pair, kept-is}
 use Rattle.laws_order.proofs.Leading.{near-led}
@@ -17,11 +17,11 @@ pub record StaysAt (s s' : Endpoint) : Type 0 where
 same-place : (s : Endpoint) → StaysAt s s
 same-place s = record { config = refl; line = refl }
 
-pub near-place : (deed : AnyStep) (w : Wire) → StaysAt w.near (befalling deed w).near
-near-place deed w = grind (arith, same-place)
+pub near-place : (act : AnyStep) (w : Wire) → StaysAt w.near (any_acting act w).near
+near-place act w = grind (arith, same-place)
 
-pub far-place : (deed : AnyStep) (w : Wire) → StaysAt w.far (befalling deed w).far
-far-place deed w = grind (arith, same-place)
+pub far-place : (act : AnyStep) (w : Wire) → StaysAt w.far (any_acting act w).far
+far-place act w = grind (arith, same-place)
 
 both-parts : (n : ℕ) (xs : List (List ℕ)) → xs ≡ take n xs ++ drop n xs
 both-parts (suc n) (x ∷ xs) = ap (λ ys. x ∷ ys) (both-parts n xs)
@@ -73,8 +73,8 @@ module _ (service : Service) (tei : ℕ) where
   unmoved s s' same = ap (λ (y : Link). y.contents) same ∙ sym (append-nil (contents_at s))
 
   -- What happens at one end leaves the link at the other.
-  pub other-link : (deed : AnyStep) (w : Wire) → link_here service tei (befalling deed w).far ≡ link_here service tei w.far
-  other-link deed w = grind arith
+  pub other-link : (act : AnyStep) (w : Wire) → link_here service tei (any_acting act w).far ≡ link_here service tei w.far
+  other-link act w = grind arith
 
   -- where the near end's establishment is over
   module _ (contents : List (List ℕ)) (a k : ℕ) (small : k ≤ 127) where
@@ -85,19 +85,19 @@ module _ (service : Service) (tei : ℕ) where
     lasting-run [] w dm h down all stays =
         let r = (link_here service tei w.far).r in
         record { rest = drop r contents; whole_is = both-parts r contents ∙ ap (λ ds. ds ++ drop r contents) (sym (append-nil dm ∙ h.delivered)) }
-    lasting-run (by_near deed ∷ hs) w dm h down all stays =
-        let w' = befalling deed w in
-        let x = near-goes service tei contents a k small deed w dm (All-head (IsOpen w) (by_near deed) hs all) h in
+    lasting-run (any_near act ∷ hs) w dm h down all stays =
+        let w' = any_acting act w in
+        let x = near-goes service tei contents a k small act w dm (All-head (IsOpen w) (any_near act) hs all) h in
         let down' = x.0 down in
-        lasting-run hs w' dm (x.1 down') down' (all-possible w w' (near-place deed w) (far-place deed w) hs (All-tail (IsOpen w) (by_near deed) hs all)) stays
-    lasting-run (by_far deed ∷ hs) w dm h down all stays =
+        lasting-run hs w' dm (x.1 down') down' (all-possible w w' (near-place act w) (far-place act w) hs (All-tail (IsOpen w) (any_near act) hs all)) stays
+    lasting-run (any_far act ∷ hs) w dm h down all stays =
         let v = turned w in
-        let w' = turned (befalling deed v) in
-        let t = seen_by deed v in
+        let w' = turned (any_acting act v) in
+        let t = seen_by act v in
         let stay = both-stay t (seen_far hs w') stays in
-        let x = far-goes service tei contents a k small deed w dm (All-head (IsOpen w) (by_far deed) hs all) h stay.0 in
-        let rest = lasting-run hs w' (dm ++ data_noted service tei t) x (ap (λ (y : Link). is_multiple_frame y.state) (other-link deed v) ∙ down)
-        (all-possible w w' (far-place deed v) (near-place deed v) hs (All-tail (IsOpen w) (by_far deed) hs all)) stay.1 in
+        let x = far-goes service tei contents a k small act w dm (All-head (IsOpen w) (any_far act) hs all) h stay.0 in
+        let rest = lasting-run hs w' (dm ++ data_noted service tei t) x (ap (λ (y : Link). is_multiple_frame y.state) (other-link act v) ∙ down)
+        (all-possible w w' (far-place act v) (near-place act v) hs (All-tail (IsOpen w) (any_far act) hs all)) stay.1 in
         record {
           rest = rest.rest;
           whole_is = rest.whole_is ∙ ap (λ xs. xs ++ rest.rest) (append_assoc dm (data_noted service tei t) (data_noted service tei (seen_far hs w')) ∙ ap (λ xs. dm ++ xs) (sym (noted-append t (seen_far hs w'))));
@@ -119,52 +119,52 @@ module _ (service : Service) (tei : ℕ) where
       → StaysEstablished service tei (seen_far hs w) → IsInOrder hs w dm
   unfolding seen_near seen_far
   all-led [] w dn dm h all far = front-now (turned w) dm dn (turned-pair w dn dm h)
-  all-led (by_near deed ∷ hs) w dn dm h all far =
-      go (λ x. all-led hs (befalling deed w) (dn ++ data_noted service tei (seen_by deed w)) dm x.pair
-      (all-possible w (befalling deed w) (near-place deed w) (far-place deed w) hs (All-tail (IsOpen w) (by_near deed) hs all)) far)
-      (near-led service tei deed w dn dm (All-head (IsOpen w) (by_near deed) hs all) h)
+  all-led (any_near act ∷ hs) w dn dm h all far =
+      go (λ x. all-led hs (any_acting act w) (dn ++ data_noted service tei (seen_by act w)) dm x.pair
+      (all-possible w (any_acting act w) (near-place act w) (far-place act w) hs (All-tail (IsOpen w) (any_near act) hs all)) far)
+      (near-led service tei act w dn dm (All-head (IsOpen w) (any_near act) hs all) h)
     where
       w' : Wire
-      w' = befalling deed w
+      w' = any_acting act w
 
       t : List Seen
-      t = seen_by deed w
+      t = seen_by act w
 
       later : All (IsOpen w') hs
-      later = all-possible w w' (near-place deed w) (far-place deed w) hs (All-tail (IsOpen w) (by_near deed) hs all)
+      later = all-possible w w' (near-place act w) (far-place act w) hs (All-tail (IsOpen w) (any_near act) hs all)
 
-      go : (Led service tei w w' dn dm t → IsInOrder hs w' dm) → Falls service tei w' t ⊎ Led service tei w w' dn dm t → IsInOrder (by_near deed ∷ hs) w dm
+      go : (Led service tei w w' dn dm t → IsInOrder hs w' dm) → Falls service tei w' t ⊎ Led service tei w w' dn dm t → IsInOrder (any_near act ∷ hs) w dm
       go later-on (inl fallen) =
           let a = (link_here service tei w.near).a in
           let k = (terms w.near.card.config service tei).k in
           let small = h.joined.near_ranges.k_high in
-          let x = near-goes service tei (contents_at w.near) a k small deed w dm (All-head (IsOpen w) (by_near deed) hs all) (pair-lasts w dn dm h) in
+          let x = near-goes service tei (contents_at w.near) a k small act w dm (All-head (IsOpen w) (any_near act) hs all) (pair-lasts w dn dm h) in
           with-more (dm ++ data_noted service tei (seen_far hs w')) (contents_at w.near) (data_granted service tei (t ++ seen_near hs w'))
           (lasting-run (contents_at w.near) a k small hs w' dm (x.1 fallen.1) fallen.1 later far)
       go later-on (inr x) =
           front-before dm [] (seen_far hs w') (contents_at w.near) (contents_at w'.near) t (seen_near hs w') x.granted
           (subst (λ ds. IsFront (ds ++ data_noted service tei (seen_far hs w')) (contents_at w'.near ++ data_granted service tei (seen_near hs w'))) (sym (append-nil dm))
           (later-on x))
-  all-led (by_far deed ∷ hs) w dn dm h all far =
-      go (λ x stays. all-led hs (turned (befalling deed (turned w))) dn (dm ++ data_noted service tei (seen_by deed (turned w)))
-      (turned-pair (befalling deed (turned w)) (dm ++ data_noted service tei (seen_by deed (turned w))) dn x.pair)
-      (all-possible w (turned (befalling deed (turned w))) (far-place deed (turned w)) (near-place deed (turned w)) hs (All-tail (IsOpen w) (by_far deed) hs all)) stays)
-      (near-led service tei deed (turned w) dm dn (All-head (IsOpen w) (by_far deed) hs all) (turned-pair w dn dm h))
+  all-led (any_far act ∷ hs) w dn dm h all far =
+      go (λ x stays. all-led hs (turned (any_acting act (turned w))) dn (dm ++ data_noted service tei (seen_by act (turned w)))
+      (turned-pair (any_acting act (turned w)) (dm ++ data_noted service tei (seen_by act (turned w))) dn x.pair)
+      (all-possible w (turned (any_acting act (turned w))) (far-place act (turned w)) (near-place act (turned w)) hs (All-tail (IsOpen w) (any_far act) hs all)) stays)
+      (near-led service tei act (turned w) dm dn (All-head (IsOpen w) (any_far act) hs all) (turned-pair w dn dm h))
     where
       v : Wire
       v = turned w
 
       w' : Wire
-      w' = turned (befalling deed v)
+      w' = turned (any_acting act v)
 
       t : List Seen
-      t = seen_by deed v
+      t = seen_by act v
 
       stay : StaysEstablished service tei t × StaysEstablished service tei (seen_far hs w')
       stay = both-stay t (seen_far hs w') far
 
-      go : (Led service tei v (befalling deed v) dm dn t → StaysEstablished service tei (seen_far hs w') → IsInOrder hs w' (dm ++ data_noted service tei t))
-          → Falls service tei (befalling deed v) t ⊎ Led service tei v (befalling deed v) dm dn t → IsInOrder (by_far deed ∷ hs) w dm
+      go : (Led service tei v (any_acting act v) dm dn t → StaysEstablished service tei (seen_far hs w') → IsInOrder hs w' (dm ++ data_noted service tei t))
+          → Falls service tei (any_acting act v) t ⊎ Led service tei v (any_acting act v) dm dn t → IsInOrder (any_far act ∷ hs) w dm
       go later-on (inl fallen) = absurd (true≢false (sym fallen.0 ∙ stay.0))
       go later-on (inr x) =
           front-before dm t (seen_far hs w') (contents_at w.near) (contents_at w'.near) [] (seen_near hs w') (unmoved w.near w'.near x.other)
@@ -195,8 +195,8 @@ module _ (service : Service) (tei : ℕ) where
 
   -- The same from the other end.
   abbrev swapped : AnyStepAt → AnyStepAt
-  swapped (by_near deed) = by_far deed
-  swapped (by_far deed) = by_near deed
+  swapped (any_near act) = any_far act
+  swapped (any_far act) = any_near act
 
   abbrev all_swapped : List AnyStepAt → List AnyStepAt
   all_swapped [] = []
@@ -205,14 +205,14 @@ module _ (service : Service) (tei : ℕ) where
   near-is : (hs : List AnyStepAt) (w : Wire) → seen_near hs w ≡ seen_far (all_swapped hs) (turned w)
   unfolding seen_near seen_far
   near-is [] w = refl
-  near-is (by_near deed ∷ hs) w = ap (λ t. seen_by deed w ++ t) (near-is hs (befalling deed w))
-  near-is (by_far deed ∷ hs) w = near-is hs (turned (befalling deed (turned w)))
+  near-is (any_near act ∷ hs) w = ap (λ t. seen_by act w ++ t) (near-is hs (any_acting act w))
+  near-is (any_far act ∷ hs) w = near-is hs (turned (any_acting act (turned w)))
 
   far-is : (hs : List AnyStepAt) (w : Wire) → seen_far hs w ≡ seen_near (all_swapped hs) (turned w)
   unfolding seen_near seen_far
   far-is [] w = refl
-  far-is (by_near deed ∷ hs) w = far-is hs (befalling deed w)
-  far-is (by_far deed ∷ hs) w = ap (λ t. seen_by deed (turned w) ++ t) (far-is hs (turned (befalling deed (turned w))))
+  far-is (any_near act ∷ hs) w = far-is hs (any_acting act w)
+  far-is (any_far act ∷ hs) w = ap (λ t. seen_by act (turned w) ++ t) (far-is hs (turned (any_acting act (turned w))))
 
   one-swapped : (w : Wire) (h : AnyStepAt) → IsOpen w h → IsOpen (turned w) (swapped h)
   one-swapped w h is = grind arith

@@ -117,7 +117,7 @@ module _ (service : Service) (tei : ℕ) where
   abbrev pub way_here : Endpoint → List Parts
   way_here s = of_link_on service tei (own_side s.card.config) s.way
 
-  -- The end of the two links that a station is, of which this was delivered.
+  -- The end of the two links that an endpoint is, of which this was delivered.
   abbrev pub facing : Endpoint → List (List ℕ) → LinkEndpoint
   facing s delivered = record { terms = terms s.card.config service tei; link = link_here service tei s; way = way_here s; delivered = delivered }
 
@@ -137,7 +137,7 @@ module _ (service : Service) (tei : ℕ) where
   abbrev pub Falls : Wire → List Seen → Type 0
   Falls w' t = (list_any (ends_by service tei) t ≡ true) × (is_multiple_frame (link_here service tei w'.near).state ≡ false)
 
-  -- What an event is to the link, at a station.
+  -- What an event is to the link, at an endpoint.
   module _ (s : Endpoint) (well : IsWell s) (up : IsTrue (is_multiple_frame (link_here service tei s).state)) (e : Event) where
     abbrev c : Config
     c = s.card.config
@@ -151,8 +151,8 @@ module _ (service : Service) (tei : ℕ) where
     now : get_or (set s.card.lines s.line (lines.after c e l)) s.line (fresh_line c) ≡ lines.after c e l
     now = get_or-set_same s.card.lines s.line (lines.after c e l) (fresh_line c) (omega (arith, well.sound.count, well.within))
 
-    pub station-does : Does c service tei k (link_here service tei (happens e s)) e (answered e s)
-    station-does =
+    pub endpoint-does : Does c service tei k (link_here service tei (happens e s)) e (answered e s)
+    endpoint-does =
         by_room (λ ls a. Does c service tei k (link_of service tei (get_or ls s.line (fresh_line c))) e a) (at s.line e) s.card
         (λ full. inr (inl (record { is = refl; noted = none-noted service tei e PoolFull; granted = none-granted service tei e PoolFull; frames = refl })))
         (λ room. subst (λ x. Does c service tei k (link_of service tei x) e (lines.answer c e l)) (sym now)

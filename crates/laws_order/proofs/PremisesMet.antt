@@ -1,7 +1,7 @@
 -- The premises of the law are met by the worked run.
 use Rattle.laws_order.proofs.Vocabulary.{◌≡◌, ℕ, ◌<◌, true, List, [], ◌∷◌, ◌++◌, refl, sym, ap, ◌∙◌, arith, All, list_any, leb-true, All-nil, All-cons, User, Network, Service, Call, Packet, other_side, exchanged, reading, side_reading, header_of, control_of, unnumbered_of, supervisory_of, distance_of, named, seq, Assign, request, IsFront, calling, Wire, requests, at, step, IsElsewhere, AnyStepAt}
-use Rattle.laws_order.proofs.Vocabulary.{by_near, by_far}
-use Rattle.laws_order.proofs.Vocabulary.{IsPossible, happening_all, seen_near, seen_far, t200s, IsToldAtLast, IsNotDeactivated, data_noted, data_granted, ends_by, known, IsInStep, FaceInStep, kept_by, StaysEstablished, IsToldOfRelease, news, tei_refusal, tei_course, releases, released, takes_two, far_lasts, awaits, both_release, both_begin_nothing, own_side, heard_side}
+use Rattle.laws_order.proofs.Vocabulary.{any_near, any_far}
+use Rattle.laws_order.proofs.Vocabulary.{IsPossible, any_doing_all, seen_near, seen_far, t200s, IsToldAtLast, IsNotDeactivated, data_noted, data_granted, ends_by, known, IsInStep, FaceInStep, kept_by, StaysEstablished, IsToldOfRelease, news, tei_refusal, tei_course, releases, released, takes_two, far_lasts, awaits, both_release, both_begin_nothing, own_side, heard_side}
 use Rattle.laws_wire.specs.Wire.{acting, at_far, doing, doing_all}
 use Rattle.model_line.specs.Config.{sapi_fault}
 use Rattle.model_line.specs.Machine as lines
@@ -83,26 +83,26 @@ call-in-order = told-in-order faces pasts busy_run call-looks possible far_stays
 -- Runs in which only frames, timers and requests come.
 abbrev OnlyActs : List AnyStepAt → Type 0
 OnlyActs [] = Unit {0}
-OnlyActs (by_near (step act) ∷ hs) = OnlyActs hs
-OnlyActs (by_far (step act) ∷ hs) = OnlyActs hs
+OnlyActs (any_near (step act) ∷ hs) = OnlyActs hs
+OnlyActs (any_far (step act) ∷ hs) = OnlyActs hs
 OnlyActs (h ∷ hs) = ⊥
 
-all-happened : (hs : List AnyStepAt) → OnlyActs hs → (w : Wire) → Pasts w → Pasts (happening_all hs w)
-unfolding happening_all
+all-happened : (hs : List AnyStepAt) → OnlyActs hs → (w : Wire) → Pasts w → Pasts (any_doing_all hs w)
+unfolding any_doing_all
 all-happened [] only w h = h
-all-happened (by_near (step act) ∷ hs) only w h = all-happened hs only (acting act w) (past-acted act w h)
-all-happened (by_far (step act) ∷ hs) only w h = all-happened hs only (doing (at_far act) w) (past-done (at_far act) w h)
+all-happened (any_near (step act) ∷ hs) only w h = all-happened hs only (acting act w) (past-acted act w h)
+all-happened (any_far (step act) ∷ hs) only w h = all-happened hs only (doing (at_far act) w) (past-done (at_far act) w h)
 all-happened other only w h = absurd only
 
 acts-possible : (w : Wire) (hs : List AnyStepAt) → OnlyActs hs → All (IsOpen w) hs
 acts-possible w [] only = All-nil (IsOpen w)
-acts-possible w (by_near (step act) ∷ hs) only = All-cons (IsOpen w) (by_near (step act)) hs tt (acts-possible w hs only)
-acts-possible w (by_far (step act) ∷ hs) only = All-cons (IsOpen w) (by_far (step act)) hs tt (acts-possible w hs only)
+acts-possible w (any_near (step act) ∷ hs) only = All-cons (IsOpen w) (any_near (step act)) hs tt (acts-possible w hs only)
+acts-possible w (any_far (step act) ∷ hs) only = All-cons (IsOpen w) (any_far (step act)) hs tt (acts-possible w hs only)
 acts-possible w other only = absurd only
 
 -- and in the midst of data: where something is received that is not acknowledged, and the N(R) on the other way is from before
 owing-looks : Looks Call owes
-unfolding lines.after lines.answer lines.takes_slot exchanged reading side_reading header_of control_of unnumbered_of supervisory_of tei_course tei_refusal seq distance_of named doing_all happening_all
+unfolding lines.after lines.answer lines.takes_slot exchanged reading side_reading header_of control_of unnumbered_of supervisory_of tei_course tei_refusal seq distance_of named doing_all any_doing_all
 owing-looks = grind (arith, leb-true)
 
 more-in-order : FarInOrder owes (all-happened sends_one tt faces pasts) sends_more
@@ -110,10 +110,10 @@ more-in-order = told-in-order owes (all-happened sends_one tt faces pasts) sends
 
 -- and where an RNR waits
 abbrev own_busy : List AnyStepAt
-own_busy = by_far (step (requests (SetBusy Call 0))) ∷ []
+own_busy = any_far (step (requests (SetBusy Call 0))) ∷ []
 
 busy-looks : Looks Call busy_waits
-unfolding lines.after lines.answer lines.takes_slot exchanged reading side_reading header_of control_of unnumbered_of supervisory_of tei_course tei_refusal seq distance_of named doing_all happening_all
+unfolding lines.after lines.answer lines.takes_slot exchanged reading side_reading header_of control_of unnumbered_of supervisory_of tei_course tei_refusal seq distance_of named doing_all any_doing_all
 busy-looks = grind (arith, leb-true)
 
 cleared-in-order : FarInOrder busy_waits (all-happened own_busy tt faces pasts) clears
@@ -121,7 +121,7 @@ cleared-in-order = told-in-order busy_waits (all-happened own_busy tt faces past
 
 -- and where one end recovers, in state 8
 asking-looks : Looks Call enquires
-unfolding lines.after lines.answer lines.takes_slot exchanged reading side_reading header_of control_of unnumbered_of supervisory_of tei_course tei_refusal seq distance_of named doing_all happening_all
+unfolding lines.after lines.answer lines.takes_slot exchanged reading side_reading header_of control_of unnumbered_of supervisory_of tei_course tei_refusal seq distance_of named doing_all any_doing_all
 asking-looks = grind (arith, leb-true)
 
 asked-in-order : FarInOrder enquires (all-happened asks_state tt faces pasts) recovers
@@ -129,7 +129,7 @@ asked-in-order = told-in-order enquires (all-happened asks_state tt faces pasts)
 
 -- and where I-frames are on their way behind UA
 early-looks : Looks Call early
-unfolding lines.after lines.answer lines.takes_slot exchanged reading side_reading header_of control_of unnumbered_of supervisory_of tei_course tei_refusal seq distance_of named doing_all happening_all
+unfolding lines.after lines.answer lines.takes_slot exchanged reading side_reading header_of control_of unnumbered_of supervisory_of tei_course tei_refusal seq distance_of named doing_all any_doing_all
 early-looks = grind (arith, leb-true)
 
 early-pasts : Pasts early
@@ -163,7 +163,7 @@ all-active [] h = All-nil (IsNotDeactivated Call 0)
 all-active (x ∷ hs) h = All-cons (IsNotDeactivated Call 0) x hs h.0 (all-active hs h.1)
 
 first-lasts : StaysEstablished Call 0 (seen_far releases faces)
-unfolding lines.after lines.answer lines.takes_slot exchanged reading side_reading header_of control_of unnumbered_of supervisory_of tei_course tei_refusal seq distance_of named doing_all happening_all seen_far
+unfolding lines.after lines.answer lines.takes_slot exchanged reading side_reading header_of control_of unnumbered_of supervisory_of tei_course tei_refusal seq distance_of named doing_all any_doing_all seen_far
 first-lasts = refl
 
 both-told : list_any (ends_by Call 0) (seen_far goes_on_to_the_end released) ≡ true

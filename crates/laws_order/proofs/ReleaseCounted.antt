@@ -1,6 +1,6 @@
 -- An end that releases its link counts in RC the expiries of T200, until it is told.
 use Rattle.laws_order.proofs.Vocabulary.{◌≡◌, ℕ, ◌+◌, ◌≤◌, Bool, true, false, cond, List, [], ◌∷◌, ◌++◌, get_or, set, Option, Some, None, refl, sym, ap, ◌∙◌, subst, arith, ◌⊎◌, inl, inr, All, filter, length, nat_lt, ltb-true, get_or-set_same, All-head, Note, Service, TeiAssigned, AwaitingRelease, Terms, LinkTimer, T200, Link, Config, Line, fresh_line, link_of, place_in, terms, line_at, wants_room}
-use Rattle.laws_order.proofs.Vocabulary.{has_lines, by_room, event-follows, timed-after, Seen, none-ticks, own-is, Goes, event-goes, expired_of, off-fresh, nothing_yet, Endpoint, Wire, happens, fresh, Event, at, line_of, AnyStepAt, IsPossible, happening, seen_at_near, seen_near, is_t200, t200_by, t200s, news, LinkEvent, expired, after, flat_map-append, news_in}
+use Rattle.laws_order.proofs.Vocabulary.{has_lines, by_room, event-follows, timed-after, Seen, none-ticks, own-is, Goes, event-goes, expired_of, off-fresh, nothing_yet, Endpoint, Wire, happens, fresh, Event, at, line_of, AnyStepAt, IsPossible, any_doing, seen_at_near, seen_near, is_t200, t200_by, t200s, news, LinkEvent, expired, after, flat_map-append, news_in}
 use Rattle.model_line.specs.Machine as lines
 use Rattle.model_line.specs.Sound as line_sound
 use Rattle.model_card.proofs.Steps.{line_sound as sound_line}
@@ -59,7 +59,7 @@ module _ (service : Service) (tei : ℕ) where
         go (inr (inl x)) = grind (arith, own-is, timed-after, event-follows, expires, nat_lt)
         go (inr (inr x)) = not-fresh k' stays x.is (Counted Own k k' (count_of e))
 
-  -- At a station.
+  -- At an endpoint.
   module _ (s : Endpoint) (well : IsWell s) (e : Event) where
     abbrev conf : Config
     conf = s.card.config
@@ -81,8 +81,8 @@ module _ (service : Service) (tei : ℕ) where
     abbrev Then : Line → Type 0
     Then x = (link_of service tei x).state ≡ AwaitingRelease → Counted (terms conf service tei) Was (link_of service tei x) (count_of e)
 
-    station-counts : Was.state ≡ AwaitingRelease → Was.running ≡ Some T200 → Then (line_of (happens e s))
-    station-counts is runs-on =
+    endpoint-counts : Was.state ≡ AwaitingRelease → Was.running ≡ Some T200 → Then (line_of (happens e s))
+    endpoint-counts is runs-on =
         by_room (λ ls a. Then (get_or ls s.line (fresh_line conf))) (at s.line e) s.card
         (λ full stays. (grind (arith, full-none e full)))
         (λ room. subst Then (sym now) (line-counts conf here (sound_line s.card s.line (has_lines s.card well.sound) well.within) e is runs-on))
@@ -100,7 +100,7 @@ module _ (service : Service) (tei : ℕ) where
   step-counts w w' t es well is runs-on (one_there e it shown one) stays = (
     subst (λ es. Counted (Own_ w) (Here w) (Here w') (length (filter (is_t200 service tei) es))) (sym one)
         (subst (λ s. Counted (Own_ w) (Here w) (link_here service tei s) (count_of e)) (sym it)
-        (station-counts w.near well e is runs-on (sym (ap (λ (s : Endpoint). (link_here service tei s).state) it) ∙ stays))),
+        (endpoint-counts w.near well e is runs-on (sym (ap (λ (s : Endpoint). (link_here service tei s).state) it) ∙ stays))),
     ap (λ (s : Endpoint). s.card.config) it,
   )
 
@@ -125,7 +125,7 @@ module _ (service : Service) (tei : ℕ) where
       go o (λ well' is' runs-on' none'. run-counts hs w' well' is' runs-on' (later service tei h hs w all) none') (step-six service tei w w' t es well is o)
     where
       w' : Wire
-      w' = happening h w
+      w' = any_doing h w
 
       t : List Seen
       t = seen_at_near h w

@@ -1,11 +1,11 @@
 -- What an end is told of its link in state 6, and in state 4, whatever happens at it and at the other end.
 use Rattle.laws_order.proofs.Vocabulary.{arith, ◌≡◌, ℕ, List, [], ◌∷◌, ◌++◌, refl, sym, ap, ◌∙◌, subst, append-nil, ◌⊎◌, inl, inr, All, list_any, All-head, All-tail, list_any-append, Note, Service, TeiAssigned, AwaitingRelease, Link, came, hears, expiry, request, next, after_is_sound, Seen, seen, Endpoint, Wire, requests, expires, sends, receives, loses, answered, happens, turned, flat_map-append}
-use Rattle.laws_order.proofs.Vocabulary.{Event, line_of, AnyStep, step, disturbed, elsewhere, befalling, AnyStepAt, by_near, by_far, IsPossible, happening, IsPossibleAt, events_here, seen_by, seen_at_near, seen_near, data_noted, news, begins_by, BeginsNothing, IsToldOfRelease, ReleasesEnd, ReleasedIsOver, or_parts, at}
+use Rattle.laws_order.proofs.Vocabulary.{Event, line_of, AnyStep, step, disturbed, elsewhere, any_acting, AnyStepAt, any_near, any_far, IsPossible, any_doing, IsPossibleAt, events_here, seen_by, seen_at_near, seen_near, data_noted, news, begins_by, BeginsNothing, IsToldOfRelease, ReleasesEnd, ReleasedIsOver, or_parts, at}
 use Rattle.laws_order.proofs.Beginning.{past-well, six-here, four-here}
 use Rattle.laws_order.proofs.Leading.{other-line}
 use Rattle.laws_order.proofs.Ordered.{noted-append, near-place, far-place, all-possible}
 use Rattle.laws_order.proofs.Pairs.{link_here, IsWell}
-use Rattle.laws_order.proofs.ReleasedAt.{Confirm, GivenUp, Confirmless, SixAt, station-six, station-four}
+use Rattle.laws_order.proofs.ReleasedAt.{Confirm, GivenUp, Confirmless, SixAt, endpoint-six, endpoint-four}
 
 module _ (service : Service) (tei : ℕ) where
   -- Whatever happens at an end, it is one event there, or none.
@@ -20,11 +20,11 @@ module _ (service : Service) (tei : ℕ) where
   one-event w w' e is = one_there e is (append-nil (seen e (answered e w.near))) refl
 
   takes-occurs : (near far : Endpoint) (way : List (List ℕ)) → let w : Wire = record { near = near; far = record far { way = way } } in
-      IsWell near → Occurs w (befalling (step receives) w) (seen_by (step receives) w) (events_here (step receives) w)
+      IsWell near → Occurs w (any_acting (step receives) w) (seen_by (step receives) w) (events_here (step receives) w)
   takes-occurs near far [] well = nothing_there (well, refl, refl) refl refl
   takes-occurs near far (octets ∷ rest) well = one-event _ _ (hears (came near.card.config.n201 octets)) refl
 
-  near-occurs : (deed : AnyStep) (w : Wire) → IsWell w.near → IsPossibleAt service tei w.near deed → Occurs w (befalling deed w) (seen_by deed w) (events_here deed w)
+  near-occurs : (act : AnyStep) (w : Wire) → IsWell w.near → IsPossibleAt service tei w.near act → Occurs w (any_acting act w) (seen_by act w) (events_here act w)
   near-occurs (step (requests r)) w well is = one-event _ _ (request r) refl
   near-occurs (step (expires timer)) w well is = one-event _ _ (expiry timer) refl
   near-occurs (step sends) w well is = one-event _ _ next refl
@@ -33,9 +33,9 @@ module _ (service : Service) (tei : ℕ) where
   near-occurs (disturbed what) w well is = one-event _ _ (hears what) refl
   near-occurs (elsewhere e) w well is = grind (arith, after_is_sound, other-line)
 
-  far-occurs : (deed : AnyStep) (w : Wire) → IsWell w.far → Occurs (turned w) (turned (befalling deed w)) [] []
+  far-occurs : (act : AnyStep) (w : Wire) → IsWell w.far → Occurs (turned w) (turned (any_acting act w)) [] []
   far-occurs (step (requests r)) w well = nothing_there (well, refl, refl) refl refl
-  far-occurs deed w well = grind arith
+  far-occurs act w well = grind arith
 
   pub then-well : (w w' : Wire) (t : List Seen) (es : List Event) → IsWell w.near → Occurs w w' t es → IsWell w'.near
   then-well w w' t es well (nothing_there same none nil) = same.0
@@ -55,7 +55,7 @@ module _ (service : Service) (tei : ℕ) where
       → Occurs w w' t es → ((link_here service tei w'.near).state ≡ TeiAssigned) × Is t []
   step-four w w' t es well is quiet (nothing_there same none nil) = (ap (λ (y : Link). y.state) same.1 ∙ is, ((ap (news service tei) none, ap (data_noted service tei) none)))
   step-four w w' t es well is quiet (one_there e it shown one) =
-      let x = station-four service tei w.near well e (subst (BeginsNothing service tei) shown quiet) is in
+      let x = endpoint-four service tei w.near well e (subst (BeginsNothing service tei) shown quiet) is in
       (ap (λ (s : Endpoint). (link_here service tei s).state) it ∙ x.0, ((ap (news service tei) shown ∙ x.1.0, ap (data_noted service tei) shown ∙ x.1.1)))
 
   -- where a release is confirmed, one of its events may confirm it
@@ -69,7 +69,7 @@ module _ (service : Service) (tei : ℕ) where
 
   pub step-six : (w w' : Wire) (t : List Seen) (es : List Event) → IsWell w.near → (link_here service tei w.near).state ≡ AwaitingRelease → Occurs w w' t es → StepSix w w' t es
   step-six w w' t es well is (nothing_there same none nil) = inl (ap (λ (y : Link). y.state) same.1 ∙ is, ((ap (news service tei) none, ap (data_noted service tei) none)))
-  step-six w w' t es well is (one_there e it shown one) = go (station-six service tei w.near well e is)
+  step-six w w' t es well is (one_there e it shown one) = go (endpoint-six service tei w.near well e is)
     where
       none-of : (Confirmless service tei w.near.card.config e (line_of (happens e w.near)) → ⊥) → MayConfirm w w' es
       none-of never = λ all.
@@ -84,28 +84,28 @@ module _ (service : Service) (tei : ℕ) where
   IsOpen w h = IsPossible service tei w h
 
   abbrev pub events_at : AnyStepAt → Wire → List Event
-  events_at (by_near deed) w = events_here deed w
-  events_at (by_far deed) w = []
+  events_at (any_near act) w = events_here act w
+  events_at (any_far act) w = []
 
-  pub occurs : (h : AnyStepAt) (w : Wire) → IsWell w.near → IsOpen w h → Occurs w (happening h w) (seen_at_near h w) (events_at h w)
-  occurs (by_near deed) w well is = near-occurs deed w well is
-  occurs (by_far deed) w well is = far-occurs deed (turned w) well
+  pub occurs : (h : AnyStepAt) (w : Wire) → IsWell w.near → IsOpen w h → Occurs w (any_doing h w) (seen_at_near h w) (events_at h w)
+  occurs (any_near act) w well is = near-occurs act w well is
+  occurs (any_far act) w well is = far-occurs act (turned w) well
 
-  pub later : (h : AnyStepAt) (hs : List AnyStepAt) (w : Wire) → All (IsOpen w) (h ∷ hs) → All (IsOpen (happening h w)) hs
-  later (by_near deed) hs w all = all-possible service tei w (befalling deed w) (near-place deed w) (far-place deed w) hs (All-tail (IsOpen w) (by_near deed) hs all)
-  later (by_far deed) hs w all =
-      all-possible service tei w (turned (befalling deed (turned w))) (far-place deed (turned w)) (near-place deed (turned w)) hs (All-tail (IsOpen w) (by_far deed) hs all)
+  pub later : (h : AnyStepAt) (hs : List AnyStepAt) (w : Wire) → All (IsOpen w) (h ∷ hs) → All (IsOpen (any_doing h w)) hs
+  later (any_near act) hs w all = all-possible service tei w (any_acting act w) (near-place act w) (far-place act w) hs (All-tail (IsOpen w) (any_near act) hs all)
+  later (any_far act) hs w all =
+      all-possible service tei w (turned (any_acting act (turned w))) (far-place act (turned w)) (near-place act (turned w)) hs (All-tail (IsOpen w) (any_far act) hs all)
 
   pub run-four : (hs : List AnyStepAt) (w : Wire) → IsWell w.near → (link_here service tei w.near).state ≡ TeiAssigned → All (IsOpen w) hs
       → BeginsNothing service tei (seen_near hs w) → Is (seen_near hs w) []
   unfolding seen_near
   run-four [] w well is all quiet = (refl, refl)
   run-four (h ∷ hs) w well is all quiet =
-      let both = both-quiet (seen_at_near h w) (seen_near hs (happening h w)) quiet in
+      let both = both-quiet (seen_at_near h w) (seen_near hs (any_doing h w)) quiet in
       let o = occurs h w well (All-head (IsOpen w) h hs all) in
-      let x = step-four w (happening h w) (seen_at_near h w) (events_at h w) well is both.0 o in
-      joins (seen_at_near h w) (seen_near hs (happening h w)) [] [] x.1
-      (run-four hs (happening h w) (then-well w (happening h w) (seen_at_near h w) (events_at h w) well o) x.0 (later h hs w all) both.1)
+      let x = step-four w (any_doing h w) (seen_at_near h w) (events_at h w) well is both.0 o in
+      joins (seen_at_near h w) (seen_near hs (any_doing h w)) [] [] x.1
+      (run-four hs (any_doing h w) (then-well w (any_doing h w) (seen_at_near h w) (events_at h w) well o) x.0 (later h hs w all) both.1)
 
   abbrev Released : List Seen → Type 0
   Released t = IsToldOfRelease service tei (news service tei t) × (data_noted service tei t ≡ [])
@@ -121,7 +121,7 @@ module _ (service : Service) (tei : ℕ) where
   unfolding seen_near
   run-six [] w well is all quiet = not-yet [] (refl, refl)
   run-six (h ∷ hs) w well is all quiet =
-      let w' = happening h w in
+      let w' = any_doing h w in
       let t = seen_at_near h w in
       let u = seen_near hs w' in
       let both = both-quiet t u quiet in

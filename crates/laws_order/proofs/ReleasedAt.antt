@@ -183,7 +183,7 @@ module _ (service : Service) (tei : ℕ) where
     pub line-four : Quietly → k.state ≡ TeiAssigned → Four k' a
     line-four quiet is = elim (event-goes c e l service tei s) [ inl x ↦ none-four x is | inr (inl x) ↦ one-four x quiet is | inr (inr x) ↦ ended-four x quiet is ]
 
-  -- At a station.
+  -- At an endpoint.
   module _ (s : Endpoint) (well : IsWell s) (e : Event) where
     abbrev conf : Config
     conf = s.card.config
@@ -212,16 +212,16 @@ module _ (service : Service) (tei : ℕ) where
     six-shows : (l : Line) (a : Answer) → Fits e a → Six (Confirmless conf e l → ⊥) (link_of service tei l) a → SixAt l a
     six-shows l a f o = grind (arith, shows)
 
-    pub station-six : (link_here service tei s).state ≡ AwaitingRelease → SixAt (line_of (happens e s)) (answered e s)
-    station-six is =
+    pub endpoint-six : (link_here service tei s).state ≡ AwaitingRelease → SixAt (line_of (happens e s)) (answered e s)
+    endpoint-six is =
         by_room (λ ls a. SixAt (get_or ls s.line (fresh_line conf)) a) (at s.line e) s.card
         (λ full. inl (is, (none-news e PoolFull, none-noted service tei e PoolFull)))
         (λ room. subst (λ x. SixAt x (lines.answer conf e here)) (sym now)
         (six-shows (lines.after conf e here) (lines.answer conf e here) (fits conf e here) (line-six conf well.sound.config here sound e is)))
 
-    pub station-four : BeginsNothing service tei (seen e (answered e s)) → (link_here service tei s).state ≡ TeiAssigned
+    pub endpoint-four : BeginsNothing service tei (seen e (answered e s)) → (link_here service tei s).state ≡ TeiAssigned
         → ((link_here service tei (happens e s)).state ≡ TeiAssigned) × Shows (answered e s) []
-    station-four =
+    endpoint-four =
         by_room (λ ls a. BeginsNothing service tei (seen e a) → (link_here service tei s).state ≡ TeiAssigned
         → ((link_of service tei (get_or ls s.line (fresh_line conf))).state ≡ TeiAssigned) × Shows a []) (at s.line e) s.card
         (λ full quiet is. (is, (none-news e PoolFull, none-noted service tei e PoolFull)))

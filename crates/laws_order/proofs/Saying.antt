@@ -1,4 +1,4 @@
--- The line from a station: the frames of the link that are on their way, and then those that wait; and what an event adds to it, in any
+-- The line from an endpoint: the frames of the link that are on their way, and then those that wait; and what an event adds to it, in any
 -- state of the link.
 use Rattle.laws_order.proofs.Vocabulary.{◌≡◌, ℕ, ◌==◌, ◌&&◌, not, Bool, true, false, cond, IsTrue, List, [], ◌∷◌, ◌++◌, get_or, set, refl, sym, ap, ◌∙◌, subst, arith, append-nil, append_assoc, eq-eqb, ◌⊎◌, inl, inr, All, option_map_or, get_or-set_same, All-nil, All-cons, Seq, Control, Information, Service, Parts, sapi_of, place_of-is, Terms, Link, is_multiple_frame, frame_given, frames_of}
 use Rattle.laws_order.proofs.Vocabulary.{frames-append, given_is_frame, Config, hears, Answer, heard_side, Line, fresh_line, link_in, link_of, terms, sound_in, terms_in_range, line_at, has_lines, by_room, event-follows, IsBy, sapi-is, is_for, is_ui, frames_given, Goes, event-goes, Endpoint, answered, happens, frames_by, flat_map-append, fresh, Event, at, is_of_link, of_link_in, of_link_at}
@@ -141,7 +141,7 @@ module _ (service : Service) (tei : ℕ) where
   abbrev pub on_line : Endpoint → List Parts
   on_line s = way_here service tei s ++ frames_of (terms s.card.config service tei) (link_here service tei s).waiting
 
-  -- An event at a station.
+  -- An event at an endpoint.
   module _ (s : Endpoint) (well : IsWell s) (e : Event) where
     abbrev c : Config
     c = s.card.config
@@ -155,9 +155,9 @@ module _ (service : Service) (tei : ℕ) where
     sound : line_sound.IsSound c l
     sound = sound_line s.card s.line (has_lines s.card well.sound) well.within
 
-    pub station-down : is_multiple_frame (link_here service tei s).state ≡ false → HeardIs c service tei Unheeded e
+    pub endpoint-down : is_multiple_frame (link_here service tei s).state ≡ false → HeardIs c service tei Unheeded e
         → is_multiple_frame (link_here service tei (happens e s)).state ≡ false
-    station-down down heard =
+    endpoint-down down heard =
         by_room (λ ls a. is_multiple_frame (link_of service tei (get_or ls s.line (fresh_line c))).state ≡ false) (at s.line e) s.card (λ full. down)
         (λ room. ap (λ x. is_multiple_frame (link_of service tei x).state) now ∙ line-down c service tei well.sound.config l sound e down heard)
 
@@ -173,10 +173,10 @@ module _ (service : Service) (tei : ℕ) where
           let line = (way_here service tei s ++ of_link_on service tei (own_side c) (frames_by a)) ++ frames_of (terms c service tei) x.waiting in
           Grown P (on_line s) line ⊎ (line ≡ way_here service tei s)
 
-      pub station-goes : HeardIs c service tei (Answered P) e → Awaited P (link_here service tei (happens e s)).state
+      pub endpoint-goes : HeardIs c service tei (Answered P) e → Awaited P (link_here service tei (happens e s)).state
           → (IsTrue (is_multiple_frame (link_here service tei (happens e s)).state) → (ns nr : Seq) (p : Bool) → P (Information ns nr p))
           → Each NotUi (frames_of (terms c service tei) (link_here service tei s).waiting) → Speaking-on
-      station-goes heard await says waits =
+      endpoint-goes heard await says waits =
           subst (λ w. let line = w ++ frames_of (terms c service tei) (link_here service tei (happens e s)).waiting in Grown P (on_line s) line ⊎ (line ≡ way_here service tei s)) (sym way-then)
           (by_room (λ ls a. let x = link_of service tei (get_or ls s.line (fresh_line c)) in
           Awaited P x.state → (IsTrue (is_multiple_frame x.state) → (ns nr : Seq) (p : Bool) → P (Information ns nr p)) → At x a) (at s.line e) s.card

@@ -110,8 +110,8 @@ pub use Rattle.model_link.proofs.Taking.{Advance, HasNumber, frame-taken, none-d
 pub use Rattle.model_link.specs.Events.{ClearBusy, Received, Release, SetBusy, cleared, expired, offer, overlong, received, requested, undefined, wrong_size, Event as LinkEvent, Request as LinkRequest, frame as link_frame}
 pub use Rattle.model_link.specs.Link.{Link, address_at, frame_of, fresh, is_multiple_frame, state_number}
 pub use Rattle.model_link.specs.Machine.{after, course, given_of, told, given as link_given}
-pub use Rattle.laws_order.specs.Happenings.{AnyStep, AnyStepAt, IsElsewhere, IsNotOf, IsPossible, IsPossibleAt, step, befalling, by_far, by_near, disturbed, elsewhere, elsewhere_on, events_here, happening, is_of_link, of_link_at, of_link_in, seen_at_near, seen_by}
-unfoldable pub use Rattle.laws_order.specs.Happenings.{happening_all, seen_far, seen_near}
+pub use Rattle.laws_order.specs.AnySteps.{AnyStep, AnyStepAt, IsElsewhere, IsNotOf, IsPossible, IsPossibleAt, step, any_acting, any_far, any_near, disturbed, elsewhere, elsewhere_on, events_here, any_doing, is_of_link, of_link_at, of_link_in, seen_at_near, seen_by}
+unfoldable pub use Rattle.laws_order.specs.AnySteps.{any_doing_all, seen_far, seen_near}
 pub use Rattle.laws_order.specs.InTheEnd.{BothAreTold, IsNotDeactivated, IsToldAtLast, ReleasesAreTold, is_t200, t200_by}
 unfoldable pub use Rattle.laws_order.specs.InTheEnd.{StaysThere, t200s}
 pub use Rattle.laws_order.specs.Order.{AreOfStep, DeliveredInOrder, FaceInStep, IsInStep, IsToldInOrder, Known, Past, StaysEstablished, Tally, data_granted, data_noted, ends_by, ends_by_note, ends_by_request, kept_by, known, no_tally, noted_in, of_link_on, said_by, state_here, tallies, tally_of}

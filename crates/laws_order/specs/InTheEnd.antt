@@ -10,7 +10,7 @@ use Rattle.model_line.specs.Event.{Event, expiry, request}
 use Rattle.laws_line.specs.Requests.{deactivates}
 use Rattle.laws_trace.specs.Trace.{is_own}
 use Rattle.laws_wire.specs.Wire.{requests, Wire}
-use Rattle.laws_order.specs.Happenings.{step, AnyStepAt, by_near, by_far, IsPossible, happening, happening_all, events_here, seen_near, seen_far}
+use Rattle.laws_order.specs.AnySteps.{step, AnyStepAt, any_near, any_far, IsPossible, any_doing, any_doing_all, events_here, seen_near, seen_far}
 use Rattle.laws_order.specs.Order.{ends_by, StaysEstablished, Past, known, state_here, FaceInStep}
 use Rattle.laws_order.specs.Release.{news, BeginsNothing}
 
@@ -20,12 +20,12 @@ is_t200 service tei (expiry (T200 of by)) = is_own service tei of by
 is_t200 service tei other = false
 
 abbrev pub t200_by : Service → ℕ → AnyStepAt → Wire → ℕ
-t200_by service tei (by_near deed) w = length (filter (is_t200 service tei) (events_here deed w))
-t200_by service tei (by_far deed) w = 0
+t200_by service tei (any_near act) w = length (filter (is_t200 service tei) (events_here act w))
+t200_by service tei (any_far act) w = 0
 
 unfoldable pub t200s : Service → ℕ → List AnyStepAt → Wire → ℕ
 t200s service tei [] w = 0
-t200s service tei (h ∷ hs) w = t200_by service tei h w + t200s service tei hs (happening h w)
+t200s service tei (h ∷ hs) w = t200_by service tei h w + t200s service tei hs (any_doing h w)
 
 -- That the release is confirmed; with error H before it, where DISC was not answered N200 times again (Q.921 clauses 5.5.3.2 and
 -- 5.5.3.3).
@@ -43,10 +43,10 @@ ReleasesAreTold =
 -- The TEI stays on the line of the near end, and its link is not deactivated.
 unfoldable pub StaysThere : Service → ℕ → List AnyStepAt → Wire → Type 0
 StaysThere service tei [] w = is_some (state_here service tei w.near) ≡ true
-StaysThere service tei (h ∷ hs) w = (is_some (state_here service tei w.near) ≡ true) × StaysThere service tei hs (happening h w)
+StaysThere service tei (h ∷ hs) w = (is_some (state_here service tei w.near) ≡ true) × StaysThere service tei hs (any_doing h w)
 
 abbrev pub IsNotDeactivated : Service → ℕ → AnyStepAt → Type 0
-IsNotDeactivated service tei (by_near (step (requests r))) = deactivates service tei (request r) ≡ false
+IsNotDeactivated service tei (any_near (step (requests r))) = deactivates service tei (request r) ≡ false
 IsNotDeactivated service tei other = Unit {0}
 
 abbrev pub KeepsLink : Service → ℕ → List AnyStepAt → Wire → Type 0
@@ -59,6 +59,6 @@ abbrev pub BothAreTold : Type 0
 BothAreTold =
     (service : Service) (tei : ℕ) (w : Wire) (p : Past w.near) (q : Past w.far) (before behind : List AnyStepAt) →
     FaceInStep service tei w (known service tei w.near p) (known service tei w.far q) → All (IsPossible service tei w) before →
-    let v = happening_all before w in StaysEstablished service tei (seen_far before w) → state_here service tei v.near ≡ Some 6 →
+    let v = any_doing_all before w in StaysEstablished service tei (seen_far before w) → state_here service tei v.near ≡ Some 6 →
     All (IsPossible service tei v) behind → KeepsLink service tei behind v → BeginsNothing service tei (seen_near behind v) →
     news service tei (seen_near behind v) ≡ ReleaseConfirm service tei ∷ [] → list_any (ends_by service tei) (seen_far behind v) ≡ true

@@ -1,5 +1,5 @@
 -- Two cards on one wire at which anything happens, and the order of what is told there.
-pub mod Happenings
+pub mod AnySteps
 pub mod Order
 pub mod Release
 pub mod InTheEnd

@@ -30,7 +30,7 @@ use Rattle.laws_trace.specs.Trace.{is_own, is_up, data_asked, Seen, noted, grant
 use Rattle.laws_wire.specs.Call.{IsLineOf}
 use Rattle.laws_wire.specs.Facing.{line_of}
 use Rattle.laws_wire.specs.Wire.{Endpoint, Wire}
-use Rattle.laws_order.specs.Happenings.{AnyStepAt, IsPossible, of_link_at, seen_near, seen_far}
+use Rattle.laws_order.specs.AnySteps.{AnyStepAt, IsPossible, of_link_at, seen_near, seen_far}
 
 -- The contents that layer 3 of an end was granted to send by the link of a service with a TEI, and those that it was told of,
 -- in what is seen there.

@@ -9,7 +9,7 @@ use Rattle.lapd_frame.specs.declared.services.Service.{Service}
 use Rattle.model_line.specs.Request.{Request, Establish, Release}
 use Rattle.laws_trace.specs.Trace.{is_own, Seen, noted, granted}
 use Rattle.laws_wire.specs.Wire.{Wire}
-use Rattle.laws_order.specs.Happenings.{AnyStepAt, IsPossible, seen_near}
+use Rattle.laws_order.specs.AnySteps.{AnyStepAt, IsPossible, seen_near}
 use Rattle.laws_order.specs.Order.{data_noted, Past, state_here}
 
 -- The notes of a link's establishment and release, and its errors; but for C and D, each of which tells of a UA that answers nothing

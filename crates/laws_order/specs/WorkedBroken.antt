@@ -15,7 +15,7 @@ use Rattle.model_card.specs.Event.{at}
 use Rattle.model_card.specs.Run.{moments, after_all}
 use Rattle.laws_trace.specs.Trace.{IsFront}
 use Rattle.laws_wire.specs.Wire.{Wire, requests, sends, receives, doing_all}
-use Rattle.laws_order.specs.Happenings.{step, AnyStepAt, by_near, by_far, happening_all, seen_near, seen_far}
+use Rattle.laws_order.specs.AnySteps.{step, AnyStepAt, any_near, any_far, any_doing_all, seen_near, seen_far}
 use Rattle.laws_order.specs.Order.{data_noted, data_granted, ends_by, kept_by, StaysEstablished}
 use Rattle.laws_order.specs.Worked.{faces, near_known, far_known}
 
@@ -27,18 +27,18 @@ abbrev with_old : Wire
 with_old = record faces { near = record faces.near { way = old_frame ∷ [] } }
 
 abbrev comes_late : List AnyStepAt
-comes_late = by_far (step receives) ∷ []
+comes_late = any_far (step receives) ∷ []
 
 told_of_old : data_noted Call 0 (seen_far comes_late with_old) ≡ (0x99 ∷ []) ∷ []
-unfolding lines.after lines.answer lines.takes_slot exchanged read_by reading header_of control_of unnumbered_of supervisory_of teis.course teis.refusal seq distance_of named doing_all happening_all seen_near seen_far
+unfolding lines.after lines.answer lines.takes_slot exchanged read_by reading header_of control_of unnumbered_of supervisory_of teis.course teis.refusal seq distance_of named doing_all any_doing_all seen_near seen_far
 told_of_old = refl
 
 never_granted : kept_by (near_known []) (far_known []) ++ data_granted Call 0 (seen_near comes_late with_old) ≡ []
-unfolding lines.after lines.answer lines.takes_slot exchanged read_by reading header_of control_of unnumbered_of supervisory_of teis.course teis.refusal seq distance_of named doing_all happening_all seen_near seen_far moments after_all
+unfolding lines.after lines.answer lines.takes_slot exchanged read_by reading header_of control_of unnumbered_of supervisory_of teis.course teis.refusal seq distance_of named doing_all any_doing_all seen_near seen_far moments after_all
 never_granted = refl
 
 no_end : StaysEstablished Call 0 (seen_far comes_late with_old)
-unfolding lines.after lines.answer lines.takes_slot exchanged read_by reading header_of control_of unnumbered_of supervisory_of teis.course teis.refusal seq distance_of named doing_all happening_all seen_near seen_far
+unfolding lines.after lines.answer lines.takes_slot exchanged read_by reading header_of control_of unnumbered_of supervisory_of teis.course teis.refusal seq distance_of named doing_all any_doing_all seen_near seen_far
 no_end = refl
 
 abbrev nothing : List (List ℕ)
@@ -49,23 +49,23 @@ not_a_front x = cc x.whole_is
 
 -- So the far end has received more than the near one keeps; then what the near end sends next is acknowledged, and not told.
 abbrev ahead : Wire
-ahead = happening_all comes_late with_old
+ahead = any_doing_all comes_late with_old
 
 abbrev skips : List AnyStepAt
 skips =
-    by_near (step (requests (Data Call 0 (5 ∷ [])))) ∷ by_near (step sends) ∷ by_far (step receives) ∷ by_far (step sends) ∷ by_near (step receives)
-    ∷ by_near (step (requests (Data Call 0 (6 ∷ [])))) ∷ by_near (step sends) ∷ by_far (step receives) ∷ []
+    any_near (step (requests (Data Call 0 (5 ∷ [])))) ∷ any_near (step sends) ∷ any_far (step receives) ∷ any_far (step sends) ∷ any_near (step receives)
+    ∷ any_near (step (requests (Data Call 0 (6 ∷ [])))) ∷ any_near (step sends) ∷ any_far (step receives) ∷ []
 
 told_six : data_noted Call 0 (seen_far skips ahead) ≡ (6 ∷ []) ∷ []
-unfolding lines.after lines.answer lines.takes_slot exchanged read_by reading header_of control_of unnumbered_of supervisory_of teis.course teis.refusal seq distance_of named doing_all happening_all seen_near seen_far
+unfolding lines.after lines.answer lines.takes_slot exchanged read_by reading header_of control_of unnumbered_of supervisory_of teis.course teis.refusal seq distance_of named doing_all any_doing_all seen_near seen_far
 told_six = refl
 
 granted_both : kept_by (near_known []) (far_known (at 0 (hears (frame old_frame)) ∷ [])) ++ data_granted Call 0 (seen_near skips ahead) ≡ (5 ∷ []) ∷ (6 ∷ []) ∷ []
-unfolding lines.after lines.answer lines.takes_slot exchanged read_by reading header_of control_of unnumbered_of supervisory_of teis.course teis.refusal seq distance_of named doing_all happening_all seen_near seen_far moments after_all
+unfolding lines.after lines.answer lines.takes_slot exchanged read_by reading header_of control_of unnumbered_of supervisory_of teis.course teis.refusal seq distance_of named doing_all any_doing_all seen_near seen_far moments after_all
 granted_both = refl
 
 both_last : list_any (ends_by Call 0) (seen_near skips ahead ++ seen_far skips ahead) ≡ false
-unfolding lines.after lines.answer lines.takes_slot exchanged read_by reading header_of control_of unnumbered_of supervisory_of teis.course teis.refusal seq distance_of named doing_all happening_all seen_near seen_far
+unfolding lines.after lines.answer lines.takes_slot exchanged read_by reading header_of control_of unnumbered_of supervisory_of teis.course teis.refusal seq distance_of named doing_all any_doing_all seen_near seen_far
 both_last = refl
 
 five_left_out : IsFront {X = List ℕ} ((6 ∷ []) ∷ []) ((5 ∷ []) ∷ (6 ∷ []) ∷ []) → ⊥
@@ -81,20 +81,20 @@ with_call = record faces { near = record faces.near { way = old_call ∷ [] } }
 
 abbrev renews : List AnyStepAt
 renews =
-    by_far (step (requests (Data Call 0 (7 ∷ [])))) ∷ by_far (step sends) ∷ by_near (step receives) ∷ by_far (step receives)
-    ∷ by_far (step (requests (Data Call 0 (8 ∷ [])))) ∷ by_far (step (requests (Data Call 0 (9 ∷ []))))
-    ∷ by_far (step sends) ∷ by_far (step sends) ∷ by_far (step sends) ∷ by_near (step receives) ∷ by_near (step receives) ∷ by_near (step receives) ∷ []
+    any_far (step (requests (Data Call 0 (7 ∷ [])))) ∷ any_far (step sends) ∷ any_near (step receives) ∷ any_far (step receives)
+    ∷ any_far (step (requests (Data Call 0 (8 ∷ [])))) ∷ any_far (step (requests (Data Call 0 (9 ∷ []))))
+    ∷ any_far (step sends) ∷ any_far (step sends) ∷ any_far (step sends) ∷ any_near (step receives) ∷ any_near (step receives) ∷ any_near (step receives) ∷ []
 
 told_nine : data_noted Call 0 (seen_near renews with_call) ≡ (7 ∷ []) ∷ (9 ∷ []) ∷ []
-unfolding lines.after lines.answer lines.takes_slot exchanged read_by reading header_of control_of unnumbered_of supervisory_of teis.course teis.refusal seq distance_of named doing_all happening_all seen_near seen_far
+unfolding lines.after lines.answer lines.takes_slot exchanged read_by reading header_of control_of unnumbered_of supervisory_of teis.course teis.refusal seq distance_of named doing_all any_doing_all seen_near seen_far
 told_nine = refl
 
 granted_all : kept_by (far_known []) (near_known []) ++ data_granted Call 0 (seen_far renews with_call) ≡ (7 ∷ []) ∷ (8 ∷ []) ∷ (9 ∷ []) ∷ []
-unfolding lines.after lines.answer lines.takes_slot exchanged read_by reading header_of control_of unnumbered_of supervisory_of teis.course teis.refusal seq distance_of named doing_all happening_all seen_near seen_far moments after_all
+unfolding lines.after lines.answer lines.takes_slot exchanged read_by reading header_of control_of unnumbered_of supervisory_of teis.course teis.refusal seq distance_of named doing_all any_doing_all seen_near seen_far moments after_all
 granted_all = refl
 
 near_lasts : StaysEstablished Call 0 (seen_near renews with_call)
-unfolding lines.after lines.answer lines.takes_slot exchanged read_by reading header_of control_of unnumbered_of supervisory_of teis.course teis.refusal seq distance_of named doing_all happening_all seen_near seen_far
+unfolding lines.after lines.answer lines.takes_slot exchanged read_by reading header_of control_of unnumbered_of supervisory_of teis.course teis.refusal seq distance_of named doing_all any_doing_all seen_near seen_far
 near_lasts = refl
 
 eight_left_out : IsFront {X = List ℕ} ((7 ∷ []) ∷ (9 ∷ []) ∷ []) ((7 ∷ []) ∷ (8 ∷ []) ∷ (9 ∷ []) ∷ []) → ⊥

@@ -2,7 +2,7 @@
 //!
 //! `specs/` has:
 //!
-//! - `Happenings`: all that can happen to two cards, at any of their lines;
+//! - `AnySteps`: all that can happen to two cards, at any of their lines;
 //! - `Order`, `Release`, `InTheEnd`: the laws;
 //! - `Worked`, `WorkedRelease`, `WorkedInTheEnd`: worked runs that meet their premises and use them;
 //! - `WorkedBroken`: runs that break what is said if a premise is left out.

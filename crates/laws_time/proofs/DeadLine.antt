@@ -221,7 +221,7 @@ module _ (c : Config) (lengths : Lengths) (late number : ℕ) (ranged : IsInRang
         event-waits events t u told w based (expiry_of x) g on
         (λ other. (drop-200 (by-line (timers.T200 service tei) other), drop-203 (by-line (timers.T203 service tei) other))) (λ own_line g2 on2. any x.timer refl g2 on2)
 
-  -- A deed.
+  -- A step.
   step-waits : (events : List Event) (t : TimedCard) (told : List Note) (d : Step Event) → W events t told → IsPrompt late d t → IsStillAt of_frames c service tei number d t
       → is_some (state number service tei (after d t).card) ≡ true → W (events ++ option_to_list (event_of d t)) (after d t) (told ++ news_in of_frames service tei number (event_of d t) t.card)
   step-waits events t told (happens e) w prompt still some =

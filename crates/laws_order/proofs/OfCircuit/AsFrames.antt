@@ -10,8 +10,8 @@ use Rattle.laws_order.specs.circuit.Circuit.{Endpoint as OctetEndpoint, port_of,
 use Rattle.laws_order.specs.circuit.Through.{is_granted}
 
 -- An end as one of frames, with the frames on its way.
-abbrev pub as_station : List (List ℕ) → OctetEndpoint → Endpoint
-as_station way s = record { card = s.card.card; line = s.line; way = way; granted = s.granted; told = s.told }
+abbrev pub as_endpoint : List (List ℕ) → OctetEndpoint → Endpoint
+as_endpoint way s = record { card = s.card.card; line = s.line; way = way; granted = s.granted; told = s.told }
 
 -- What an event means there, and what comes of that.
 abbrev pub meaning : PortEvent → OctetEndpoint → Option line.Event
@@ -23,13 +23,13 @@ if_meant (Some f) x = wire.happens f x
 
 -- An end is as the card of frames has it.
 abbrev IsAs : OctetEndpoint → Endpoint → Type 0
-IsAs s x = as_station x.way s ≡ x
+IsAs s x = as_endpoint x.way s ≡ x
 
 -- what is told and granted by an answer
 none-granted : (a : line.Answer) → unless_refused (answer_of a) [] ≡ wire.unless_refused a []
 none-granted a = grind arith
 
-pub heard-as : (value : ℕ) (s : OctetEndpoint) (way : List (List ℕ)) → as_station way (happens (port_octet value) s) ≡ if_meant (meaning (port_octet value) s) (as_station way s)
+pub heard-as : (value : ℕ) (s : OctetEndpoint) (way : List (List ℕ)) → as_endpoint way (happens (port_octet value) s) ≡ if_meant (meaning (port_octet value) s) (as_endpoint way s)
 unfolding after answer meant line_answer takes_slot
 heard-as value s way = grind (arith, option_map, append-nil, none-granted)
 
@@ -43,15 +43,15 @@ replied : (s : OctetEndpoint) (r : Request) → IsReply (card_answer (frames.at 
 unfolding line_answer
 replied s r = grind arith
 
-pub asked-as : (r : Request) (s : OctetEndpoint) (way : List (List ℕ)) → as_station way (happens (port_request r) s) ≡ wire.happens (line.request r) (as_station way s)
+pub asked-as : (r : Request) (s : OctetEndpoint) (way : List (List ℕ)) → as_endpoint way (happens (port_request r) s) ≡ wire.happens (line.request r) (as_endpoint way s)
 unfolding after answer meant
 asked-as r s way = grind (arith, replied, append-nil)
 
 -- it is granted or refused there as well
-pub granted-as : (r : Request) (s : OctetEndpoint) (way : List (List ℕ)) → is_granted (answered (port_request r) s) ≡ share.is_granted (wire.answered (line.request r) (as_station way s))
+pub granted-as : (r : Request) (s : OctetEndpoint) (way : List (List ℕ)) → is_granted (answered (port_request r) s) ≡ share.is_granted (wire.answered (line.request r) (as_endpoint way s))
 unfolding answer meant
 granted-as r s way = (replied s r).2
 
-pub pulled-as : (s : OctetEndpoint) (way : List (List ℕ)) → IsAs (happens port_pull s) (if_meant (meaning port_pull s) (as_station way s))
+pub pulled-as : (s : OctetEndpoint) (way : List (List ℕ)) → IsAs (happens port_pull s) (if_meant (meaning port_pull s) (as_endpoint way s))
 unfolding after answer meant line_answer takes_slot
 pulled-as s way = grind (arith, option_map, append-nil)

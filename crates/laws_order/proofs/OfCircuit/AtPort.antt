@@ -3,7 +3,7 @@ use Rattle.laws_order.proofs.Vocabulary.{◌≡◌, ℕ, ◌+◌, Bool, true, fa
 use Rattle.model_line.specs.Event as line
 unfoldable use Rattle.model_card.specs.ports.Card.{meant}
 use Rattle.laws_order.specs.circuit.Circuit.{Endpoint as OctetEndpoint, port_of, happens}
-use Rattle.laws_order.proofs.OfCircuit.AsFrames.{as_station, if_meant, heard-as, pulled-as}
+use Rattle.laws_order.proofs.OfCircuit.AsFrames.{as_endpoint, if_meant, heard-as, pulled-as}
 use Rattle.laws_order.proofs.OfCircuit.Projected.{Fits, port-after}
 use Rattle.laws_order.proofs.OfCircuit.Ran.{Ran, config, sound-port, within-ports}
 
@@ -21,7 +21,7 @@ abbrev pulled_port : Bool → OctetEndpoint → Port
 pulled_port due s = with_octet (with_item (said_if due s) (port_of s))
 
 abbrev pulled_card : Bool → OctetEndpoint → Card
-pulled_card due s = (if_meant (cond due (Some line.next) None) (as_station [] s)).card
+pulled_card due s = (if_meant (cond due (Some line.next) None) (as_endpoint [] s)).card
 
 card-pulled : (s : OctetEndpoint) → (happens port_pull s).card.card ≡ pulled_card (is_due (port_of s)) s
 card-pulled s = ap (λ (x : Endpoint). x.card) (pulled-as s [])
@@ -65,7 +65,7 @@ module _ (n201 : ℕ) (c : Config) (fits : Fits n201 c) (s : OctetEndpoint) (ran
   card-heard =
       let size : s.card.card.config.n201 ≡ n201 = ap (λ (x : Config). x.n201) (config c fits.ranged s ran) ∙ fits.size in
       ap (λ (x : Endpoint). x.card)
-      (heard-as value s [] ∙ ap (λ o. if_meant (option_map line.hears o) (as_station [] s)) (ap (λ n. gained n (port_of s).received value) size ∙ none))
+      (heard-as value s [] ∙ ap (λ o. if_meant (option_map line.hears o) (as_endpoint [] s)) (ap (λ n. gained n (port_of s).received value) size ∙ none))
 
   pub port-heard : port_of after_octet ≡ record (port_of s) { received = (port_of s).received ++ value ∷ [] }
   port-heard = port-after s (port_octet value) (within-ports c fits.ranged s ran)

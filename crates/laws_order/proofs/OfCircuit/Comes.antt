@@ -1,7 +1,7 @@
 -- Where no frame comes in so many beats, no turn was left before them.
 use Rattle.laws_order.proofs.Vocabulary.{◌≡◌, ℕ, ◌+◌, ◌*◌, ◌≤◌, ◌<◌, ◌⊎◌, inl, inr, Bool, true, false, List, [], ◌∷◌, ◌++◌, length, Option, None, Some, option_map, refl, sym, ap, ◌∙◌, subst, arith, append-nil, length-append, Service, heard_in, Item, Config, NextFrame, gave, taken, next_of, line_at, left_of, longest_text, Wire, IsStill, gives-taken, longest, OctetEndpoint, port_of, Circuit}
 use Rattle.laws_order.proofs.Vocabulary.{doing_all, wire_doing_all, stream_frame, length-map}
-use Rattle.laws_order.proofs.OfCircuit.AsFrames.{as_station}
+use Rattle.laws_order.proofs.OfCircuit.AsFrames.{as_endpoint}
 use Rattle.laws_order.proofs.OfCircuit.Coming.{Kept, from-near, from-far, frames_of, Puts, putting, GoesOn, going, all-out, Hears, hearing, IsBehind}
 use Rattle.laws_order.proofs.OfCircuit.AtPort.{next_of_card}
 use Rattle.laws_order.proofs.OfCircuit.Takings.{one_pull, all-talk, count_near, count_far}
@@ -179,7 +179,7 @@ module _ (n201 way : ℕ) where
 
     gives-none : (b : Bool) (way : List (List ℕ)) (w : Circuit) → ((f : NextFrame) → next_of_card (sender b w).line (sender b w).card.card ≡ gave (Some f) → ⊥)
         → next_of_card (sender b w).line (sender b w).card.card ≡ gave None
-    gives-none b way w never = go (option_map next_of (taken s.card.card.config (line_at s.line s.card.card))) (gives-taken (as_station way s))
+    gives-none b way w never = go (option_map next_of (taken s.card.card.config (line_at s.line s.card.card))) (gives-taken (as_endpoint way s))
       where
         s : OctetEndpoint
         s = sender b w

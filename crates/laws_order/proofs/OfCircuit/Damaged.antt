@@ -6,38 +6,38 @@ use Rattle.model_card.specs.Event as frames
 unfoldable use Rattle.model_card.specs.ports.Card.{after, meant}
 use Rattle.model_card.specs.ports.Event.{Event}
 use Rattle.laws_wire.specs.Wire as wire
-use Rattle.laws_order.specs.Happenings as order
-unfoldable use Rattle.laws_order.specs.Happenings.{seen_near as frames_near, seen_far as frames_far}
+use Rattle.laws_order.specs.AnySteps as order
+unfoldable use Rattle.laws_order.specs.AnySteps.{seen_near as frames_near, seen_far as frames_far}
 use Rattle.laws_order.proofs.Ordered.{StaysAt, near-place, far-place, still-possible, delivered-in-order}
-use Rattle.laws_order.specs.circuit.Damaged.{Endpoint as NoisyEndpoint, Noisy, Step as NoisyStep, happens, completes, elsewhere, loses, meaning, with_deed, left_by, befalling, turned, StepAt as NoisyStepAt, by_near, by_far, seen_of, seen_by, as_wire, DeliveredThoughDamaged}
-unfoldable use Rattle.laws_order.specs.circuit.Damaged.{ArePossible, happening_all, seen_near, seen_far}
-use Rattle.laws_order.proofs.OfCircuit.Received.{Hears, IsOther, IsFirst, IsPossibleAt, Receives, receives, away, as-meant, deed-receives, deed-heard, none-heard, one-heard}
+use Rattle.laws_order.specs.circuit.Damaged.{Endpoint as NoisyEndpoint, Noisy, Step as NoisyStep, happens, completes, elsewhere, loses, meaning, with_step, left_by, acting, turned, StepAt as NoisyStepAt, at_near, at_far, seen_of, seen_by, as_wire, DeliveredThoughDamaged}
+unfoldable use Rattle.laws_order.specs.circuit.Damaged.{ArePossible, doing_all, seen_near, seen_far}
+use Rattle.laws_order.proofs.OfCircuit.Received.{Hears, IsOther, IsFirst, IsPossibleAt, Receives, receives, away, as-meant, act-receives, act-heard, none-heard, one-heard}
 use Rattle.laws_order.proofs.OfCircuit.HeardWhole.{HasCome, gained-whole}
 
--- ---- the ends as stations
+-- ---- the ends as endpoints
 
-abbrev pub station : List (List ℕ) → List LineTold → NoisyEndpoint → Endpoint
-station granted told s = record { card = s.card.card; line = s.line; way = s.way; granted = granted; told = told }
+abbrev pub endpoint_with : List (List ℕ) → List LineTold → NoisyEndpoint → Endpoint
+endpoint_with granted told s = record { card = s.card.card; line = s.line; way = s.way; granted = granted; told = told }
 
 -- What an event means on the wire of frames, where it brings no frame on the other's way.
-abbrev deed_meant : Option line.Event → Option order.AnyStep
-deed_meant None = None
-deed_meant (Some (line.hears e)) = Some (order.disturbed e)
-deed_meant (Some (line.expiry timer)) = Some (order.step (wire.expires timer))
-deed_meant (Some (line.request r)) = Some (order.step (wire.requests r))
-deed_meant (Some line.next) = Some (order.step wire.sends)
+abbrev step_meant : Option line.Event → Option order.AnyStep
+step_meant None = None
+step_meant (Some (line.hears e)) = Some (order.disturbed e)
+step_meant (Some (line.expiry timer)) = Some (order.step (wire.expires timer))
+step_meant (Some (line.request r)) = Some (order.step (wire.requests r))
+step_meant (Some line.next) = Some (order.step wire.sends)
 
 abbrev pub if_done : Option order.AnyStep → Wire → Wire
 if_done None x = x
-if_done (Some deed) x = order.befalling deed x
+if_done (Some act) x = order.any_acting act x
 
 abbrev pub if_seen : Option order.AnyStep → Wire → List Seen
 if_seen None x = []
-if_seen (Some deed) x = order.seen_by deed x
+if_seen (Some act) x = order.seen_by act x
 
 abbrev pub CanBe : Service → ℕ → Endpoint → Option order.AnyStep → Type 0
 CanBe service tei s None = Unit {0}
-CanBe service tei s (Some deed) = order.IsPossibleAt service tei s deed
+CanBe service tei s (Some act) = order.IsPossibleAt service tei s act
 
 -- What is heard whole is heard as itself where it comes as a frame.
 abbrev pub Comes : ℕ → Option line.Event → Type 0
@@ -52,21 +52,21 @@ meaning-comes n201 (port_octet value) p = heard-comes n201 (gained n201 p.receiv
 meaning-comes n201 port_pull p = grind arith
 meaning-comes n201 other p = tt
 
--- What one deed of an end is on the wire of frames, where this is the other end.
+-- What one step of an end is on the wire of frames, where this is the other end.
 pub record Done (service : Service) (tei : ℕ) (s s' : NoisyEndpoint) (y : Endpoint) (way : List (List ℕ)) (g : List (List ℕ)) (t : List LineTold) (seen : List Seen) : Type 0 where
-  pub deed : Option order.AnyStep
+  pub act : Option order.AnyStep
   pub granted : List (List ℕ)
   pub told : List LineTold
-  pub same : if_done deed (record { near = station g t s; far = y }) ≡ record { near = station granted told s'; far = record y { way = way } }
-  pub shown : if_seen deed (record { near = station g t s; far = y }) ≡ seen
-  pub can : CanBe service tei (station g t s) deed
+  pub same : if_done act (record { near = endpoint_with g t s; far = y }) ≡ record { near = endpoint_with granted told s'; far = record y { way = way } }
+  pub shown : if_seen act (record { near = endpoint_with g t s; far = y }) ≡ seen
+  pub can : CanBe service tei (endpoint_with g t s) act
 
 module _ (service : Service) (tei : ℕ) (s : NoisyEndpoint) (y : Endpoint) (g : List (List ℕ)) (t : List LineTold) where
   abbrev card : Card
   card = s.card.card
 
   abbrev x : Wire
-  x = record { near = station g t s; far = y }
+  x = record { near = endpoint_with g t s; far = y }
 
   -- the end where an event meant this
   abbrev card_then : Option frames.Event → Card
@@ -82,23 +82,23 @@ module _ (service : Service) (tei : ℕ) (s : NoisyEndpoint) (y : Endpoint) (g :
   with_near z way = record { near = z; far = record y { way = way } }
 
   abbrev then_granted : line.Event → List (List ℕ)
-  then_granted e = (wire.happens e (station g t s)).granted
+  then_granted e = (wire.happens e (endpoint_with g t s)).granted
 
   abbrev then_told : line.Event → List LineTold
-  then_told e = (wire.happens e (station g t s)).told
+  then_told e = (wire.happens e (endpoint_with g t s)).told
 
-  happened : (e : line.Event) → wire.happens e (station g t s) ≡ near_then (then_granted e) (then_told e) (Some (frames.at s.line e))
+  happened : (e : line.Event) → wire.happens e (endpoint_with g t s) ≡ near_then (then_granted e) (then_told e) (Some (frames.at s.line e))
   happened e = grind (arith, append-nil)
 
   -- an event that means this leads to where the machine of frames does
-  record Led (o : Option line.Event) (deed : Option order.AnyStep) (way : List (List ℕ)) : Type 0 where
+  record Led (o : Option line.Event) (act : Option order.AnyStep) (way : List (List ℕ)) : Type 0 where
     granted : List (List ℕ)
     told : List LineTold
-    same : if_done deed x ≡ with_near (near_then granted told (option_map (frames.at s.line) o)) way
-    shown : if_seen deed x ≡ flat_map (seen_of s) (option_to_list o)
-    can : CanBe service tei (station g t s) deed
+    same : if_done act x ≡ with_near (near_then granted told (option_map (frames.at s.line) o)) way
+    shown : if_seen act x ≡ flat_map (seen_of s) (option_to_list o)
+    can : CanBe service tei (endpoint_with g t s) act
 
-  led : (o : Option line.Event) → IsOther service tei card.config o → Led o (deed_meant o) y.way
+  led : (o : Option line.Event) → IsOther service tei card.config o → Led o (step_meant o) y.way
   led None other = record {
     granted = g;
     told = t;
@@ -125,43 +125,43 @@ module _ (service : Service) (tei : ℕ) (s : NoisyEndpoint) (y : Endpoint) (g :
         told = then_told e;
         same = grind (arith, happened);
         shown =
-            ap (λ fs. flat_map (order.shown_by (station g t s)) (order.first_heard card.config.n201 fs)) way
-            ∙ ap (λ e. flat_map (order.shown_by (station g t s)) (line.hears e ∷ [])) whole;
+            ap (λ fs. flat_map (order.shown_by (endpoint_with g t s)) (order.first_heard card.config.n201 fs)) way
+            ∙ ap (λ e. flat_map (order.shown_by (endpoint_with g t s)) (line.hears e ∷ [])) whole;
         can = tt;
       }
   come other whole first = absurd first
 
-  by-event : (what : PortEvent) → IsPossibleAt service tei (happens what) s y.way → Done service tei s (with_deed (happens what) s) y y.way g t (seen_by (happens what) s)
+  by-event : (what : PortEvent) → IsPossibleAt service tei (happens what) s y.way → Done service tei s (with_step (happens what) s) y y.way g t (seen_by (happens what) s)
   unfolding after meant
   by-event what other = grind (arith, led)
 
-  by-frame : (value : ℕ) → IsPossibleAt service tei (completes value) s y.way → Done service tei s (with_deed (completes value) s) y (drop 1 y.way) g t (seen_by (completes value) s)
+  by-frame : (value : ℕ) → IsPossibleAt service tei (completes value) s y.way → Done service tei s (with_step (completes value) s) y (drop 1 y.way) g t (seen_by (completes value) s)
   unfolding after meant
   by-frame value first =
       let one = come (meaning (port_octet value) s) (meaning-comes card.config.n201 (port_octet value) (port_at s.line s.card)) first in
-      record { deed = Some (order.step wire.receives); granted = one.granted; told = one.told; same = one.same; shown = one.shown; can = tt }
+      record { act = Some (order.step wire.receives); granted = one.granted; told = one.told; same = one.same; shown = one.shown; can = tt }
 
-  by-other : (e : Event) → IsPossibleAt service tei (elsewhere e) s y.way → Done service tei s (with_deed (elsewhere e) s) y y.way g t []
+  by-other : (e : Event) → IsPossibleAt service tei (elsewhere e) s y.way → Done service tei s (with_step (elsewhere e) s) y y.way g t []
   unfolding after meant
   by-other e is = go (port_meant card.config.n201 e.what (port_at e.line s.card))
     where
       go : (o : Option line.Event) → let m = card_then (option_map (frames.at e.line) o) in
           Done service tei s (record { card = record { card = m; ports = (after e s.card).ports }; line = s.line; way = s.way; came = s.came }) y y.way g t []
-      go None = record { deed = None; granted = g; told = t; same = refl; shown = refl; can = tt }
+      go None = record { act = None; granted = g; told = t; same = refl; shown = refl; can = tt }
       go (Some f) =
-          record { deed = Some (order.elsewhere (frames.at e.line f)); granted = g; told = t; same = refl; shown = refl; can = is }
+          record { act = Some (order.elsewhere (frames.at e.line f)); granted = g; told = t; same = refl; shown = refl; can = is }
 
-  pub one-done : (deed : NoisyStep) → IsPossibleAt service tei deed s y.way → Done service tei s (with_deed deed s) y (left_by deed y.way) g t (seen_by deed s)
+  pub one-done : (act : NoisyStep) → IsPossibleAt service tei act s y.way → Done service tei s (with_step act s) y (left_by act y.way) g t (seen_by act s)
   one-done (happens what) is = by-event what is
   one-done (completes value) is = by-frame value is
   one-done (elsewhere e) is = by-other e is
-  one-done loses is = record { deed = Some (order.step wire.loses); granted = g; told = t; same = refl; shown = refl; can = tt }
+  one-done loses is = record { act = Some (order.step wire.loses); granted = g; told = t; same = refl; shown = refl; can = tt }
 
 -- ---- a run of two ends, of which each step is one on the wire of frames, or none
 
 abbrev pub if_happens : Option order.AnyStepAt → Wire → Wire
 if_happens None v = v
-if_happens (Some h) v = order.happening h v
+if_happens (Some h) v = order.any_doing h v
 
 abbrev pub if_near : Option order.AnyStepAt → Wire → List Seen
 if_near None v = []
@@ -223,28 +223,28 @@ module _ (service : Service) (tei : ℕ) (first : Wire) where
   -- an end for octets
   module _ (s s' : NoisyEndpoint) (y : Endpoint) (way : List (List ℕ)) (g : List (List ℕ)) (t : List LineTold) (seen : List Seen) (x : Done service tei s s' y way g t seen) where
     abbrev pub near_end : Endpoint
-    near_end = station g t s
+    near_end = endpoint_with g t s
 
     abbrev pub then_end : Endpoint
-    then_end = station x.granted x.told s'
+    then_end = endpoint_with x.granted x.told s'
 
     pub near-one : One service tei (record { near = near_end; far = y }) (record { near = then_end; far = record y { way = way } }) seen []
-    near-one = go x.deed x.same x.shown x.can
+    near-one = go x.act x.same x.shown x.can
       where
         go : (o : Option order.AnyStep) → if_done o (record { near = near_end; far = y }) ≡ record { near = then_end; far = record y { way = way } }
             → if_seen o (record { near = near_end; far = y }) ≡ seen → CanBe service tei near_end o
             → One service tei (record { near = near_end; far = y }) (record { near = then_end; far = record y { way = way } }) seen []
         go None same shown can = record { step = None; same = same; can = tt; near_is = shown; far_is = refl }
-        go (Some deed) same shown can = record { step = Some (order.by_near deed); same = same; can = can; near_is = shown; far_is = refl }
+        go (Some act) same shown can = record { step = Some (order.any_near act); same = same; can = can; near_is = shown; far_is = refl }
 
     pub far-one : One service tei (record { near = y; far = near_end }) (record { near = record y { way = way }; far = then_end }) [] seen
-    far-one = go x.deed x.same x.shown x.can
+    far-one = go x.act x.same x.shown x.can
       where
         go : (o : Option order.AnyStep) → if_done o (record { near = near_end; far = y }) ≡ record { near = then_end; far = record y { way = way } }
             → if_seen o (record { near = near_end; far = y }) ≡ seen → CanBe service tei near_end o
             → One service tei (record { near = y; far = near_end }) (record { near = record y { way = way }; far = then_end }) [] seen
         go None same shown can = record { step = None; same = ap wire.turned same; can = tt; near_is = refl; far_is = shown }
-        go (Some deed) same shown can = record { step = Some (order.by_far deed); same = ap wire.turned same; can = can; near_is = refl; far_is = shown }
+        go (Some act) same shown can = record { step = Some (order.any_far act); same = ap wire.turned same; can = can; near_is = refl; far_is = shown }
 
 -- so what is told is in order
 pub delivered-as : (service : Service) (tei : ℕ) (w : Wire) (p : Past w.near) (q : Past w.far) (near far : List Seen) →
@@ -260,40 +260,40 @@ delivered-as service tei w p q near far step ran =
 -- ---- two ends for octets
 
 abbrev wire_of : List (List ℕ) → List (List ℕ) → List LineTold → List LineTold → Noisy → Wire
-wire_of g h t u w = record { near = station g t w.near; far = station h u w.far }
+wire_of g h t u w = record { near = endpoint_with g t w.near; far = endpoint_with h u w.far }
 
 all-ran : (service : Service) (tei n m : ℕ) (first : Wire) (hs : List NoisyStepAt) (w : Noisy) (g h : List (List ℕ)) (t u : List LineTold) → Stay first (wire_of g h t u w)
     → Receives n w.near → Receives m w.far → ArePossible service tei hs w → Ran service tei first (wire_of g h t u w) (seen_near hs w) (seen_far hs w)
 unfolding ArePossible seen_near seen_far
 all-ran service tei n m first [] w g h t u stay a b can = none-ran service tei first (wire_of g h t u w)
-all-ran service tei n m first (by_near deed ∷ hs) w g h t u stay a b can =
-    let w' = befalling deed w in
-    let y = station h u w.far in
-    let x = one-done service tei w.near y g t deed (as-meant n w.near a service tei deed w.far.way can.0) in
-    one-ran service tei first (wire_of g h t u w) (wire_of x.granted h x.told u w') (seen_by deed w.near) [] (seen_near hs w') (seen_far hs w') stay
-    (near-one service tei first w.near w'.near y (left_by deed w.far.way) g t (seen_by deed w.near) x)
-    (λ stay'. all-ran service tei n m first hs w' x.granted h x.told u stay' (deed-receives n w.near a service tei deed w.far.way can.0) (away m w.far (left_by deed w.far.way) b) can.1)
-all-ran service tei n m first (by_far deed ∷ hs) w g h t u stay a b can =
-    let w' = turned (befalling deed (turned w)) in
-    let y = station g t w.near in
-    let x = one-done service tei w.far y h u deed (as-meant m w.far b service tei deed w.near.way can.0) in
-    one-ran service tei first (wire_of g h t u w) (wire_of g x.granted t x.told w') [] (seen_by deed w.far) (seen_near hs w') (seen_far hs w') stay
-    (far-one service tei first w.far w'.far y (left_by deed w.near.way) h u (seen_by deed w.far) x)
-    (λ stay'. all-ran service tei n m first hs w' g x.granted t x.told stay' (away n w.near (left_by deed w.near.way) a) (deed-receives m w.far b service tei deed w.near.way can.0) can.1)
+all-ran service tei n m first (at_near act ∷ hs) w g h t u stay a b can =
+    let w' = acting act w in
+    let y = endpoint_with h u w.far in
+    let x = one-done service tei w.near y g t act (as-meant n w.near a service tei act w.far.way can.0) in
+    one-ran service tei first (wire_of g h t u w) (wire_of x.granted h x.told u w') (seen_by act w.near) [] (seen_near hs w') (seen_far hs w') stay
+    (near-one service tei first w.near w'.near y (left_by act w.far.way) g t (seen_by act w.near) x)
+    (λ stay'. all-ran service tei n m first hs w' x.granted h x.told u stay' (act-receives n w.near a service tei act w.far.way can.0) (away m w.far (left_by act w.far.way) b) can.1)
+all-ran service tei n m first (at_far act ∷ hs) w g h t u stay a b can =
+    let w' = turned (acting act (turned w)) in
+    let y = endpoint_with g t w.near in
+    let x = one-done service tei w.far y h u act (as-meant m w.far b service tei act w.near.way can.0) in
+    one-ran service tei first (wire_of g h t u w) (wire_of g x.granted t x.told w') [] (seen_by act w.far) (seen_near hs w') (seen_far hs w') stay
+    (far-one service tei first w.far w'.far y (left_by act w.near.way) h u (seen_by act w.far) x)
+    (λ stay'. all-ran service tei n m first hs w' g x.granted t x.told stay' (away n w.near (left_by act w.near.way) a) (act-receives m w.far b service tei act w.near.way can.0) can.1)
 
 -- what each heard
-all-heard : (service : Service) (tei n m : ℕ) (hs : List NoisyStepAt) (w : Noisy) → Receives n w.near → Receives m w.far → ArePossible service tei hs w → let v = happening_all hs w in
+all-heard : (service : Service) (tei n m : ℕ) (hs : List NoisyStepAt) (w : Noisy) → Receives n w.near → Receives m w.far → ArePossible service tei hs w → let v = doing_all hs w in
     Hears n w.near.came v.near.came (seen_near hs w) × Hears m w.far.came v.far.came (seen_far hs w)
-unfolding ArePossible happening_all seen_near seen_far
+unfolding ArePossible doing_all seen_near seen_far
 all-heard service tei n m [] w a b can = (none-heard n w.near.came, none-heard m w.far.came)
-all-heard service tei n m (by_near deed ∷ hs) w a b can =
-    let w' = befalling deed w in
-    let rest = all-heard service tei n m hs w' (deed-receives n w.near a service tei deed w.far.way can.0) (away m w.far (left_by deed w.far.way) b) can.1 in
-    (one-heard n w.near.came w'.near.came (happening_all hs w').near.came (seen_by deed w.near) (seen_near hs w') (deed-heard n w.near a deed) rest.0, rest.1)
-all-heard service tei n m (by_far deed ∷ hs) w a b can =
-    let w' = turned (befalling deed (turned w)) in
-    let rest = all-heard service tei n m hs w' (away n w.near (left_by deed w.near.way) a) (deed-receives m w.far b service tei deed w.near.way can.0) can.1 in
-    (rest.0, one-heard m w.far.came w'.far.came (happening_all hs w').far.came (seen_by deed w.far) (seen_far hs w') (deed-heard m w.far b deed) rest.1)
+all-heard service tei n m (at_near act ∷ hs) w a b can =
+    let w' = acting act w in
+    let rest = all-heard service tei n m hs w' (act-receives n w.near a service tei act w.far.way can.0) (away m w.far (left_by act w.far.way) b) can.1 in
+    (one-heard n w.near.came w'.near.came (doing_all hs w').near.came (seen_by act w.near) (seen_near hs w') (act-heard n w.near a act) rest.0, rest.1)
+all-heard service tei n m (at_far act ∷ hs) w a b can =
+    let w' = turned (acting act (turned w)) in
+    let rest = all-heard service tei n m hs w' (away n w.near (left_by act w.near.way) a) (act-receives m w.far b service tei act w.near.way can.0) can.1 in
+    (rest.0, one-heard m w.far.came w'.far.came (doing_all hs w').far.came (seen_by act w.far) (seen_far hs w') (act-heard m w.far b act) rest.1)
 
 pub delivered-though-damaged : DeliveredThoughDamaged
 delivered-though-damaged service tei w p q hs step came others can =

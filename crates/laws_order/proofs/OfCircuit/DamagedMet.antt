@@ -4,8 +4,8 @@ use Rattle.laws_order.proofs.Vocabulary.{known, kept_by, Circuit}
 use Rattle.laws_order.proofs.Vocabulary.{doing_all, Mixed, establishes, stream_frame, StreamEvent, next, gave, port_octet, card_answer, tei_refusal, tei_course, FaceAtRest}
 use Rattle.model_line.specs.Machine as lines
 use Rattle.model_card.specs.ports.Card as ports
-use Rattle.laws_order.specs.Happenings as order
-use Rattle.laws_order.specs.circuit.Damaged.{Endpoint as NoisyEndpoint, Noisy, Step as NoisyStep, happens, completes, elsewhere, loses, stands_with, IsOther, IsFirst, IsPossibleAt, HasReceived, StepAt as NoisyStepAt, by_near, by_far, happening, as_frame_endpoint, as_wire, seen_near, seen_far}
+use Rattle.laws_order.specs.AnySteps as order
+use Rattle.laws_order.specs.circuit.Damaged.{Endpoint as NoisyEndpoint, Noisy, Step as NoisyStep, happens, completes, elsewhere, loses, stands_with, IsOther, IsFirst, IsPossibleAt, HasReceived, StepAt as NoisyStepAt, at_near, at_far, doing, as_frame_endpoint, as_wire, seen_near, seen_far}
 unfoldable use Rattle.laws_order.specs.circuit.Damaged.{ArePossible}
 use Rattle.laws_order.specs.circuit.Mixed as mixed
 unfoldable use Rattle.laws_order.specs.circuit.Mixed.{ArePossible as mixed_possible}
@@ -57,12 +57,12 @@ is_possible_at (elsewhere e) s way = false
 is_possible_at loses s way = true
 
 abbrev is_possible : NoisyStepAt → Noisy → Bool
-is_possible (by_near deed) w = is_possible_at deed w.near w.far.way
-is_possible (by_far deed) w = is_possible_at deed w.far w.near.way
+is_possible (at_near act) w = is_possible_at act w.near w.far.way
+is_possible (at_far act) w = is_possible_at act w.far w.near.way
 
 unfoldable are_possible : List NoisyStepAt → Noisy → Bool
 are_possible [] w = true
-are_possible (h ∷ hs) w = is_possible h w && are_possible hs (happening h w)
+are_possible (h ∷ hs) w = is_possible h w && are_possible hs (doing h w)
 
 none-so : (fs : List Parts) → is_none fs ≡ true → fs ≡ []
 none-so fs e = grind arith
@@ -77,16 +77,16 @@ head-so octets (f ∷ fs) e = (fs, ap (λ x. x ∷ fs) (same-octets f octets e))
 first-so : (o : Option StreamEvent) (way : List (List ℕ)) → is_first o way ≡ true → IsFirst o way
 first-so o way e = grind (arith, head-so)
 
-pub at-so : (deed : NoisyStep) (s : NoisyEndpoint) (way : List (List ℕ)) → is_possible_at deed s way ≡ true → IsPossibleAt Call 0 deed s way
-at-so deed s way e = grind (arith, other-so, first-so)
+pub at-so : (act : NoisyStep) (s : NoisyEndpoint) (way : List (List ℕ)) → is_possible_at act s way ≡ true → IsPossibleAt Call 0 act s way
+at-so act s way e = grind (arith, other-so, first-so)
 
 all-so : (hs : List NoisyStepAt) (w : Noisy) → are_possible hs w ≡ true → ArePossible Call 0 hs w
 unfolding ArePossible are_possible
 all-so [] w e = tt
-all-so (by_near deed ∷ hs) w e =
-    let both = and_parts (is_possible_at deed w.near w.far.way) (are_possible hs (happening (by_near deed) w)) e in (at-so deed w.near w.far.way both.0, all-so hs (happening (by_near deed) w) both.1)
-all-so (by_far deed ∷ hs) w e =
-    let both = and_parts (is_possible_at deed w.far w.near.way) (are_possible hs (happening (by_far deed) w)) e in (at-so deed w.far w.near.way both.0, all-so hs (happening (by_far deed) w) both.1)
+all-so (at_near act ∷ hs) w e =
+    let both = and_parts (is_possible_at act w.near w.far.way) (are_possible hs (doing (at_near act) w)) e in (at-so act w.near w.far.way both.0, all-so hs (doing (at_near act) w) both.1)
+all-so (at_far act ∷ hs) w e =
+    let both = and_parts (is_possible_at act w.far w.near.way) (are_possible hs (doing (at_far act) w)) e in (at-so act w.far w.near.way both.0, all-so hs (doing (at_far act) w) both.1)
 
 computed : are_possible goes_again begins ≡ true
 unfolding lines.after lines.answer lines.takes_slot exchanged reading side_reading header_of control_of unnumbered_of supervisory_of tei_course tei_refusal seq distance_of named low_bits ports.after ports.answer ports.meant doing_all are_possible
@@ -149,20 +149,20 @@ is_act other = false
 
 unfoldable are_mixed : List mixed.StepAt → Mixed → Bool
 are_mixed [] w = true
-are_mixed (mixed.by_frames deed ∷ hs) w = is_act deed && are_mixed hs (mixed.happening (mixed.by_frames deed) w)
-are_mixed (mixed.by_octets deed ∷ hs) w = is_possible_at deed w.far w.near.way && are_mixed hs (mixed.happening (mixed.by_octets deed) w)
+are_mixed (mixed.by_frames act ∷ hs) w = is_act act && are_mixed hs (mixed.doing (mixed.by_frames act) w)
+are_mixed (mixed.by_octets act ∷ hs) w = is_possible_at act w.far w.near.way && are_mixed hs (mixed.doing (mixed.by_octets act) w)
 
-act-so : (deed : order.AnyStep) (s : Endpoint) → is_act deed ≡ true → order.IsPossibleAt Call 0 s deed
-act-so deed s e = grind arith
+act-so : (act : order.AnyStep) (s : Endpoint) → is_act act ≡ true → order.IsPossibleAt Call 0 s act
+act-so act s e = grind arith
 
 mixed-so : (hs : List mixed.StepAt) (w : Mixed) → are_mixed hs w ≡ true → mixed.ArePossible Call 0 hs w
 unfolding mixed_possible are_mixed
 mixed-so [] w e = tt
-mixed-so (mixed.by_frames deed ∷ hs) w e =
-    let both = and_parts (is_act deed) (are_mixed hs (mixed.happening (mixed.by_frames deed) w)) e in (act-so deed w.near both.0, mixed-so hs (mixed.happening (mixed.by_frames deed) w) both.1)
-mixed-so (mixed.by_octets deed ∷ hs) w e =
-    let both = and_parts (is_possible_at deed w.far w.near.way) (are_mixed hs (mixed.happening (mixed.by_octets deed) w)) e in
-    (at-so deed w.far w.near.way both.0, mixed-so hs (mixed.happening (mixed.by_octets deed) w) both.1)
+mixed-so (mixed.by_frames act ∷ hs) w e =
+    let both = and_parts (is_act act) (are_mixed hs (mixed.doing (mixed.by_frames act) w)) e in (act-so act w.near both.0, mixed-so hs (mixed.doing (mixed.by_frames act) w) both.1)
+mixed-so (mixed.by_octets act ∷ hs) w e =
+    let both = and_parts (is_possible_at act w.far w.near.way) (are_mixed hs (mixed.doing (mixed.by_octets act) w)) e in
+    (at-so act w.far w.near.way both.0, mixed-so hs (mixed.doing (mixed.by_octets act) w) both.1)
 
 mixed-computed : are_mixed worked.goes_again worked.begins ≡ true
 unfolding lines.after lines.answer lines.takes_slot exchanged reading side_reading header_of control_of unnumbered_of supervisory_of tei_course tei_refusal seq distance_of named low_bits ports.after ports.answer ports.meant doing_all are_mixed

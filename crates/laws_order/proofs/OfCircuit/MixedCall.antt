@@ -8,7 +8,7 @@ unfoldable use Rattle.laws_wire.specs.Wire.{doing_all as frames_done}
 use Rattle.laws_order.specs.circuit.Through as octets
 use Rattle.laws_order.specs.circuit.MixedCall.{Pair, as_wire, begun_by_frames, begun_by_octets, IsThrough, CallsComeThroughBetweenKinds, StepAt as PairStepAt, by_frames, requests as pair_requests, sends as pair_sends, receives as pair_receives, brings, IsWhole, left_by, doing, IsTalk, CallsAreOfFrames}
 unfoldable use Rattle.laws_order.specs.circuit.MixedCall.{doing_all, AreTalk}
-use Rattle.laws_order.proofs.OfCircuit.AsFrames.{as_station, if_meant, asked-as, pulled-as, heard-as}
+use Rattle.laws_order.proofs.OfCircuit.AsFrames.{as_endpoint, if_meant, asked-as, pulled-as, heard-as}
 use Rattle.laws_order.proofs.OfCircuit.Damaged.{Comes, meaning-comes}
 
 module _ (service : Service) (tei : ℕ) where
@@ -35,15 +35,15 @@ module _ (service : Service) (tei : ℕ) where
   unfolding meant
   pulled-led w = go (is_due (port_of w.far)) refl
     where
-      there : (due : Bool) → is_due (port_of w.far) ≡ due → as_wire (doing pair_sends w) ≡ ends w.near (if_meant (cond due (Some line.next) None) (as_station w.back w.far))
-      there due e = grind (arith, as_station, append-nil, pulled-as, if_meant)
+      there : (due : Bool) → is_due (port_of w.far) ≡ due → as_wire (doing pair_sends w) ≡ ends w.near (if_meant (cond due (Some line.next) None) (as_endpoint w.back w.far))
+      there due e = grind (arith, as_endpoint, append-nil, pulled-as, if_meant)
 
       go : (due : Bool) → is_due (port_of w.far) ≡ due → Led (as_wire w) (as_wire (doing pair_sends w))
       go true e = one-led (as_wire w) (as_wire (doing pair_sends w)) (frames.at_far frames.sends) tt (sym (there true e))
       go false e = none-led (as_wire w) (as_wire (doing pair_sends w)) (sym (there false e))
 
   abbrev heard_with : Pair → Option StreamEvent → Wire
-  heard_with w o = ends (record w.near { way = left_by o w.near.way }) (if_meant (option_map line.hears o) (as_station w.back w.far))
+  heard_with w o = ends (record w.near { way = left_by o w.near.way }) (if_meant (option_map line.hears o) (as_endpoint w.back w.far))
 
   heard-led : (value : ℕ) (w : Pair) → IsWhole (brings value w.far) w.near.way → Led (as_wire w) (as_wire (doing (pair_receives value) w))
   heard-led value w whole = go (brings value w.far) refl whole (meaning-comes w.far.card.card.config.n201 (port_octet value) (port_of w.far))
@@ -55,7 +55,7 @@ module _ (service : Service) (tei : ℕ) where
       go None e whole comes = none-led (as_wire w) (as_wire (doing (pair_receives value) w)) (sym (there None e))
       go (Some (stream_frame octets)) e whole comes =
           let n = w.far.card.card.config.n201 in
-          let x = as_station w.back w.far in
+          let x = as_endpoint w.back w.far in
           one-led (as_wire w) (as_wire (doing (pair_receives value) w)) (frames.at_far frames.receives) tt
           (ap (λ fs. ends (record w.near { way = drop 1 w.near.way }) (frames.with_first_of fs x)) whole.1
           ∙ ap (λ h. ends (record w.near { way = drop 1 w.near.way }) (frames.happens (line.hears h) x)) (subst (λ o. Comes n (option_map line.hears o)) e comes) ∙ sym (there (Some (stream_frame octets)) e))
@@ -86,7 +86,7 @@ calls-are-of-frames service tei w ds talk = let x = all-led service tei ds w tal
 
 -- ---- a call
 
-assigned-as : (d : Config) (other tei : ℕ) → as_station [] (octets.assigned d other tei) ≡ assigned d other tei
+assigned-as : (d : Config) (other tei : ℕ) → as_endpoint [] (octets.assigned d other tei) ≡ assigned d other tei
 assigned-as d other tei = asked-as (Assign tei) (octets.octet_endpoint d other) []
 
 abbrev ends_of : Endpoint → Endpoint → Wire

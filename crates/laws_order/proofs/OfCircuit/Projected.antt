@@ -10,7 +10,7 @@ use Rattle.laws_wire.specs.Wire as wire
 unfoldable use Rattle.laws_wire.specs.Wire.{doing_all as frames_done}
 use Rattle.laws_order.specs.circuit.Circuit.{Endpoint as OctetEndpoint, port_of, happens, with_first_of, Circuit, Step as OctetStep, requests as octet_requests, sends as octet_sends, receives as octet_receives, StepAt as OctetStepAt, at_near, at_far, acting, turned, doing}
 unfoldable use Rattle.laws_order.specs.circuit.Circuit.{doing_all}
-use Rattle.laws_order.proofs.OfCircuit.AsFrames.{as_station, meaning, if_meant, heard-as, asked-as, pulled-as}
+use Rattle.laws_order.proofs.OfCircuit.AsFrames.{as_endpoint, meaning, if_meant, heard-as, asked-as, pulled-as}
 use Rattle.laws_order.proofs.OfCircuit.OneWay.{Carries, one-given, one-put, none-heard, one-heard}
 use Rattle.laws_order.proofs.OfCircuit.Ran.{Ran, goes-on, config, within-ports, sound-port, on-line, gives-octets}
 
@@ -18,7 +18,7 @@ use Rattle.laws_order.proofs.OfCircuit.Ran.{Ran, goes-on, config, within-ports, 
 
 -- A circuit as a wire, with the frames on their way.
 abbrev pub as_wire : List (List ℕ) → List (List ℕ) → Circuit → Wire
-as_wire there back w = record { near = as_station there w.near; far = as_station back w.far }
+as_wire there back w = record { near = as_endpoint there w.near; far = as_endpoint back w.far }
 
 -- A request is a request; a pull gives a frame where an item is due; an octet that ends something brings a frame.
 abbrev pub hearing_means : List ℕ → OctetEndpoint → Option wire.Step
@@ -114,7 +114,7 @@ module _ (n201 : ℕ) where
     with_ends x y = record { near = x; far = y }
 
     abbrev with-near : Endpoint → Wire
-    with-near x = with_ends x (as_station back far)
+    with-near x = with_ends x (as_endpoint back far)
 
     asked-one : (r : Request) → AreOctets (contents_given r) → Acted (Some (wire.requests r)) (acting (octet_requests r) w)
     asked-one r octets =
@@ -134,12 +134,12 @@ module _ (n201 : ℕ) where
 
     -- ---- a pull
 
-    pulled-meant : (due : Bool) → if_acted (cond due (Some wire.sends) None) (as_wire there back w) ≡ with-near (if_meant (cond due (Some line.next) None) (as_station there near))
+    pulled-meant : (due : Bool) → if_acted (cond due (Some wire.sends) None) (as_wire there back w) ≡ with-near (if_meant (cond due (Some line.next) None) (as_endpoint there near))
     pulled-meant due = grind arith
 
     pulled-goes : (due : Bool) → let o : Option line.Event = cond due (Some line.next) None in
         let q = with_item (option_map (answer_to near.card.card) (option_map (frames.at near.line) o)) (port_of near) in
-        Carries n201 (with_octet q) (near.way ++ next_octet q ∷ []) (port_of far).received (if_meant o (as_station there near)).way
+        Carries n201 (with_octet q) (near.way ++ next_octet q ∷ []) (port_of far).received (if_meant o (as_endpoint there near)).way
     unfolding line_answer takes_slot
     pulled-goes true =
         let g = given_in (card_answer (frames.at near.line line.next) near.card.card) in
@@ -155,7 +155,7 @@ module _ (n201 : ℕ) where
     unfolding answer meant
     pulled-one =
         let s = happens port_pull near in
-        let x = if_meant (meaning port_pull near) (as_station there near) in
+        let x = if_meant (meaning port_pull near) (as_endpoint there near) in
         let after-it = port-after near port_pull inside in
         record {
           there' = x.way;
@@ -190,8 +190,8 @@ module _ (n201 : ℕ) where
         ran : Ran c s
         ran = goes-on c near (port_octet value) tt h.near
 
-        as-heard : (o : Option StreamEvent) → gained n201 (port_of near).received value ≡ o → as_station there s ≡ if_meant (option_map line.hears o) (as_station there near)
-        as-heard o e = grind (arith, heard-as, if_meant, option_map, as_station, n201-is)
+        as-heard : (o : Option StreamEvent) → gained n201 (port_of near).received value ≡ o → as_endpoint there s ≡ if_meant (option_map line.hears o) (as_endpoint there near)
+        as-heard o e = grind (arith, heard-as, if_meant, option_map, as_endpoint, n201-is)
 
         goes : Carries n201 (port_of s) s.way (port_of far).received there
         goes =
@@ -217,9 +217,9 @@ module _ (n201 : ℕ) where
               back' = x.rest;
               follows = record { near = ran; far = (record { within = h.far.within; events = h.far.events; at_lines = h.far.at_lines; is = h.far.is; exact = h.far.exact }); goes = goes; comes = comes x.rest x.carries };
               same =
-                  ap (λ fs. with_ends (wire.with_first_of fs (as_station there near)) ((λ (fs : List (List ℕ)). as_station (drop 1 fs) far) fs)) x.frames_are
-                  ∙ ap (λ e. with_ends (wire.happens (line.hears e) (as_station there near)) (as_station x.rest far)) (ap (λ n. came n x.first) n201-is ∙ x.whole ∙ sym x.event)
-                  ∙ ap (λ s. with_ends s (as_station x.rest far)) (sym (as-heard (Some event) e));
+                  ap (λ fs. with_ends (wire.with_first_of fs (as_endpoint there near)) ((λ (fs : List (List ℕ)). as_endpoint (drop 1 fs) far) fs)) x.frames_are
+                  ∙ ap (λ e. with_ends (wire.happens (line.hears e) (as_endpoint there near)) (as_endpoint x.rest far)) (ap (λ n. came n x.first) n201-is ∙ x.whole ∙ sym x.event)
+                  ∙ ap (λ s. with_ends s (as_endpoint x.rest far)) (sym (as-heard (Some event) e));
             }
 
     pub one-act : (service : Service) (tei : ℕ) (act : OctetStep) → IsTalkOf service tei act → Acted (act_meant act w) (acting act w)

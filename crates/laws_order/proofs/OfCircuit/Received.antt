@@ -5,7 +5,7 @@ use Rattle.model_line.specs.Event as line
 unfoldable use Rattle.model_card.specs.ports.Card.{after, meant}
 use Rattle.model_card.specs.ports.Event.{Event, at}
 use Rattle.laws_order.specs.circuit.Damaged as damaged
-use Rattle.laws_order.specs.circuit.Damaged.{Endpoint as NoisyEndpoint, Step as NoisyStep, happens, completes, elsewhere, loses, meaning, stands_with, HasReceived, IsElsewhere, heard_among, with_event, with_deed, seen_of, seen_by}
+use Rattle.laws_order.specs.circuit.Damaged.{Endpoint as NoisyEndpoint, Step as NoisyStep, happens, completes, elsewhere, loses, meaning, stands_with, HasReceived, IsElsewhere, heard_among, with_event, with_step, seen_of, seen_by}
 
 -- ---- what an event means is what stands in the octets that came
 
@@ -52,7 +52,7 @@ module _ (n201 : ℕ) (s : NoisyEndpoint) (r : Receives n201 s) where
   abbrev own : ℕ
   own = s.card.card.config.n201
 
-  pub as-meant : (service : Service) (tei : ℕ) (deed : NoisyStep) (way : List (List ℕ)) → damaged.IsPossibleAt service tei deed s way → IsPossibleAt service tei deed s way
+  pub as-meant : (service : Service) (tei : ℕ) (act : NoisyStep) (way : List (List ℕ)) → damaged.IsPossibleAt service tei act s way → IsPossibleAt service tei act s way
   as-meant service tei (happens (port_octet value)) way is =
       other-meant service tei s.card.card.config (gained own (port_at s.line s.card).received value)
       (subst (λ os. damaged.IsOther service tei s.card.card.config (gained own os value)) (sym r.received) is)
@@ -85,7 +85,7 @@ module _ (n201 : ℕ) (s : NoisyEndpoint) (r : Receives n201 s) where
         same = ap (λ (c : Config). c.n201) (config_after s.card e) ∙ r.same;
       }
 
-  elsewhere-receives : (e : Event) → IsElsewhere e s → Receives n201 (with_deed (elsewhere e) s)
+  elsewhere-receives : (e : Event) → IsElsewhere e s → Receives n201 (with_step (elsewhere e) s)
   elsewhere-receives e is =
       let there : cond (e.line == s.line) (octet_come e.what) [] ≡ [] = grind (arith, ne_eqb, is) in
       record {
@@ -94,11 +94,11 @@ module _ (n201 : ℕ) (s : NoisyEndpoint) (r : Receives n201 s) where
         same = ap (λ (c : Config). c.n201) (config_after s.card e) ∙ r.same;
       }
 
-  pub deed-receives : (service : Service) (tei : ℕ) (deed : NoisyStep) (way : List (List ℕ)) → damaged.IsPossibleAt service tei deed s way → Receives n201 (with_deed deed s)
-  deed-receives service tei (happens what) way is = event-receives what
-  deed-receives service tei (completes value) way is = event-receives (port_octet value)
-  deed-receives service tei (elsewhere e) way is = elsewhere-receives e is
-  deed-receives service tei loses way is = away n201 s _ r
+  pub act-receives : (service : Service) (tei : ℕ) (act : NoisyStep) (way : List (List ℕ)) → damaged.IsPossibleAt service tei act s way → Receives n201 (with_step act s)
+  act-receives service tei (happens what) way is = event-receives what
+  act-receives service tei (completes value) way is = event-receives (port_octet value)
+  act-receives service tei (elsewhere e) way is = elsewhere-receives e is
+  act-receives service tei loses way is = away n201 s _ r
 
 -- ---- what is heard
 
@@ -141,10 +141,10 @@ module _ (n201 : ℕ) (s : NoisyEndpoint) (r : Receives n201 s) where
       heard_with n201 s.came value
       ∙ ap (λ l. heard_in n201 s.came ++ l) (sym (meant-heard s (option_map line.hears o) ∙ hears-by o ∙ ap option_to_list same))
 
-  pub deed-heard : (deed : NoisyStep) → Hears n201 s.came (with_deed deed s).came (seen_by deed s)
-  deed-heard (happens (port_octet value)) = octet-heard value
-  deed-heard (happens port_pull) = silent (meaning port_pull s) (nothing-by _)
-  deed-heard (happens other) = silent (meaning other s) refl
-  deed-heard (completes value) = octet-heard value
-  deed-heard (elsewhere e) = none-heard n201 s.came
-  deed-heard loses = none-heard n201 s.came
+  pub act-heard : (act : NoisyStep) → Hears n201 s.came (with_step act s).came (seen_by act s)
+  act-heard (happens (port_octet value)) = octet-heard value
+  act-heard (happens port_pull) = silent (meaning port_pull s) (nothing-by _)
+  act-heard (happens other) = silent (meaning other s) refl
+  act-heard (completes value) = octet-heard value
+  act-heard (elsewhere e) = none-heard n201 s.came
+  act-heard loses = none-heard n201 s.came

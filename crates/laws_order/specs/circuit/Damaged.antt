@@ -12,7 +12,7 @@ use Rattle.model_card.specs.ports.Event.{Event, at}
 use Rattle.model_card.specs.ports.Port as port
 use Rattle.laws_trace.specs.Trace.{Seen, heard, seen}
 use Rattle.laws_wire.specs.Wire.{Endpoint as FrameEndpoint, Wire, frames_by}
-use Rattle.laws_order.specs.Happenings.{IsNotOf}
+use Rattle.laws_order.specs.AnySteps.{IsNotOf}
 use Rattle.laws_order.specs.Order.{Past, known, FaceInStep, IsToldInOrder, kept_by}
 
 -- A card at one end, which is at one of its lines; the frames that its pulls began, but those that were given up as lost or
@@ -77,42 +77,42 @@ with_event what s = record s {
   came = s.came ++ octet_come what;
 }
 
-abbrev pub with_deed : Step → Endpoint → Endpoint
-with_deed (happens what) s = with_event what s
-with_deed (completes value) s = with_event (port.octet value) s
-with_deed (elsewhere e) s = record s { card = after e s.card }
-with_deed loses s = record s { way = drop 1 s.way }
+abbrev pub with_step : Step → Endpoint → Endpoint
+with_step (happens what) s = with_event what s
+with_step (completes value) s = with_event (port.octet value) s
+with_step (elsewhere e) s = record s { card = after e s.card }
+with_step loses s = record s { way = drop 1 s.way }
 
 abbrev pub left_by : Step → List (List ℕ) → List (List ℕ)
 left_by (completes value) way = drop 1 way
 left_by other way = way
 
-abbrev pub befalling : Step → Noisy → Noisy
-befalling deed w = record { near = with_deed deed w.near; far = record w.far { way = left_by deed w.far.way } }
+abbrev pub acting : Step → Noisy → Noisy
+acting act w = record { near = with_step act w.near; far = record w.far { way = left_by act w.far.way } }
 
 abbrev pub turned : Noisy → Noisy
 turned w = record { near = w.far; far = w.near }
 
 -- The same at either end, and one after the other.
 pub data StepAt : Type 0 where
-  by_near : Step → StepAt
-  by_far : Step → StepAt
+  at_near : Step → StepAt
+  at_far : Step → StepAt
 
 abbrev pub IsPossible : Service → ℕ → StepAt → Noisy → Type 0
-IsPossible service tei (by_near deed) w = IsPossibleAt service tei deed w.near w.far.way
-IsPossible service tei (by_far deed) w = IsPossibleAt service tei deed w.far w.near.way
+IsPossible service tei (at_near act) w = IsPossibleAt service tei act w.near w.far.way
+IsPossible service tei (at_far act) w = IsPossibleAt service tei act w.far w.near.way
 
-abbrev pub happening : StepAt → Noisy → Noisy
-happening (by_near deed) w = befalling deed w
-happening (by_far deed) w = turned (befalling deed (turned w))
+abbrev pub doing : StepAt → Noisy → Noisy
+doing (at_near act) w = acting act w
+doing (at_far act) w = turned (acting act (turned w))
 
-unfoldable pub happening_all : List StepAt → Noisy → Noisy
-happening_all [] w = w
-happening_all (h ∷ hs) w = happening_all hs (happening h w)
+unfoldable pub doing_all : List StepAt → Noisy → Noisy
+doing_all [] w = w
+doing_all (h ∷ hs) w = doing_all hs (doing h w)
 
 unfoldable pub ArePossible : Service → ℕ → List StepAt → Noisy → Type 0
 ArePossible service tei [] w = Unit {0}
-ArePossible service tei (h ∷ hs) w = IsPossible service tei h w × ArePossible service tei hs (happening h w)
+ArePossible service tei (h ∷ hs) w = IsPossible service tei h w × ArePossible service tei hs (doing h w)
 
 -- What is seen at an end, as `Trace` of `laws_trace` has it: what its events mean to the card of frames inside, with what that answers.
 abbrev pub meaning : port.Event → Endpoint → Option line.Event
@@ -127,20 +127,20 @@ seen_by (completes value) s = flat_map (seen_of s) (option_to_list (meaning (por
 seen_by other s = []
 
 abbrev pub seen_at_near : StepAt → Noisy → List Seen
-seen_at_near (by_near deed) w = seen_by deed w.near
-seen_at_near (by_far deed) w = []
+seen_at_near (at_near act) w = seen_by act w.near
+seen_at_near (at_far act) w = []
 
 abbrev pub seen_at_far : StepAt → Noisy → List Seen
-seen_at_far (by_near deed) w = []
-seen_at_far (by_far deed) w = seen_by deed w.far
+seen_at_far (at_near act) w = []
+seen_at_far (at_far act) w = seen_by act w.far
 
 unfoldable pub seen_near : List StepAt → Noisy → List Seen
 seen_near [] w = []
-seen_near (h ∷ hs) w = seen_at_near h w ++ seen_near hs (happening h w)
+seen_near (h ∷ hs) w = seen_at_near h w ++ seen_near hs (doing h w)
 
 unfoldable pub seen_far : List StepAt → Noisy → List Seen
 seen_far [] w = []
-seen_far (h ∷ hs) w = seen_at_far h w ++ seen_far hs (happening h w)
+seen_far (h ∷ hs) w = seen_at_far h w ++ seen_far hs (doing h w)
 
 -- The two ends as ends of a wire of frames.
 abbrev pub as_frame_endpoint : Endpoint → FrameEndpoint
@@ -170,6 +170,6 @@ DeliveredThoughDamaged =
     (service : Service) (tei : ℕ) (w : Noisy) (p : Past (as_frame_endpoint w.near)) (q : Past (as_frame_endpoint w.far)) (hs : List StepAt) →
     let n = known service tei (as_frame_endpoint w.near) p in let m = known service tei (as_frame_endpoint w.far) q in
     FaceInStep service tei (as_wire w) n m → HasReceived w.near → HasReceived w.far → ArePossible service tei hs w →
-    let near = seen_near hs w in let far = seen_far hs w in let v = happening_all hs w in
+    let near = seen_near hs w in let far = seen_far hs w in let v = doing_all hs w in
     IsToldInOrder service tei (kept_by m n) far near × IsToldInOrder service tei (kept_by n m) near far
     × HearsWhatCame w.near v.near near × HearsWhatCame w.far v.far far

@@ -17,7 +17,7 @@ use Rattle.laws_wire.specs.Call as wire_call
 use Rattle.laws_wire.specs.Wire as wire
 use Rattle.laws_wire.specs.Wire.{Step, requests, sends, receives, loses}
 use Rattle.laws_wire.specs.Worked.{user, network}
-use Rattle.laws_order.specs.Happenings.{step}
+use Rattle.laws_order.specs.AnySteps.{step}
 use Rattle.laws_order.specs.Order.{data_noted, StaysEstablished}
 use Rattle.laws_order.specs.circuit.Circuit.{doing_all}
 use Rattle.laws_order.specs.circuit.Damaged.{happens, completes, as_frame_endpoint}

@@ -47,7 +47,7 @@ use Rattle.laws_wire.proofs.Speaking.{said_by, heard_by}
 use Rattle.laws_wire.proofs.Standing.{IsCarried, StationStands, link-sound, expires-said, takes-told}
 use Rattle.laws_order.specs.circuit.Circuit.{Endpoint as OctetEndpoint, port_of, answered, told_by}
 use Rattle.laws_order.specs.circuit.Circuit as circuit
-use Rattle.laws_order.proofs.OfCircuit.AsFrames.{as_station, if_meant, heard-as}
+use Rattle.laws_order.proofs.OfCircuit.AsFrames.{as_endpoint, if_meant, heard-as}
 use Rattle.laws_order.proofs.OfCircuit.Ran.{few-left}
 use Rattle.laws_time.specs.circuit.LongEnough.{is_of}
 use Rattle.laws_time.proofs.OfCircuit.AnsweredDue.{Due, TakesFirst, due-put, due-more, due-pulled}
@@ -88,18 +88,18 @@ module _ (c : Config) (service : Service) (tei place : ℕ) (ranged : IsInRange 
   its-same s h k = sym h.stands.speaks.link ∙ k.stands.speaks.link
 
   module _ (s : OctetEndpoint) (h : Ends c service tei place ranged s) where
-    own : StationStands s.card.card.config service tei place (as_station [] s) (bare c service tei place ranged h.its)
-    own = subst (λ k. StationStands k service tei place (as_station [] s) (bare c service tei place ranged h.its)) (sym h.stands.config) h.stands
+    own : StationStands s.card.card.config service tei place (as_endpoint [] s) (bare c service tei place ranged h.its)
+    own = subst (λ k. StationStands k service tei place (as_endpoint [] s) (bare c service tei place ranged h.its)) (sym h.stands.config) h.stands
 
     its-sound : LinkIsSound (terms c service tei) h.its
-    its-sound = link-sound service tei place (as_station [] s) (bare c service tei place ranged h.its) own
+    its-sound = link-sound service tei place (as_endpoint [] s) (bare c service tei place ranged h.its) own
 
     -- What is lost is told.
     pub lost-expired : (timer : Timer) (its : LinkTimer) → ((l : Line) → aim_of_expiry timer l ≡ at_timer service tei its (place_in l tei))
         → lost (circuit.happens (port.expiry timer) s) ≡ lost s + (links.told (terms c service tei) (link.expired its) h.its).lost
     lost-expired timer its aims =
         lost-with s (circuit.happens (port.expiry timer) s) (links.course (terms c service tei) (link.expired its) h.its)
-        (ap (λ (x : wire.Endpoint). x.told) (expired-reply timer s []) ∙ expires-said service tei place (as_station [] s) (bare c service tei place ranged h.its) own timer its aims)
+        (ap (λ (x : wire.Endpoint). x.told) (expired-reply timer s []) ∙ expires-said service tei place (as_endpoint [] s) (bare c service tei place ranged h.its) own timer its aims)
 
     pub lost-asked : (r : Request) (asked : link.Request) (aims : (l : Line) → aim_of_request r l ≡ at_requested service tei asked (place_in l tei)) (octets : AreOctets (contents_given r)) (e : LinkEvent)
         → (ends-asked c service tei place ranged s h r asked aims octets).event ≡ Some e → lost (circuit.happens (port.request r) s) ≡ lost s + (links.told (terms c service tei) (link.requested asked false) h.its).lost
@@ -116,8 +116,8 @@ module _ (c : Config) (service : Service) (tei place : ℕ) (ranged : IsInRange 
         let read = ap (λ (k : Config). reading (heard_side k) octets) h.stands.config
         ∙ ap (λ side. reading side octets) side ∙ ap (reading (own_side d)) spelled ∙ from.carried.read in
         lost-with s (circuit.happens (port.octet value) s) (links.course (terms c service tei) (link.received (link.frame f)) h.its)
-        (ap (λ (x : wire.Endpoint). x.told) (heard-as value s [] ∙ ap (λ o. if_meant (option_map line.hears o) (as_station [] s)) is ∙ ap (λ e. wire.happens (line.hears e) (as_station [] s)) (sym whole))
-        ∙ takes-told service tei place (as_station [] s) (bare c service tei place ranged h.its) own f octets whole read from.sapi from.by)
+        (ap (λ (x : wire.Endpoint). x.told) (heard-as value s [] ∙ ap (λ o. if_meant (option_map line.hears o) (as_endpoint [] s)) is ∙ ap (λ e. wire.happens (line.hears e) (as_endpoint [] s)) (sym whole))
+        ∙ takes-told service tei place (as_endpoint [] s) (bare c service tei place ranged h.its) own f octets whole read from.sapi from.by)
 
     pub text-is : text_length (port_of s).items ≡ 8 * length (port_of s).given + length (left_of (port_of s))
     text-is =

@@ -17,7 +17,7 @@ use Rattle.laws_wire.specs.Losing.{for_layer_3}
 use Rattle.laws_wire.specs.Wire as wire
 use Rattle.laws_wire.specs.Wire.{Endpoint as FrameEndpoint}
 use Rattle.laws_order.specs.circuit.Circuit.{Endpoint as OctetEndpoint, port_of, happens}
-use Rattle.laws_order.proofs.OfCircuit.AsFrames.{as_station, if_meant, heard-as, asked-as, pulled-as}
+use Rattle.laws_order.proofs.OfCircuit.AsFrames.{as_endpoint, if_meant, heard-as, asked-as, pulled-as}
 
 abbrev pub heard_of : List LineTold → List LineTold
 heard_of ts = flat_map for_layer_3 ts
@@ -32,21 +32,21 @@ pub record Becomes (x : FrameEndpoint) (way : List (List ℕ)) (s : OctetEndpoin
   pub heard : heard_of ts ≡ heard_of s.told
 
 -- An event of the line.
-module _ (e : line.Event) (way way' : List (List ℕ)) (s u : OctetEndpoint) (same : as_station way' u ≡ wire.happens e (as_station way s))
+module _ (e : line.Event) (way way' : List (List ℕ)) (s u : OctetEndpoint) (same : as_endpoint way' u ≡ wire.happens e (as_endpoint way s))
     (ts : List LineTold) (heard : heard_of ts ≡ heard_of s.told) where
   abbrev new : List LineTold
-  new = wire.told_by (wire.answered e (as_station way s))
+  new = wire.told_by (wire.answered e (as_endpoint way s))
 
   pub stirred : Becomes (wire.happens e (station way ts s)) way' u
   stirred = record {
-    ts = ts ++ wire.told_by (wire.answered e (as_station way s));
-    is = sym (ap (λ (x : FrameEndpoint). record x { told = ts ++ wire.told_by (wire.answered e (as_station way s)) }) same);
+    ts = ts ++ wire.told_by (wire.answered e (as_endpoint way s));
+    is = sym (ap (λ (x : FrameEndpoint). record x { told = ts ++ wire.told_by (wire.answered e (as_endpoint way s)) }) same);
     heard = flat_map-append for_layer_3 ts new ∙ ap (λ hs. hs ++ heard_of new) heard ∙ sym (flat_map-append for_layer_3 s.told new)
         ∙ sym (ap (λ (x : FrameEndpoint). heard_of x.told) same);
   }
 
 -- No event of it.
-pub unstirred : (way : List (List ℕ)) (s u : OctetEndpoint) → as_station way u ≡ as_station way s → (ts : List LineTold) → heard_of ts ≡ heard_of s.told → Becomes (station way ts s) way u
+pub unstirred : (way : List (List ℕ)) (s u : OctetEndpoint) → as_endpoint way u ≡ as_endpoint way s → (ts : List LineTold) → heard_of ts ≡ heard_of s.told → Becomes (station way ts s) way u
 unstirred way s u same ts heard = record {
   ts = ts;
   is = sym (ap (λ (x : FrameEndpoint). record x { told = ts }) same);
@@ -57,7 +57,7 @@ pub asked-becomes : (r : Request) (way : List (List ℕ)) (s : OctetEndpoint) (t
     → Becomes (wire.happens (line.request r) (station way ts s)) way (happens (port.request r) s)
 asked-becomes r way s ts heard = stirred (line.request r) way way s (happens (port.request r) s) (asked-as r s way) ts heard
 
-pub expired-as : (timer : Timer) (s : OctetEndpoint) (way : List (List ℕ)) → as_station way (happens (port.expiry timer) s) ≡ wire.happens (line.expiry timer) (as_station way s)
+pub expired-as : (timer : Timer) (s : OctetEndpoint) (way : List (List ℕ)) → as_endpoint way (happens (port.expiry timer) s) ≡ wire.happens (line.expiry timer) (as_endpoint way s)
 unfolding after answer meant line_answer takes_slot
 expired-as timer s way = grind (arith, append-nil)
 
@@ -67,18 +67,18 @@ expired-becomes timer way s ts heard = stirred (line.expiry timer) way way s (ha
 
 -- A pull, with which a frame is called for, or not.
 pub due-becomes : (way : List (List ℕ)) (s : OctetEndpoint) (ts : List LineTold) → heard_of ts ≡ heard_of s.told → is_due (port_of s) ≡ true
-    → Becomes (wire.happens line.next (station way ts s)) (wire.happens line.next (as_station way s)).way (happens port.pull s)
+    → Becomes (wire.happens line.next (station way ts s)) (wire.happens line.next (as_endpoint way s)).way (happens port.pull s)
 due-becomes way s ts heard due =
-    stirred line.next way (wire.happens line.next (as_station way s)).way s (happens port.pull s)
-    (ap (λ b. as_station (if_meant (cond b (Some line.next) None) (as_station way s)).way (happens port.pull s)) (sym due)
-    ∙ pulled-as s way ∙ ap (λ b. if_meant (cond b (Some line.next) None) (as_station way s)) due) ts heard
+    stirred line.next way (wire.happens line.next (as_endpoint way s)).way s (happens port.pull s)
+    (ap (λ b. as_endpoint (if_meant (cond b (Some line.next) None) (as_endpoint way s)).way (happens port.pull s)) (sym due)
+    ∙ pulled-as s way ∙ ap (λ b. if_meant (cond b (Some line.next) None) (as_endpoint way s)) due) ts heard
 
 pub undue-becomes : (way : List (List ℕ)) (s : OctetEndpoint) (ts : List LineTold) → heard_of ts ≡ heard_of s.told → is_due (port_of s) ≡ false
     → Becomes (station way ts s) way (happens port.pull s)
 undue-becomes way s ts heard due =
     unstirred way s (happens port.pull s)
-    (ap (λ b. as_station (if_meant (cond b (Some line.next) None) (as_station way s)).way (happens port.pull s)) (sym due)
-    ∙ pulled-as s way ∙ ap (λ b. if_meant (cond b (Some line.next) None) (as_station way s)) due) ts heard
+    (ap (λ b. as_endpoint (if_meant (cond b (Some line.next) None) (as_endpoint way s)).way (happens port.pull s)) (sym due)
+    ∙ pulled-as s way ∙ ap (λ b. if_meant (cond b (Some line.next) None) (as_endpoint way s)) due) ts heard
 
 -- An octet comes, with which a frame is heard, or nothing, or what stood for a frame is dropped.
 module _ (value : ℕ) (way : List (List ℕ)) (s : OctetEndpoint) (ts : List LineTold) (heard : heard_of ts ≡ heard_of s.told) where
@@ -88,37 +88,37 @@ module _ (value : ℕ) (way : List (List ℕ)) (s : OctetEndpoint) (ts : List Li
   abbrev got : Option stream.Event
   got = gained s.card.card.config.n201 (port_of s).received value
 
-  as-got : (o : Option stream.Event) → gained s.card.card.config.n201 (port_of s).received value ≡ o → as_station way (happens (port.octet value) s) ≡ if_meant (option_map line.hears o) (as_station way s)
-  as-got o is = heard-as value s way ∙ ap (λ o. if_meant (option_map line.hears o) (as_station way s)) is
+  as-got : (o : Option stream.Event) → gained s.card.card.config.n201 (port_of s).received value ≡ o → as_endpoint way (happens (port.octet value) s) ≡ if_meant (option_map line.hears o) (as_endpoint way s)
+  as-got o is = heard-as value s way ∙ ap (λ o. if_meant (option_map line.hears o) (as_endpoint way s)) is
 
   pub none-becomes : gained s.card.card.config.n201 (port_of s).received value ≡ None → Becomes (station way ts s) way (happens (port.octet value) s)
   none-becomes is = unstirred way s u (as-got None is) ts heard
 
-  heard-keeps : (e : stream.Event) → (wire.happens (line.hears e) (as_station way s)).way ≡ way
+  heard-keeps : (e : stream.Event) → (wire.happens (line.hears e) (as_endpoint way s)).way ≡ way
   unfolding line_answer takes_slot
   heard-keeps e = append-nil way
 
   pub frame-becomes : (e : stream.Event) → gained s.card.card.config.n201 (port_of s).received value ≡ Some e → Becomes (wire.happens (line.hears e) (station way ts s)) way (happens (port.octet value) s)
   frame-becomes e is =
       subst (λ w. Becomes (wire.happens (line.hears e) (station way ts s)) w u) (heard-keeps e)
-      (stirred (line.hears e) way (wire.happens (line.hears e) (as_station way s)).way s u
-      (ap (λ w. as_station w u) (sym (ap (λ (x : FrameEndpoint). x.way) (as-got (Some e) is))) ∙ as-got (Some e) is) ts heard)
+      (stirred (line.hears e) way (wire.happens (line.hears e) (as_endpoint way s)).way s u
+      (ap (λ w. as_endpoint w u) (sym (ap (λ (x : FrameEndpoint). x.way) (as-got (Some e) is))) ∙ as-got (Some e) is) ts heard)
 
-  dropped-card : (cause : _) → (wire.happens (line.hears (stream.dropped cause)) (as_station way s)).card ≡ s.card.card
+  dropped-card : (cause : _) → (wire.happens (line.hears (stream.dropped cause)) (as_endpoint way s)).card ≡ s.card.card
   unfolding line_after takes_slot
   dropped-card cause = ap (λ ls. record s.card.card { lines = ls }) (set-get_or s.card.card.lines s.line (fresh_line s.card.card.config))
 
-  dropped-unheard : (cause : _) → heard_of (wire.told_by (wire.answered (line.hears (stream.dropped cause)) (as_station way s))) ≡ []
+  dropped-unheard : (cause : _) → heard_of (wire.told_by (wire.answered (line.hears (stream.dropped cause)) (as_endpoint way s))) ≡ []
   unfolding line_answer takes_slot
   dropped-unheard cause = refl
 
-  dropped-granted : (cause : _) → (wire.happens (line.hears (stream.dropped cause)) (as_station way s)).granted ≡ s.granted
+  dropped-granted : (cause : _) → (wire.happens (line.hears (stream.dropped cause)) (as_endpoint way s)).granted ≡ s.granted
   unfolding line_answer takes_slot
   dropped-granted cause = append-nil s.granted
 
   pub dropped-becomes : (cause : _) → gained s.card.card.config.n201 (port_of s).received value ≡ Some (stream.dropped cause) → Becomes (station way ts s) way (happens (port.octet value) s)
   dropped-becomes cause is =
-      let x = wire.happens (line.hears (stream.dropped cause)) (as_station way s) in
+      let x = wire.happens (line.hears (stream.dropped cause)) (as_endpoint way s) in
       let same = as-got (Some (stream.dropped cause)) is in
       let card = ap (λ (x : FrameEndpoint). x.card) same ∙ dropped-card cause in
       let number = ap (λ (x : FrameEndpoint). x.line) same in
@@ -127,6 +127,6 @@ module _ (value : ℕ) (way : List (List ℕ)) (s : OctetEndpoint) (ts : List Li
         ts = ts;
         is = λ i. record { card = sym card i; line = sym number i; way = way; granted = sym granted i; told = ts };
         heard = heard ∙ sym (append-nil (heard_of s.told)) ∙ ap (λ hs. heard_of s.told ++ hs) (sym (dropped-unheard cause))
-            ∙ sym (flat_map-append for_layer_3 s.told (wire.told_by (wire.answered (line.hears (stream.dropped cause)) (as_station way s))))
+            ∙ sym (flat_map-append for_layer_3 s.told (wire.told_by (wire.answered (line.hears (stream.dropped cause)) (as_endpoint way s))))
             ∙ sym (ap (λ (x : FrameEndpoint). heard_of x.told) same);
       }

@@ -20,7 +20,7 @@ use Rattle.laws_wire.specs.Wire as wire
 use Rattle.laws_wire.specs.Wire.{Endpoint as FrameEndpoint, Wire, sends, turned}
 use Rattle.laws_wire.proofs.Standing.{StationStands}
 use Rattle.laws_order.specs.circuit.Circuit.{port_of}
-use Rattle.laws_order.proofs.OfCircuit.AsFrames.{as_station}
+use Rattle.laws_order.proofs.OfCircuit.AsFrames.{as_endpoint}
 use Rattle.laws_order.proofs.OfCircuit.Projected.{port-after, heard-way}
 use Rattle.laws_order.proofs.OfCircuit.Ran.{Ran, within-ports}
 use Rattle.laws_time.specs.circuit.Clocked.{TimedEndpoint, Clocked, Beat, happens, asks, hears, comes_to, gone, beat, fall_due}
@@ -58,12 +58,12 @@ module _ (service : Service) (tei : ℕ) (c : Config) (ranged : IsInRange c) (a 
       go true due =
           let b = due-becomes there a.at ts heard due in
           record {
-            there' = (wire.happens line.next (as_station there a.at)).way;
+            there' = (wire.happens line.next (as_endpoint there a.at)).way;
             goes' = pulled-way c ranged a.at ran there true due goes;
             ts' = b.ts;
             heard' = b.heard;
             path = path-one service tei sends tt (record { near = station there ts a.at; far = y })
-                (record { near = station (wire.happens line.next (as_station there a.at)).way b.ts (happens port.pull a).at; far = y }) tt (λ i. record { near = b.is i; far = y });
+                (record { near = station (wire.happens line.next (as_endpoint there a.at)).way b.ts (happens port.pull a).at; far = y }) tt (λ i. record { near = b.is i; far = y });
           }
       go false due =
           let b = undue-becomes there a.at ts heard due in

@@ -29,7 +29,7 @@ use Rattle.laws_wire.proofs.Beginning.{answers}
 use Rattle.laws_wire.proofs.Standing.{StationStands, gives-none}
 use Rattle.laws_order.specs.circuit.Circuit.{Endpoint as OctetEndpoint, port_of, answered}
 use Rattle.laws_order.specs.circuit.Circuit as circuit
-use Rattle.laws_order.proofs.OfCircuit.AsFrames.{as_station}
+use Rattle.laws_order.proofs.OfCircuit.AsFrames.{as_endpoint}
 use Rattle.laws_order.proofs.OfCircuit.Ran.{Ran}
 use Rattle.laws_time.specs.circuit.Clocked.{TimedEndpoint, happens, hears, comes_to}
 unfoldable use Rattle.laws_time.specs.circuit.Clocked.{fall_due}
@@ -107,7 +107,7 @@ module _ (service : Service) (c : Config) (ranged : IsInRange c) (number tei : �
         go true due =
             let b = due-becomes [] a.at first.told h.heard due in
             let same = untaken x gives in
-            let way : (wire.happens next (as_station [] a.at)).way ≡ [] = ap (λ a. wire.frames_by a) gives in
+            let way : (wire.happens next (as_endpoint [] a.at)).way ≡ [] = ap (λ a. wire.frames_by a) gives in
             let orders = orders-are (octet_at a.at.line port.pull) a.at.card (Some next) (ap (λ b. cond b (Some next) None) due) ∙ ap orders_in gives in
             let there = pulled-way c ranged a.at ran [] true due goes in (
               becomes-idle a port.pull h orders (record { ts = b.ts; is = sym same ∙ b.is ∙ ap (λ w. station w b.ts (happens port.pull a).at) way; heard = b.heard }),

@@ -25,7 +25,7 @@ use Rattle.laws_link.specs.two.Timely.{HasNo}
 use Rattle.laws_wire.specs.Facing.{parts_of}
 use Rattle.laws_wire.proofs.Standing.{IsCarried, StationStands, link-sound}
 use Rattle.laws_order.specs.circuit.Circuit.{Endpoint as OctetEndpoint, port_of}
-use Rattle.laws_order.proofs.OfCircuit.AsFrames.{as_station}
+use Rattle.laws_order.proofs.OfCircuit.AsFrames.{as_endpoint}
 use Rattle.laws_order.proofs.OfCircuit.OneWay.{framed, Carries, none-heard, one-heard}
 use Rattle.laws_time.specs.circuit.LongEnough.{is_of}
 use Rattle.laws_time.proofs.OfCircuit.ArrivAs.{station}
@@ -188,8 +188,8 @@ module _ (c : Config) (service : Service) (tei : ℕ) (ranged : IsInRange c) whe
 
       -- and those that wait
       sound : LinkIsSound (terms c service tei) h.its
-      sound = link-sound service tei 0 (as_station [] s) (bare c service tei 0 ranged h.its)
-          (subst (λ d. StationStands d service tei 0 (as_station [] s) (bare c service tei 0 ranged h.its)) (sym h.stands.config) h.stands)
+      sound = link-sound service tei 0 (as_endpoint [] s) (bare c service tei 0 ranged h.its)
+          (subst (λ d. StationStands d service tei 0 (as_endpoint [] s) (bare c service tei 0 ranged h.its)) (sym h.stands.config) h.stands)
 
       abbrev Not : ControlFrame → Type 0
       Not f = kind f.command f.control ≡ false

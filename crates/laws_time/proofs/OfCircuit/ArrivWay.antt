@@ -19,7 +19,7 @@ use Rattle.model_card.specs.ports.Port.{Port, gained, is_due, item_of, next_octe
 use Rattle.model_card.specs.ports.Sound.{IsSoundPort}
 use Rattle.laws_wire.specs.Wire as wire
 use Rattle.laws_order.specs.circuit.Circuit.{Endpoint as OctetEndpoint, port_of, happens}
-use Rattle.laws_order.proofs.OfCircuit.AsFrames.{as_station, if_meant}
+use Rattle.laws_order.proofs.OfCircuit.AsFrames.{as_endpoint, if_meant}
 use Rattle.laws_order.proofs.OfCircuit.OneWay.{Carries, one-given, one-put, none-heard, one-heard, OneHeard}
 use Rattle.laws_order.proofs.OfCircuit.Projected.{port-after}
 use Rattle.laws_order.proofs.OfCircuit.Ran.{Ran, within-ports, sound-port, on-line, gives-octets}
@@ -56,7 +56,7 @@ octets-put g h = grind arith
 module _ (c : Config) (ranged : IsInRange c) (s : OctetEndpoint) (ran : Ran c s) (there : List (List ℕ)) where
   pulled-goes : (rest before : List ℕ) → Carries c.n201 (port_of s) rest before there → (due : Bool) → let o : Option line.Event = cond due (Some line.next) None in
       let q = with_item (option_map (answer_to s.card.card) (option_map (frames.at s.line) o)) (port_of s) in
-      Carries c.n201 (with_octet q) (rest ++ next_octet q ∷ []) before (if_meant o (as_station there s)).way
+      Carries c.n201 (with_octet q) (rest ++ next_octet q ∷ []) before (if_meant o (as_endpoint there s)).way
   unfolding line_answer takes_slot
   pulled-goes rest before carries true =
       let g = given_in (machine.answer (frames.at s.line line.next) s.card.card) in
@@ -69,13 +69,13 @@ module _ (c : Config) (ranged : IsInRange c) (s : OctetEndpoint) (ran : Ran c s)
   pulled-goes rest before carries false = one-given c.n201 (port_of s) rest before there carries (next_octet (port_of s))
 
   pub pulled-way : (due : Bool) → is_due (port_of s) ≡ due → Going c.n201 (port_of s) s.way there
-      → Going c.n201 (port_of (happens port.pull s)) (happens port.pull s).way (if_meant (cond due (Some line.next) None) (as_station there s)).way
+      → Going c.n201 (port_of (happens port.pull s)) (happens port.pull s).way (if_meant (cond due (Some line.next) None) (as_endpoint there s)).way
   unfolding answer meant
   pulled-way due is h =
       let o : Option line.Event = cond (is_due (port_of s)) (Some line.next) None in
       let q = with_item (option_map (answer_to s.card.card) (option_map (frames.at s.line) o)) (port_of s) in
-      let frames_now = (if_meant (cond (is_due (port_of s)) (Some line.next) None) (as_station there s)).way in
-      subst (λ b. Going c.n201 (port_of (happens port.pull s)) (happens port.pull s).way (if_meant (cond b (Some line.next) None) (as_station there s)).way) is
+      let frames_now = (if_meant (cond (is_due (port_of s)) (Some line.next) None) (as_endpoint there s)).way in
+      subst (λ b. Going c.n201 (port_of (happens port.pull s)) (happens port.pull s).way (if_meant (cond b (Some line.next) None) (as_endpoint there s)).way) is
       (record {
         flags = h.flags;
         rest = h.rest ++ next_octet q ∷ [];

@@ -35,7 +35,7 @@ use Rattle.laws_wire.specs.Facing.{parts_of}
 use Rattle.laws_wire.specs.Timely.{is_final}
 use Rattle.laws_wire.proofs.Standing.{StationStands, link-sound}
 use Rattle.laws_order.specs.circuit.Circuit.{Endpoint as OctetEndpoint, port_of}
-use Rattle.laws_order.proofs.OfCircuit.AsFrames.{as_station}
+use Rattle.laws_order.proofs.OfCircuit.AsFrames.{as_endpoint}
 use Rattle.laws_order.proofs.OfCircuit.Ran.{few-left}
 use Rattle.laws_time.specs.circuit.LongEnough.{is_of, is_waiting}
 use Rattle.laws_time.proofs.OfCircuit.Kinds.{asks}
@@ -121,8 +121,8 @@ module _ (c : Config) (service : Service) (tei place : ℕ) (ranged : IsInRange 
     module _ (s u : OctetEndpoint) (h : Ends c service tei place ranged s) (k : Ends c service tei place ranged u) (most : ℕ)
         (items : (port_of u).items ≡ (port_of s).items) (given : (port_of u).given ≡ (port_of s).given) (puts : List ControlFrame) (more : k.its.waiting ≡ h.its.waiting ++ puts) where
       sound : LinkIsSound (terms c service tei) k.its
-      sound = link-sound service tei place (as_station [] u) (bare c service tei place ranged k.its)
-          (subst (λ d. StationStands d service tei place (as_station [] u) (bare c service tei place ranged k.its)) (sym k.stands.config) k.stands)
+      sound = link-sound service tei place (as_endpoint [] u) (bare c service tei place ranged k.its)
+          (subst (λ d. StationStands d service tei place (as_endpoint [] u) (bare c service tei place ranged k.its)) (sym k.stands.config) k.stands)
 
       all-puts : (xs ys : List ControlFrame) → All (IsWaitingFrame (terms c service tei)) (xs ++ ys) → All (IsWaitingFrame (terms c service tei)) ys
       all-puts [] ys all = all
@@ -170,8 +170,8 @@ module _ (c : Config) (service : Service) (tei place : ℕ) (ranged : IsInRange 
       u = Rattle.laws_order.specs.circuit.Circuit.happens Rattle.model_card.specs.ports.Port.pull s
 
       waits : LinkIsSound (terms c service tei) h.its
-      waits = link-sound service tei place (as_station [] s) (bare c service tei place ranged h.its)
-          (subst (λ d. StationStands d service tei place (as_station [] s) (bare c service tei place ranged h.its)) (sym h.stands.config) h.stands)
+      waits = link-sound service tei place (as_endpoint [] s) (bare c service tei place ranged h.its)
+          (subst (λ d. StationStands d service tei place (as_endpoint [] s) (bare c service tei place ranged h.its)) (sym h.stands.config) h.stands)
 
       takes : (new : List Item) (ws now : List ControlFrame) → All (IsWaitingFrame (terms c service tei)) ws → Took c service tei new ws now
           → Takes c.n201 (is_of kind c) most new (map (text c service tei) ws) (map (text c service tei) now)

@@ -43,7 +43,7 @@ use Rattle.laws_wire.proofs.Answered.{gives-taken}
 use Rattle.laws_wire.proofs.Speaking.{said_by}
 use Rattle.laws_wire.proofs.Standing.{IsCarried, StationStands, asks-stands, Granted, expires-stands, takes-stands, gives-stands, gives-frames}
 use Rattle.laws_order.specs.circuit.Circuit.{Endpoint as OctetEndpoint, port_of, happens}
-use Rattle.laws_order.proofs.OfCircuit.AsFrames.{as_station, if_meant, heard-as, asked-as, pulled-as}
+use Rattle.laws_order.proofs.OfCircuit.AsFrames.{as_endpoint, if_meant, heard-as, asked-as, pulled-as}
 use Rattle.laws_order.proofs.OfCircuit.AtPort.{next_of_card, pull-between, pull-put, pull-given}
 use Rattle.laws_order.proofs.OfCircuit.Projected.{Fits, port-after}
 use Rattle.laws_order.proofs.OfCircuit.Ran.{Ran, goes-on, within-ports, sound-port, on-line, gives-octets}
@@ -53,7 +53,7 @@ use Rattle.model_line.specs.Taken.{own_side}
 
 -- An expiry as the card of frames inside has it.
 pub expired-reply : (timer : Timer) (s : OctetEndpoint) (way : List (List ℕ))
-    → as_station way (happens (port.expiry timer) s) ≡ wire.happens (line.expiry timer) (as_station way s)
+    → as_endpoint way (happens (port.expiry timer) s) ≡ wire.happens (line.expiry timer) (as_endpoint way s)
 unfolding after answer meant line_answer takes_slot
 expired-reply timer s way = grind (arith, append-nil)
 
@@ -73,7 +73,7 @@ module _ (c : Config) (service : Service) (tei place : ℕ) (ranged : IsInRange 
   pub record Ends (s : OctetEndpoint) : Type 0 where
     pub ran : Ran c s
     pub its : Link
-    pub stands : StationStands c service tei place (as_station [] s) (bare its)
+    pub stands : StationStands c service tei place (as_endpoint [] s) (bare its)
     pub frames : All IsOwn (frames_among (port_of s).items)
     pub octets : All AreOctets (frames_among (port_of s).items)
 
@@ -95,8 +95,8 @@ module _ (c : Config) (service : Service) (tei place : ℕ) (ranged : IsInRange 
   own-config : (x : FrameEndpoint) (n : LinkEndpoint) → StationStands c service tei place x n → StationStands x.card.config service tei place x n
   own-config x n h = subst (λ k. StationStands k service tei place x n) (sym h.config) h
 
-  finish : (k : Config) → k ≡ c → (u : OctetEndpoint) (y : FrameEndpoint) (n : LinkEndpoint) → record (as_station [] u) { way = [] } ≡ record y { way = [] } → StationStands k service tei place y n
-      → StationStands c service tei place (as_station [] u) (bare n.link)
+  finish : (k : Config) → k ≡ c → (u : OctetEndpoint) (y : FrameEndpoint) (n : LinkEndpoint) → record (as_endpoint [] u) { way = [] } ≡ record y { way = [] } → StationStands k service tei place y n
+      → StationStands c service tei place (as_endpoint [] u) (bare n.link)
   finish k same u y n is h =
       subst (λ z. StationStands c service tei place z (bare n.link)) (sym is) (as-bare y n (subst (λ k. StationStands k service tei place y n) same h))
 
@@ -127,7 +127,7 @@ module _ (c : Config) (service : Service) (tei place : ℕ) (ranged : IsInRange 
     pub items : (port_of u).items ≡ (port_of s).items
     pub given : (port_of u).given ≡ (port_of s).given
 
-  abbrev same-ends : (s u : OctetEndpoint) (h : Ends s) → Ran c u → (l : Link) → StationStands c service tei place (as_station [] u) (bare l) → (port_of u).items ≡ (port_of s).items → Ends u
+  abbrev same-ends : (s u : OctetEndpoint) (h : Ends s) → Ran c u → (l : Link) → StationStands c service tei place (as_endpoint [] u) (bare l) → (port_of u).items ≡ (port_of s).items → Ends u
   same-ends s u h ran l stands items = record {
     ran = ran;
     its = l;
@@ -138,10 +138,10 @@ module _ (c : Config) (service : Service) (tei place : ℕ) (ranged : IsInRange 
 
   module _ (s : OctetEndpoint) (h : Ends s) where
     abbrev x : FrameEndpoint
-    x = as_station [] s
+    x = as_endpoint [] s
 
-    abbrev own : StationStands s.card.card.config service tei place (as_station [] s) (bare h.its)
-    own = own-config (as_station [] s) (bare h.its) h.stands
+    abbrev own : StationStands s.card.card.config service tei place (as_endpoint [] s) (bare h.its)
+    own = own-config (as_endpoint [] s) (bare h.its) h.stands
 
     inside : s.line < length s.card.ports
     inside = within-ports c ranged s h.ran
@@ -157,10 +157,10 @@ module _ (c : Config) (service : Service) (tei place : ℕ) (ranged : IsInRange 
       same-port : port_of (happens (port.request r) s) ≡ port_of s
       same-port = port-after s (port.request r) (within-ports c ranged s h.ran)
 
-      asked-is : bared (as_station [] (happens (port.request r) s)) ≡ bared (wire.happens (line.request r) (as_station [] s))
+      asked-is : bared (as_endpoint [] (happens (port.request r) s)) ≡ bared (wire.happens (line.request r) (as_endpoint [] s))
       asked-is = ap bared (asked-as r s [])
 
-      refused-moved : StationStands c service tei place (as_station [] (happens (port.request r) s)) (bare h.its) → Moved s (happens (port.request r) s) h IsThat
+      refused-moved : StationStands c service tei place (as_endpoint [] (happens (port.request r) s)) (bare h.its) → Moved s (happens (port.request r) s) h IsThat
       refused-moved stands = record {
         ends = same-ends s asked_then h (goes-on c s (port.request r) octets h.ran) h.its stands (ap (λ (p : Port). p.items) same-port);
         event = None;
@@ -170,7 +170,7 @@ module _ (c : Config) (service : Service) (tei place : ℕ) (ranged : IsInRange 
         given = ap (λ (p : Port). p.given) same-port;
       }
 
-      granted-moved : StationStands c service tei place (as_station [] (happens (port.request r) s)) (bare (links.after (terms c service tei) (link.requested asked false) h.its))
+      granted-moved : StationStands c service tei place (as_endpoint [] (happens (port.request r) s)) (bare (links.after (terms c service tei) (link.requested asked false) h.its))
           → Moved s (happens (port.request r) s) h IsThat
       granted-moved stands = record {
         ends = same-ends s asked_then h (goes-on c s (port.request r) octets h.ran) (links.after (terms c service tei) (link.requested asked false) h.its) stands (ap (λ (p : Port). p.items) same-port);
@@ -183,16 +183,16 @@ module _ (c : Config) (service : Service) (tei place : ℕ) (ranged : IsInRange 
 
       abbrev Stood : Type 0
       Stood =
-          (wire.happens (line.request r) (as_station [] s) ≡ as_station [] s)
-          ⊎ Granted service tei place (as_station [] s) (bare h.its) own r asked aims (wire.happens (line.request r) (as_station [] s))
+          (wire.happens (line.request r) (as_endpoint [] s) ≡ as_endpoint [] s)
+          ⊎ Granted service tei place (as_endpoint [] s) (bare h.its) own r asked aims (wire.happens (line.request r) (as_endpoint [] s))
 
       asked-by : Stood → Moved s (happens (port.request r) s) h IsThat
       asked-by (inl none) = refused-moved (subst (λ z. StationStands c service tei place z (bare h.its)) (sym (asked-is ∙ ap bared none)) h.stands)
       asked-by (inr g) =
-          granted-moved (finish s.card.card.config h.stands.config asked_then (wire.happens (line.request r) (as_station [] s)) (with_link (link.requested asked false) (bare h.its)) asked-is g.stands)
+          granted-moved (finish s.card.card.config h.stands.config asked_then (wire.happens (line.request r) (as_endpoint [] s)) (with_link (link.requested asked false) (bare h.its)) asked-is g.stands)
 
       pub ends-asked : Moved s (happens (port.request r) s) h IsThat
-      ends-asked = asked-by (asks-stands service tei place (as_station [] s) (bare h.its) own r asked aims)
+      ends-asked = asked-by (asks-stands service tei place (as_endpoint [] s) (bare h.its) own r asked aims)
 
       -- What it is told, if it is granted.
       told-by : (x : Stood) (e : link.Event) → (asked-by x).event ≡ Some e → (happens (port.request r) s).told ≡ s.told ++ said_by (links.course (terms c service tei) (link.requested asked false) h.its)
@@ -202,7 +202,7 @@ module _ (c : Config) (service : Service) (tei place : ℕ) (ranged : IsInRange 
 
       pub asked-told : (e : link.Event) → ends-asked.event ≡ Some e → (happens (port.request r) s).told ≡ s.told ++ said_by (links.course (terms c service tei) (link.requested asked false) h.its)
       unfolding ends-asked
-      asked-told e is = told-by (asks-stands service tei place (as_station [] s) (bare h.its) own r asked aims) e is
+      asked-told e is = told-by (asks-stands service tei place (as_endpoint [] s) (bare h.its) own r asked aims) e is
 
     -- a timer of the link expires
     module _ (timer : Timer) (its : LinkTimer) (aims : (l : Line) → aim_of_expiry timer l ≡ at_timer service tei its (place_in l tei)) where
@@ -216,8 +216,8 @@ module _ (c : Config) (service : Service) (tei place : ℕ) (ranged : IsInRange 
           let e = link.expired its in
           record {
             ends = same-ends s u h (goes-on c s (port.expiry timer) tt h.ran) (links.after (terms c service tei) e h.its)
-                (finish s.card.card.config h.stands.config u (wire.happens (line.expiry timer) (as_station [] s)) (with_link e (bare h.its)) (ap bared (expired-reply timer s []))
-                (expires-stands service tei place (as_station [] s) (bare h.its) own timer its aims)) (ap (λ (p : Port). p.items) same);
+                (finish s.card.card.config h.stands.config u (wire.happens (line.expiry timer) (as_endpoint [] s)) (with_link e (bare h.its)) (ap bared (expired-reply timer s []))
+                (expires-stands service tei place (as_endpoint [] s) (bare h.its) own timer its aims)) (ap (λ (p : Port). p.items) same);
             event = Some e;
             link_is = refl;
             by = λ f is. sym (cc is);
@@ -241,14 +241,14 @@ module _ (c : Config) (service : Service) (tei place : ℕ) (ranged : IsInRange 
       ran-now = goes-on c s (port.octet value) tt h.ran
 
       now-is : (o : Option StreamEvent) → gained s.card.card.config.n201 (port_of s).received value ≡ o
-          → bared (as_station [] (happens (port.octet value) s)) ≡ bared (if_meant (option_map line.hears o) (as_station [] s))
-      now-is o is = ap bared (heard-as value s []) ∙ ap (λ o. bared (if_meant (option_map line.hears o) (as_station [] s))) is
+          → bared (as_endpoint [] (happens (port.octet value) s)) ≡ bared (if_meant (option_map line.hears o) (as_endpoint [] s))
+      now-is o is = ap bared (heard-as value s []) ∙ ap (λ o. bared (if_meant (option_map line.hears o) (as_endpoint [] s))) is
 
       -- that ends no frame
       abbrev IsNone : link.Event → Type 0
       IsNone e = ⊥
 
-      still : StationStands c service tei place (as_station [] (happens (port.octet value) s)) (bare h.its) → Moved s (happens (port.octet value) s) h IsNone
+      still : StationStands c service tei place (as_endpoint [] (happens (port.octet value) s)) (bare h.its) → Moved s (happens (port.octet value) s) h IsNone
       still stands = record {
         ends = same-ends s heard h ran-now h.its stands (ap (λ (p : Port). p.items) port-now);
         event = None;
@@ -263,9 +263,9 @@ module _ (c : Config) (service : Service) (tei place : ℕ) (ranged : IsInRange 
 
       pub heard-dropped : (cause : _) → gained s.card.card.config.n201 (port_of s).received value ≡ Some (stream.dropped cause) → Moved s (happens (port.octet value) s) h IsNone
       heard-dropped cause is =
-          let y = wire.happens (line.hears (stream.dropped cause)) (as_station [] s) in
+          let y = wire.happens (line.hears (stream.dropped cause)) (as_endpoint [] s) in
           still (subst (λ z. StationStands c service tei place z (bare h.its)) (sym (now-is (Some (stream.dropped cause)) is))
-          (told-more (as_station [] s) (bared y) (dropped-same cause (as_station [] s)) refl refl (bare h.its) h.stands))
+          (told-more (as_endpoint [] s) (bared y) (dropped-same cause (as_endpoint [] s)) refl refl (bare h.its) h.stands))
 
       -- with a frame of the other end
       module _ (d : Config) (octets : List ℕ) (f : Parts) (spelled : octets ≡ spelling (own_side d) f) (from : IsCarried d service tei f) (side : heard_side c ≡ own_side d) (size : d.n201 ≡ c.n201) where
@@ -280,11 +280,11 @@ module _ (c : Config) (service : Service) (tei place : ℕ) (ranged : IsInRange 
             ap (λ (k : Config). came k.n201 octets) h.stands.config ∙ ap (λ n. came n octets) (sym size) ∙ ap (came d.n201) spelled ∙ from.carried.whole ∙ ap stream.frame (sym spelled) in
             let read = ap (λ (k : Config). reading (heard_side k) octets) h.stands.config
             ∙ ap (λ side. reading side octets) side ∙ ap (reading (own_side d)) spelled ∙ from.carried.read in
-            let takes = takes-stands service tei place (as_station [] s) (bare h.its) own f octets whole read from.sapi from.by in
+            let takes = takes-stands service tei place (as_endpoint [] s) (bare h.its) own f octets whole read from.sapi from.by in
             record {
               ends = same-ends s heard h ran-now (links.after (terms c service tei) e h.its)
-                  (finish k h.stands.config heard (wire.frame_comes octets (as_station [] s)) (with_link e (bare h.its))
-                  (now-is (Some (stream.frame octets)) is ∙ ap (λ e. bared (wire.happens (line.hears e) (as_station [] s))) (sym whole)) takes)
+                  (finish k h.stands.config heard (wire.frame_comes octets (as_endpoint [] s)) (with_link e (bare h.its))
+                  (now-is (Some (stream.frame octets)) is ∙ ap (λ e. bared (wire.happens (line.hears e) (as_endpoint [] s))) (sym whole)) takes)
                   (ap (λ (p : Port). p.items) port-now);
               event = Some e;
               link_is = refl;
@@ -318,7 +318,7 @@ module _ (c : Config) (service : Service) (tei place : ℕ) (ranged : IsInRange 
         let between = pull-between c.n201 c fits s h.ran none in let given = pull-given c.n201 c fits s h.ran in
         record {
           ends = same-ends s pulled h (goes-on c s port.pull tt h.ran) h.its
-              (subst (λ z. StationStands c service tei place z (bare h.its)) (sym (ap bared (pulled-as s []) ∙ ap (λ due. bared (if_meant (cond due (Some line.next) None) (as_station [] s))) none)) h.stands) between.1;
+              (subst (λ z. StationStands c service tei place z (bare h.its)) (sym (ap bared (pulled-as s []) ∙ ap (λ due. bared (if_meant (cond due (Some line.next) None) (as_endpoint [] s))) none)) h.stands) between.1;
           new = [];
           value = given.0;
           gave = record { few = omega arith; items = between.1 ∙ sym (append-nil (port_of s).items); given = given.1 };
@@ -329,21 +329,21 @@ module _ (c : Config) (service : Service) (tei place : ℕ) (ranged : IsInRange 
     given-now : Option NextFrame
     given-now = given_in (next_of_card s.line s.card.card)
 
-    gives-now : frames_by (wire.answered line.next (as_station [] s)) ≡ frames_among (item_of (given_in (next_of_card s.line s.card.card)) ∷ [])
-    gives-now = go _ (gives-taken (as_station [] s))
+    gives-now : frames_by (wire.answered line.next (as_endpoint [] s)) ≡ frames_among (item_of (given_in (next_of_card s.line s.card.card)) ∷ [])
+    gives-now = go _ (gives-taken (as_endpoint [] s))
       where
         put : (o : Option NextFrame) → frames_by (line.gave o) ≡ frames_among (item_of o ∷ [])
         put None = refl
         put (Some f) = refl
 
-        go : (o : Option NextFrame) → wire.answered line.next (as_station [] s) ≡ line.gave o → frames_by (wire.answered line.next (as_station [] s)) ≡ frames_among (item_of (given_in (next_of_card s.line s.card.card)) ∷ [])
+        go : (o : Option NextFrame) → wire.answered line.next (as_endpoint [] s) ≡ line.gave o → frames_by (wire.answered line.next (as_endpoint [] s)) ≡ frames_among (item_of (given_in (next_of_card s.line s.card.card)) ∷ [])
         go o is = ap frames_by is ∙ put o ∙ ap (λ a. frames_among (item_of (given_in a) ∷ [])) (sym is)
 
     its-frames : List Parts
     its-frames = frame_given (terms c service tei) (links.given (terms c service tei) h.its)
 
     frames-are : frames_among (item_of (given_in (next_of_card s.line s.card.card)) ∷ []) ≡ map (spelling (own_side c)) (frame_given (terms c service tei) (links.given (terms c service tei) h.its))
-    frames-are = sym gives-now ∙ gives-frames service tei place (as_station [] s) (bare h.its) own
+    frames-are = sym gives-now ∙ gives-frames service tei place (as_endpoint [] s) (bare h.its) own
         ∙ ap (λ (k : Config). map (spelling (own_side k)) (frame_given (terms c service tei) (links.given (terms c service tei) h.its))) h.stands.config
 
     all-own : (fs : List Parts) → All (IsCarried c service tei) fs → All IsOwn (map (spelling (own_side c)) fs)
@@ -359,7 +359,7 @@ module _ (c : Config) (service : Service) (tei place : ℕ) (ranged : IsInRange 
         let given = pull-given c.n201 c fits s h.ran in
         let put = pull-put c.n201 c fits s h.ran due in
         let i = item_of (given_in (next_of_card s.line s.card.card)) in
-        let gives = gives-stands service tei place (as_station [] s) (bare h.its) own in
+        let gives = gives-stands service tei place (as_endpoint [] s) (bare h.its) own in
         let carried : All (IsCarried c service tei) (frame_given (terms c service tei) (links.given (terms c service tei) h.its)) =
         subst (λ k. All (IsCarried k service tei) (frame_given (terms c service tei) (links.given (terms c service tei) h.its))) h.stands.config gives.carried in
         let more = ap frames_among put ∙ frames_among-append (port_of s).items (i ∷ []) in
@@ -367,8 +367,8 @@ module _ (c : Config) (service : Service) (tei place : ℕ) (ranged : IsInRange 
           ends = record {
             ran = goes-on c s port.pull tt h.ran;
             its = links.after (terms c service tei) link.offer h.its;
-            stands = finish s.card.card.config h.stands.config pulled (wire.happens line.next (as_station [] s)) (with_sent (bare h.its))
-                (ap bared (pulled-as s []) ∙ ap (λ due. bared (if_meant (cond due (Some line.next) None) (as_station [] s))) due) gives;
+            stands = finish s.card.card.config h.stands.config pulled (wire.happens line.next (as_endpoint [] s)) (with_sent (bare h.its))
+                (ap bared (pulled-as s []) ∙ ap (λ due. bared (if_meant (cond due (Some line.next) None) (as_endpoint [] s))) due) gives;
             frames = subst (All IsOwn) (sym more) (All-append IsOwn (frames_among (port_of s).items) (frames_among (i ∷ [])) h.frames
                 (subst (All IsOwn) (sym frames-are) (all-own (frame_given (terms c service tei) (links.given (terms c service tei) h.its)) carried)));
             octets = subst (All AreOctets) (sym more) (All-append AreOctets (frames_among (port_of s).items) (frames_among (i ∷ [])) h.octets

@@ -52,27 +52,27 @@ IsPossibleAt service tei s (elsewhere e) = IsElsewhere s e
 abbrev pub elsewhere_on : card.Event → Endpoint → Endpoint
 elsewhere_on e s = record s { card = after e s.card }
 
-abbrev pub befalling : AnyStep → Wire → Wire
-befalling (step act) w = acting act w
-befalling (disturbed what) w = record w { near = happens (hears what) w.near }
-befalling (elsewhere e) w = record w { near = elsewhere_on e w.near }
+abbrev pub any_acting : AnyStep → Wire → Wire
+any_acting (step act) w = acting act w
+any_acting (disturbed what) w = record w { near = happens (hears what) w.near }
+any_acting (elsewhere e) w = record w { near = elsewhere_on e w.near }
 
 -- The same at either end, and one after the other.
 pub data AnyStepAt : Type 0 where
-  by_near : AnyStep → AnyStepAt
-  by_far : AnyStep → AnyStepAt
+  any_near : AnyStep → AnyStepAt
+  any_far : AnyStep → AnyStepAt
 
 abbrev pub IsPossible : Service → ℕ → Wire → AnyStepAt → Type 0
-IsPossible service tei w (by_near deed) = IsPossibleAt service tei w.near deed
-IsPossible service tei w (by_far deed) = IsPossibleAt service tei w.far deed
+IsPossible service tei w (any_near act) = IsPossibleAt service tei w.near act
+IsPossible service tei w (any_far act) = IsPossibleAt service tei w.far act
 
-abbrev pub happening : AnyStepAt → Wire → Wire
-happening (by_near deed) w = befalling deed w
-happening (by_far deed) w = turned (befalling deed (turned w))
+abbrev pub any_doing : AnyStepAt → Wire → Wire
+any_doing (any_near act) w = any_acting act w
+any_doing (any_far act) w = turned (any_acting act (turned w))
 
-unfoldable pub happening_all : List AnyStepAt → Wire → Wire
-happening_all [] w = w
-happening_all (h ∷ hs) w = happening_all hs (happening h w)
+unfoldable pub any_doing_all : List AnyStepAt → Wire → Wire
+any_doing_all [] w = w
+any_doing_all (h ∷ hs) w = any_doing_all hs (any_doing h w)
 
 -- What is seen at an end, as `Trace` of `laws_trace` has it: the event at the line of the wire, if there is one, with its answer.
 abbrev pub first_heard : ℕ → List (List ℕ) → List Event
@@ -92,20 +92,20 @@ abbrev pub shown_by : Endpoint → Event → List Seen
 shown_by s e = seen e (answered e s)
 
 abbrev pub seen_by : AnyStep → Wire → List Seen
-seen_by deed w = flat_map (shown_by w.near) (events_here deed w)
+seen_by act w = flat_map (shown_by w.near) (events_here act w)
 
 abbrev pub seen_at_near : AnyStepAt → Wire → List Seen
-seen_at_near (by_near deed) w = seen_by deed w
-seen_at_near (by_far deed) w = []
+seen_at_near (any_near act) w = seen_by act w
+seen_at_near (any_far act) w = []
 
 abbrev pub seen_at_far : AnyStepAt → Wire → List Seen
-seen_at_far (by_near deed) w = []
-seen_at_far (by_far deed) w = seen_by deed (turned w)
+seen_at_far (any_near act) w = []
+seen_at_far (any_far act) w = seen_by act (turned w)
 
 unfoldable pub seen_near : List AnyStepAt → Wire → List Seen
 seen_near [] w = []
-seen_near (h ∷ hs) w = seen_at_near h w ++ seen_near hs (happening h w)
+seen_near (h ∷ hs) w = seen_at_near h w ++ seen_near hs (any_doing h w)
 
 unfoldable pub seen_far : List AnyStepAt → Wire → List Seen
 seen_far [] w = []
-seen_far (h ∷ hs) w = seen_at_far h w ++ seen_far hs (happening h w)
+seen_far (h ∷ hs) w = seen_at_far h w ++ seen_far hs (any_doing h w)

@@ -1,0 +1,6 @@
+-- Hand-written answers for `words_mean_this`.
+use Rattle.laws_trace.proofs.Words.{words-mean-this}
+use Rattle.laws_trace.proofs.words.words_mean_this.Goals as goal
+
+pub returns : goal.returns
+returns c = words-mean-this

@@ -1,5 +1,5 @@
 -- Lemmas.
-pub mod Cards
+pub mod TimedCards
 pub mod DueFirst
 pub mod CallersClocks
 pub mod TimedFrames

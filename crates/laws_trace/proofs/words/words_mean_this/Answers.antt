@@ -1,5 +1,5 @@
 -- Hand-written answers for `words_mean_this`.
-use Rattle.laws_trace.proofs.Words.{words-mean-this}
+use Rattle.laws_trace.proofs.WordsMean.{words-mean-this}
 use Rattle.laws_trace.proofs.words.words_mean_this.Goals as goal
 
 pub returns : goal.returns

@@ -1,5 +1,5 @@
 -- A clock that a caller keeps is as that of a card: the law.
-use Rattle.lapd_clock.proofs.Vocabulary.{◌≡◌, ℕ, ◌+◌, Bool, true, false, cond, List, [], ◌∷◌, Some, None, refl, ap, nat_le, Timer, Order, Start, Stop, Lengths, duration, Expiry, Timers, without}
+use Rattle.lapd_clock.proofs.Vocabulary.{◌≡◌, ℕ, ◌+◌, Bool, true, false, cond, List, [], ◌∷◌, Some, None, refl, ap, nat_le, Timer, Order, Start, Stop, duration, Expiry, Timers, without}
 use Rattle.std.proofs.Common.{Option, option_map}
 use Rattle.std.specs.Option.{option_map_or}
 use Rattle.lapd_clock.specs.Timers as callers
@@ -22,11 +22,11 @@ module _ (c : Timers) (now : ℕ) where
   due-is [] = refl
   due-is (e ∷ es) = by (nat_le e.moment now)
     where
-      by : (b : Bool) → cond b (Some (e.line, e.timer)) None ≡ option_map (λ (x : Expiry). (x.line, x.timer)) (cond b (Some e) None)
+      by : (b : Bool) → cond {A = Option (ℕ × Timer)} b (Some (e.line, e.timer)) None ≡ option_map (λ (x : Expiry). (x.line, x.timer)) (cond b (Some e) None)
       by true = refl
       by false = refl
 
-  at : List Expiry → Clock
+  abbrev at : List Expiry → Clock
   at es = record { lengths = c.lengths; running = es; now = now }
 
   taken-is : (es : List Expiry) → at (callers.after_first_due es now) ≡ option_map_or (λ (x : Expiry). without_first (at es)) (own.first_due es now) (at es)

@@ -1,11 +1,11 @@
 -- Which timer falls due first: the law.
-use Rattle.lapd_clock.proofs.Vocabulary.{◌≡◌, ℕ, ◌==◌, ◌&&◌, ◌||◌, Bool, true, false, cond, List, [], ◌∷◌, Some, None, refl, sym, ap, ◌∙◌, arith, nat_tests, nat_lt, nat_le, drop, nat_cmp, ordering_then, is_lt, AllByRecursion, All-from_recursion, same_Some, none-some, Timer, Order, Lengths, kind_rank, tei_rank, service_rank, timer_cmp, Expiry, is_before, IsInOrder, Ordering}
-use Rattle.std.proofs.Common.{All, Option, subst, absurd}
+use Rattle.lapd_clock.proofs.Vocabulary.{◌≡◌, ℕ, ◌==◌, ◌&&◌, ◌||◌, Bool, true, false, cond, List, [], ◌∷◌, Some, None, refl, sym, ap, ◌∙◌, arith, nat_tests, nat_lt, nat_le, drop, nat_cmp, ordering_then, is_lt, AllByRecursion, All-from_recursion, Timer, kind_rank, tei_rank, service_rank, timer_cmp, Expiry, is_before, IsInOrder, Ordering}
+use Rattle.std.proofs.Common.{All, Option}
 use Rattle.std.specs.Prelude.{IfSome}
 use Rattle.std.specs.Option.{option_map_or}
 use Rattle.lapd_clock.specs.Timer.{T200, T203, T201, T202, Call, Packet}
 use Rattle.lapd_clock.proofs.First.{before_itself}
-use Rattle.model_timed.specs.Clock.{Clock, stopped, due, first_due, without_first}
+use Rattle.model_timed.specs.Clock.{stopped, due, first_due, without_first}
 use Rattle.model_timed.specs.Timed.{Kind, Timed, Step, happens, time, falls_due, after, with_expiry, expiry_at}
 unfoldable use Rattle.model_timed.specs.Timed.{after_all}
 use Rattle.model_timed.proofs.Orders.{in-order}

@@ -1,14 +1,10 @@
 -- A card that keeps its own timers is a card at which the same happens.
-use Rattle.std.proofs.Common.{◌≡◌, ◌≤◌, ◌<◌, ℕ, ◌+◌, Bool, true, false, List, [], ◌∷◌, ◌++◌, All, Option, Some, None, option_map, refl, absurd}
+use Rattle.std.proofs.Common.{◌≡◌, false, List, [], ◌∷◌, ◌++◌, Option, Some, None, option_map, refl}
 use Rattle.std.proofs.lemmas.Bool.{true≢false}
 use Rattle.std.specs.Prelude.{fold, option_to_list}
 use Rattle.std.specs.Option.{option_map_or}
 use Rattle.lapd_clock.specs.Timers.{Expiry}
 use Rattle.model_line.specs.Event as line
-use Rattle.model_card.specs.Card.{Card}
-use Rattle.model_card.specs.Event as frame
-use Rattle.model_card.specs.ports.Card.{OctetCard}
-use Rattle.model_card.specs.ports.Event as octet
 use Rattle.model_card.specs.ports.Port as port
 use Rattle.model_timed.specs.Clock.{due}
 use Rattle.model_timed.specs.Frames.{frames, IsNoExpiry}
@@ -19,27 +15,29 @@ use Rattle.laws_time.specs.Cards.{IsACard, ServesAll, TimedCardsAreCards, MayHap
 unfoldable use Rattle.laws_time.specs.Cards.{happened, MayGoOn}
 
 module _ {Card Event : Type 0} (k : Kind Card Event) where
+  abbrev IsWhere : List (Step Event) → Timed Card → Type 0
+  IsWhere steps t = (after_all k steps t).card ≡ fold (led_by k.after) t.card (happened k k.expiry steps t)
+
+  -- Before some steps a timer falls due, or none does.
+  fallen : (steps : List (Step Event)) (t : Timed Card) → ((u : Timed Card) → IsWhere steps u) → (d : Option Expiry)
+      → let u = option_map_or (with_expiry k t) d t in (after_all k steps u).card
+      ≡ fold (led_by k.after) t.card (option_to_list (option_map (λ (x : Expiry). k.expiry x.line x.timer) d) ++ happened k k.expiry steps u)
+  fallen steps t all None = all t
+  fallen steps t all (Some x) = all (with_expiry k t x)
+
   a-card : IsACard k k.after k.expiry
   unfolding after_all happened
   a-card [] t = refl
   a-card (happens e ∷ steps) t = a-card steps (after k (happens e) t)
   a-card (time moment ∷ steps) t = a-card steps (after k (time moment) t)
-  a-card (falls_due ∷ steps) t = fallen (due t.clock)
-    where
-      then : Option Expiry → Timed Card
-      then d = option_map_or (with_expiry k t) d t
-
-      fallen : (d : Option Expiry) → (after_all k steps (then d)).card
-          ≡ fold (led_by k.after) t.card (option_to_list (option_map (λ (x : Expiry). k.expiry x.line x.timer) d) ++ happened k k.expiry steps (then d))
-      fallen None = a-card steps t
-      fallen (Some x) = a-card steps (with_expiry k t x)
+  a-card (falls_due ∷ steps) t = fallen steps t (λ u. a-card steps u) (due t.clock)
 
   -- Where what may happen, may happen by the kind.
   all-served : (May : Event → Card → Type 0) → ((e : Event) (card : Card) → May e card → k.MayHappen e card) → ServesAll k May
   unfolding after_all ArePrompt MayGoOn
   all-served May may late [] t go = tt
   all-served May may late (happens e ∷ steps) t go = (may e t.card go.0, all-served May may late steps (after k (happens e) t) go.1)
-  all-served May may late (time moment ∷ steps) t go = ((go.0, go.1.0), all-served May may late steps (after k (time moment) t) go.1.1)
+  all-served May may late (time moment ∷ steps) t go = ((go.0, go.1), all-served May may late steps (after k (time moment) t) go.2)
   all-served May may late (falls_due ∷ steps) t go = (tt, all-served May may late steps (after k falls_due t) go)
 
 not-expired : (what : line.Event) → is_expiry what ≡ false → IsNoExpiry what

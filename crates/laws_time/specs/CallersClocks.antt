@@ -1,5 +1,5 @@
 -- A clock that a caller keeps beside a card is as the clock of a card that keeps its own timers.
-use Rattle.std.specs.Prelude.{◌≡◌, ℕ, ◌+◌, ◌*◌, ◌||◌, nat_lt, true, List, [], option_map}
+use Rattle.std.specs.Prelude.{◌≡◌, ℕ, ◌+◌, ◌*◌, ◌||◌, nat_lt, true, option_map}
 use Rattle.std.specs.Option.{option_map_or}
 use Rattle.lapd_clock.specs.Timer.{Timer, Order, Start, Stop, Lengths, standard}
 use Rattle.lapd_clock.specs.Timers as callers

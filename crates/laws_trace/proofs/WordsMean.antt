@@ -1,5 +1,5 @@
 -- What the words mean that laws share with the machine: each computes.
-use Rattle.laws_trace.proofs.Vocabulary.{◌≡◌, ℕ, ◌&&◌, not, Option, None, is_some, cond, refl, ap, le-ltb, Card, line_at}
+use Rattle.laws_trace.proofs.Vocabulary.{◌≡◌, ℕ, ◌&&◌, not, Option, None, is_some, cond, refl, ap, le-ltb, line_at}
 use Rattle.lapd_frame.specs.declared.addresses.Side.{Side}
 use Rattle.lapd_frame.specs.declared.addresses.Side.TheVariants.{User, Network}
 use Rattle.model_line.specs.Line.{is_at}

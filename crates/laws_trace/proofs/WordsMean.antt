@@ -56,10 +56,12 @@ words-of-octets-mean-this = record {
   expires = λ timer. (refl, refl);
   requests = λ r. (refl, refl);
   is_answered = λ m is. is;
-  says_told = λ what a t is. is;
-  says_refused = λ what a why is. is;
-  says_given = λ what a next is. (is.1, is.2);
-  says_none = λ what a is. (is.1, is.2);
-  says_nothing = λ value a is. is;
-  pulls_nothing = λ a is. is;
+  says = record {
+    told = λ what a t is. is;
+    refused = λ what a why is. is;
+    given = λ what a next is. (is.1, is.2);
+    none = λ what a is. (is.1, is.2);
+    nothing_ends = λ value a is. is;
+    nothing_pulled = λ a is. is;
+  };
 }

@@ -41,6 +41,9 @@ abbrev pub is_heard : line.Event → Bool
 is_heard (line.hears e) = true
 is_heard other = false
 
+abbrev pub HasNoOtherLine : Card → Type 0
+HasNoOtherLine card = (number : ℕ) (service : Service) (tei : ℕ) → card.config.lines ≤ number → state number service tei card ≡ None
+
 -- They are the machine's, so that a change of both would not be seen in another law.
 pub record WordsMeanThis : Type 0 where
   -- The orders and the cause that laws find in an answer are all that stand in it.
@@ -53,35 +56,47 @@ pub record WordsMeanThis : Type 0 where
   pub call : sapi_of Call ≡ 0
   pub packet : sapi_of Packet ≡ 16
   -- `Card::state` tells none for a line that the card has not.
-  pub no_line : (card : Card) (number : ℕ) (service : Service) (tei : ℕ) → card.config.lines ≤ number → state number service tei card ≡ None
+  pub no_line : (card : Card) → HasNoOtherLine card
   -- Laws of a whole card speak of each list of events at lines that the card has.
   pub frames_at_lines : (card : Card) (events : List frame.Event) → NameLines card events → frames.AreAtLines card events
   pub octets_at_lines : (m : OctetCard) (events : List octet.Event) → OctetsNameLines m events → octets.AreAtLines m events
+
+-- What is said to what is meant, or to what means nothing, is the answer.
+pub record SaysWhatIsMeant : Type 0 where
+  pub told : (what : port.Event) (a : port.Answer) (t : LineTold) → SaysSo what a (Some (line.told t)) → a ≡ port.told t
+  pub refused : (what : port.Event) (a : port.Answer) (why : Refusal) → SaysSo what a (Some (line.refused why)) → a ≡ port.refused why
+  pub given : (what : port.Event) (a : port.Answer) (next : NextFrame) → SaysSo what a (Some (gave (Some next))) → (value : ℕ) × (a ≡ port.pulled value true next.orders)
+  pub none : (what : port.Event) (a : port.Answer) → SaysSo what a (Some (gave None)) → (value : ℕ) × (a ≡ port.pulled value false [])
+  pub nothing_ends : (value : ℕ) (a : port.Answer) → SaysSo (port.octet value) a None → a ≡ port.told nothing
+  pub nothing_pulled : (a : port.Answer) → SaysSo port.pull a None → (value : ℕ) × (a ≡ port.pulled value false [])
+
+abbrev pub NoneComes : Type 0
+NoneComes = (what : port.Event) → is_octet what ≡ false → octet_come what ≡ []
+
+abbrev pub NoneIsHeard : Type 0
+NoneIsHeard = (what : line.Event) → is_heard what ≡ false → heard_by what ≡ []
+
+abbrev pub MeansIts : octets.Moment → Type 0
+MeansIts m = IsAnswered m → SaysSo m.event.what m.answer (option_map (λ f. machine.answer f m.card.card) (ports.meant m.event m.card))
 
 -- So do the words by which a run of octets is a run of frames, and what comes and goes in it.
 pub record WordsOfOctetsMeanThis : Type 0 where
   -- The octets that come, and those that pulls give, are those of the events, and of the answers, at the line.
   pub come : (number : ℕ) (events : List octet.Event) → octets_come number events ≡ flat_map (λ (e : octet.Event). if e.line == number then octet_come e.what else []) events
   pub comes : (value : ℕ) → octet_come (port.octet value) ≡ value ∷ []
-  pub none_comes : (what : port.Event) → is_octet what ≡ false → octet_come what ≡ []
+  pub none_comes : NoneComes
   pub pulled : (number : ℕ) (ms : List octets.Moment) → octets_pulled number ms ≡ flat_map (λ (m : octets.Moment). if m.event.line == number then octet_pulled m.answer else []) ms
   pub gives : (value : ℕ) (begun : Bool) (orders : List Order) → octet_pulled (port.pulled value begun orders) ≡ value ∷ []
   pub none_given : (t : LineTold) → octet_pulled (port.told t) ≡ []
   -- What the card of frames hears at the line is what its events there hear.
   pub heard : (number : ℕ) (events : List frame.Event) → heard_at number events ≡ flat_map (λ (e : frame.Event). if e.line == number then heard_by e.what else []) events
   pub hears : (e : stream.Event) → heard_by (line.hears e) ≡ e ∷ []
-  pub none_heard : (what : line.Event) → is_heard what ≡ false → heard_by what ≡ []
+  pub none_heard : NoneIsHeard
   -- An expiry and a request mean themselves, at their line.
   pub asks : (e : octet.Event) → asked_with e ≡ map (frame.at e.line) (asked_of e.what)
   pub asked : (e : frame.Event) → asked_among e ≡ map (frame.at e.line) (asked_in e.what)
   pub expires : (timer : Timer) → (asked_of (port.expiry timer) ≡ line.expiry timer ∷ []) × (asked_in (line.expiry timer) ≡ line.expiry timer ∷ [])
   pub requests : (r : Request) → (asked_of (port.request r) ≡ line.request r ∷ []) × (asked_in (line.request r) ≡ line.request r ∷ [])
   -- An answer is what the card of frames says to what is meant.
-  pub is_answered : (m : octets.Moment) → IsAnswered m
-      → SaysSo m.event.what m.answer (option_map (λ f. machine.answer f m.card.card) (ports.meant m.event m.card))
-  pub says_told : (what : port.Event) (a : port.Answer) (t : LineTold) → SaysSo what a (Some (line.told t)) → a ≡ port.told t
-  pub says_refused : (what : port.Event) (a : port.Answer) (why : Refusal) → SaysSo what a (Some (line.refused why)) → a ≡ port.refused why
-  pub says_given : (what : port.Event) (a : port.Answer) (next : NextFrame) → SaysSo what a (Some (gave (Some next))) → (value : ℕ) × (a ≡ port.pulled value true next.orders)
-  pub says_none : (what : port.Event) (a : port.Answer) → SaysSo what a (Some (gave None)) → (value : ℕ) × (a ≡ port.pulled value false [])
-  pub says_nothing : (value : ℕ) (a : port.Answer) → SaysSo (port.octet value) a None → a ≡ port.told nothing
-  pub pulls_nothing : (a : port.Answer) → SaysSo port.pull a None → (value : ℕ) × (a ≡ port.pulled value false [])
+  pub is_answered : (m : octets.Moment) → MeansIts m
+  pub says : SaysWhatIsMeant

@@ -1,4 +1,7 @@
 -- Lemmas.
+pub mod TimedCards
+pub mod DueFirst
+pub mod CallersClocks
 pub mod TimedFrames
 pub mod Moments
 pub mod Links

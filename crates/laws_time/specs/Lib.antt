@@ -1,4 +1,7 @@
 -- What becomes of a link within so many milliseconds.
+pub mod Cards
+pub mod DueFirst
+pub mod CallersClocks
 pub mod Watched
 pub mod Silence
 pub mod ArrivalsAwaited

@@ -1,7 +1,9 @@
 //! Laws of two cards of octets on one circuit, with their clocks. Each is the contract of a call that does nothing.
 //!
 //! `specs/circuit` has that world (`Clocked`): both lines run at one rate, so many octets are in transit to each end,
-//! and nothing else is in it except requests and noise. Its worked runs (`Worked`) compute. There are a call from
+//! and nothing else is in it except requests and noise. In an octet time layer 3 asks before what is due falls due. (A
+//! caller that asks after it, as `lapd.h` has it, asks in the next octet time. That is of the same millisecond if more
+//! than one octet goes in it.) Its worked runs (`Worked`) compute. There are a call from
 //! nothing, calls that cross, an I-frame that is lost and goes again, and SABME that is heard just before N200 is used
 //! up. There are a dead line, too, and noise that makes a frame of another link. How long an answer takes at most is in
 //! `LongEnough`, and worked out in `WorkedLongEnough`. Answers that come are in `Answered` and `WorkedAnswered`. What a
@@ -59,8 +61,8 @@ pub fn commands_are_answered()
 
 /// A call bears noise. Two cards of octets begin on one line with their clocks, as [`answers_come_in_time`] has it, and
 /// T200 is long enough. At first nothing is asked for. At any time layer 3 of one end asks for the establishment of the
-/// link. After that layer 3 of either end asks to send octets, or says that it is busy, or ready again, at any time.
-/// Noise makes no frame.
+/// link. After that layer 3 of either end asks to send octets, or says that it is busy, or ready again, at any time,
+/// as it is granted or refused. Noise makes no frame.
 ///
 /// Let N200 not be used up: no end tells error G, H or I (Q.921 clauses 5.5.1.3, 5.5.3.3 and 5.6.7). Then the end that
 /// calls tells no error at all, and the other none except F, of a UA that was lost (clause 5.7). Whatever is lost,

@@ -9,10 +9,12 @@ ghost use Rattle.laws_time.specs.Watched.{of_frames, of_octets};
 /// so many milliseconds, and of nothing else. The law holds at a line of a card of either kind, after anything that
 /// happened since its start, if `Card::state` tells a state from 5 on of the link. From then on:
 ///
-/// - nothing of the link is heard, except unit data;
-/// - layer 3 asks neither for its establishment nor for its release, and does not deactivate it;
+/// - nothing of the link is heard, except UI commands, which bring unit data. (A UI that is sent as a response is
+///   malformed, and counts as heard.)
+/// - layer 3 asks neither for its establishment nor for its release, nor to deactivate it. A request that is refused
+///   counts as asked, too.
 /// - its TEI stays on the line;
-/// - anything else happens.
+/// - anything else may happen.
 ///
 /// Timers fall due late by a number of milliseconds at most, which is 0 if the caller is prompt. Then what is told of
 /// the link, except data and unit data, is a prefix of this, and nothing else (Q.921 clauses 5.5.1.3, 5.5.3.3 and
@@ -44,8 +46,10 @@ pub fn no_answer_is_awaited_longer()
 
 /// N200 takes its time. From a time on at which `Card::state` tells 4 or 7 of a link, no error G, H or I of it is told
 /// for (N200 + 1) T200 milliseconds, whatever comes on the line, and whatever layer 3 asks for (Q.921 clauses 5.5.1.3,
-/// 5.5.3.3 and 5.6.7). So noise that lasts for less does not use N200 up. It holds at a line of a card of either kind,
-/// whatever happened before. The moment is that of the last step, up to which time has gone on.
+/// 5.5.3.3 and 5.6.7). So N200 is not used up while noise lasts that began then and lasts for less. It may be used up
+/// after that, on a clean line, too. An answer may find no place to wait, and if N200 is 0, one expiry is enough. It
+/// holds at a line of a card of either kind, whatever happened before. The moment is that of the last step, up to which
+/// time has gone on.
 pub fn n200_takes_its_time()
     ensures frames { N200TakesItsTime of_frames }
     ensures octets { N200TakesItsTime of_octets }

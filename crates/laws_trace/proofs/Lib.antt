@@ -139,3 +139,4 @@ pub mod UnitsAreFor
 pub mod OfOctets
 pub mod AskingSteps
 pub mod AskingEnds
+pub mod WordsMean

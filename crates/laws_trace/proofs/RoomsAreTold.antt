@@ -3,7 +3,8 @@ use Rattle.laws_trace.proofs.Vocabulary.{◌≡◌, ℕ, ◌≤◌, Bool, true, 
 use Rattle.laws_trace.proofs.Vocabulary.{outgoing_of, Always}
 use Rattle.laws_trace.proofs.Vocabulary.{is_up, always_sound, fresh_is_sound, used}
 use Rattle.model_card.specs.Room.{room}
-use Rattle.laws_trace.specs.RoomsAreTold.{IsRoom, RoomsAreTold}
+use Rattle.std.specs.Prelude.{Err}
+use Rattle.laws_trace.specs.RoomsAreTold.{IsRoom, NoRoomIsTold, RoomsAreTold}
 use Rattle.laws_trace.proofs.LineAtEnd.{line-at-end, link-at-end}
 use Rattle.laws_trace.proofs.Outgoing.{view-is, kept-now}
 use Rattle.laws_trace.proofs.SlotsTaken.{on-place, taken-is}
@@ -58,3 +59,14 @@ rooms-are-told c events number ranged all within service tei is_on_line = told p
           pool = omega (arith, taken-is c events ranged all, slots, ap (λ (d : Config). d.slots) same);
           va = λ up. sym (ap (λ (v : View). v.link.acknowledged) view ∙ seen.acknowledged_is (sym state ∙ up));
         }
+
+-- One that is not on the line has none.
+no-room : (tei : ℕ) (on : Bool) (x : Room) → on ≡ false
+    → unless (cond (nat_lt 126 tei) (Some BadTei) (cond (not on) (Some NoLink) None)) x ≡ Err (cond (nat_lt 126 tei) BadTei NoLink)
+no-room tei on x is = grind arith
+
+pub no-room-is-told : Always NoRoomIsTold
+no-room-is-told c events number ranged all within service tei off =
+    let card = after_all (fresh c) events in
+    let l = line_at number card in
+    no-room tei (has_tei tei l) (room_of (terms card.config service tei) (free card) (link_of service tei l)) (sym (tei-seen c events number ranged all within service tei) ∙ off)

@@ -1,7 +1,8 @@
--- Which configurations the laws speak of.
-use Rattle.std.specs.Prelude.{◌≡◌, ◌≤◌, ◌↔◌, None, Some, refl}
+-- Which configurations the laws speak of, and which field the check of another names.
+use Rattle.std.specs.Prelude.{◌≡◌, ◌≤◌, ◌↔◌, ℕ, nat_le, max, Bool, not, ◌&&◌, List, [], ◌∷◌, Option, None, Some, if◌then◌else◌, refl}
 use Rattle.std.proofs.Common.{arith, lit≤}
 use Rattle.model_line.specs.declared.config.Config.{Config}
+use Rattle.model_line.specs.declared.config.Field.{Field}
 use Rattle.model_line.specs.declared.config.Field.TheVariants as field
 use Rattle.model_line.specs.Config.{first_fault, sapi_fault}
 use Rattle.model_line.specs.Sound.{IsInRange}
@@ -25,6 +26,23 @@ pub record HasRanges (c : Config) : Type 0 where
 -- found in it.
 abbrev pub RangesAreServed : Type 0
 RangesAreServed = (c : Config) → HasRanges c ↔ IsInRange c
+
+-- Of the fields that are out of range the first is named (profile).
+abbrev pub is_out : ℕ → ℕ → ℕ → Bool
+is_out low high n = not (nat_le low n && nat_le n high)
+
+abbrev pub first_of : List (Bool × Field) → Option Field
+first_of [] = None
+first_of (one ∷ others) = if one.0 then Some one.1 else first_of others
+
+abbrev pub fields : Config → List (Bool × Field)
+fields c =
+    (is_out 1 64 c.lines, field.Lines) ∷ (is_out 1 8 c.terminals, field.Terminals) ∷ (is_out 1 127 c.k, field.K) ∷ (is_out 1 127 c.k16, field.K16)
+    ∷ (is_out (max c.k c.k16) 127 c.queue, field.Queue) ∷ (is_out 1 16 c.unit_queue, field.UnitQueue) ∷ (is_out 2 16 c.control, field.Control)
+    ∷ (is_out 1 8192 c.slots, field.Slots) ∷ (is_out 8 260 c.n201, field.N201) ∷ (is_out 0 10 c.n200, field.N200) ∷ (is_out 1 62 c.sapi, field.Sapi) ∷ []
+
+abbrev pub FirstFaultsAreNamed : Type 0
+FirstFaultsAreNamed = (c : Config) → first_fault c ≡ first_of (fields c)
 
 -- The usual one is, and one with a window of 128 is not.
 usual_has_ranges : HasRanges usual

@@ -3,6 +3,7 @@ pub mod Trace
 pub mod LinkFrames
 pub mod Observer
 pub mod Configurations
+pub mod Words
 pub mod OtherSide
 pub mod Sapis
 pub mod Units

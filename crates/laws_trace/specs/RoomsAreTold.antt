@@ -1,5 +1,6 @@
 -- What `FrameCard::room` tells of a link.
-use Rattle.std.specs.Prelude.{◌≡◌, ℕ, ◌+◌, true, List, length, Ok}
+use Rattle.std.specs.Prelude.{◌≡◌, ℕ, ◌+◌, nat_lt, true, false, List, length, Ok, Err, if◌then◌else◌}
+use Rattle.lapd_frame.specs.declared.refusals.Refusal.TheVariants.{BadTei, NoLink}
 use Rattle.lapd_frame.specs.declared.services.Service.{Service}
 use Rattle.model_link.specs.declared.rooms.Room.{Room}
 use Rattle.model_line.specs.declared.config.Config.{Config}
@@ -9,6 +10,7 @@ use Rattle.model_card.specs.Room.{room}
 use Rattle.model_card.specs.Run.{after_all}
 use Rattle.laws_trace.specs.Managing.{is_on}
 use Rattle.laws_trace.specs.NoSlotIsLost.{slots_taken}
+use Rattle.laws_trace.specs.Observer.{view_of}
 use Rattle.laws_trace.specs.Outgoing.{Outgoing, outgoing_of}
 use Rattle.laws_trace.specs.Trace.{is_up}
 
@@ -25,3 +27,9 @@ pub record IsRoom (c : Config) (events : List Event) (number : ℕ) (service : S
 abbrev pub RoomsAreTold : Config → List Event → ℕ → Type 0
 RoomsAreTold c events number =
     (service : Service) (tei : ℕ) → let o = outgoing_of c service tei number events in is_on tei o.view.teis ≡ true → IsRoom c events number service tei o
+
+-- Of one that is not on the line it is told why there is no such link (profile).
+abbrev pub NoRoomIsTold : Config → List Event → ℕ → Type 0
+NoRoomIsTold c events number =
+    (service : Service) (tei : ℕ) → is_on tei (view_of c service tei number events).teis ≡ false →
+    room number service tei (after_all (fresh c) events) ≡ Err (if nat_lt 126 tei then BadTei else NoLink)

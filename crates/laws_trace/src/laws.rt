@@ -5,7 +5,7 @@ ghost use Rattle.laws_trace.specs.Trace.{Always};
 ghost use Rattle.laws_trace.specs.AskingEnds.{AskingEnds};
 ghost use Rattle.laws_trace.specs.AnswersAreGiven.{AnswersAreSent, QueueIsSent};
 ghost use Rattle.laws_trace.specs.AnswersSuit.{AnswersSuit};
-ghost use Rattle.laws_trace.specs.Configurations.{RangesAreServed};
+ghost use Rattle.laws_trace.specs.Configurations.{FirstFaultsAreNamed, RangesAreServed};
 ghost use Rattle.laws_trace.specs.CausesAreTold.{CausesAreTold};
 ghost use Rattle.laws_trace.specs.CountersCount.{CountersCount};
 ghost use Rattle.laws_trace.specs.OtherSide.{TheOtherSideIsHeard};
@@ -18,18 +18,18 @@ ghost use Rattle.laws_trace.specs.NoLossInVain.{NoLossInVain};
 ghost use Rattle.laws_trace.specs.NoSlotIsLost.{NoSlotIsLost};
 ghost use Rattle.laws_trace.specs.RefusalsAreTold.{RefusalsAreTold};
 ghost use Rattle.laws_trace.specs.RequestsTakeEffect.{RequestsTakeEffect};
-ghost use Rattle.laws_trace.specs.RoomsAreTold.{RoomsAreTold};
+ghost use Rattle.laws_trace.specs.RoomsAreTold.{NoRoomIsTold, RoomsAreTold};
 ghost use Rattle.laws_trace.specs.TeisAreManaged.{TeisAreManaged};
 ghost use Rattle.laws_trace.specs.TimersAreTimely.{TimersAreTimely, TimersRun};
 ghost use Rattle.laws_trace.specs.TurnsMeanwhile.{LinksTakeTurnsMeanwhile};
 ghost use Rattle.laws_trace.specs.UnitsAreGranted.{UnitsAreGranted};
 ghost use Rattle.laws_trace.specs.UnitsGoOut.{UnitsGoOut, AllUnitsGoOut};
 
-/// Each configuration within the ranges is served: no fault is found in it, and every law here speaks of it. With any
-/// other no card starts (profile). No law says that `Card::start` starts one with it, if its shelf fits and there is
-/// memory.
+/// Each configuration within the ranges is served: no fault is found in it, and every law here speaks of it (`served`).
+/// With any other no card starts. The check names the first of its fields that is out of range (`named`; profile).
 pub fn ranges_are_served()
-    ensures { RangesAreServed }
+    ensures served { RangesAreServed }
+    ensures named { FirstFaultsAreNamed }
 {}
 
 /// The other side is heard. As frames are read, C/R bit 0 makes a command of one that a card of the network's side
@@ -94,7 +94,7 @@ pub fn links_take_turns_meanwhile()
 /// modulo 128, the number of contents told of the link since its numbers began. All this is as an observer of the link
 /// has it (`Observer` of specs/).
 ///
-/// Unit data is told exactly if a UI of at most N201 octets comes to a TEI that was on the line, whatever the state of
+/// Unit data is told exactly if a UI command of at most N201 octets comes to a TEI on the line, whatever the state of
 /// its link. On the user's side one to the group, TEI 127, is told, too. The contents that are told are the information
 /// of that frame, and are noted as one or the other, once (Q.921 clauses 3.3.4, 3.5.2.4 to 3.5.2.6, 5.2.2, 5.2.3,
 /// 5.5.1.2, 5.6.2, 5.6.6, 5.7 and 5.9.3).
@@ -170,8 +170,7 @@ pub fn what_is_due_joins_the_queue()
 {}
 
 /// Answers suit events. A call for the next frame is answered by a frame or by none. A request is granted, so that what
-/// is told answers it, or refused. What is heard, and an expiry, are answered by what is told, and by no refusal and no
-/// frame.
+/// is told answers it, or refused. What is heard, and an expiry, are answered by what is told alone.
 pub fn answers_suit_events()
     ensures { Always AnswersSuit }
 {}
@@ -301,7 +300,7 @@ pub fn links_move()
 /// letter,
 ///
 /// - in states 7 and 8: B and E, DM with F=1 and F=0; F, SABME; J, an invalid N(R); K, FRMR;
-/// - there, too: A, a response with F=1 in state 7; L, N and O, what is malformed, of wrong size or too long;
+/// - there, too: A, RR, RNR or REJ with F=1 in state 7; L, N and O, what is malformed, of wrong size or too long;
 /// - in any state: C and D, UA with F=1 that no command asked for, and any with F=0;
 /// - G, H and I, as T200 gives up states 5, 6 and 8 (Q.921 clauses 4.1.1.1, 4.1.1.2, 4.1.1.7, 5.5.1, 5.5.3, 5.6.7, 5.7,
 ///   5.8 and appendix II).
@@ -340,15 +339,16 @@ pub fn granted_requests_take_effect()
 
 /// Rooms are told as they are. Let a link's TEI be on the line. Some places of its queue `FrameCard::room` tells as
 /// left; all others have the contents that the link keeps, as [`what_is_given_is_due`] has them. So contents take a
-/// place until they are acknowledged, or layer 3 learns that they are lost, and none is lost silently. The slots of the
-/// pool are those that it tells as left and those that are taken, as [`no_slot_is_lost`] has them.
+/// place until they are acknowledged, or layer 3 learns that they are lost. The slots of the pool are those left and
+/// those taken, as [`no_slot_is_lost`] has them. If the TEI is not on the line, it tells that there is no link (`off`).
 ///
 /// Of a link in state 7 or 8 V(A) is told, which is the N(R) that was heard of it last, and 0 if none was since its
 /// numbers began. By what is left, of the queue and of the pool, the next request for data is refused, as
-/// [`granted_requests_take_effect`] has it. In the other states it is refused for the state, so no data is granted there
-/// that nothing keeps (Q.921 clauses 3.5.2.3, 5.5.1.1, 5.5.1.2, 5.5.3.1, 5.5.3.2 and 5.7, and profile).
+/// [`granted_requests_take_effect`] has it; in the other states for the state (Q.921 clauses 3.5.2.3, 5.5.1.1, 5.5.1.2,
+/// 5.5.3.1, 5.5.3.2 and 5.7, and profile).
 pub fn rooms_are_told()
-    ensures { Always RoomsAreTold }
+    ensures rooms { Always RoomsAreTold }
+    ensures off { Always NoRoomIsTold }
 {}
 
 /// No slot of the pool is lost. The lines of a card together take no more slots than it has. A request finds the pool

@@ -9,6 +9,7 @@
 //!
 //! - `laws`: the laws.
 //! - `octets`: what they come to in the octets of a line.
+//! - `words`: what the words mean that laws share with the machine.
 //!
 //! # Open
 //!
@@ -17,6 +18,7 @@
 
 mod laws;
 mod octets;
+mod words;
 
 pub use laws::{
     answers_are_given, answers_suit_events, asking_ends, causes_are_told, counters_count,
@@ -29,3 +31,4 @@ pub use laws::{
 pub use octets::{
     all_frames_go_out, answers_are_heard, frames_go_out, latest_is_begun, units_are_heard,
 };
+pub use words::words_mean_this;

@@ -1,0 +1,71 @@
+-- Which timer falls due first: the law.
+use Rattle.lapd_clock.proofs.Vocabulary.{◌≡◌, ℕ, ◌==◌, ◌&&◌, ◌||◌, Bool, true, false, cond, List, [], ◌∷◌, Some, None, refl, sym, ap, ◌∙◌, arith, nat_tests, nat_lt, nat_le, drop, nat_cmp, ordering_then, is_lt, AllByRecursion, All-from_recursion, Timer, kind_rank, tei_rank, service_rank, timer_cmp, Expiry, is_before, IsInOrder, Ordering}
+use Rattle.std.proofs.Common.{All, Option}
+use Rattle.std.specs.Prelude.{IfSome}
+use Rattle.std.specs.Option.{option_map_or}
+use Rattle.lapd_clock.specs.Timer.{T200, T203, T201, T202, Call, Packet}
+use Rattle.lapd_clock.proofs.First.{before_itself}
+use Rattle.model_timed.specs.Clock.{stopped, due, first_due, without_first}
+use Rattle.model_timed.specs.Timed.{Kind, Timed, Step, happens, time, falls_due, after, with_expiry, expiry_at}
+unfoldable use Rattle.model_timed.specs.Timed.{after_all}
+use Rattle.model_timed.proofs.Orders.{in-order}
+use Rattle.laws_time.specs.DueFirst.{TheFirstFallsDue, by_timer, in_turn, is_lower}
+
+-- A comparison of two numbers, alone or with another after it.
+then-lower : (a b : ℕ) (o : Ordering) (rest : Bool) → is_lt o ≡ rest → is_lt (ordering_then (nat_cmp a b) o) ≡ (nat_lt a b || (a == b && rest))
+then-lower a b o rest same = grind (arith, nat_tests)
+
+last-lower : (a b : ℕ) → is_lt (nat_cmp a b) ≡ (nat_lt a b || (a == b && false))
+last-lower a b = grind (arith, nat_tests)
+
+ranks : (t : Timer) → by_timer t ≡ kind_rank t ∷ tei_rank t ∷ service_rank t ∷ []
+ranks (T200 Call tei) = refl
+ranks (T200 Packet tei) = refl
+ranks (T203 Call tei) = refl
+ranks (T203 Packet tei) = refl
+ranks T201 = refl
+ranks T202 = refl
+
+timer-lower : (s t : Timer) → is_lt (timer_cmp s t) ≡ is_lower (by_timer s) (by_timer t)
+timer-lower s t =
+    then-lower (kind_rank s) (kind_rank t) _ _ (then-lower (tei_rank s) (tei_rank t) _ _ (last-lower (service_rank s) (service_rank t)))
+    ∙ ap (λ l. is_lower l (kind_rank t ∷ tei_rank t ∷ service_rank t ∷ [])) (sym (ranks s)) ∙ ap (is_lower (by_timer s)) (sym (ranks t))
+
+in-turn-lower : (x y : Expiry) → is_before x y ≡ is_lower (in_turn x) (in_turn y)
+in-turn-lower x y = then-lower x.moment y.moment _ _ (then-lower x.line y.line (timer_cmp x.timer y.timer) _ (timer-lower x.timer y.timer))
+
+all-in-turn : (x : Expiry) (ys : List Expiry) → AllByRecursion (λ y. is_before y x ≡ false) ys → AllByRecursion (λ y. is_lower (in_turn y) (in_turn x) ≡ false) ys
+all-in-turn x [] h = tt
+all-in-turn x (y ∷ ys) h = (sym (in-turn-lower y x) ∙ h.0, all-in-turn x ys h.1)
+
+-- Those that run are always in order.
+without : (es : List Expiry) → IsInOrder is_before es → IsInOrder is_before (drop 1 es)
+without [] h = tt
+without (e ∷ es) h = h.1
+
+module _ {Card Event : Type 0} (k : Kind Card Event) where
+  fallen : (t : Timed Card) (d : Option Expiry) → IsInOrder is_before t.clock.running → IsInOrder is_before (option_map_or (with_expiry k t) d t).clock.running
+  fallen t None h = h
+  fallen t (Some x) h = in-order (k.line (expiry_at k x)) (without_first t.clock) (k.orders (expiry_at k x) t.card) (without t.clock.running h)
+
+  one-step : (t : Timed Card) (s : Step Event) → IsInOrder is_before t.clock.running → IsInOrder is_before (after k s t).clock.running
+  one-step t (happens e) h = in-order (k.line e) t.clock (k.orders e t.card) h
+  one-step t (time moment) h = h
+  one-step t falls_due h = fallen t (due t.clock) h
+
+  all-steps : (steps : List (Step Event)) (t : Timed Card) → IsInOrder is_before t.clock.running → IsInOrder is_before (after_all k steps t).clock.running
+  unfolding after_all
+  all-steps [] t h = h
+  all-steps (s ∷ steps) t h = all-steps steps (after k s t) (one-step t s h)
+
+-- The first of them goes before all others.
+first-of-all : (es : List Expiry) (now : ℕ) → IsInOrder is_before es → IfSome (first_due es now) (λ x. All (λ y. is_lower (in_turn y) (in_turn x) ≡ false) es)
+first-of-all [] now h = tt
+first-of-all (e ∷ es) now h = (elim (nat_le e.moment now) as (λ b. IfSome (cond b (Some e) None) (λ x. All (λ y. is_lower (in_turn y) (in_turn x) ≡ false) (e ∷ es))) [
+  | true ↦ All-from_recursion (λ y. is_lower (in_turn y) (in_turn e) ≡ false) (e ∷ es) (all-in-turn e (e ∷ es) (before_itself e, h.0))
+  | false ↦ tt
+])
+
+pub the-first-falls-due : {Card Event : Type 0} (k : Kind Card Event) → TheFirstFallsDue k
+the-first-falls-due k card lengths steps =
+    let u = after_all k steps (record { card = card; clock = stopped lengths }) in first-of-all u.clock.running u.clock.now (all-steps k steps (record { card = card; clock = stopped lengths }) tt)

@@ -1,0 +1,102 @@
+-- What the words mean that laws share with the machine.
+use Rattle.std.specs.Prelude.{◌≡◌, ℕ, ◌≤◌, ◌<◌, ◌==◌, ◌&&◌, not, Bool, true, false, List, [], ◌∷◌, map, flat_map, All, None, Some, is_some, option_map, if◌then◌else◌}
+use Rattle.model_bits.specs.Stream as stream
+use Rattle.lapd_frame.specs.declared.refusals.Refusal.{Refusal}
+use Rattle.lapd_frame.specs.declared.services.Service.{Service}
+use Rattle.lapd_frame.specs.declared.services.Service.TheVariants.{Call, Packet}
+use Rattle.lapd_frame.specs.Services.{sapi_of}
+use Rattle.lapd_frame.specs.declared.timers.Order.{Order}
+use Rattle.lapd_frame.specs.declared.timers.Timer.{Timer}
+use Rattle.model_line.specs.declared.config.Config.{Config}
+use Rattle.model_line.specs.Event as line
+use Rattle.model_line.specs.Event.{LineTold, NextFrame, told, gave, nothing}
+use Rattle.model_line.specs.Laws.{orders_in, cause_in}
+use Rattle.model_line.specs.Line.{is_terminal}
+use Rattle.model_line.specs.Request.{Request}
+use Rattle.model_card.specs.Card.{Card, state}
+use Rattle.model_card.specs.Event as frame
+use Rattle.model_card.specs.Machine as machine
+use Rattle.model_card.specs.Run as frames
+use Rattle.model_card.specs.ports.Card as ports
+use Rattle.model_card.specs.ports.Card.{OctetCard}
+use Rattle.model_card.specs.ports.Codec.{asked_among, asked_in, asked_of, asked_with, heard_at, heard_by, octet_come, octet_pulled, octets_come, octets_pulled, IsAnswered, SaysSo}
+use Rattle.model_card.specs.ports.Event as octet
+use Rattle.model_card.specs.ports.Port as port
+use Rattle.model_card.specs.ports.Run as octets
+use Rattle.laws_trace.specs.Managing.{manages}
+
+-- The events name lines that the card has.
+abbrev pub NameLines : Card → List frame.Event → Type 0
+NameLines card events = All (λ (e : frame.Event). e.line < card.config.lines) events
+
+abbrev pub OctetsNameLines : OctetCard → List octet.Event → Type 0
+OctetsNameLines m events = All (λ (e : octet.Event). e.line < m.card.config.lines) events
+
+-- Whether an octet comes, or something is heard.
+abbrev pub is_octet : port.Event → Bool
+is_octet (port.octet value) = true
+is_octet other = false
+
+abbrev pub is_heard : line.Event → Bool
+is_heard (line.hears e) = true
+is_heard other = false
+
+abbrev pub HasNoOtherLine : Card → Type 0
+HasNoOtherLine card = (number : ℕ) (service : Service) (tei : ℕ) → card.config.lines ≤ number → state number service tei card ≡ None
+
+-- They are the machine's, so that a change of both would not be seen in another law.
+pub record WordsMeanThis : Type 0 where
+  -- The orders and the cause that laws find in an answer are all that stand in it.
+  pub orders : (t : LineTold) → orders_in (told t) ≡ t.orders
+  pub orders_given : (next : NextFrame) → orders_in (gave (Some next)) ≡ next.orders
+  pub cause : (t : LineTold) → cause_in (told t) ≡ t.cause
+  -- A terminal is a user's side with a seed of reference numbers (profile).
+  pub terminal : (c : Config) → is_terminal c ≡ (not (manages c.side) && is_some c.seed)
+  -- As frames are read, call control has SAPI 0, and the second service 16 (Q.921 clause 3.3.3, table 2).
+  pub call : sapi_of Call ≡ 0
+  pub packet : sapi_of Packet ≡ 16
+  -- `Card::state` tells none for a line that the card has not.
+  pub no_line : (card : Card) → HasNoOtherLine card
+  -- Laws of a whole card speak of each list of events at lines that the card has.
+  pub frames_at_lines : (card : Card) (events : List frame.Event) → NameLines card events → frames.AreAtLines card events
+  pub octets_at_lines : (m : OctetCard) (events : List octet.Event) → OctetsNameLines m events → octets.AreAtLines m events
+
+-- What is said to what is meant, or to what means nothing, is the answer.
+pub record SaysWhatIsMeant : Type 0 where
+  pub told : (what : port.Event) (a : port.Answer) (t : LineTold) → SaysSo what a (Some (line.told t)) → a ≡ port.told t
+  pub refused : (what : port.Event) (a : port.Answer) (why : Refusal) → SaysSo what a (Some (line.refused why)) → a ≡ port.refused why
+  pub given : (what : port.Event) (a : port.Answer) (next : NextFrame) → SaysSo what a (Some (gave (Some next))) → (value : ℕ) × (a ≡ port.pulled value true next.orders)
+  pub none : (what : port.Event) (a : port.Answer) → SaysSo what a (Some (gave None)) → (value : ℕ) × (a ≡ port.pulled value false [])
+  pub nothing_ends : (value : ℕ) (a : port.Answer) → SaysSo (port.octet value) a None → a ≡ port.told nothing
+  pub nothing_pulled : (a : port.Answer) → SaysSo port.pull a None → (value : ℕ) × (a ≡ port.pulled value false [])
+
+abbrev pub NoneComes : Type 0
+NoneComes = (what : port.Event) → is_octet what ≡ false → octet_come what ≡ []
+
+abbrev pub NoneIsHeard : Type 0
+NoneIsHeard = (what : line.Event) → is_heard what ≡ false → heard_by what ≡ []
+
+abbrev pub MeansIts : octets.Moment → Type 0
+MeansIts m = IsAnswered m → SaysSo m.event.what m.answer (option_map (λ f. machine.answer f m.card.card) (ports.meant m.event m.card))
+
+-- So do the words by which a run of octets is a run of frames, and what comes and goes in it.
+pub record WordsOfOctetsMeanThis : Type 0 where
+  -- The octets that come, and those that pulls give, are those of the events, and of the answers, at the line.
+  pub come : (number : ℕ) (events : List octet.Event) → octets_come number events ≡ flat_map (λ (e : octet.Event). if e.line == number then octet_come e.what else []) events
+  pub comes : (value : ℕ) → octet_come (port.octet value) ≡ value ∷ []
+  pub none_comes : NoneComes
+  pub pulled : (number : ℕ) (ms : List octets.Moment) → octets_pulled number ms ≡ flat_map (λ (m : octets.Moment). if m.event.line == number then octet_pulled m.answer else []) ms
+  pub gives : (value : ℕ) (begun : Bool) (orders : List Order) → octet_pulled (port.pulled value begun orders) ≡ value ∷ []
+  pub none_given : (t : LineTold) → octet_pulled (port.told t) ≡ []
+  -- What the card of frames hears at the line is what its events there hear.
+  pub heard : (number : ℕ) (events : List frame.Event) → heard_at number events ≡ flat_map (λ (e : frame.Event). if e.line == number then heard_by e.what else []) events
+  pub hears : (e : stream.Event) → heard_by (line.hears e) ≡ e ∷ []
+  pub none_heard : NoneIsHeard
+  -- An expiry and a request mean themselves, at their line.
+  pub asks : (e : octet.Event) → asked_with e ≡ map (frame.at e.line) (asked_of e.what)
+  pub asked : (e : frame.Event) → asked_among e ≡ map (frame.at e.line) (asked_in e.what)
+  pub expires : (timer : Timer) → (asked_of (port.expiry timer) ≡ line.expiry timer ∷ []) × (asked_in (line.expiry timer) ≡ line.expiry timer ∷ [])
+  pub requests : (r : Request) → (asked_of (port.request r) ≡ line.request r ∷ []) × (asked_in (line.request r) ≡ line.request r ∷ [])
+  -- An answer is what the card of frames says to what is meant.
+  pub is_answered : (m : octets.Moment) → MeansIts m
+  pub says : SaysWhatIsMeant

@@ -160,8 +160,11 @@ static void wrong_calls(uint64_t now) {
     WANT(reports == before);
 }
 
-/* A link comes up at 9 s, so T203 runs until 19 s; T200 of data runs from when they are taken. */
+/* A link comes up at 9 s, so T203 runs until 19 s; T200 of data runs from when they are taken. From here on there is a log. */
 static void comes_up(void) {
+    its_log.to = tmpfile();
+    WANT(its_log.to != NULL);
+    own.log = &its_log;
     WANT(gateway_ask(&own, 0, LAPD_ASSIGN, LAPD_CALL, 64, NULL, 0) == LAPD_OK);
     WANT(gateway_ask(&own, 0, LAPD_ASSIGN, LAPD_CALL, 65, NULL, 0) == LAPD_OK);
     advances_to(9000);
@@ -191,9 +194,6 @@ static unsigned logged(const char *wanted) {
 
 /* T203 of both links is due; the call comes 20 s late, and asks each terminal once. The log tells of both. */
 static void time_passes(void) {
-    its_log.to = tmpfile();
-    WANT(its_log.to != NULL);
-    own.log = &its_log;
     advances_to(22499);
     WANT(takes_none() && are_in(7) && logged("22.499 0   timer expired\n") == 0);
     advances_to(42500);

@@ -1,7 +1,7 @@
 /*
  * heap.c: memory for liblapd.a where there is no malloc. The three functions that the library asks for, over one region
- * of the program's own, as blocks.h beside it has them. Compile it with the size of the region, which lapd_card_octets,
- * lapd_card_octets_frames and lapd_clock_octets tell:
+ * of the program's own, as blocks.h beside it has them. Compile it with the size of the region, which lapd_card_octets (with
+ * _frames and _timed in its name, if the card is so) and lapd_clock_octets tell:
  *
  *     cc -DLAPD_HEAP_OCTETS=65536 $(pkg-config --cflags lapd) -c heap.c
  *

@@ -5,8 +5,8 @@
  *
  *     exchange [--trace] [RECORD [CAPTURE]] < OCTETS > OCTETS
  *
- * Standard error tells what layer 3 is told. With --trace it has a log of how each frame begins, and of each note and state
- * as well (trace.c). With RECORD, all that happens is written there as a script of docs/FORMAT.md: `lapdsim run < RECORD`
+ * Standard error tells what layer 3 is told. With --trace it has a log of how each frame begins, and of each note, expiry and
+ * state as well (trace.c). With RECORD, all that happens is written there as a script of docs/FORMAT.md: `lapdsim run < RECORD`
  * then shows the same. With CAPTURE, how the frames of both ways begin is written there for Wireshark (pcap.c).
  */
 #define _POSIX_C_SOURCE 200809L
@@ -27,12 +27,12 @@ static const char help[] =
     "A line card with one D-channel: for each octet that comes, one goes. Each message of a terminal goes back to it.\n"
     "Standard error tells what layer 3 is told.\n"
     "\n"
-    "  --trace  a log of how frames begin, and of notes and states, on standard error\n"
+    "  --trace  a log of how frames begin, and of notes, expiries and states, on standard error\n"
     "  RECORD   a file for all that happens, as a script: lapdsim run < RECORD shows the same\n"
     "  CAPTURE  a file for how the frames of both ways begin, for Wireshark\n";
 
 static FILE *capture; /* or NULL */
-static uint64_t heard, logged; /* frames that were, to the capture and to the log */
+static uint64_t heard; /* frames that were, until the latest of the capture */
 
 /* A message came on a link: the same message goes back. */
 static bool message_came(linecard *own, const lapd_note *note, const uint8_t *contents, size_t length) {
@@ -56,17 +56,6 @@ static bool write_all(const uint8_t *octets, size_t length) {
     return true;
 }
 
-/* The frame that was heard since the call before, if one was, and the one that has begun. */
-static void log_heads(const lapd_report *report) {
-    lapd_head head;
-    uint64_t before = logged;
-    bool is_there = pcap_begin_heads(&own.card, 0, &logged);
-    if (is_there && logged != before && lapd_heard(&own.card, 0, &head) == LAPD_OK)
-        trace_head(own.log, own.now, 0, false, &head);
-    if (is_there && report->begun && lapd_begun(&own.card, 0, &head) == LAPD_OK)
-        trace_head(own.log, own.now, 0, true, &head);
-}
-
 /* So many octets came; as many go. */
 static bool exchange(const uint8_t *in, uint8_t *out, size_t length) {
     static lapd_report report;
@@ -80,8 +69,6 @@ static bool exchange(const uint8_t *in, uint8_t *out, size_t length) {
             fprintf(stderr, "exchange: the capture is not whole: a frame was left out\n");
             return false;
         }
-        if (own.log != NULL)
-            log_heads(&report);
         if (!linecard_tell(&own, &report))
             return false;
     }
@@ -124,7 +111,7 @@ int main(int words, char **word) {
         printf("%s%s", usage, help);
         return 0;
     }
-    linecard_traces(&own, &words, &word);
+    linecard_traces(&own, LAPD_NETWORK, &words, &word);
     if (words > 3 || (words > 1 && strncmp(word[1], "--", 2) == 0)) {
         fputs(usage, stderr);
         return 2;

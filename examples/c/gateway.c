@@ -42,6 +42,8 @@ uint32_t gateway_advance(gateway *own, uint64_t now) {
         status = lapd_fall_due(&own->card, now, &report);
         if (status == LAPD_OK || status == LAPD_NO_TIMER)
             own->now = now;
+        if (status == LAPD_OK && own->log != NULL)
+            trace_expiry(own->log, now, &report);
         (void)!finish(own, status, &report);
     }
     return status == LAPD_NO_TIMER ? LAPD_OK : status;

@@ -6,7 +6,7 @@
  *
  *     hardware [--trace] [--check] [RECORD [CAPTURE]] <> LINE
  *
- * With --trace standard error has a log of each frame, note and state as well (trace.c).
+ * With --trace standard error has a log of each frame, note, expiry and state as well (trace.c).
  * With --check two octets stand behind each frame, in place of its check, as DAHDI's D-channels have them; without it
  * the frame is all, as in Linux's LAPD devices. Standard error tells what layer 3 is told. With RECORD, all that
  * happens is written there as a script of docs/FORMAT.md: `lapdsim run < RECORD` then shows the same. With CAPTURE, the
@@ -33,7 +33,7 @@ static const char help[] =
     "A line card with one D-channel, whose line gives and takes one frame a read and a write. It answers every call.\n"
     "Standard error tells what layer 3 is told.\n"
     "\n"
-    "  --trace  a log of each frame, note and state on standard error\n"
+    "  --trace  a log of each frame, note, expiry and state on standard error\n"
     "  --check  two octets stand behind each frame, in place of its check\n"
     "  RECORD   a file for all that happens, as a script: lapdsim run < RECORD shows the same\n"
     "  CAPTURE  a file for the frames of both ways, for Wireshark\n";
@@ -131,7 +131,7 @@ int main(int words, char **word) {
         printf("%s%s", usage, help);
         return 0;
     }
-    linecard_traces(&own, &words, &word);
+    linecard_traces(&own, LAPD_NETWORK, &words, &word);
     if (words > 1 && strcmp(word[1], "--check") == 0) {
         check_octets = 2;
         words--;

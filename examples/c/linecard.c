@@ -71,11 +71,12 @@ bool linecard_send(linecard *own, const lapd_note *note, const uint8_t *octets, 
     return asked(own, status, "data", &report);
 }
 
-bool linecard_traces(linecard *own, int *words, char ***word) {
+bool linecard_traces(linecard *own, uint16_t side, int *words, char ***word) {
     static trace log;
     if (*words < 2 || strcmp((*word)[1], "--trace") != 0)
         return false;
     log.to = stderr;
+    log.side = side;
     own->log = &log;
     --*words;
     ++*word;
@@ -83,8 +84,10 @@ bool linecard_traces(linecard *own, int *words, char ***word) {
 }
 
 bool linecard_tell(linecard *own, const lapd_report *report) {
-    if (own->log != NULL)
+    if (own->log != NULL) {
+        trace_heads(own->log, own->now, &own->card, report);
         trace_report(own->log, own->now, &own->card, report);
+    }
     const lapd_note *data = NULL;
     for (const lapd_note *note = report->notes; note < report->notes + report->note_count; note++)
         if (is_of_contents(note)) {
@@ -120,6 +123,8 @@ bool linecard_pass(linecard *own) {
     while (status != LAPD_NO_TIMER || own->now < moment) {
         own->now = lapd_next_moment(&own->card, &next) == LAPD_OK && next < moment ? next : moment;
         status = lapd_fall_due(&own->card, own->now, &report);
+        if (status == LAPD_OK && own->log != NULL)
+            trace_expiry(own->log, own->now, &report);
         if (status != LAPD_NO_TIMER && !(linecard_is_ok(own, status, "time") && linecard_tell(own, &report)))
             return false;
     }

@@ -33,8 +33,9 @@ extern const lapd_lengths linecard_lengths;
 /* A call that can only fail by a fault of the program; says which, where it fails. */
 bool linecard_is_ok(const linecard *own, uint32_t status, const char *call);
 
-/* Whether the first word is --trace: then a log of all goes to standard error, and the word is taken off. */
-bool linecard_traces(linecard *own, int *words, char ***word);
+/* Whether the first word is --trace: then a log of all at a card of this side goes to standard error, and the word is taken off.
+ * A card of octets is asked for no more than four octets each way in a call then (trace_heads). */
+bool linecard_traces(linecard *own, uint16_t side, int *words, char ***word);
 
 /* Hands the notes of a report to layer 3. */
 bool linecard_tell(linecard *own, const lapd_report *report);

@@ -4,10 +4,11 @@
  * the other, which have to come back as they are. At last it releases the link and ends. Meanwhile its card answers each
  * check of the TEI. If the network removes the TEI, it asks for another and begins anew.
  *
- *     terminal [--seed NUMBER] [RECORD] < OCTETS > OCTETS
+ *     terminal [--trace] [--seed NUMBER] [RECORD] < OCTETS > OCTETS
  *
- * Standard error tells what layer 3 is told. With RECORD, all that happens is written there as a script of docs/FORMAT.md:
- * `lapdsim run < RECORD` then shows the same. Its first reference number is of /dev/urandom, or this NUMBER.
+ * Standard error tells what layer 3 is told. With --trace it has a log of how each frame begins, and of each note, expiry and
+ * state as well (trace.c). With RECORD, all that happens is written there as a script of docs/FORMAT.md: `lapdsim run <
+ * RECORD` then shows the same. Its first reference number is of /dev/urandom, or this NUMBER.
  * examples/c/exchange.c is the other side: tests/c/run joins both by a socket.
  */
 #define _POSIX_C_SOURCE 200809L
@@ -22,14 +23,15 @@
 
 enum { AT_A_TIME = 16, MS_OF_THEM = 8, MESSAGES = 2 };
 
-static const char usage[] = "usage: terminal [--seed NUMBER] [RECORD] < OCTETS > OCTETS\n";
+static const char usage[] = "usage: terminal [--trace] [--seed NUMBER] [RECORD] < OCTETS > OCTETS\n";
 static const char help[] =
     "\n"
     "A terminal with one D-channel: it sends octets, and takes as many. It asks for a TEI, establishes its link, sends two\n"
     "messages, which have to come back, and releases the link. Standard error tells what layer 3 is told.\n"
     "\n"
-    "  --seed  its first reference number, 0 to 65535; else it is of /dev/urandom\n"
-    "  RECORD  a file for all that happens, as a script: lapdsim run < RECORD shows the same\n";
+    "  --trace  a log of how frames begin, and of notes, expiries and states, on standard error\n"
+    "  --seed   its first reference number, 0 to 65535; else it is of /dev/urandom\n"
+    "  RECORD   a file for all that happens, as a script: lapdsim run < RECORD shows the same\n";
 
 /* Basic access: one TEI, and windows of 1 for call control and 3 for packet mode (Q.921, 5.9.5). */
 static lapd_config config = {.lines = 1, .terminals = 1, .k = 1, .k16 = 3, .queue = 8, .unit_queue = 4, .control = 4,
@@ -158,6 +160,7 @@ int main(int words, char **word) {
         printf("%s%s", usage, help);
         return 0;
     }
+    linecard_traces(&own, LAPD_TERMINAL, &words, &word);
     bool has_seed = words > 2 && strcmp(word[1], "--seed") == 0, is_good = !has_seed || is_number(word[2], &config.seed);
     words -= has_seed ? 2 : 0;
     word += has_seed ? 2 : 0;

@@ -19,9 +19,36 @@ void trace_frame(trace *log, uint64_t milliseconds, uint32_t line, bool is_sent,
         fprintf(log->to, "%s of %zu octets\n", text, length);
 }
 
-void trace_head(trace *log, uint64_t milliseconds, uint32_t line, bool is_sent, const lapd_head *head) {
+static void trace_head(trace *log, uint64_t milliseconds, uint32_t line, bool is_sent, const lapd_head *head) {
     size_t known = head->length < sizeof head->octets ? head->length : sizeof head->octets;
     trace_frame(log, milliseconds, line, is_sent, head->octets, known, head->length);
+}
+
+/* How many frames a line has heard so far. */
+static uint64_t heard_at(lapd_card *card, uint32_t line) {
+    struct lapd_counters counters;
+    if (lapd_counters(card, line, &counters) != LAPD_OK)
+        return 0;
+    uint64_t heard = counters.values[LAPD_HEARD_OVERLONG];
+    for (unsigned kind = LAPD_HEARD_I; kind <= LAPD_HEARD_UNDEFINED; kind++)
+        heard += counters.values[kind];
+    return heard;
+}
+
+void trace_heads(trace *log, uint64_t milliseconds, lapd_card *card, const lapd_report *report) {
+    lapd_head head;
+    uint32_t line = report->line;
+    uint64_t heard = heard_at(card, line);
+    if (heard != log->heard[line] && lapd_heard(card, line, &head) == LAPD_OK)
+        trace_head(log, milliseconds, line, false, &head);
+    if (report->begun != 0 && lapd_begun(card, line, &head) == LAPD_OK)
+        trace_head(log, milliseconds, line, true, &head);
+    log->heard[line] = heard;
+}
+
+void trace_expiry(trace *log, uint64_t milliseconds, const lapd_report *report) {
+    begin(log, milliseconds, report->line, " ");
+    fprintf(log->to, "timer expired\n");
 }
 
 static void trace_note(const trace *log, const lapd_note *note, const lapd_report *report) {

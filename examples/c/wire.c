@@ -4,12 +4,13 @@
  * user's side establishes the link, contents go both ways as fast as they are accepted, and in the end the user's side
  * releases the link. Each card keeps its timers, by a time of the wire's own.
  *
- *     wire [SEED LOSS COUNT [RECORD]]
+ *     wire [--trace] [SEED LOSS COUNT [RECORD]]
  *
  * What each layer 3 is told is compared, octet by octet, with what the other's accepted requests had: it comes in
  * order, and each contents once. None is missing between two that were told, unless the link was established anew
  * meanwhile; and no more are missing than the sender was told to be given up. The program prints what went, and ends
- * with status 0 only if all is so; else with 1, and says what is not.
+ * with status 0 only if all is so; else with 1, and says what is not. With --trace standard error has a log of the network's
+ * card: each frame, note, expiry and state (trace.c).
  *
  * With RECORD, all that happens to either card is written as a script of docs/FORMAT.md, to RECORD.network and
  * RECORD.user: `lapdsim run` plays it, and `tools/ladder` draws it.
@@ -21,8 +22,10 @@
 #include <string.h>
 
 #include "lapd.h"
+#include "trace.h"
 
-static const char usage[] = "usage: wire [SEED LOSS COUNT [RECORD]]\n"
+static const char usage[] = "usage: wire [--trace] [SEED LOSS COUNT [RECORD]]\n"
+                            "  --trace a log of the network's card on standard error\n"
                             "  SEED    says which frames are lost, and what contents are: 0 to 2^64 - 1, by default 1\n"
                             "  LOSS    so many of 100 frames are lost: 0 to 50, by default 10\n"
                             "  COUNT   so many contents go each way: 1 to 1000000, by default 5000\n"
@@ -38,6 +41,7 @@ typedef struct {
     const char *name; /* of its side */
     uint16_t side;
     lapd_card card;
+    trace *log;        /* or NULL */
     FILE *record;      /* or NULL */
     uint64_t recorded; /* the moment up to which it is written */
 
@@ -58,6 +62,7 @@ typedef struct {
 
 static wire_end network = {.name = "network", .side = LAPD_NETWORK};
 static wire_end user = {.name = "user", .side = LAPD_USER};
+static trace log_of_network = {.to = NULL, .side = LAPD_NETWORK};
 static uint64_t seed = 1, loss = 10, count = 5000;
 static uint64_t chance; /* the generator that says which frames are lost */
 static uint64_t now;    /* in milliseconds */
@@ -179,6 +184,8 @@ static uint8_t state_of(wire_end *end) {
 /* What an event of an end led to. A frame is dropped only while the link is not up. */
 static void tell(wire_end *end, const lapd_report *report) {
     struct lapd_room room;
+    if (end->log != NULL)
+        trace_report(end->log, now, &end->card, report);
     if (report->cause != 0 && (report->cause != LAPD_UNSERVED || state_of(end) >= 7))
         fail(end, lapd_cause_text(report->cause));
     if (report->lost != 0)
@@ -241,8 +248,11 @@ static void start(wire_end *end) {
 static void expire(wire_end *end) {
     static lapd_report report;
     uint32_t status;
-    for (; (status = lapd_fall_due(&end->card, now, &report)) == LAPD_OK; end->expired++)
+    for (; (status = lapd_fall_due(&end->card, now, &report)) == LAPD_OK; end->expired++) {
+        if (end->log != NULL)
+            trace_expiry(end->log, now, &report);
         tell(end, &report);
+    }
     want_ok(end, status == LAPD_NO_TIMER ? LAPD_OK : status);
 }
 
@@ -257,6 +267,8 @@ static void arrive(wire_end *end) {
         end->lost++;
         return;
     }
+    if (other->log != NULL)
+        trace_frame(other->log, now, 0, false, end->frame, end->length, end->length);
     want_ok(other, lapd_frame(&other->card, 0, end->frame, end->length, &report));
     record(other, "in 0 ", end->frame, end->length);
     tell(other, &report);
@@ -272,6 +284,8 @@ static void give(wire_end *end) {
         return;
     want_ok(end, status);
     record(end, "next 0", NULL, 0);
+    if (end->log != NULL)
+        trace_frame(end->log, now, 0, true, end->frame, end->length, end->length);
     tell(end, &report);
     end->is_on_its_way = true;
     end->arrives = now + 1 + (end->length + 4) / 8; /* with its check, and flags */
@@ -360,6 +374,12 @@ static void read_words(int words, char **argv) {
     if (words == 2 && strcmp(argv[1], "--help") == 0) {
         fputs(usage, stdout);
         exit(0);
+    }
+    if (words > 1 && strcmp(argv[1], "--trace") == 0) {
+        network.log = &log_of_network;
+        network.log->to = stderr;
+        words--;
+        argv++;
     }
     if (words != 1 && words != 4 && words != 5) {
         fprintf(stderr, "wire: three words or four\n%s", usage);

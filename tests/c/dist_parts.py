@@ -21,8 +21,8 @@ C99 = ["-std=c99", *STRICT, "-pedantic"]
 COMMANDS = ("cc -O2 -o lapdsim dist/lapdsim.c && ./lapdsim run < crates/lapdsim/stdin",
             "cc -O2 -I dist -o first examples/c/first.c dist/lapd.c && ./first")
 SOON = 45
-# Programs of examples/c with their files; first.c and wire.c are played, as they ask for nothing.
-EXAMPLES = {"first": (), "wire": (), "terminal": ("linecard", "trace"), "clock": ("trace",), "exchange": ("linecard", "pcap", "trace"),
+# Programs of examples/c with their files; first.c and wire.c are played, as they ask for no line.
+EXAMPLES = {"first": (), "wire": ("trace",), "terminal": ("linecard", "trace"), "clock": ("trace",), "exchange": ("linecard", "pcap", "trace"),
             "hardware": ("linecard", "pcap", "trace")}
 # Parts of examples/c that are no programs.
 PARTS_OF_EXAMPLES = {"linecard", "pcap", "trace", "gateway"}

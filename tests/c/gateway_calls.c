@@ -1,6 +1,6 @@
 /*
  * gateway_calls.c: what examples/c/gateway.h says of each call: what it answers, from when timers run, and that an advance
- * that comes late asks a silent terminal once. Starts are refused each block of memory in turn. For tests alone.
+ * that comes late asks a silent terminal once, of which the log tells. Starts are refused each block of memory in turn. For tests alone.
  */
 #include <stdio.h>
 #include <stdlib.h>
@@ -28,6 +28,7 @@ static const uint8_t removal_of_all[] = {0xFE, 0xFF, 0x03, 0x0F, 0x00, 0x00, 0x0
 static const uint8_t check_request_65[] = {0xFE, 0xFF, 0x03, 0x0F, 0x00, 0x00, 0x04, 0x83};
 
 static gateway own = GATEWAY_NONE;
+static trace its_log; /* of network's side */
 static unsigned notes[LAPD_REMOVE_ALL + 1], drops, reports;
 
 /* ---- Memory, of which the start is refused a block ---------------------------------------------------------------- */
@@ -159,8 +160,11 @@ static void wrong_calls(uint64_t now) {
     WANT(reports == before);
 }
 
-/* A link comes up at 9 s, so T203 runs until 19 s; T200 of data runs from when they are taken. */
+/* A link comes up at 9 s, so T203 runs until 19 s; T200 of data runs from when they are taken. From here on there is a log. */
 static void comes_up(void) {
+    its_log.to = tmpfile();
+    WANT(its_log.to != NULL);
+    own.log = &its_log;
     WANT(gateway_ask(&own, 0, LAPD_ASSIGN, LAPD_CALL, 64, NULL, 0) == LAPD_OK);
     WANT(gateway_ask(&own, 0, LAPD_ASSIGN, LAPD_CALL, 65, NULL, 0) == LAPD_OK);
     advances_to(9000);
@@ -178,12 +182,25 @@ static void comes_up(void) {
     WANT(takes(ua_65, sizeof ua_65));
 }
 
-/* T203 of both links is due; the call comes 20 s late, and asks each terminal once. */
+/* How many lines of the log are this one. */
+static unsigned logged(const char *wanted) {
+    char line[LAPD_MOST_TEXT];
+    unsigned count = 0;
+    rewind(its_log.to);
+    while (fgets(line, sizeof line, its_log.to) != NULL)
+        count += strcmp(line, wanted) == 0;
+    return count;
+}
+
+/* T203 of both links is due; the call comes 20 s late, and asks each terminal once. The log tells of both. */
 static void time_passes(void) {
     advances_to(22499);
-    WANT(takes_none() && are_in(7));
+    WANT(takes_none() && are_in(7) && logged("22.499 0   timer expired\n") == 0);
     advances_to(42500);
-    WANT(are_in(8) && is_next(43500));
+    WANT(are_in(8) && is_next(43500) && logged("42.500 0   timer expired\n") == 2);
+    WANT(logged("42.500 0   state 64: 7 (multiple frame established) to 8 (timer recovery)\n") == 1);
+    own.log = NULL;
+    WANT(fclose(its_log.to) == 0);
     advances_to(42600);
     WANT(takes(poll, sizeof poll) && takes(poll_65, sizeof poll_65) && takes_none());
     WANT(notes[LAPD_RELEASE_INDICATION] == 0 && notes[LAPD_ERROR_INDICATION] == 0);

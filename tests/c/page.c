@@ -23,12 +23,15 @@ static int fail(const char *text) {
 }
 
 #ifdef FRAMES
-static size_t frame_that_came(uint8_t *frame, size_t room) {
+/* Where none comes in ten milliseconds, it waits no longer than asked for. */
+static size_t frame_that_came(uint8_t *frame, size_t room, uint64_t until) {
     int length = getchar();
     if (length == EOF)
         exit(0);
+    if (until <= time_now)
+        exit(3); /* nothing that is due was left */
     if (length == 0)
-        time_now += 10;
+        time_now += until - time_now < 10 ? until - time_now : 10;
     return (size_t)length <= room ? fread(frame, 1, (size_t)length, stdin) : 0;
 }
 

@@ -250,8 +250,9 @@ MEMORY = """\
 Cards and clocks lie in memory of malloc. Then cards of several threads have nothing in common, also as they start and
 end. A program without malloc says -DLAPD_HEAP_OCTETS=N: they lie in one static region of N octets, and starts and ends
 run one at a time. Or it says -DLAPD_OWN_MEMORY: they lie in memory of its own rattle_alloc and rattle_dealloc, which
-lapd_memory.h declares. A card takes lapd_card_octets(&config) octets and {own} more (one for frames
-lapd_card_octets_frames(&config) and as many), and a clock lapd_clock_octets(&config) and {own} more.
+lapd_memory.h declares. A card takes lapd_card_octets(&config) octets and {own} more (one of frames, or with its own
+timers, as many and what lapd_card_octets_frames, lapd_card_octets_timed or lapd_card_octets_frames_timed tells), and a
+clock lapd_clock_octets(&config) and {own} more.
 
 No access leaves a card's block: one that would ends the program by abort(), which no run has shown; -DLAPD_UNTESTED
 leaves that test out. A compiler that does not tell the order of octets as GCC does wants -DLAPD_BIG_END_FIRST=0 or 1."""

@@ -7,11 +7,14 @@
 //! let timers = CardTimers::start(alloc, card.lines(), terminals, Lengths::standard())?;
 //! let mut card = TimedCard::new(card, timers);
 //! loop {
+//!     let mut report = BareReport::nothing();
 //!     card.go_to(now)?;
 //!     while card.fall_due(&mut report).is_some() {
 //!         layer_3(&report);
+//!         report = BareReport::nothing();
 //!     }
 //!     card.frame(line, frame_that_came, &mut report);
+//!     layer_3(&report);
 //! }
 //! ```
 //!

@@ -1,6 +1,6 @@
 -- A timer that is started anew in its place.
 use Rattle.std.proofs.lemmas.Bool.{and_parts}
-use Rattle.lapd_clock.proofs.Vocabulary.{◌≡◌, ◌==◌, Bool, ℕ, ◌<◌, ◌≤◌, true, List, length, length-set, get_or, set, sym, ap, ◌∙◌, subst, arith, get_or-map, Timer, Expiry, is_same, never}
+use Rattle.lapd_clock.proofs.Vocabulary.{◌≡◌, ◌==◌, Bool, ℕ, ◌<◌, ◌≤◌, true, false, List, length, length-set, get_or, set, sym, ap, ◌∙◌, subst, arith, get_or-map, Timer, Expiry, is_same, never}
 use Rattle.lapd_moments.specs.OfCard.{Holds, HoldsOwn, HoldsLine, IsLayout}
 use Rattle.lapd_moments.specs.Places.{expiry_of, expiries_of, nothing, at, with_timer, without_timer, IsBeside, IsExchanged, IsRestarted, RunsAt}
 use Rattle.lapd_moments.specs.declared.place.Place.{Place}
@@ -26,6 +26,11 @@ restarted-is ps es place u line timer moment is within at_it own same runs small
   where
     less : {a b : ℕ} → a ≤ b → (a ≡ b → ⊥) → a < b
     less le ne = grind arith
+
+-- A place is not beside itself.
+pub are-apart : (is_next : Bool) (place beside : ℕ) → IsBeside is_next place beside → beside ≡ place → ⊥
+are-apart true place beside is same = omega (arith, is, same)
+are-apart false place beside is same = omega (arith, is, same)
 
 -- A timer that is stopped in its place, while another is started in the one beside.
 pub exchanged-is : (ps : List Place) (es : List Expiry) (place beside : ℕ) (u v w : Place) (line : ℕ) (stopped started : Timer) (is_next : Bool) (moment : ℕ) → expiries_of ps ≡ es → place < length ps → beside < length ps

@@ -4,7 +4,7 @@ use Rattle.std.proofs.lemmas.List.{get_or-set_other}
 use Rattle.std.proofs.lemmas.Grind.{get_or-set_at}
 use Rattle.std.proofs.lemmas.List.Edits.{get_or-between, length-between}
 use Rattle.std.specs.List.{between}
-use Rattle.lapd_moments.specs.Bounds.{IsEarliest, IsLead, IsSooner, AreBounded, AreKept, AreNoEarlier}
+use Rattle.lapd_moments.specs.Bounds.{IsEarliest, IsLead, IsSooner, AreKept, AreNoEarlier}
 use Rattle.lapd_moments.specs.declared.lead.Lead.{Lead}
 use Rattle.lapd_moments.specs.declared.place.Place.{Place}
 use Rattle.lapd_moments.proofs.Standing.{no_sooner, set_later}
@@ -368,3 +368,15 @@ module _ (not_before found each line : ℕ) (bounds : List ℕ) (leads : List Le
               its_line = λ before. omega (arith, sooner.its_line before, soon, small);
               other_line = λ before. absurd (omega (arith, before));
             }) final))
+
+  pub takes-its-turn : (j : ℕ) (v w : Place) (timer : Timer) (moment : ℕ) → j < length ps → v ≡ get_or ps j v → v.line ≡ line → (j ≡ l.place → ⊥) → w ≡ get_or (set ps j (record v { moment = moment; timer = timer })) l.place w
+      → moment ≤ l.others → l.others ≤ never → (lead : Lead) → lead.place ≡ j → lead.others ≡ l.others → l.used ≤ lead.used → j + 1 ≤ line * each + lead.used
+      → ((count : ℕ) → l.used ≤ count → j < line * each + count → lead.used ≤ count) → (after now : ℕ) → IsSooner not_before found line moment after now
+      → AreKept after now each (set bounds line moment) (set leads line lead) (set (set ps j (record v { moment = moment; timer = timer })) l.place (record w { moment = never }))
+  takes-its-turn j v w timer moment there v_at v_line apart w_at soon small lead place_is others_are raised mine few after now sooner =
+      let its = of-its-line each line j h.bounded.some (sym v_line ∙ own-line each bounds leads ps j v h.bounded there v_at) in
+      subst (λ x. AreKept after now each (set bounds line moment) (set leads line x) (set (set ps j (record v { moment = moment; timer = timer })) l.place (record w { moment = never }))) (same-lead lead j l.others place_is others_are)
+      (exchanged j lead.used v w timer moment there v_at v_line apart w_at soon small raised mine (few each led.fit its.high) after now sooner)
+    where
+      same-lead : (x : Lead) (p o : ℕ) → x.place ≡ p → x.others ≡ o → record { place = p; others = o; used = x.used } ≡ x
+      same-lead x p o a b = ap (λ n. record { place = n; others = o; used = x.used }) (sym a) ∙ ap (λ n. record { place = x.place; others = n; used = x.used }) (sym b)

@@ -1,6 +1,6 @@
 //! Which place of a line falls due first, when one of them changes.
 
-ghost use Rattle.std.specs.Prelude.{◌≡◌, ◌+◌, ◌*◌, ◌<◌, ◌≤◌, ℕ, List, length, set, IfOk};
+ghost use Rattle.std.specs.Prelude.{◌≡◌, ◌+◌, ◌*◌, ◌^◌, ◌<◌, ◌≤◌, ℕ, List, length, set, IfOk};
 ghost use Rattle.lapd_moments.specs.Bounds.{IsEarliest, IsLead, IsSooner};
 ghost use Rattle.lapd_moments.specs.Places.{AreFirstPlaces};
 
@@ -24,7 +24,11 @@ impl Lead {
     pub fn moved_to(&self, place: usize, begin: usize) -> Lead
         requires within { begin ≤ place }
         requires few { place < 2 ^ 32 }
-        ensures { result ≡ record self.now { place = place; used = max self.now.used (place + 1 - begin) } }
+        ensures place { result.place ≡ place }
+        ensures others { result.others ≡ self.now.others }
+        ensures used { self.now.used ≤ result.used }
+        ensures counts { place + 1 ≤ begin + result.used }
+        ensures few { (count : ℕ) → self.now.used ≤ count → place < begin + count → result.used ≤ count }
     {
         Lead {
             place,

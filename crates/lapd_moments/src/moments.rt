@@ -150,7 +150,7 @@ impl Moments {
             return false;
         }
         let before = self.leads[line];
-        let leading = self.places[before.place];
+        let leading = &self.places[before.place];
         if leading.moment == NEVER || due_at > before.others || !leading.is(stopped) {
             return false;
         }

@@ -1,5 +1,5 @@
 -- One place changes, and which leads in its line.
-use Rattle.std.proofs.Common.{◌∙◌, ◌*◌, refl, ap, subst, arith}
+use Rattle.std.proofs.Common.{◌∙◌, ◌*◌, refl, ap, subst}
 use Rattle.lapd_moments.specs.Bounds.{IsLead}
 use Rattle.lapd_moments.specs.Places.{with_timer}
 use Rattle.lapd_moments.proofs.Keeping.{of-line, in-places, its-lead, used-within, lead-within, kept-after}

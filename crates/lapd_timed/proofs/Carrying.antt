@@ -254,7 +254,7 @@ module _ (m : Card) (e : Event) (reached : IsReached m) (here : e.line < m.confi
       let beside_is : its_slot line r.number link.T203 ≡ x.beside = omega (arith, x.are_beside, r.is) in
       let left = without_timer x.place h.moments in
       let stopped = stopped-at m e reached here h c amid line (T200 service tei) x.place left
-          (found_place h.lines links its_slot its_line_slot (IsOnAmid e m) h.moments amid.places are-apart x.place line (T200 service tei) x.runs) refl in
+      (found_place h.lines links its_slot its_line_slot (IsOnAmid e m) h.moments amid.places are-apart x.place line (T200 service tei) x.runs) refl in
       let then = obey line c (Stop (T200 service tei)) in
       let own : Own m e reached here (record h { moments = left }) then stopped x.beside line (T203 service tei) =
       subst (λ i. Own m e reached here (record h { moments = left }) then stopped i line (T203 service tei)) beside_is

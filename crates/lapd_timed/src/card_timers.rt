@@ -263,16 +263,12 @@ impl CardTimers {
         if let Some((service, tei)) = link_sends(orders) {
             let (stopped, started) = (Timer::T203(service, tei), Timer::T200(service, tei));
             let due_at = self.moment + self.lengths.of(started);
-            return self
-                .moments
-                .exchange(line, stopped, started, false, due_at);
+            return self.moments.exchange(line, stopped, started, false, due_at);
         }
         if let Some((service, tei)) = link_rests(orders) {
             let (stopped, started) = (Timer::T200(service, tei), Timer::T203(service, tei));
             let due_at = self.moment + self.lengths.of(started);
-            return self
-                .moments
-                .exchange(line, stopped, started, true, due_at);
+            return self.moments.exchange(line, stopped, started, true, due_at);
         }
         false
     }
@@ -395,10 +391,7 @@ fn link_sends(orders: &[Order]) -> Option<(Service, u8)>
     }
     match (orders[0], orders[1]) {
         (Order::Start(Timer::T200(service, tei)), Order::Stop(Timer::T203(its, at)))
-            if its == service && at == tei =>
-        {
-            Some((service, tei))
-        }
+            if its == service && at == tei => { Some((service, tei)) }
         _ => None,
     }
 }
@@ -413,10 +406,7 @@ fn link_rests(orders: &[Order]) -> Option<(Service, u8)>
     }
     match (orders[0], orders[1]) {
         (Order::Stop(Timer::T200(service, tei)), Order::Start(Timer::T203(its, at)))
-            if its == service && at == tei =>
-        {
-            Some((service, tei))
-        }
+            if its == service && at == tei => { Some((service, tei)) }
         _ => None,
     }
 }

@@ -37,7 +37,7 @@ returns-in-Ok-Some-clause-given c = λ m s within room. let t = frames_there c.i
     (subst (λ g. written g ≤ length c.next_frame.new.out) c.in-Ok-Some.field-0-is c.in-Ok-Some.ensures.fits)
     (subst (λ g. drop (written g) c.next_frame.new.out ≡ drop (written g) c.args.out.now) c.in-Ok-Some.field-0-is c.in-Ok-Some.ensures.rest)
     (orders_there c.in-Some.ensures.card c.settle_given.new.report true c.has_next-more.result _
-    (subst (λ os. ShowsPull c.settle_given.new.report true c.has_next-more.result (orders_by (is_some c.in-Some.kept.timers) (listed os))) c.order_list.ensures c.settle_given.ensures.shown))
+    (subst (λ os. ShowsPull c.settle_given.new.report true c.has_next-more.result (orders_by (is_some c.in-Some.value.now.timers) (listed os))) c.order_list.ensures c.settle_given.ensures.shown))
 
 -- its orders are carried out
 pub returns-in-Ok-Some-clause-timed : goal.returns-in-Ok-Some-clause-timed

@@ -119,6 +119,9 @@ pub orders_shown : (r old : PlainReport) (own timed : Bool) (orders : List Order
 orders_shown r old own timed orders is same s =
     subst (λ b. Shows r (record line_event.nothing { orders = orders_by b orders })) same (still_answered r old (line_event.told (record line_event.nothing { orders = orders_by timed orders })) is s)
 
+pub given_shown_by : (r old : PlainReport) (more own timed : Bool) (orders : List Order) → r ≡ with_reopened r old → timed ≡ own → ShowsPull old true more (orders_by timed orders) → ShowsPull r true more (orders_by own orders)
+given_shown_by r old more own timed orders is same s = subst (λ b. ShowsPull r true more (orders_by b orders)) same (still_pulled r old true more (orders_by timed orders) is s)
+
 pub settled_pulled : (timers : Option CardTimers) (new old : PlainReport) (begun more : Bool) (orders : List Order) → new ≡ settled timers new old → ShowsPull old begun more orders
     → ShowsPull new begun more (orders_by (is_some timers) orders)
 settled_pulled None new old begun more orders is s = still_pulled new old begun more orders is s

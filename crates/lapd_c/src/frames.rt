@@ -111,8 +111,8 @@ pub extern "C" fn lapd_next_frame(
     match card.next_frame(line, out) {
         Ok(Some(next)) => {
             *count = next.length;
-            report.show_given(&next.order_list(), card.has_next(line));
-            kept.settle(line, next.orders(), report);
+            let more = card.has_next(line);
+            kept.settle_given(line, &next.order_list(), more, report);
             OK
         }
         Ok(None) => NO_FRAME,

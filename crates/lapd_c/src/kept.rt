@@ -1,14 +1,14 @@
 //! A card as C holds it: with the links that were refused contents because their queues were full, each of which is told once
 //! when it has room again; and with its timers, where it keeps its own.
 
-ghost use Rattle.std.specs.Prelude.{◌≡◌, ◌<◌, [], None, IfSome, is_some};
+ghost use Rattle.std.specs.Prelude.{◌≡◌, ◌<◌, [], true, None, IfSome, is_some};
 ghost use Rattle.model_card.specs.Card.{Card};
 ghost use Rattle.model_card.specs.Event.{Event};
 ghost use Rattle.model_card.specs.Machine.{after};
 ghost use Rattle.model_timed.specs.Clock.{Clock, obeyed};
 ghost use Rattle.model_timed.specs.Frames.{orders_at};
 ghost use Rattle.lapd_c.specs.Kept.{LedTo, AreLeftIn, TimersStandIn, orders_by, settled};
-ghost use Rattle.lapd_c.specs.{listed, nothing, Shows, first_fault, AreMarked, AreUnmarked, MarksBecome, marks_of, IsFirstOpen, TellsReopened, WaitsFor, is_open, is_there, waits_on, waits_there, with_reopened};
+ghost use Rattle.lapd_c.specs.{listed, nothing, Shows, ShowsPull, first_fault, AreMarked, AreUnmarked, MarksBecome, marks_of, IsFirstOpen, TellsReopened, WaitsFor, is_open, is_there, waits_on, waits_there, with_reopened};
 ghost use Rattle.model_card.specs.Card as machine;
 ghost use Rattle.lapd_card.specs.FrameCard.{line_count};
 ghost use Rattle.lapd_card.specs.Kinds.{Machine, card_in, AnyStands, FrameCardStands};
@@ -99,6 +99,35 @@ impl KeptCard {
             self.carry_out_list(line, orders);
         } else {
             report.show_orders(orders);
+        }
+        self.tell_reopened(line, report);
+    }
+
+    /// Ends a call that gave the next frame of a line, and shows that with its orders, as [`KeptCard::settle_orders`] shows
+    /// these.
+    #[inline(always)]
+    pub(crate) fn settle_given(
+        &mut self,
+        line: usize,
+        orders: &ShortList<Order>,
+        more: bool,
+        report: &mut PlainReport,
+    )
+        ensures card { self.new.card ≡ self.old.card }
+        ensures shown { ShowsPull report.new true more (orders_by (is_some self.old.timers) (listed orders.now)) }
+        ensures tells { (m : Machine) → AnyStands self.old.card m → line < (card_in m).config.lines
+            → TellsReopened line (card_in m) self.old.refused self.new.refused report.new }
+        ensures untimed { self.old.timers ≡ None → self.new.timers ≡ None }
+        ensures there { is_some self.new.timers ≡ is_some self.old.timers }
+        // So of each event at that line of which these are the orders, and that led the card to where it is.
+        ensures timed { (e : Event) (m : Card) (c : Clock) → LedTo self.old.card line e m → listed orders.now ≡ orders_at e m
+            → AreLeftIn e self.old.timers m c → TimersStandIn self.new.timers (after e m) (obeyed line (orders_at e m) c) }
+    {
+        if self.timers.is_some() {
+            report.show_begun(more);
+            self.carry_out(line, orders.as_slice());
+        } else {
+            report.show_given(orders, more);
         }
         self.tell_reopened(line, report);
     }

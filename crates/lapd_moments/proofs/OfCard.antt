@@ -170,6 +170,28 @@ length_set [] i z = refl
 length_set (x ∷ xs) zero z = refl
 length_set (x ∷ xs) (suc i) z = ap suc (length_set xs i z)
 
+-- what runs at a place does so when another changes
+pub runs_still : (es : List Expiry) (i j line : ℕ) (timer : Timer) (z : Expiry) → j ≢ i → RunsAt j line timer es → RunsAt j line timer (set es i z)
+runs_still es i j line timer z apart found = record {
+  within = omega (arith, found.within, length_set es i z);
+  runs = subst (λ (e : Expiry). e.moment < never) (sym (at_other es i j z apart)) found.runs;
+  its = ap (is_of line timer) (at_other es i j z apart) ∙ found.its;
+}
+
+-- two places change in either order
+pub either_first : (es : List Expiry) (i j moment : ℕ) (timer : Timer) → j ≢ i → without_timer i (with_timer j timer moment es) ≡ with_timer j timer moment (without_timer i es)
+either_first es i j moment timer apart =
+    ap (λ (e : Expiry). set (with_timer j timer moment es) i (record e { moment = never })) (at_other es j i _ (λ e. apart (sym e)))
+    ∙ swapped es i j _ _ apart
+    ∙ ap (λ (e : Expiry). set (without_timer i es) j (record e { moment = moment; timer = timer })) (sym (at_other es i j _ apart))
+  where
+    swapped : (es : List Expiry) (i j : ℕ) (y z : Expiry) → j ≢ i → set (set es j z) i y ≡ set (set es i y) j z
+    swapped [] i j y z apart = refl
+    swapped (x ∷ xs) zero zero y z apart = absurd (apart refl)
+    swapped (x ∷ xs) zero (suc j) y z apart = refl
+    swapped (x ∷ xs) (suc i) zero y z apart = refl
+    swapped (x ∷ xs) (suc i) (suc j) y z apart = ap (λ ys. x ∷ ys) (swapped xs i j y z (λ e. apart (ap suc e)))
+
 -- one place has its line, and what runs there is what is wanted, or it is as before
 pub replaced : (P : Expiry → Type 0) (es : List Expiry) (i j : ℕ) (z : Expiry) → i < length es → (j ≡ i → P (at j es) → P z) → P (at j es) → P (at j (set es i z))
 replaced P es i j z within own was =
@@ -260,6 +282,44 @@ module _ (lines links : ℕ) (slot : ℕ → ℕ → LinkTimer → ℕ) (line_sl
       subst (λ n. IsItsPlace i n timer es) (sym there.line_is ∙ same_number (at i es).line line split.0)
       (subst (λ x. IsItsPlace i of.line x es) (sym (there.its found.runs) ∙ equal (at i es).timer timer split.1)
       (subst (λ n. IsItsPlace n of.line (line_timer of.which) es) (sym of.is) (line_place lines links slot line_slot IsOn es h on of.line of.which of.line_there)))
+
+  -- What runs as a timer of a link is at its place, of a TEI that is at the link's.
+  pub record RunsOfLink (i line tei : ℕ) (k : LinkTimer) (service : Service) : Type 0 where
+    pub number : ℕ
+    pub line_there : line < lines
+    pub number_there : number < links
+    pub is : i ≡ slot line number k
+    pub service_is : service_at number ≡ service
+    pub on_line : IsOn line (place_at number) tei
+
+  pub link_running : (i line tei : ℕ) (k : LinkTimer) (service : Service) → RunsAt i line (timer_of k service tei) es → RunsOfLink i line tei k service
+  link_running i line tei k service found = elim (h.layout.each i found.within) [
+    | inl of ↦ of-link of
+    | inr of ↦ absurd (of-line of)
+  ]
+    where
+      split : (((at i es).line == line) ≡ true) × (is_same (at i es).timer (timer_of k service tei) ≡ true)
+      split = both ((at i es).line == line) (is_same (at i es).timer (timer_of k service tei)) found.its
+
+      of-link : OfLink lines links slot i → RunsOfLink i line tei k service
+      of-link of =
+          let there = subst (λ n. HoldsOwn IsOn of.line of.number of.timer (at n es)) (sym of.is) (h.at_links of.line of.number of.timer of.line_there of.number_there) in
+          let same_line : of.line ≡ line = sym there.line_is ∙ same_number (at i es).line line split.0 in
+          let who = there.its found.runs in
+          let p = parts of.timer k (service_at of.number) service who.0 tei (sym who.1.1 ∙ equal (at i es).timer (timer_of k service tei) split.1) in
+          record {
+            number = of.number;
+            line_there = subst (λ n. n < lines) same_line of.line_there;
+            number_there = of.number_there;
+            is = of.is ∙ ap (λ n. slot n of.number of.timer) same_line ∙ ap (slot line of.number) p.timer;
+            service_is = p.service;
+            on_line = subst (IsOn line (place_at of.number)) p.tei (subst (λ n. IsOn n (place_at of.number) who.0) same_line who.1.0);
+          }
+
+      of-line : OfLine lines line_slot i → ⊥
+      of-line of =
+          let there = subst (λ n. HoldsLine of.which of.line (at n es)) (sym of.is) (h.at_lines of.line of.which of.line_there) in
+          no_link lines links slot line_slot IsOn es h on of.which k service tei (sym (there.its found.runs) ∙ equal (at i es).timer (timer_of k service tei) split.1)
 
   pub found_place : (i line : ℕ) (timer : Timer) → RunsAt i line timer es → IsItsPlace i line timer es
   found_place i line timer found = elim (h.layout.each i found.within) [

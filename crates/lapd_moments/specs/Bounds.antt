@@ -32,10 +32,23 @@ pub record AreBounded (each : ℕ) (bounds : List ℕ) (leads : List Lead) (ps :
   pub same : length leads ≡ length bounds
   pub led : (line : ℕ) (d : Lead) → line < length bounds → IsLead (line * each) each (slice_index bounds line) (get_or leads line d) ps
 
--- And no timer falls due before the moment that is kept of all.
-pub record AreKept (not_before each : ℕ) (bounds : List ℕ) (leads : List Lead) (ps : List Place) : Type 0 where
+-- And no timer falls due before the moment that is kept of all. The lines before the one that was found last have later bounds.
+pub record AreKept (not_before found each : ℕ) (bounds : List ℕ) (leads : List Lead) (ps : List Place) : Type 0 where
   pub bounded : AreBounded each bounds leads ps
   pub none_before : AreNotBefore not_before (expiries_of ps)
+  pub later : (line : ℕ) → line < found → line < length bounds → not_before < slice_index bounds line
+
+-- No line has an earlier bound than a moment, and those before this line have later ones.
+pub record AreNoEarlier (moment found : ℕ) (bounds : List ℕ) : Type 0 where
+  pub none_before : (line : ℕ) → line < length bounds → moment ≤ slice_index bounds line
+  pub later : (line : ℕ) → line < found → line < length bounds → moment < slice_index bounds line
+
+-- What is kept of all once a timer of a line falls due at a moment.
+pub record IsSooner (not_before found line moment after now : ℕ) : Type 0 where
+  pub less : after ≤ not_before
+  pub own : after ≤ moment
+  pub its_line : line < now → after < moment
+  pub other_line : found < now → after < not_before
 
 -- No place is before this one.
 pub record IsFoundFirst (place : ℕ) (ps : List Place) : Type 0 where

@@ -1,5 +1,5 @@
 -- What the places stand for: the set of the timers that run.
-use Rattle.std.specs.Prelude.{◌≡◌, ℕ, ◌*◌, ◌/◌, ◌<◌, ◌≤◌, Bool, true, false, ◌&&◌, nat_lt, List, ◌∷◌, map, filter, length, get_or, set}
+use Rattle.std.specs.Prelude.{◌≡◌, ℕ, ◌+◌, ◌*◌, ◌/◌, ◌<◌, ◌≤◌, Bool, true, false, ◌&&◌, nat_lt, List, ◌∷◌, map, filter, length, get_or, set}
 use Rattle.std.specs.List.{AllByRecursion}
 use Rattle.lapd_clock.specs.Firsts.{never}
 use Rattle.lapd_clock.specs.Timer.{Timer, T201}
@@ -64,6 +64,21 @@ pub record IsRestarted (line : ℕ) (timer : Timer) (moment : ℕ) (old new : Li
   pub place : ℕ
   pub runs : RunsAt place line timer old
   pub is : new ≡ with_timer place timer moment old
+
+-- A place is the one after another, or before it.
+abbrev pub IsBeside : Bool → ℕ → ℕ → Type 0
+IsBeside true place beside = beside ≡ place + 1
+IsBeside false place beside = place ≡ beside + 1
+
+-- A timer that runs at a place is stopped there, and another of its line is started at the place beside.
+pub record IsExchanged (line : ℕ) (stopped started : Timer) (is_next : Bool) (moment : ℕ) (old new : List Expiry) : Type 0 where
+  pub place : ℕ
+  pub beside : ℕ
+  pub are_beside : IsBeside is_next place beside
+  pub runs : RunsAt place line stopped old
+  pub within : beside < length old
+  pub its_line : (at beside old).line ≡ line
+  pub is : new ≡ without_timer place (with_timer beside started moment old)
 
 -- A place falls due first, of those whose timers run: it is first in the set.
 pub record IsFirst (place : ℕ) (es : List Expiry) : Type 0 where

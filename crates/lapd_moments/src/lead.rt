@@ -1,7 +1,7 @@
 //! Which place of a line falls due first, when one of them changes.
 
-ghost use Rattle.std.specs.Prelude.{◌≡◌, ◌+◌, ◌*◌, ◌<◌, ◌≤◌, ℕ, List, length, set, IfOk};
-ghost use Rattle.lapd_moments.specs.Bounds.{IsEarliest, IsLead};
+ghost use Rattle.std.specs.Prelude.{◌≡◌, ◌+◌, ◌*◌, ◌^◌, ◌<◌, ◌≤◌, ℕ, List, length, set, IfOk};
+ghost use Rattle.lapd_moments.specs.Bounds.{IsEarliest, IsLead, IsSooner};
 ghost use Rattle.lapd_moments.specs.Places.{AreFirstPlaces};
 
 use crate::place::{NEVER, Place};
@@ -16,6 +16,40 @@ pub(crate) struct Lead {
     pub others: u64,
     /// How many places of the line have been used, from its first one on: no timer has run at those after them.
     pub used: usize,
+}
+
+impl Lead {
+    /// The same with another place that leads, of a line whose places begin here: it counts as used.
+    #[inline(always)]
+    pub fn moved_to(&self, place: usize, begin: usize) -> Lead
+        requires within { begin ≤ place }
+        requires few { place < 2 ^ 32 }
+        ensures place { result.place ≡ place }
+        ensures others { result.others ≡ self.now.others }
+        ensures used { self.now.used ≤ result.used }
+        ensures counts { place + 1 ≤ begin + result.used }
+        ensures few { (count : ℕ) → self.now.used ≤ count → place < begin + count → result.used ≤ count }
+    {
+        Lead {
+            place,
+            others: self.others,
+            used: self.used.max(place + 1 - begin),
+        }
+    }
+}
+
+/// The moment before which no timer falls due, and the line that a look found last, now that a timer of a line falls due at a
+/// moment.
+#[inline(always)]
+pub(crate) fn sooner(not_before: u64, found: usize, line: usize, moment: u64) -> (u64, usize)
+    ensures { IsSooner not_before found line moment result.0 result.1 }
+{
+    if moment > not_before {
+        return (not_before, found);
+    }
+    // If others may fall due then, it is as if the first line had been found.
+    let found = if moment < not_before { line } else { 0 };
+    (moment, found)
 }
 
 /// Of each line its first place leads, since none has been used.
@@ -113,10 +147,15 @@ fn earliest(places: &[Place]) -> (usize, u64)
     let mut others = NEVER;
     for place in 1..places.len() {
         let moment = places[place].moment;
-        others = others.min(least.max(moment));
-        if moment < least {
-            least = moment;
-            first = place;
+        // Mostly it is not among the two that are the earliest so far.
+        if moment < others {
+            if moment < least {
+                others = least;
+                least = moment;
+                first = place;
+            } else {
+                others = moment;
+            }
         }
     }
     (first, others)

@@ -3,11 +3,11 @@
 ghost use Rattle.std.specs.Prelude.{◌≡◌, ◌+◌, ◌*◌, ◌<◌, ◌≤◌, true, false, None, length, IfSome, IfNone, IfOk};
 ghost use Rattle.lapd_clock.specs.Timers.{first_due, first_moment};
 ghost use Rattle.lapd_clock.specs.Firsts.{never};
-ghost use Rattle.lapd_moments.specs.Places.{timers_in, with_timer, without_timer, AreNotBefore, IsFirstUntil, IsRestarted, IsTaken, RunsAt, is_nowhere};
+ghost use Rattle.lapd_moments.specs.Places.{timers_in, with_timer, without_timer, AreNotBefore, IsExchanged, IsFirstUntil, IsRestarted, IsTaken, RunsAt, is_nowhere};
 
-use crate::lead::{Lead, first_places, lead_after};
-use crate::look::look;
-use crate::place::{NEVER, Place, running_place};
+use crate::lead::{Lead, first_places, lead_after, sooner};
+use crate::look::{first_line, look};
+use crate::place::{NEVER, Place, beside, running_place};
 use lapd_frame::Timer;
 use std::alloc::{AllocError, Global};
 use std::marker::Model;
@@ -21,6 +21,8 @@ use std::marker::Model;
 pub struct Moments {
     /// No timer falls due before it.
     not_before: u64,
+    /// The line that a look has found last. All lines before it have a later least moment than that.
+    found: usize,
     /// The least moment of each line.
     bounds: Vec<u64>,
     /// Which place of each line has it.
@@ -40,7 +42,7 @@ impl Model for Moments {
 
     ghost view = { λ m. expiries_of m.places.items };
 
-    ghost invariant = { λ m. AreKept m.not_before m.each m.bounds.items m.leads.items m.places.items };
+    ghost invariant = { λ m. AreKept m.not_before m.found m.each m.bounds.items m.leads.items m.places.items };
 }
 
 impl Moments {
@@ -72,6 +74,7 @@ impl Moments {
         }
         Ok(Moments {
             not_before: NEVER,
+            found: 0,
             bounds,
             leads,
             each,
@@ -100,7 +103,9 @@ impl Moments {
         );
         self.bounds[line] = least;
         self.leads[line] = lead;
-        self.not_before = self.not_before.min(moment);
+        let (not_before, found) = sooner(self.not_before, self.found, line, moment);
+        self.not_before = not_before;
+        self.found = found;
     }
 
     /// Starts a timer of a line anew, and answers whether it did. It does so only if the timer runs, falls due first of its
@@ -123,6 +128,47 @@ impl Moments {
         }
         leading.moment = moment;
         self.bounds[line] = moment;
+        true
+    }
+
+    /// Stops a timer of a line, and starts another in the place beside its own: the next place, or the one before. It does so
+    /// only if the first timer runs and falls due first of its line, and no third timer of the line falls due before the second
+    /// then. Otherwise nothing changes.
+    #[inline(always)]
+    pub fn exchange(
+        &mut self,
+        line: usize,
+        stopped: Timer,
+        started: Timer,
+        is_next: bool,
+        due_at: u64,
+    ) -> bool
+        ensures done { result ≡ true → IsExchanged line stopped started is_next due_at self.old self.new }
+        ensures unchanged { result ≡ false → self.new ≡ self.old }
+    {
+        if line >= self.leads.len() {
+            return false;
+        }
+        let before = self.leads[line];
+        let leading = &self.places[before.place];
+        if leading.moment == NEVER || due_at > before.others || !leading.is(stopped) {
+            return false;
+        }
+        let Some(beside) = beside(&self.places, before.place, is_next) else {
+            return false;
+        };
+        if self.places[beside].line != line {
+            return false;
+        }
+        let starting = &mut self.places[beside];
+        starting.moment = due_at;
+        starting.timer = started;
+        self.places[before.place].moment = NEVER;
+        self.bounds[line] = due_at;
+        self.leads[line] = before.moved_to(beside, line * self.each);
+        let (not_before, found) = sooner(self.not_before, self.found, line, due_at);
+        self.not_before = not_before;
+        self.found = found;
         true
     }
 
@@ -200,8 +246,17 @@ impl Moments {
         if self.bounds.is_empty() {
             return None;
         }
-        let (moment, place) = look(&self.bounds, &self.leads, &self.places, self.each, end);
+        let line = first_line(&self.bounds, self.not_before, self.found);
+        let (moment, place) = look(
+            &self.bounds,
+            &self.leads,
+            &self.places,
+            self.each,
+            line,
+            end,
+        );
         self.not_before = moment;
+        self.found = line;
         place
     }
 }

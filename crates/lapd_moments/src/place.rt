@@ -3,7 +3,7 @@
 ghost use Rattle.std.specs.Prelude.{◌≡◌, ◌≤◌, ◌<◌, true, false, length, All, HoldsAt, IfSome, IfNone};
 ghost use Rattle.std.specs.List.{IsFirstBest};
 ghost use Rattle.lapd_clock.specs.Timer.{is_same};
-ghost use Rattle.lapd_moments.specs.Places.{place_before, place_runs};
+ghost use Rattle.lapd_moments.specs.Places.{place_before, place_runs, IsBeside};
 
 use crate::timers::goes_before;
 use lapd_frame::Timer;
@@ -59,6 +59,23 @@ impl Place {
             Timer::T202 => matches!(self.timer, Timer::T202),
         }
     }
+}
+
+/// The place after one, or before it, if there is such a place.
+#[inline(always)]
+pub(crate) fn beside(places: &[Place], place: usize, is_next: bool) -> Option<usize>
+    requires { place < length places.now }
+    ensures beside { IfSome result (IsBeside is_next place) }
+    ensures there { IfSome result (λ other. other < length places.now) }
+{
+    if is_next {
+        return if place + 1 < places.len() {
+            Some(place + 1)
+        } else {
+            None
+        };
+    }
+    place.checked_sub(1)
 }
 
 /// Which of the places falls due first.

@@ -1,5 +1,5 @@
 -- What the calls of a card's timers come to.
-use Rattle.std.proofs.Common.{arith, ◌≡◌, ℕ, zero, suc, ◌+◌, ◌*◌, ◌<◌, ◌≤◌, cond, List, [], ◌∷◌, length, set, take, get_or, Option, refl, sym, ap, ◌∙◌, subst}
+use Rattle.std.proofs.Common.{arith, ◌≡◌, ℕ, zero, suc, ◌+◌, ◌*◌, ◌<◌, ◌≤◌, Bool, cond, List, [], ◌∷◌, length, set, take, get_or, Option, refl, sym, ap, ◌∙◌, subst}
 use Rattle.std.specs.List.{AllByRecursion}
 use Rattle.std.proofs.lemmas.List.Elements.{All-from_recursion, recursion_from_All}
 use Rattle.std.specs.Prelude.{filter}
@@ -8,7 +8,7 @@ use Rattle.lapd_clock.specs.Timer.{Timer, Lengths, Order}
 use Rattle.lapd_clock.specs.Timers as clocks
 use Rattle.lapd_clock.specs.Timers.{Expiry}
 use Rattle.lapd_clock.specs.Places.{in_order}
-use Rattle.lapd_moments.specs.Places.{AreIdle, timers_in, is_running, at, with_timer, without_timer, IsRestarted}
+use Rattle.lapd_moments.specs.Places.{AreIdle, timers_in, is_running, at, with_timer, without_timer, IsExchanged, IsRestarted}
 use Rattle.lapd_moments.proofs.Laid.{idle_holds, in_lines}
 use Rattle.lapd_moments.proofs.Standing.{rests}
 use Rattle.model_card.specs.Card as cards
@@ -85,6 +85,11 @@ started-on-lines lines es new i moment timer is all = set-on-lines lines es new 
 pub restarted-on-lines : (lines : ℕ) (es new : List Expiry) (line moment : ℕ) (timer : Timer) → IsRestarted line timer moment es new → AreOnLines lines es → AreOnLines lines new
 restarted-on-lines lines es new line moment timer again all = started-on-lines lines es new again.place moment timer again.is all
 
+pub exchanged-on-lines : (lines : ℕ) (es new : List Expiry) (line : ℕ) (stopped started : Timer) (is_next : Bool) (moment : ℕ) → IsExchanged line stopped started is_next moment es new → AreOnLines lines es → AreOnLines lines new
+exchanged-on-lines lines es new line stopped started is_next moment x all =
+    set-on-lines lines (with_timer x.beside started moment es) new x.place (record (at x.place (with_timer x.beside started moment es)) { moment = never }) refl x.is
+    (started-on-lines lines es (with_timer x.beside started moment es) x.beside moment started refl all)
+
 pub stopped-on-lines : (lines : ℕ) (es new : List Expiry) (i : ℕ) → new ≡ without_timer i es → AreOnLines lines es → AreOnLines lines new
 stopped-on-lines lines es new i is all = set-on-lines lines es new i (record (at i es) { moment = never }) refl is all
 
@@ -98,6 +103,10 @@ started-length es new i moment timer is = ap length is ∙ length-set es i (reco
 
 pub restarted-length : (es new : List Expiry) (line moment : ℕ) (timer : Timer) → IsRestarted line timer moment es new → length new ≡ length es
 restarted-length es new line moment timer again = started-length es new again.place moment timer again.is
+
+pub exchanged-length : (es new : List Expiry) (line : ℕ) (stopped started : Timer) (is_next : Bool) (moment : ℕ) → IsExchanged line stopped started is_next moment es new → length new ≡ length es
+exchanged-length es new line stopped started is_next moment x =
+    ap length x.is ∙ length-set (with_timer x.beside started moment es) x.place _ ∙ started-length es (with_timer x.beside started moment es) x.beside moment started refl
 
 pub stopped-length : (es new : List Expiry) (i : ℕ) → new ≡ without_timer i es → length new ≡ length es
 stopped-length es new i is = ap length is ∙ length-set es i (record (at i es) { moment = never })

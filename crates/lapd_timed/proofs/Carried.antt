@@ -1,11 +1,12 @@
 -- What carrying out an order comes to, of every event that led the card to where it is.
-use Rattle.std.proofs.Common.{arith, ◌≡◌, ℕ, ◌+◌, ◌^◌, ◌<◌, ◌≤◌, List, [], ◌∷◌, length, get_or, Some, None, sym, ap, ◌∙◌, subst}
+use Rattle.std.proofs.Common.{arith, ◌≡◌, true, false, ℕ, ◌+◌, ◌^◌, ◌<◌, ◌≤◌, List, [], ◌∷◌, length, get_or, Some, None, sym, ap, ◌∙◌, subst}
 use Rattle.std.specs.List.{AllByRecursion}
 use Rattle.lapd_card.specs.FrameCard.{Held}
 use Rattle.lapd_card.specs.FrameStands.{FrameStands}
-use Rattle.lapd_clock.specs.Timer.{Timer, Order, Start, Stop, duration}
+use Rattle.lapd_clock.specs.Timer.{Timer, T200, T203, Order, Start, Stop, duration}
 use Rattle.lapd_clock.specs.Timers.{Expiry}
-use Rattle.lapd_moments.specs.Places.{with_timer, without_timer, IsRestarted}
+use Rattle.lapd_moments.specs.Places.{with_timer, without_timer, IsExchanged, IsRestarted}
+use Rattle.lapd_frame.specs.declared.services.Service.{Service}
 use Rattle.lapd_store.specs.Store.{Store}
 use Rattle.model_card.specs.Card.{Card, line_at}
 use Rattle.model_card.specs.Event.{Event}
@@ -19,36 +20,60 @@ use Rattle.model_timed.specs.RunTheSame.{left_by, as_they_are}
 use Rattle.model_timed.proofs.Running.{are-placed}
 use Rattle.lapd_timed.specs.Places.{own_place, IsOwnOrFound}
 use Rattle.lapd_timed.specs.Stands.{IsOnAmid, HeldTimers, AreAt, AreKept, HasLedTo}
-use Rattle.lapd_timed.proofs.Carrying.{has-place, carried-restart, carried-start, carried-stop, carried-nowhere}
+use Rattle.lapd_timed.proofs.Carrying.{sends, rests, has-place, carried-restart, carried-start, carried-stop, carried-nowhere}
 use Rattle.lapd_timed.proofs.Finishing.{begins, finished}
 use Rattle.lapd_timed.proofs.Calls.{all-at}
 
--- the only one of a list
+-- the only one of a list, and the only two
+pub only-two : (orders : List Order) (d c o p : Order) → length orders ≡ 2 → get_or orders 0 d ≡ o → get_or orders 1 c ≡ p → orders ≡ o ∷ p ∷ []
+only-two [] d c o p two is more = absurd (omega (arith, two))
+only-two (x ∷ []) d c o p two is more = absurd (omega (arith, two))
+only-two (x ∷ y ∷ []) d c o p two is more = ap (λ z. z ∷ y ∷ []) is ∙ ap (λ z. o ∷ z ∷ []) more
+only-two (x ∷ y ∷ z ∷ orders) d c o p two is more = absurd (omega (arith, two))
+
 pub only-one : (orders : List Order) (d o : Order) → length orders ≡ 1 → get_or orders 0 d ≡ o → orders ≡ o ∷ []
 only-one [] d o one is = absurd (omega (arith, one))
 only-one (x ∷ []) d o one is = ap (λ y. y ∷ []) is
 only-one (x ∷ y ∷ orders) d o one is = absurd (omega (arith, one))
 
+-- Orders at a line have been carried out, of each event of which they are the orders.
+abbrev pub IsCarriedOut : HeldTimers → ℕ → List Order → HeldTimers → Type 0
+IsCarriedOut h line orders new = (e : Event) (m : Card) (c : Clock) → e.line ≡ line → line < m.config.lines → orders ≡ orders_at e m → AreKept (left_by e) h m c → AreKept as_they_are new (after e m) (obeyed line orders c)
+
+carried-alone : (h : HeldTimers) (line : ℕ) (orders : List Order) (new : HeldTimers)
+    → ((e : Event) (m : Card) (c : Clock) → IsReached m → e.line < m.config.lines → AreAt (IsOnAmid e m) h m c → AreAt (IsOnAmid e m) new m (obeyed line orders c)) → IsCarriedOut h line orders new
+carried-alone h line orders new does e m c line_is line_there is kept =
+    let here : e.line < m.config.lines = subst (λ n. n < m.config.lines) (sym line_is) line_there in
+    let same : obeyed line orders c ≡ obeyed e.line (orders_at e m) c = ap (λ n. obeyed n orders c) (sym line_is) ∙ ap (λ os. obeyed e.line os c) is in
+    subst (AreKept as_they_are new (after e m)) (sym same)
+    (finished m e here h c kept new (subst (AreAt (IsOnAmid e m) new m) same (does e m c kept.reached here (begins m e here h c kept))))
+
 -- Where one order alone starts a timer anew at the place at which it runs, it has been carried out.
 pub restarted-alone : (h : HeldTimers) (line : ℕ) (timer : Timer) (d : ℕ) (es : List Expiry) → IsRestarted line timer (h.now + d) h.moments es → d ≡ duration h.lengths timer → h.now < 2 ^ 63 → d ≤ 3600000
-    → (orders : List Order) → orders ≡ Start timer ∷ [] → (e : Event) (m : Card) (c : Clock) → e.line ≡ line → line < m.config.lines → orders ≡ orders_at e m → AreKept (left_by e) h m c
-    → AreKept as_they_are (record h { moments = es }) (after e m) (obeyed line orders c)
-restarted-alone h line timer d es again d_is now most orders alone e m c line_is line_there is kept =
-    let here : e.line < m.config.lines = subst (λ n. n < m.config.lines) (sym line_is) line_there in
-    let same : obeyed line orders c ≡ obeyed e.line (orders_at e m) c = ap (λ n. obeyed n orders c) (sym line_is) ∙ ap (λ os. obeyed e.line os c) is in
-    subst (AreKept as_they_are (record h { moments = es }) (after e m)) (sym same)
-    (finished m e here h c kept (record h { moments = es })
-    (subst (AreAt (IsOnAmid e m) (record h { moments = es }) m) (ap (λ os. obeyed line os c) (sym alone) ∙ same)
-    (carried-restart m e kept.reached here h c (begins m e here h c kept) line timer (h.now + d) es again (ap (λ n. h.now + n) d_is) (omega (arith, now, most)))))
+    → (orders : List Order) → orders ≡ Start timer ∷ [] → IsCarriedOut h line orders (record h { moments = es })
+restarted-alone h line timer d es again d_is now most orders alone =
+    carried-alone h line orders (record h { moments = es }) (λ e m c reached here amid.
+    subst (λ os. AreAt (IsOnAmid e m) (record h { moments = es }) m (obeyed line os c)) (sym alone)
+    (carried-restart m e reached here h c amid line timer (h.now + d) es again (ap (λ n. h.now + n) d_is) (omega (arith, now, most))))
+
+-- So where they have a link's T200 and T203 take turns.
+pub sends-alone : (h : HeldTimers) (line tei : ℕ) (service : Service) (d : ℕ) (es : List Expiry) → IsExchanged line (T203 service tei) (T200 service tei) false (h.now + d) h.moments es → d ≡ duration h.lengths (T200 service tei)
+    → h.now < 2 ^ 63 → d ≤ 3600000 → (orders : List Order) → orders ≡ Start (T200 service tei) ∷ Stop (T203 service tei) ∷ [] → IsCarriedOut h line orders (record h { moments = es })
+sends-alone h line tei service d es x d_is now most orders alone =
+    carried-alone h line orders (record h { moments = es }) (λ e m c reached here amid.
+    subst (λ os. AreAt (IsOnAmid e m) (record h { moments = es }) m (obeyed line os c)) (sym alone)
+    (sends m e reached here h c amid line tei service (h.now + d) es x (ap (λ n. h.now + n) d_is) (omega (arith, now, most))))
+
+pub rests-alone : (h : HeldTimers) (line tei : ℕ) (service : Service) (d : ℕ) (es : List Expiry) → IsExchanged line (T200 service tei) (T203 service tei) true (h.now + d) h.moments es → d ≡ duration h.lengths (T203 service tei)
+    → h.now < 2 ^ 63 → d ≤ 3600000 → (orders : List Order) → orders ≡ Stop (T200 service tei) ∷ Start (T203 service tei) ∷ [] → IsCarriedOut h line orders (record h { moments = es })
+rests-alone h line tei service d es x d_is now most orders alone =
+    carried-alone h line orders (record h { moments = es }) (λ e m c reached here amid.
+    subst (λ os. AreAt (IsOnAmid e m) (record h { moments = es }) m (obeyed line os c)) (sym alone)
+    (rests m e reached here h c amid line tei service (h.now + d) es x (ap (λ n. h.now + n) d_is) (omega (arith, now, most))))
 
 -- Where there is no order, the timers stand as they did.
-pub rested : (h : HeldTimers) (line : ℕ) (orders : List Order) → orders ≡ [] → (e : Event) (m : Card) (c : Clock) → e.line ≡ line → line < m.config.lines → orders ≡ orders_at e m → AreKept (left_by e) h m c
-    → AreKept as_they_are h (after e m) (obeyed line orders c)
-rested h line orders none e m c line_is line_there is kept =
-    let here : e.line < m.config.lines = subst (λ n. n < m.config.lines) (sym line_is) line_there in
-    let same : obeyed line orders c ≡ obeyed e.line (orders_at e m) c = ap (λ n. obeyed n orders c) (sym line_is) ∙ ap (λ os. obeyed e.line os c) is in
-    subst (AreKept as_they_are h (after e m)) (sym same)
-    (finished m e here h c kept h (subst (AreAt (IsOnAmid e m) h m) (ap (λ os. obeyed line os c) (sym none) ∙ same) (begins m e here h c kept)))
+pub rested : (h : HeldTimers) (line : ℕ) (orders : List Order) → orders ≡ [] → IsCarriedOut h line orders h
+rested h line orders none = carried-alone h line orders h (λ e m c reached here amid. subst (λ os. AreAt (IsOnAmid e m) h m (obeyed line os c)) (sym none) amid)
 
 module _ {S : Type 0} (store : S → Store) (card : Held S) (h : HeldTimers) (line : ℕ) (within : line < h.lines) where
   at-line : (e : Event) (m : Card) → HasLedTo store card line e m → e.line < m.config.lines

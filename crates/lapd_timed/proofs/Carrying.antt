@@ -1,5 +1,5 @@
 -- Orders that are carried out in places.
-use Rattle.std.proofs.Common.{◌≡◌, inl, inr, Bool, true, false, ℕ, ◌+◌, ◌*◌, ◌<◌, List, Option, Some, None, IsSome, option_map, refl, sym, ap, ◌∙◌, subst}
+use Rattle.std.proofs.Common.{arith, ◌≡◌, ◌≢◌, inl, inr, Bool, true, false, ℕ, ◌+◌, ◌*◌, ◌<◌, List, Option, Some, None, IsSome, option_map, refl, sym, ap, ◌∙◌, subst}
 use Rattle.std.proofs.lemmas.Bool.{false≢true}
 use Rattle.std.proofs.lemmas.Option.{none-some, same_Some}
 use Rattle.lapd_clock.specs.Firsts.{never}
@@ -7,10 +7,10 @@ use Rattle.lapd_clock.specs.Timer.{Timer, T200, T203, T201, T202, Start, Stop, d
 use Rattle.lapd_clock.specs.Timers.{Expiry, with_expiry, without}
 use Rattle.lapd_frame.specs.declared.services.Service.{Service}
 use Rattle.lapd_moments.specs.OfCard.{Holds, AreApart, slot_of, line_slot_of, timer_of, line_timer}
-use Rattle.lapd_moments.specs.Places.{timers_in, with_timer, without_timer, IsItsPlace, IsRestarted}
+use Rattle.lapd_moments.specs.Places.{timers_in, with_timer, without_timer, IsExchanged, IsItsPlace, IsRestarted}
 use Rattle.lapd_moments.proofs.InPlace.{started_in_place, stopped_in_place, stopped_nowhere}
 use Rattle.lapd_moments.proofs.Again.{holds_restarted}
-use Rattle.lapd_moments.proofs.OfCard.{its_place, line_place, found_place, holds_started, holds_stopped, holds_line}
+use Rattle.lapd_moments.proofs.OfCard.{its_place, line_place, found_place, link_running, runs_still, either_first, holds_started, holds_stopped, holds_line}
 use Rattle.lapd_tei.proofs.Tables.{place_of-is}
 use Rattle.lapd_tei.specs.Sound.{IsSoundTable}
 use Rattle.model_card.specs.Card.{Card, line_at}
@@ -132,12 +132,17 @@ module _ (m : Card) (e : Event) (reached : IsReached m) (here : e.line < m.confi
   has-place line T201 placed is = none-some (line_slot false line) (sym is)
   has-place line T202 placed is = none-some (line_slot true line) (sym is)
 
+  -- where the TEI of a link is at its place, a timer of the link has its own
+  at-link : (line number tei : ℕ) (k : LinkTimer) → line < h.lines → number < 2 * h.terminals → IsOnAmid e m line (place_at number) tei → Own (slot line number k) line (timer_of k (service_at number) tei)
+  at-link line number tei k within number_there on = record {
+    its = its_place h.lines (2 * h.terminals) slot line_slot (IsOnAmid e m) h.moments amid.places lines-apart line number tei k within number_there on;
+    holds = λ moment. holds_started h.lines (2 * h.terminals) slot line_slot (IsOnAmid e m) h.moments amid.places line number tei moment k within number_there on;
+  }
+
   -- it is started there
-  pub carried-start : (line : ℕ) → line < h.lines → (timer : Timer) (i moment : ℕ) (es : List Expiry) → own_place h.terminals line timer (line_at line (after e m)) ≡ Some i
-      → moment ≡ h.now + duration h.lengths timer → moment < never → es ≡ with_timer i timer moment h.moments
+  started-at : (line : ℕ) (timer : Timer) (i moment : ℕ) (es : List Expiry) → Own i line timer → moment ≡ h.now + duration h.lengths timer → moment < never → es ≡ with_timer i timer moment h.moments
       → AreAt (IsOnAmid e m) (record h { moments = es }) m (obey line c (Start timer))
-  carried-start line within timer i moment es is at soon new =
-      let o = own line within timer i is in
+  started-at line timer i moment es o at soon new =
       let moment_is : c.now + duration c.lengths timer ≡ moment = ap (λ n. n + duration c.lengths timer) amid.now ∙ ap (λ l. h.now + duration l timer) amid.lengths ∙ sym at in
       record {
         lines = amid.lines;
@@ -150,6 +155,11 @@ module _ (m : Card) (e : Event) (reached : IsReached m) (here : e.line < m.confi
             ∙ started_in_place h.moments i line timer moment o.its soon ∙ ap timers_in (sym new);
         places = subst (Holds h.lines (2 * h.terminals) slot line_slot (IsOnAmid e m)) (sym new) (o.holds moment);
       }
+
+  pub carried-start : (line : ℕ) → line < h.lines → (timer : Timer) (i moment : ℕ) (es : List Expiry) → own_place h.terminals line timer (line_at line (after e m)) ≡ Some i
+      → moment ≡ h.now + duration h.lengths timer → moment < never → es ≡ with_timer i timer moment h.moments
+      → AreAt (IsOnAmid e m) (record h { moments = es }) m (obey line c (Start timer))
+  carried-start line within timer i moment es is at soon new = started-at line timer i moment es (own line within timer i is) at soon new
 
   -- or where it runs
   pub carried-restart : (line : ℕ) → (timer : Timer) (moment : ℕ) (es : List Expiry) → IsRestarted line timer moment h.moments es
@@ -208,3 +218,47 @@ module _ (m : Card) (e : Event) (reached : IsReached m) (here : e.line < m.confi
         running = ap (without line timer) amid.running ∙ stopped_nowhere h.moments line timer nowhere;
         places = amid.places;
       }
+
+-- T200 and T203 of a link take turns, in the places that they have beside each other.
+module _ (m : Card) (e : Event) (reached : IsReached m) (here : e.line < m.config.lines) (h : HeldTimers) (c : Clock) (amid : AreAt (IsOnAmid e m) h m c) (line tei : ℕ) (service : Service) (moment : ℕ) (es : List Expiry) where
+  abbrev links : ℕ
+  links = 2 * h.terminals
+
+  abbrev its_slot : ℕ → ℕ → LinkTimer → ℕ
+  its_slot = slot_of h.terminals
+
+  abbrev its_line_slot : Bool → ℕ → ℕ
+  its_line_slot = line_slot_of h.terminals
+
+  are-apart : AreApart h.lines (IsOnAmid e m)
+  are-apart = lines-apart m e reached here h c amid
+
+  pub sends : IsExchanged line (T203 service tei) (T200 service tei) false moment h.moments es → moment ≡ h.now + duration h.lengths (T200 service tei) → moment < never
+      → AreAt (IsOnAmid e m) (record h { moments = es }) m (obey line (obey line c (Start (T200 service tei))) (Stop (T203 service tei)))
+  sends x at soon =
+      let r = link_running h.lines links its_slot its_line_slot (IsOnAmid e m) h.moments amid.places are-apart x.place line tei link.T203 service x.runs in
+      let beside_is : its_slot line r.number link.T200 ≡ x.beside = omega (arith, x.are_beside, r.is) in
+      let own : Own m e reached here h c amid x.beside line (T200 service tei) =
+      subst (λ i. Own m e reached here h c amid i line (T200 service tei)) beside_is
+      (subst (λ s. Own m e reached here h c amid (its_slot line r.number link.T200) line (T200 s tei)) r.service_is (at-link m e reached here h c amid line r.number tei link.T200 r.line_there r.number_there r.on_line)) in
+      let started = started-at m e reached here h c amid line (T200 service tei) x.beside moment (with_timer x.beside (T200 service tei) moment h.moments) own at soon refl in
+      let apart_is : x.place ≢ x.beside = λ same. absurd (omega (arith, same, x.are_beside)) in
+      let runs = runs_still h.moments x.beside x.place line (T203 service tei) _ apart_is x.runs in
+      stopped-at m e reached here (record h { moments = with_timer x.beside (T200 service tei) moment h.moments }) (obey line c (Start (T200 service tei))) started line (T203 service tei) x.place es
+      (found_place h.lines links its_slot its_line_slot (IsOnAmid e m) (with_timer x.beside (T200 service tei) moment h.moments) started.places are-apart x.place line (T203 service tei) runs) x.is
+
+  pub rests : IsExchanged line (T200 service tei) (T203 service tei) true moment h.moments es → moment ≡ h.now + duration h.lengths (T203 service tei) → moment < never
+      → AreAt (IsOnAmid e m) (record h { moments = es }) m (obey line (obey line c (Stop (T200 service tei))) (Start (T203 service tei)))
+  rests x at soon =
+      let r = link_running h.lines links its_slot its_line_slot (IsOnAmid e m) h.moments amid.places are-apart x.place line tei link.T200 service x.runs in
+      let beside_is : its_slot line r.number link.T203 ≡ x.beside = omega (arith, x.are_beside, r.is) in
+      let left = without_timer x.place h.moments in
+      let stopped = stopped-at m e reached here h c amid line (T200 service tei) x.place left
+      (found_place h.lines links its_slot its_line_slot (IsOnAmid e m) h.moments amid.places are-apart x.place line (T200 service tei) x.runs) refl in
+      let then = obey line c (Stop (T200 service tei)) in
+      let own : Own m e reached here (record h { moments = left }) then stopped x.beside line (T203 service tei) =
+      subst (λ i. Own m e reached here (record h { moments = left }) then stopped i line (T203 service tei)) beside_is
+      (subst (λ s. Own m e reached here (record h { moments = left }) then stopped (its_slot line r.number link.T203) line (T203 s tei)) r.service_is
+      (at-link m e reached here (record h { moments = left }) then stopped line r.number tei link.T203 r.line_there r.number_there r.on_line)) in
+      started-at m e reached here (record h { moments = left }) then stopped line (T203 service tei) x.beside moment es own at soon
+      (x.is ∙ either_first h.moments x.place x.beside moment (T203 service tei) (λ same. absurd (omega (arith, same, x.are_beside))))

@@ -1,9 +1,10 @@
 //! The timers of a card.
 
-ghost use Rattle.std.specs.Prelude.{◌≡◌, ◌↔◌, ◌+◌, ◌*◌, ◌^◌, ◌<◌, ◌≤◌, [], None, true, false, length, IfOk, IfSome, IfNone, option_map};
+ghost use Rattle.std.specs.Prelude.{◌≡◌, ◌↔◌, ◌+◌, ◌*◌, ◌^◌, ◌<◌, ◌≤◌, [], ◌∷◌, None, true, false, length, IfOk, IfSome, IfNone, option_map};
 ghost use Rattle.lapd_card.specs.FrameCard.{line_count};
 ghost use Rattle.lapd_card.specs.FrameStands.{FrameStands};
 ghost use Rattle.lapd_clock.specs.Given.{lengths_of};
+ghost use Rattle.lapd_clock.specs.Timer.{Start, Stop, T200, T203};
 ghost use Rattle.lapd_frame.specs.ShortLists.{listed};
 ghost use Rattle.model_card.specs.Card as machine;
 ghost use Rattle.model_card.specs.Card.{Card, line_at};
@@ -170,7 +171,7 @@ impl CardTimers {
             → TimersStand self.new (after e m) (obeyed line orders.now c) }
     {
         if !self.restart_alone(line, orders) {
-            self.obey_each(card, line, orders);
+            self.obey_more(card, line, orders);
         }
     }
 
@@ -191,10 +192,25 @@ impl CardTimers {
             ShortList::None => {}
             ShortList::One(order) => {
                 if !self.restart_alone(line, order) {
-                    self.obey_each(card, line, order);
+                    self.obey_more(card, line, order);
                 }
             }
-            _ => self.obey_each(card, line, orders.as_slice()),
+            _ => self.obey_more(card, line, orders.as_slice()),
+        }
+    }
+
+    /// Carries out the orders if there are others than a start of the T203 that falls due first.
+    ///
+    /// Mostly there are two, by which T200 and T203 of a link take turns, and then no place is looked for.
+    #[inline(never)]
+    fn obey_more<S: Shelf>(&mut self, card: &FrameCard<S>, line: usize, orders: &[Order])
+        ensures lines { self.new.lines ≡ self.old.lines }
+        ensures terminals { self.new.terminals ≡ self.old.terminals }
+        ensures after { (e : Event) (m : Card) (c : Clock) → HasLedTo S.store card.now line e m → orders.now ≡ orders_at e m → AreLeft e self.old m c
+            → TimersStand self.new (after e m) (obeyed line orders.now c) }
+    {
+        if !self.exchange_alone(line, orders) {
+            self.obey_each(card, line, orders);
         }
     }
 
@@ -232,6 +248,29 @@ impl CardTimers {
         }
         let due_at = self.moment + self.lengths.of(timer);
         self.moments.restart(line, timer, due_at)
+    }
+
+    /// Carries the orders out if they start T200 of a link and stop its T203, or the other way round, the one that stops falls
+    /// due first of its line, and the other does so then. Whether it is so; if not, nothing changes.
+    #[inline(always)]
+    fn exchange_alone(&mut self, line: usize, orders: &[Order]) -> bool
+        ensures lines { self.new.lines ≡ self.old.lines }
+        ensures terminals { self.new.terminals ≡ self.old.terminals }
+        ensures after { result ≡ true → (e : Event) (m : Card) (c : Clock) → e.line ≡ line → line < m.config.lines
+            → orders.now ≡ orders_at e m → AreLeft e self.old m c → TimersStand self.new (after e m) (obeyed line orders.now c) }
+        ensures unchanged { result ≡ false → self.new ≡ self.old }
+    {
+        if let Some((service, tei)) = link_sends(orders) {
+            let (stopped, started) = (Timer::T203(service, tei), Timer::T200(service, tei));
+            let due_at = self.moment + self.lengths.of(started);
+            return self.moments.exchange(line, stopped, started, false, due_at);
+        }
+        if let Some((service, tei)) = link_rests(orders) {
+            let (stopped, started) = (Timer::T200(service, tei), Timer::T203(service, tei));
+            let due_at = self.moment + self.lengths.of(started);
+            return self.moments.exchange(line, stopped, started, true, due_at);
+        }
+        false
     }
 
     #[inline(always)]
@@ -339,6 +378,36 @@ impl CardTimers {
         } else {
             None
         }
+    }
+}
+
+/// The link of which T200 is started and T203 stopped by these orders, if they do that alone.
+#[inline(always)]
+fn link_sends(orders: &[Order]) -> Option<(Service, u8)>
+    ensures { IfSome result (λ link. orders.now ≡ Start (T200 link.0 link.1) ∷ Stop (T203 link.0 link.1) ∷ []) }
+{
+    if orders.len() != 2 {
+        return None;
+    }
+    match (orders[0], orders[1]) {
+        (Order::Start(Timer::T200(service, tei)), Order::Stop(Timer::T203(its, at)))
+            if its == service && at == tei => { Some((service, tei)) }
+        _ => None,
+    }
+}
+
+/// The link of which T200 is stopped and T203 started by these orders, if they do that alone.
+#[inline(always)]
+fn link_rests(orders: &[Order]) -> Option<(Service, u8)>
+    ensures { IfSome result (λ link. orders.now ≡ Stop (T200 link.0 link.1) ∷ Start (T203 link.0 link.1) ∷ []) }
+{
+    if orders.len() != 2 {
+        return None;
+    }
+    match (orders[0], orders[1]) {
+        (Order::Stop(Timer::T200(service, tei)), Order::Start(Timer::T203(its, at)))
+            if its == service && at == tei => { Some((service, tei)) }
+        _ => None,
     }
 }
 

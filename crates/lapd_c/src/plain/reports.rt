@@ -83,10 +83,18 @@ impl PlainReport {
     pub fn show_given(&mut self, orders: &ShortList<Order>, more: bool)
         ensures { ShowsPull self.new true more (listed orders.now) }
     {
+        self.show_begun(more);
+        self.order_count = write_order_list(&mut self.orders, orders);
+    }
+
+    /// The same without orders.
+    #[inline(always)]
+    pub fn show_begun(&mut self, more: bool)
+        ensures { ShowsPull self.new true more [] }
+    {
         self.show_nothing();
         self.begun = 1;
         self.more = u8::from(more);
-        self.order_count = write_order_list(&mut self.orders, orders);
     }
 
     /// Shows what a pull was answered with: whether it began a frame, and at most four orders.

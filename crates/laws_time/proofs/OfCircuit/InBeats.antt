@@ -28,7 +28,7 @@ use Rattle.laws_order.specs.circuit.Circuit.{Endpoint, Circuit, port_of, receive
 unfoldable use Rattle.laws_order.specs.circuit.Circuit.{doing_all}
 use Rattle.laws_order.specs.circuit.Through.{assigned}
 unfoldable use Rattle.laws_order.proofs.OfCircuit.Onward.{many}
-use Rattle.laws_order.proofs.OfCircuit.AsFrames.{as_station, asked-as}
+use Rattle.laws_order.proofs.OfCircuit.AsFrames.{as_endpoint, asked-as}
 use Rattle.laws_order.proofs.OfCircuit.OneWay.{Carries, framed}
 use Rattle.laws_order.proofs.OfCircuit.Projected.{as_wire, Fits, Follows, port-after, asked-way}
 use Rattle.laws_order.proofs.OfCircuit.Ran.{Ran, AsksOctets, goes-on, within-ports}
@@ -48,7 +48,7 @@ use Rattle.laws_time.proofs.OfCircuit.InBeatsRun.{ask, near-done, far-done, both
 use Rattle.laws_time.proofs.OfCircuit.InBeatsTold.{Comes, all-told}
 
 -- Ends of which the stations are the same.
-alike-of : (s u : Endpoint) → as_station [] u ≡ as_station [] s → Alike s u
+alike-of : (s u : Endpoint) → as_endpoint [] u ≡ as_endpoint [] s → Alike s u
 alike-of s u same = record {
   card = ap (λ (x : FrameEndpoint). x.card) same;
   line = ap (λ (x : FrameEndpoint). x.line) same;

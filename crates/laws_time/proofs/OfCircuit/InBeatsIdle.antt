@@ -25,7 +25,7 @@ use Rattle.laws_wire.specs.Wire as wire
 use Rattle.laws_wire.specs.Wire.{Endpoint as FrameEndpoint}
 use Rattle.laws_order.specs.circuit.Circuit.{Endpoint, port_of, happens}
 use Rattle.laws_order.specs.circuit.Through.{octet_endpoint, assigned}
-use Rattle.laws_order.proofs.OfCircuit.AsFrames.{as_station, if_meant, asked-as, pulled-as}
+use Rattle.laws_order.proofs.OfCircuit.AsFrames.{as_endpoint, if_meant, asked-as, pulled-as}
 use Rattle.laws_order.proofs.OfCircuit.Projected.{port-after, asked-way}
 use Rattle.laws_order.proofs.OfCircuit.Ran.{Ran, goes-on, within-ports}
 unfoldable use Rattle.laws_time.specs.circuit.LongEnough.{pulling}
@@ -83,9 +83,9 @@ module _ (s : Endpoint) (is : port_of s ≡ fresh_port) (inside : s.line < lengt
       (λ i. s.way ++ octet_pulled (port.answer port.pull (said_of s.card.card s.line (meaning port.pull s)) (is i)))
       ∙ ap (λ os. s.way ++ os) (fresh-gives (meaning port.pull s) none-meant s).1
 
-  pub first-station : as_station [] (happens port.pull s) ≡ as_station [] s
+  pub first-station : as_endpoint [] (happens port.pull s) ≡ as_endpoint [] s
   first-station =
-      ap (λ o. as_station (if_meant o (as_station [] s)).way (happens port.pull s)) (sym none-meant) ∙ pulled-as s [] ∙ ap (λ o. if_meant o (as_station [] s)) none-meant
+      ap (λ o. as_endpoint (if_meant o (as_endpoint [] s)).way (happens port.pull s)) (sym none-meant) ∙ pulled-as s [] ∙ ap (λ o. if_meant o (as_endpoint [] s)) none-meant
 
 module _ (service : Service) (c : Config) (ranged : IsInRange c) (number tei : ℕ) (within : number < c.lines) (few : tei ≤ 126) where
   -- As it begins, with any octets in transit.
@@ -107,12 +107,12 @@ module _ (service : Service) (c : Config) (ranged : IsInRange c) (number tei : �
   pub way-begun : (way : List ℕ) → (begun way).way ≡ way
   way-begun way = asked-way (Assign tei) (record (octet_endpoint c number) { way = way })
 
-  pub station-begun : (way : List ℕ) → as_station [] (begun way) ≡ call.assigned c number tei
+  pub station-begun : (way : List ℕ) → as_endpoint [] (begun way) ≡ call.assigned c number tei
   station-begun way = asked-as (Assign tei) (record (octet_endpoint c number) { way = way }) []
 
   -- After a pull and so many more.
   pub record Idle (k : ℕ) (u : Endpoint) : Type 0 where
-    pub same : as_station [] u ≡ call.assigned c number tei
+    pub same : as_endpoint [] u ≡ call.assigned c number tei
     pub port : port_of u ≡ plus k opened
     pub way : u.way ≡ replicate k 0x7E ++ 0x7E ∷ []
     pub ran : Ran c u
@@ -133,17 +133,17 @@ module _ (service : Service) (c : Config) (ranged : IsInRange c) (number tei : �
     due : is_due (port_of u) ≡ true
     due = ap is_due h.port ∙ ap runs_low (left-plus k opened) ∙ opened-due
 
-    gives : wire.answered next (as_station [] u) ≡ gave None
+    gives : wire.answered next (as_endpoint [] u) ≡ gave None
     gives = ap (λ s. wire.answered next s) h.same ∙ idle-answer service c ranged number tei within few
 
     says : said_of u.card.card u.line (meaning port.pull u) ≡ Some (gave None)
     says = ap (λ b. said_of u.card.card u.line (cond b (Some line.next) None)) due ∙ ap (λ a. Some a) gives
 
-    still : if_meant (meaning port.pull u) (as_station [] u) ≡ as_station [] u
-    still = ap (λ b. if_meant (cond b (Some line.next) None) (as_station [] u)) due ∙ untaken (as_station [] u) gives
+    still : if_meant (meaning port.pull u) (as_endpoint [] u) ≡ as_endpoint [] u
+    still = ap (λ b. if_meant (cond b (Some line.next) None) (as_endpoint [] u)) due ∙ untaken (as_endpoint [] u) gives
 
-    then-same : as_station [] (happens port.pull u) ≡ call.assigned c number tei
-    then-same = ap (λ (x : FrameEndpoint). as_station x.way (happens port.pull u)) (sym still) ∙ pulled-as u [] ∙ still ∙ h.same
+    then-same : as_endpoint [] (happens port.pull u) ≡ call.assigned c number tei
+    then-same = ap (λ (x : FrameEndpoint). as_endpoint x.way (happens port.pull u)) (sym still) ∙ pulled-as u [] ∙ still ∙ h.same
 
     its-port : port_of (happens port.pull u) ≡ plus k (record { received = []; items = idle ∷ []; given = 0x7E ∷ 0x7E ∷ [] })
     unfolding meant

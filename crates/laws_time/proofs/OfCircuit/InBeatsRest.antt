@@ -20,7 +20,7 @@ use Rattle.laws_order.specs.circuit.Beats.{longest}
 use Rattle.laws_order.specs.circuit.Circuit.{Endpoint, Circuit, port_of, StepAt}
 unfoldable use Rattle.laws_order.specs.circuit.Circuit.{doing_all}
 unfoldable use Rattle.laws_order.proofs.OfCircuit.Onward.{many}
-use Rattle.laws_order.proofs.OfCircuit.AsFrames.{as_station}
+use Rattle.laws_order.proofs.OfCircuit.AsFrames.{as_endpoint}
 use Rattle.laws_order.proofs.OfCircuit.OneWay.{framed}
 use Rattle.laws_order.proofs.OfCircuit.Projected.{as_wire, Follows}
 use Rattle.laws_order.proofs.OfCircuit.Through.{all-heard}
@@ -50,7 +50,7 @@ module _ (l : Line) (fit : Begins l) where
 
   -- ---- at rest
 
-  station-same : (s u : Endpoint) → Alike s u → as_station [] u ≡ as_station [] s
+  station-same : (s u : Endpoint) → Alike s u → as_endpoint [] u ≡ as_endpoint [] s
   station-same s u h = λ i. record { card = h.card i; line = h.line i; way = []; granted = h.granted i; told = h.told i }
 
   none-way : (p q r s : Port) (frames : List (List ℕ)) → p ≡ plus l.way q → r ≡ plus l.way s → framed (frames_among q.items) ≡ heard_in l.near.n201 s.received

@@ -1,5 +1,5 @@
 -- The loop of `earliest`.
-use Rattle.std.proofs.Common.{◌≡◌, get_or}
+use Rattle.std.proofs.Common.{◌≡◌, ◌≤◌, get_or}
 use Rattle.lapd_moments.specs.Bounds.{IsEarliest}
 use Rattle.lapd_moments.specs.declared.place.Place.{Place}
 use Rattle.lapd_moments.proofs.lead.earliest.Given as goal
@@ -9,4 +9,5 @@ abbrev pub invariant-loop-place : goal.invariant-loop-place
 invariant-loop-place l = record {
   so_far : IsEarliest l.place l.first l.others l.places;
   least : (d : Place) → (get_or l.places l.first d).moment ≡ l.least;
+  ordered : l.least ≤ l.others;
 }

@@ -13,8 +13,8 @@ returns-in-None-clause-after g c = λ e m k led is left.
 
 pub returns-then-not-restart_alone-clause-after : goal.returns-then-not-restart_alone-clause-after
 returns-then-not-restart_alone-clause-after g c = λ e m k led is left.
-    subst (λ orders. TimersStand c.obey_each.new.self (after e m) (obeyed c.args.line orders k)) (sym (ap listed c.in-One.is))
-    (c.obey_each.ensures.after e m k led (sym (ap listed c.in-One.is) ∙ is) (subst (λ timers. AreLeft e timers m k) (sym (c.restart_alone.ensures.unchanged c.if-not-restart_alone.true)) left))
+    subst (λ orders. TimersStand c.obey_more.new.self (after e m) (obeyed c.args.line orders k)) (sym (ap listed c.in-One.is))
+    (c.obey_more.ensures.after e m k led (sym (ap listed c.in-One.is) ∙ is) (subst (λ timers. AreLeft e timers m k) (sym (c.restart_alone.ensures.unchanged c.if-not-restart_alone.true)) left))
 
 pub returns-else-not-restart_alone-clause-after : goal.returns-else-not-restart_alone-clause-after
 returns-else-not-restart_alone-clause-after g c = λ e m k led is left.
@@ -23,5 +23,5 @@ returns-else-not-restart_alone-clause-after g c = λ e m k led is left.
 
 pub returns-in_default-clause-after : goal.returns-in_default-clause-after
 returns-in_default-clause-after g c = λ e m k led is left.
-    subst (λ orders. TimersStand c.obey_each-in_default.new.self (after e m) (obeyed c.args.line orders k)) c.as_slice.ensures
-    (c.obey_each-in_default.ensures.after e m k led (c.as_slice.ensures ∙ is) left)
+    subst (λ orders. TimersStand c.obey_more-in_default.new.self (after e m) (obeyed c.args.line orders k)) c.as_slice.ensures
+    (c.obey_more-in_default.ensures.after e m k led (c.as_slice.ensures ∙ is) left)

@@ -46,8 +46,10 @@ pub mod ArrivIdle
 pub mod InBeatsAs
 pub mod InBeatsIdle
 pub mod InBeatsRun
+pub mod InBeatsShort
 pub mod InBeatsTold
 pub mod InBeatsDue
+pub mod InBeatsCall
 pub mod InBeats
 pub mod InBeatsMet
 pub mod InBeatsKept

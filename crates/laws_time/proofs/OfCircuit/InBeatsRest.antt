@@ -1,8 +1,7 @@
 -- A link at rest on a line without noise: so many beats after the last request all is told that was granted since.
-use Rattle.std.proofs.Common.{arith, ◌≡◌, ℕ, zero, suc, ◌+◌, ◌*◌, ◌-◌, ◌≤◌, List, [], ◌∷◌, ◌++◌, length, map, drop, replicate, refl, sym, ap, ◌∙◌, subst, All, append_assoc}
+use Rattle.std.proofs.Common.{arith, ◌≡◌, ℕ, ◌+◌, ◌*◌, ◌-◌, ◌≤◌, List, [], ◌∷◌, ◌++◌, length, map, drop, replicate, refl, sym, ap, ◌∙◌, subst, All, append_assoc}
 use Rattle.std.proofs.lemmas.List.{length-drop}
 use Rattle.std.proofs.lemmas.List.Elements.{All-head, All-tail}
-use Rattle.model_bits.specs.Sent.{Item, idle}
 use Rattle.model_bits.specs.Stream.{heard_in}
 use Rattle.model_line.specs.Event.{LineTold}
 use Rattle.model_line.specs.Sound.{IsInRange}
@@ -30,16 +29,12 @@ unfoldable use Rattle.laws_time.specs.circuit.Clocked.{fall_due}
 use Rattle.laws_time.specs.circuit.InBeats.{AsksData, granted_in, as_frames, IsAtRest, IsToldSince, Begins, MessagesTakeBeats}
 unfoldable use Rattle.laws_time.specs.circuit.InBeats.{NoneFallsDue}
 use Rattle.laws_time.specs.circuit.LongEnough.{Line, IsTalk, begins}
-use Rattle.laws_time.proofs.OfCircuit.InBeatsAs.{Alike, plus}
+use Rattle.laws_time.proofs.OfCircuit.InBeatsAs.{Alike, plus, frames-plus}
 use Rattle.laws_time.proofs.OfCircuit.InBeatsKept.{Kept, all-kept, first-kept, fits, fits-far}
 use Rattle.laws_time.proofs.OfCircuit.InBeatsRun as run
 unfoldable use Rattle.laws_time.proofs.OfCircuit.InBeatsRun.{all_steps}
 use Rattle.laws_time.proofs.OfCircuit.InBeatsRun.{ask, both_hear, comes-at, undue-parts, plain-clean}
 use Rattle.laws_time.proofs.OfCircuit.InBeatsTold.{Comes, all-told}
-
-pub frames-plus : (k : ℕ) (items : List Item) → frames_among (replicate k idle ++ items) ≡ frames_among items
-frames-plus zero items = refl
-frames-plus (suc k) items = frames-plus k items
 
 module _ (l : Line) (fit : Begins l) where
   abbrev near : IsInRange l.near

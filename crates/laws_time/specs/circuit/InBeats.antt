@@ -49,6 +49,18 @@ ACallTakesBeats =
     NoneFallsDue l.rate (calls l b ∷ bs ++ replicate n plain) (begins l) →
     let w = after l.rate (calls l b ∷ bs) (begins l) in enough_beats l.near.n201 l.way false (granted_in w) ≤ n → IsToldAll l (clean l.rate n w)
 
+-- Each frame that was put on its line by an end has at most so many octets of information. (Address and control field have at most four.)
+abbrev pub AreShort : ℕ → TimedEndpoint → Type 0
+AreShort m s = All (λ octets. length octets ≤ m + 4) (frames_among (port_of s.at).items)
+
+-- If the frames that went by then are so short, L is the longest of them, and one frame more is counted: (3 + 2 u) (2 L + D).
+abbrev pub AShortCallTakesBeats : Type 0
+AShortCallTakesBeats =
+    (l : Line) (b : Beat) (bs : List Beat) (n m : ℕ) → CanCall l.near l.near_line l.far l.far_line l.tei → All (AsksData l) (b ∷ bs) → All IsClean (b ∷ bs) →
+    NoneFallsDue l.rate (calls l b ∷ bs ++ replicate n plain) (begins l) →
+    let w = after l.rate (calls l b ∷ bs) (begins l) in let last = clean l.rate n w in AreShort m last.near → AreShort m last.far →
+    (3 + 2 * granted_in w) * (longest m + (longest m + l.way)) ≤ n → IsToldAll l last
+
 -- An end as one of frames, with none in transit. It has nothing left if each frame that it put on its line was received whole, no
 -- contents are unsent, and it owes no acknowledgement.
 abbrev pub as_frames : TimedEndpoint → FrameEndpoint
@@ -87,10 +99,6 @@ MessagesTakeBeats =
 abbrev pub HasReceived : Line → TimedEndpoint → TimedEndpoint → Type 0
 HasReceived l s other =
     (more : List stream.Event) × (stream.heard_in l.near.n201 (port_of other.at).received ≡ map (λ octets. stream.frame octets) (frames_among (port_of s.at).items) ++ more)
-
--- Each has at most so many octets of information. (Address and control field have at most four.)
-abbrev pub AreShort : ℕ → TimedEndpoint → Type 0
-AreShort m s = All (λ octets. length octets ≤ m + 4) (frames_among (port_of s.at).items)
 
 -- Without noise it is so L + D beats later, whatever is asked for and whichever timers fall due, if L is the longest of these frames.
 abbrev pub FramesComeInBeats : Type 0

@@ -37,14 +37,14 @@ use Rattle.laws_time.specs.circuit.InBeats.{IsDataOf, AsksData, IsUndue, IsToldA
 unfoldable use Rattle.laws_time.specs.circuit.InBeats.{NoneFallsDue}
 use Rattle.laws_time.specs.circuit.LongEnough.{Line, begins}
 unfoldable use Rattle.laws_time.specs.circuit.LongEnough.{pulling}
-use Rattle.laws_time.proofs.OfCircuit.InBeatsAs.{Alike, alike-asked, Twin, plus, first-way, frames-plus}
+use Rattle.laws_time.proofs.OfCircuit.InBeatsAs.{Alike, alike-asked, Twin, plus, first-way}
 use Rattle.laws_time.proofs.OfCircuit.InBeatsIdle as idles
 use Rattle.laws_time.proofs.OfCircuit.InBeatsIdle.{opened, first-port, first-station}
 use Rattle.laws_time.proofs.OfCircuit.InBeatsRun as run
 unfoldable use Rattle.laws_time.proofs.OfCircuit.InBeatsRun.{steps_near, steps_far, all_steps}
 use Rattle.laws_time.proofs.OfCircuit.InBeatsRun.{ask, near-done, far-done, both_hear, comes-at}
 use Rattle.laws_time.proofs.OfCircuit.InBeatsCall.{Due, near-none, far-none, call-comes}
-use Rattle.laws_time.proofs.OfCircuit.InBeatsShort.{AreShortAt}
+use Rattle.laws_time.proofs.OfCircuit.InBeatsShort.{short-at}
 use Rattle.laws_time.proofs.OfCircuit.InBeatsTold.{Comes, all-told, all-told-short}
 
 -- Ends of which the stations are the same.
@@ -324,9 +324,6 @@ module _ (l : Line) (b : Beat) (bs : List Beat) (n : ℕ) (can : CanCall l.near 
       (all-told l.service l.tei l.near l.far l.near.n201 l.way fits fits-far v0 follows 2 (Due l.service l.tei (confirmed l.service l.tei)) (Due l.service l.tei (indicated l.service l.tei)) comes
       n ds all-data (run.many-data l near far) few-near few-far (subst (λ g. (2 + 2 * g) * (longest l.near.n201 + (longest l.near.n201 + l.way)) ≤ n) (sym same-count) enough))
 
-  short-at : (m : ℕ) (q p : Port) → p ≡ plus l.way q → All (λ (octets : List ℕ). length octets ≤ m + 4) (frames_among q.items) → AreShortAt m p
-  short-at m q p is small = subst (All (λ (octets : List ℕ). length octets ≤ m + 4)) (sym (ap (λ (p : Port). frames_among p.items) is ∙ frames-plus l.way q.items)) small
-
   one-more : 3 + 2 * granted_in w ≡ suc (2 + 2 * (length v.near.granted + length v.far.granted - (length v0.near.granted + length v0.far.granted)))
   one-more = let same = same-count in omega (arith, same)
 
@@ -336,7 +333,7 @@ module _ (l : Line) (b : Beat) (bs : List Beat) (n : ℕ) (can : CanCall l.near 
       let last = doing_all (many n) (doing_all ds v0) in
       told-so
       (all-told-short l.service l.tei l.near l.far l.near.n201 l.way fits fits-far v0 follows 2 (Due l.service l.tei (confirmed l.service l.tei)) (Due l.service l.tei (indicated l.service l.tei)) comes
-      n ds all-data (run.many-data l near far) m (short-at m (port_of (clean l.rate n w).near.at) (port_of last.near) z.near.same.port small) (short-at m (port_of (clean l.rate n w).far.at) (port_of last.far) z.far.same.port small_far)
+      n ds all-data (run.many-data l near far) m (short-at m l.way (port_of (clean l.rate n w).near.at) (port_of last.near) z.near.same.port small) (short-at m l.way (port_of (clean l.rate n w).far.at) (port_of last.far) z.far.same.port small_far)
       few-near few-far (subst (λ k. k * (longest m + (longest m + l.way)) ≤ n) one-more enough))
 
 pub a-call-takes-beats : ACallTakesBeats

@@ -1,17 +1,14 @@
 -- Without noise each frame that was put on the line is received so many beats later.
-use Rattle.std.proofs.Common.{arith, ◌≡◌, ℕ, suc, ◌+◌, ◌≤◌, List, [], ◌∷◌, ◌++◌, length, take, drop, refl, sym, ap, ◌∙◌, subst, All, inl, inr, append-nil, append_assoc, length-append}
-use Rattle.std.specs.Prelude.{flat_map}
+use Rattle.std.proofs.Common.{arith, ◌≡◌, ℕ, suc, ◌+◌, ◌≤◌, List, [], ◌∷◌, ◌++◌, length, take, drop, refl, sym, ap, ◌∙◌, subst, All, inr, append-nil, append_assoc, length-append}
 use Rattle.std.proofs.lemmas.List.{length-drop, length-map, take-append-drop, length-take-le}
-use Rattle.std.proofs.lemmas.List.Elements.{All-nil, All-cons, All-head, All-tail, All-take, All-drop}
+use Rattle.std.proofs.lemmas.List.Elements.{All-head, All-tail, All-take, All-drop}
 use Rattle.std.proofs.lemmas.List.Sums.{fold-append}
-use Rattle.model_bits.specs.Bits.{bits}
-use Rattle.model_bits.specs.Framer.{item_octets}
-use Rattle.model_bits.specs.Sent.{Item, idle, frame, item_text, line_text}
+use Rattle.model_bits.specs.Sent.{Item}
 use Rattle.model_bits.specs.Stream as stream
 use Rattle.model_bits.specs.Stream.{heard_in}
 use Rattle.model_line.specs.declared.config.Config.{Config}
 use Rattle.model_card.specs.ports.Codec.{frames_among}
-use Rattle.model_card.specs.ports.Port.{Port, left_of}
+use Rattle.model_card.specs.ports.Port.{Port}
 use Rattle.model_card.specs.ports.Pulls.{longest_text}
 use Rattle.model_card.specs.ports.Sound.{IsSoundPort}
 use Rattle.laws_order.specs.circuit.Beats.{longest}

@@ -28,6 +28,7 @@ use Rattle.laws_order.proofs.OfCircuit.Onward.{many-append, many-mute, acts-appe
 use Rattle.laws_order.proofs.OfCircuit.Projected.{Fits, Follows, port-after, all-done}
 use Rattle.laws_order.proofs.OfCircuit.Ran.{Ran, goes-on, on-line, within-ports}
 use Rattle.laws_order.proofs.OfCircuit.Takings.{all-talk}
+use Rattle.laws_time.proofs.OfCircuit.InBeatsAs.{plus, frames-plus}
 use Rattle.laws_time.proofs.OfCircuit.Open.{stuffed-longest}
 
 -- ---- so few bits are left of frames that are so short
@@ -64,6 +65,9 @@ left-few m p (inr h) small =
 
 abbrev pub AreShortAt : ℕ → Port → Type 0
 AreShortAt m p = All (λ (octets : List ℕ). length octets ≤ m + 4) (frames_among p.items)
+
+pub short-at : (m k : ℕ) (q p : Port) → p ≡ plus k q → All (λ (octets : List ℕ). length octets ≤ m + 4) (frames_among q.items) → AreShortAt m p
+short-at m k q p is small = subst (All (λ (octets : List ℕ). length octets ≤ m + 4)) (sym (ap (λ (p : Port). frames_among p.items) is ∙ frames-plus k q.items)) small
 
 abbrev Longer : List Item → List Item → Type 0
 Longer items now = (more : List Item) × (now ≡ items ++ more)

@@ -95,6 +95,14 @@ MessagesTakeBeats =
     let w = after l.rate bs r in let longest_frame = longest l.near.n201 in
     2 * (granted_in w - granted_in r) * (longest_frame + (longest_frame + l.way)) ≤ n → IsToldSince l r (clean l.rate n w)
 
+-- The same with the longest frame that went by then, and one frame more.
+abbrev pub ShortMessagesTakeBeats : Type 0
+ShortMessagesTakeBeats =
+    (l : Line) (b : Beat) (before bs : List Beat) (n m : ℕ) → Begins l → All (IsTalk l) (b ∷ before) → All (AsksData l) bs → All IsClean (b ∷ before) → All IsClean bs →
+    let r = after l.rate (b ∷ before) (begins l) in IsAtRest l r → NoneFallsDue l.rate (bs ++ replicate n plain) r →
+    let w = after l.rate bs r in let last = clean l.rate n w in AreShort m last.near → AreShort m last.far →
+    (1 + 2 * (granted_in w - granted_in r)) * (longest m + (longest m + l.way)) ≤ n → IsToldSince l r last
+
 -- Each frame that was put on its line by an end stands in what the other has received, in order, before anything else.
 abbrev pub HasReceived : Line → TimedEndpoint → TimedEndpoint → Type 0
 HasReceived l s other =

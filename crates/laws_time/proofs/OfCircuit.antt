@@ -54,8 +54,10 @@ pub mod InCallUp
 pub mod InBeatsAs
 pub mod InBeatsIdle
 pub mod InBeatsRun
+pub mod InBeatsShort
 pub mod InBeatsTold
 pub mod InBeatsDue
+pub mod InBeatsCall
 pub mod InBeats
 pub mod InBeatsMet
 pub mod InBeatsKept

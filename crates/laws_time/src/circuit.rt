@@ -19,8 +19,8 @@
 ghost use Rattle.laws_time.specs.circuit.Answered.{AnEnquiryIsAnswered, CommandsAreAnswered, NoNoiseIsClear, OneEnquiryIsEnough};
 ghost use Rattle.laws_time.specs.circuit.Arriving.{CallsBearNoise};
 ghost use Rattle.laws_time.specs.circuit.Ends.{EndsAreTimedCards};
+ghost use Rattle.laws_time.specs.circuit.InBeats.{ACallTakesBeats, AShortCallTakesBeats, FramesComeInBeats, MessagesTakeBeats, NoneFallsDueBefore, ShortMessagesTakeBeats};
 ghost use Rattle.laws_time.specs.circuit.InCall.{ACallOutlastsNoise, N200LastsInACall};
-ghost use Rattle.laws_time.specs.circuit.InBeats.{ACallTakesBeats, FramesComeInBeats, MessagesTakeBeats, NoneFallsDueBefore};
 ghost use Rattle.laws_time.specs.circuit.LongEnough.{AnswersComeInTime};
 ghost use Rattle.laws_time.specs.circuit.WorkedAnswered.{AnEnquiryIsMet};
 
@@ -105,12 +105,13 @@ pub fn no_noise_makes_no_frame()
 /// noise, and no timer falls due. Let u requests for data be granted in the whole call. Then (2 + 2 u) (2 L + D) octet
 /// times after the last request each end was told one establishment, and all data that the other was granted to send:
 /// in order, each once, and nothing else (`told`). So no error was told. L is the longest frame in octets, and D octets
-/// are in transit.
+/// are in transit. After (3 + 2 u) (2 L + D) octet times it is so if L is the longest frame that went by then (`short`).
 ///
 /// The same holds of a link at rest (`since`). Without noise anything of the link was asked for, and timers fell due.
 /// Then both ends are in state 7, neither side is busy, all that was sent is acknowledged, and no frame is in transit.
 /// From there on only data is asked for, and no timer falls due. Let u requests be granted since. Then 2 u (2 L + D)
-/// octet times after the last each end was told all that the other was granted since, and nothing else.
+/// octet times after the last each end was told all that the other was granted since, and nothing else. After (1 + 2 u)
+/// (2 L + D) it is so if L is the longest frame that went by then (`short_since`).
 ///
 /// When no timer falls due is a matter of numbers (`undue`). Let none that runs at either end fall due before a moment,
 /// as `lapd_next_moment` says, and let each that is started run until then at least. Then none falls due before, whatever
@@ -119,7 +120,9 @@ pub fn no_noise_makes_no_frame()
 /// `specs/circuit/WorkedArriving`. Noise delays a call, `WorkedInBeats`.)
 pub fn a_call_takes_beats()
     ensures told { ACallTakesBeats }
+    ensures short { AShortCallTakesBeats }
     ensures since { MessagesTakeBeats }
+    ensures short_since { ShortMessagesTakeBeats }
     ensures undue { NoneFallsDueBefore }
 {}
 

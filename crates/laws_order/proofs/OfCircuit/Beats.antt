@@ -1,12 +1,12 @@
 -- So many beats are enough.
-use Rattle.laws_order.proofs.Vocabulary.{IsToldAll, ◌≡◌, ℕ, zero, suc, ◌+◌, ◌*◌, ◌-◌, ◌≤◌, ◌<◌, Bool, false, ◌||◌, List, [], ◌∷◌, ◌++◌, length, map, refl, sym, ap, ◌∙◌, subst, arith, append-nil, append_assoc, All, if◌then◌else◌, append_cancel_left, All-append, All-head, All-tail, Service, Config, LineTold, Assign, CanCall, confirmed, told_first, data_told, Wire, IsStill, asks-way, doing-append}
+use Rattle.laws_order.proofs.Vocabulary.{IsToldAll, ◌≡◌, ℕ, zero, suc, ◌+◌, ◌*◌, ◌-◌, ◌≤◌, ◌<◌, Bool, false, ◌||◌, List, [], ◌∷◌, ◌++◌, length, map, refl, sym, ap, ◌∙◌, subst, arith, append-nil, append_assoc, All, if◌then◌else◌, append_cancel_left, All-append, All-head, All-tail, Service, Config, LineTold, Assign, CanCall, confirmed, told_first, data_told, Wire, IsStill, asks-way, doing-append, longest}
 use Rattle.laws_order.proofs.Vocabulary.{beats, enough_beats, granted_of, AllIsToldInBeats, wire_turns, wire_doing_all, Establish, Circuit, OctetStepAt, doing, or-both}
 use Rattle.laws_wire.specs.Call as call
 unfoldable use Rattle.laws_wire.specs.Wire.{doing_all as frames_done}
 unfoldable use Rattle.laws_order.specs.circuit.Circuit.{doing_all}
 use Rattle.laws_order.specs.circuit.Through.{calling, IsTalk, calls_back, all_told}
 unfoldable use Rattle.laws_order.specs.circuit.Through.{both_call}
-use Rattle.laws_order.proofs.OfCircuit.Comes.{IsShort, still-short, takings-many, block, still-before}
+use Rattle.laws_order.proofs.OfCircuit.Comes.{IsShort, AreFew, all-few, few-then, few-fewer, still-short, takings-many, block, still-before}
 use Rattle.laws_order.proofs.OfCircuit.Onward.{acts-append, meant-append, many-beats, many-append, many-mute, many-add}
 unfoldable use Rattle.laws_order.proofs.OfCircuit.Onward.{many}
 use Rattle.laws_order.proofs.OfCircuit.Projected.{as_wire, Fits, Follows, all-done}
@@ -17,8 +17,8 @@ use Rattle.laws_order.proofs.OfCircuit.Through as through
 use Rattle.laws_order.proofs.OfCircuit.Through.{or-none}
 
 module _ (n201 way : ℕ) (service : Service) (tei : ℕ) (c d : Config) (fits : Fits n201 c) (fits_far : Fits n201 d) where
-  abbrev pub size_of : ℕ
-  size_of = block n201 way
+  abbrev pub size_of : ℕ → ℕ
+  size_of m = block n201 way m
 
   abbrev led : ℕ → Circuit → Wire → Wire
   led n w f = wire_doing_all (doings_meant (many n) w) f
@@ -28,9 +28,9 @@ module _ (n201 way : ℕ) (service : Service) (tei : ℕ) (c d : Config) (fits :
 
   -- ---- in one of more blocks than there are frames taken none is, so no turn is left where it begins
 
-  pub record Rests (blocks : ℕ) (w : Circuit) (f : Wire) : Type 0 where
+  pub record Rests (m blocks : ℕ) (w : Circuit) (f : Wire) : Type 0 where
     pub after : ℕ
-    pub before : after + size_of ≤ blocks * size_of
+    pub before : after + size_of m ≤ blocks * size_of m
     pub still : IsStill (led after w f)
 
   led-none : (w : Circuit) (f : Wire) → led 0 w f ≡ f
@@ -40,32 +40,35 @@ module _ (n201 way : ℕ) (service : Service) (tei : ℕ) (c d : Config) (fits :
   fewer : (all first rest k : ℕ) → all ≡ suc first + rest → all < suc k → rest < k
   fewer all first rest k e less = omega (arith, e, less)
 
-  pub finds : (k : ℕ) (w : Circuit) (there back : List (List ℕ)) → Follows n201 c d w there back → IsShort n201 way w → taken (k * size_of) w (as_wire there back w) < k → Rests k w (as_wire there back w)
-  finds zero w there back h short few = absurd (omega (arith, few))
-  finds (suc k) w there back h short few = go (λ w' there' back' h' short' few'. finds k w' there' back' h' short' few') (taken size_of w f0) refl
+  pub finds : (m k : ℕ) (w : Circuit) (there back : List (List ℕ)) → Follows n201 c d w there back → IsShort n201 way w → AreFew n201 way m (k * size_of m) w → taken (k * size_of m) w (as_wire there back w) < k → Rests m k w (as_wire there back w)
+  finds m zero w there back h short bits few = absurd (omega (arith, few))
+  finds m (suc k) w there back h short bits few = go (λ w' there' back' h' short' bits' few'. finds m k w' there' back' h' short' bits' few') (taken (size_of m) w f0) refl
     where
       f0 : Wire
       f0 = as_wire there back w
 
       w' : Circuit
-      w' = doing_all (many size_of) w
+      w' = doing_all (many (size_of m)) w
 
-      both : taken (size_of + k * size_of) w f0 ≡ taken size_of w f0 + taken (k * size_of) w' (led size_of w f0)
-      both = takings-many n201 way size_of (k * size_of) w f0
+      both : taken (size_of m + k * size_of m) w f0 ≡ taken (size_of m) w f0 + taken (k * size_of m) w' (led (size_of m) w f0)
+      both = takings-many n201 way (size_of m) (k * size_of m) w f0
 
-      less : taken (size_of + k * size_of) w f0 < suc k
+      bits-then : AreFew n201 way m (size_of m + k * size_of m) w
+      bits-then = subst (λ n. AreFew n201 way m n w) (let e : suc k * size_of m ≡ size_of m + k * size_of m = omega arith in e) bits
+
+      less : taken (size_of m + k * size_of m) w f0 < suc k
       less = subst (λ n. taken n w f0 < suc k) (omega arith) few
 
-      go : ((v : Circuit) (there' back' : List (List ℕ)) → Follows n201 c d v there' back' → IsShort n201 way v → taken (k * size_of) v (as_wire there' back' v) < k → Rests k v (as_wire there' back' v))
-          → (t : ℕ) → taken size_of w f0 ≡ t → Rests (suc k) w f0
-      go others zero e = record { after = 0; before = omega arith; still = subst IsStill (sym (led-none w f0)) (still-before n201 way service tei c d fits fits_far w there back h short e) }
+      go : ((v : Circuit) (there' back' : List (List ℕ)) → Follows n201 c d v there' back' → IsShort n201 way v → AreFew n201 way m (k * size_of m) v → taken (k * size_of m) v (as_wire there' back' v) < k → Rests m k v (as_wire there' back' v))
+          → (t : ℕ) → taken (size_of m) w f0 ≡ t → Rests m (suc k) w f0
+      go others zero e = record { after = 0; before = omega arith; still = subst IsStill (sym (led-none w f0)) (still-before n201 way service tei c d fits fits_far m w there back h short (few-fewer n201 way m (size_of m + k * size_of m) (longest m) w (omega arith) bits-then) e) }
       go others (suc t) e =
-          let on = all-done n201 service tei c d fits fits_far (many size_of) (all-talk service tei (many size_of) (many-mute size_of)) w there back h in
-          let rest : taken (k * size_of) w' (led size_of w f0) < k =
-          fewer (taken (size_of + k * size_of) w f0) t (taken (k * size_of) w' (led size_of w f0)) k (both ∙ ap (λ x. x + taken (k * size_of) w' (led size_of w f0)) e) less in
-          let x = others w' on.there' on.back' on.follows (still-short n201 way size_of w short) (subst (λ f. taken (k * size_of) w' f < k) on.same rest) in
+          let on = all-done n201 service tei c d fits fits_far (many (size_of m)) (all-talk service tei (many (size_of m)) (many-mute (size_of m))) w there back h in
+          let rest : taken (k * size_of m) w' (led (size_of m) w f0) < k =
+          fewer (taken (size_of m + k * size_of m) w f0) t (taken (k * size_of m) w' (led (size_of m) w f0)) k (both ∙ ap (λ x. x + taken (k * size_of m) w' (led (size_of m) w f0)) e) less in
+          let x = others w' on.there' on.back' on.follows (still-short n201 way (size_of m) w short) (few-then n201 way m (size_of m) (k * size_of m) w bits-then) (subst (λ f. taken (k * size_of m) w' f < k) on.same rest) in
           record {
-            after = size_of + x.after;
+            after = size_of m + x.after;
             before = (let b = x.before in omega (arith, b));
             still = subst IsStill (sym ((grind (arith, doings_meant, many-append, meant-append, many, doing-append)) ∙ ap (led x.after w') on.same)) x.still;
           }
@@ -225,11 +228,12 @@ module _ (service : Service) (c d : Config) (line other tei way n : ℕ) (ds : L
       let fits = through.fits service c d line other tei ds can talk in
       let fits_far = through.fits-far service c d line other tei ds can talk in
       let k = suc most in
-      let one = block size way in
+      let one = block size way size in
       let as-many : k * one ≡ enough_beats c.n201 way both (granted_of w) + one = omega arith in
       let few-taken = few-takings (k * one) in
       let x =
-      finds size way service tei c d fits fits_far k w there0 back0 (through.done service c d line other tei ds can talk).follows (record { near = few; far = few_far }) (omega (arith, few-taken)) in
+      finds size way service tei c d fits fits_far size k w there0 back0 (through.done service c d line other tei ds can talk).follows (record { near = few; far = few_far })
+      (all-few size way service tei c d fits fits_far (k * one) w there0 back0 (through.done service c d line other tei ds can talk).follows) (omega (arith, few-taken)) in
       let y = apart x.after n (omega (arith, x.before, as-many, enough)) in
       subst (IsToldAll service tei both) (ap (λ n. doing_all (many n) w) y.1 ∙ many-beats n w) (then-told x.after y.0 x.still)
 

@@ -6,7 +6,7 @@ use Rattle.laws_order.proofs.OfCircuit.Coming.{Kept, from-near, from-far, frames
 use Rattle.laws_order.proofs.OfCircuit.AtPort.{next_of_card}
 use Rattle.laws_order.proofs.OfCircuit.Takings.{one_pull, all-talk, count_near, count_far}
 use Rattle.laws_order.proofs.OfCircuit.OneWay.{Carries, framed, heard-beyond}
-use Rattle.laws_order.proofs.OfCircuit.Onward.{meant-append, many, many-append, many-mute, pulls-near, pulls-far, hearings-near, hearings-far, many-stay}
+use Rattle.laws_order.proofs.OfCircuit.Onward.{acts-append, meant-append, many, many-append, many-mute, pulls-near, pulls-far, hearings-near, hearings-far, many-stay}
 use Rattle.laws_order.proofs.OfCircuit.Projected.{as_wire, doings_meant, Fits, Follows, all-done}
 use Rattle.laws_order.proofs.OfCircuit.Ran.{Ran, few-left}
 use Rattle.laws_order.proofs.OfCircuit.Takings.{takings, takings-append}
@@ -31,7 +31,7 @@ all-come way first received heard enough o = grind arith
 
 -- ---- from either end
 
-abbrev sender : Bool → Circuit → OctetEndpoint
+abbrev pub sender : Bool → Circuit → OctetEndpoint
 sender false w = w.near
 sender true w = w.far
 
@@ -58,14 +58,29 @@ module _ (n201 way : ℕ) where
   its-way : (b : Bool) (w : Circuit) → IsShort w → length (sender b w).way ≤ way
   its-way b w h = grind arith
 
-  -- for a frame that has begun, for one that waits, and for the way
-  abbrev pub block : ℕ
-  block = longest n201 + (longest n201 + way)
+  -- for a frame that has begun, for one that waits, and for the way, if frames have at most so many octets of information
+  abbrev pub block : ℕ → ℕ
+  block m = longest m + (longest m + way)
 
   -- the takings of one run of beats after another
   pub takings-many : (m n : ℕ) (w : Circuit) (f : Wire)
       → takings (doings_meant (many (m + n)) w) f ≡ takings (doings_meant (many m) w) f + takings (doings_meant (many n) (doing_all (many m) w)) (wire_doing_all (doings_meant (many m) w) f)
   takings-many m n w f = grind (arith, takings, doings_meant, many-append, meant-append, many, takings-append)
+
+  -- in so many beats as few bits are left at either end as such frames have at most
+  abbrev pub AreFew : ℕ → ℕ → Circuit → Type 0
+  AreFew m n w = (k : ℕ) → k ≤ n → (b : Bool) → length (left_of (port_of (sender b (doing_all (many k) w)))) ≤ longest_text m
+
+  few-now : (m n : ℕ) (w : Circuit) → AreFew m n w → (b : Bool) → length (left_of (port_of (sender b w))) ≤ longest_text m
+  unfolding many doing_all
+  few-now m n w few b = few 0 (omega arith) b
+
+  pub few-then : (m a n : ℕ) (w : Circuit) → AreFew m (a + n) w → AreFew m n (doing_all (many a) w)
+  few-then m a n w few = λ k low b.
+      subst (λ (v : Circuit). length (left_of (port_of (sender b v))) ≤ longest_text m) (ap (λ l. doing_all l w) (many-append a k) ∙ acts-append (many a) (many k) w) (few (a + k) (omega (arith, low)) b)
+
+  pub few-fewer : (m n n' : ℕ) (w : Circuit) → n' ≤ n → AreFew m n w → AreFew m n' w
+  few-fewer m n n' w less few = λ k low b. few k (omega (arith, low, less)) b
 
   module _ (service : Service) (tei : ℕ) (c d : Config) (fits : Fits n201 c) (fits_far : Fits n201 d) where
     its-fits : (b : Bool) → Fits n201 (its_config b c d)
@@ -90,22 +105,28 @@ module _ (n201 way : ℕ) where
     few-bits b w there back h =
         subst (λ n. length (left_of (port_of (sender b w))) ≤ longest_text n) (its-fits b).size (few-left (its_config b c d) (its-fits b).ranged (sender b w) (its-ran b w there back h))
 
-    -- as many beats as the longest frame is long
-    behind-then : (items now : List Item) (left : ℕ) → IsBehind n201 items (longest_text n201) now ⊎ ((now ≡ items) × (left + 8 * longest n201 ≤ longest_text n201)) → IsBehind n201 items (longest_text n201) now
-    behind-then items now left o = grind arith
+    -- N201 is enough
+    pub all-few : (n : ℕ) (w : Circuit) (there back : List (List ℕ)) → Follows n201 c d w there back → AreFew n201 n w
+    all-few n w there back h = λ k low b.
+        let on = all-done n201 service tei c d fits fits_far (many k) (all-talk service tei (many k) (many-mute k)) w there back h in
+        few-bits b (doing_all (many k) w) on.there' on.back' on.follows
 
-    more-then : (A : Type 0) (n m left low : ℕ) → (n < m) ⊎ (A × (left + 8 * longest n201 ≤ longest_text n201) × (low ≤ m)) → n < m
-    more-then A n m left low o = grind arith
+    -- as many beats as the longest frame is long
+    behind-then : (most : ℕ) (items now : List Item) (left : ℕ) → IsBehind n201 items (longest_text most) now ⊎ ((now ≡ items) × (left + 8 * longest most ≤ longest_text most)) → IsBehind n201 items (longest_text most) now
+    behind-then most items now left o = grind arith
+
+    more-then : (most : ℕ) (A : Type 0) (n m left low : ℕ) → (n < m) ⊎ (A × (left + 8 * longest most ≤ longest_text most) × (low ≤ m)) → n < m
+    more-then most A n m left low o = grind arith
 
     no-more : (long heard had given beyond : ℕ) → had ≡ given + beyond → long ≤ given → heard ≡ had → heard < long → ⊥
     no-more long heard had given beyond sum low same more = omega (arith, sum, low, same, more)
 
     -- a frame on its way comes
-    pub comes : (b : Bool) (w : Circuit) (there back : List (List ℕ)) → Follows n201 c d w there back → IsShort w → length (heard_in n201 (port_of (receiver b w)).received) < length (frames_of n201 (sender b w))
-        → takings (doings_meant (many (longest n201 + way)) w) (as_wire there back w) ≡ 0 → ⊥
-    comes b w there back h short more none =
-        let L = longest n201 in
-        let most = longest_text n201 in
+    pub comes : (m : ℕ) (b : Bool) (w : Circuit) (there back : List (List ℕ)) → Follows n201 c d w there back → IsShort w → length (left_of (port_of (sender b w))) ≤ longest_text m → length (heard_in n201 (port_of (receiver b w)).received) < length (frames_of n201 (sender b w))
+        → takings (doings_meant (many (longest m + way)) w) (as_wire there back w) ≡ 0 → ⊥
+    comes m b w there back h short few more none =
+        let L = longest m in
+        let most = longest_text m in
         let f0 = as_wire there back w in
         let w1 = doing_all (many L) w in
         let w2 = doing_all (many way) w1 in
@@ -116,12 +137,11 @@ module _ (n201 way : ℕ) where
         let rest : takings (doings_meant (many way) w1) (wire_doing_all (doings_meant (many L) w) f0) ≡ 0 = omega (arith, parts, none) in
         let first = all-done n201 service tei c d fits fits_far (many L) (all-talk service tei (many L) (many-mute L)) w there back h in
         let later = subst (λ f. takings (doings_meant (many way) w1) f ≡ 0) first.same rest in
-        let few = few-bits b w there back h in
         let x1 = from b (λ s r a b. GoesOn n201 items most s a × (heard_in n201 (port_of r).received ≡ events)) (going n201 items most events) L w there back h one (inr (refl, omega (arith, few)), refl) in
         let s1 = sender b w1 in
         let ran1 = its-ran b w1 first.there' first.back' first.follows in
         let carries1 = its-carries b w1 first.there' first.back' first.follows in
-        let behind = behind-then items (port_of s1).items (length (left_of (port_of s1))) x1.0 in
+        let behind = behind-then m items (port_of s1).items (length (left_of (port_of s1))) x1.0 in
         let out = all-out n201 (its_config b c d) (its-fits b) s1 ran1 (port_of (receiver b w1)).received (its_frames b first.there' first.back') carries1 items most behind in
         let given = (port_of s1).given in
         let sum1 = ap length carries1.given ∙ length-append (port_of (receiver b w1)).received s1.way in
@@ -146,22 +166,22 @@ module _ (n201 way : ℕ) where
 
     -- ---- so nothing was left
 
-    none-on_way : (b : Bool) (w : Circuit) (there back : List (List ℕ)) → Follows n201 c d w there back → IsShort w → takings (doings_meant (many block) w) (as_wire there back w) ≡ 0 → its_frames b there back ≡ []
-    none-on_way b w there back h short none = go (its_frames b there back) refl
+    none-on_way : (m : ℕ) (b : Bool) (w : Circuit) (there back : List (List ℕ)) → Follows n201 c d w there back → IsShort w → AreFew m (longest m) w → takings (doings_meant (many (block m)) w) (as_wire there back w) ≡ 0 → its_frames b there back ≡ []
+    none-on_way m b w there back h short few none = go (its_frames b there back) refl
       where
         go : (frames : List (List ℕ)) → its_frames b there back ≡ frames → its_frames b there back ≡ []
         go [] e = e
         go (x ∷ xs) e =
-            let n = longest n201 + way in
-            let turn : longest n201 + n ≡ n + longest n201 = omega arith in
-            let parts = ap (λ k. takings (doings_meant (many k) w) (as_wire there back w)) turn ∙ takings-many n (longest n201) w (as_wire there back w) in
-            absurd (comes b w there back h short (omega (arith, (carried-so b w there back h), (ap length e))) (omega (arith, parts, none)))
+            let n = longest m + way in
+            let turn : longest m + n ≡ n + longest m = omega arith in
+            let parts = ap (λ k. takings (doings_meant (many k) w) (as_wire there back w)) turn ∙ takings-many n (longest m) w (as_wire there back w) in
+            absurd (comes m b w there back h short (few-now m (longest m) w few b) (omega (arith, (carried-so b w there back h), (ap length e))) (omega (arith, parts, none)))
 
-    none-waits : (b : Bool) (w : Circuit) (there back : List (List ℕ)) → Follows n201 c d w there back → IsShort w → takings (doings_meant (many block) w) (as_wire there back w) ≡ 0 → (f : NextFrame)
+    none-waits : (m : ℕ) (b : Bool) (w : Circuit) (there back : List (List ℕ)) → Follows n201 c d w there back → IsShort w → AreFew m (longest m) w → takings (doings_meant (many (block m)) w) (as_wire there back w) ≡ 0 → (f : NextFrame)
         → next_of_card (sender b w).line (sender b w).card.card ≡ gave (Some f) → ⊥
-    none-waits b w there back h short none f waits =
-        let L = longest n201 in
-        let most = longest_text n201 in
+    none-waits m b w there back h short few none f waits =
+        let L = longest m in
+        let most = longest_text m in
         let f0 = as_wire there back w in
         let w1 = doing_all (many L) w in
         let events = heard_in n201 (port_of (receiver b w)).received in
@@ -172,10 +192,10 @@ module _ (n201 way : ℕ) where
         let later = subst (λ f. takings (doings_meant (many (L + way)) w1) f ≡ 0) first.same rest in
         let x1 =
         from b (λ s r a b. Puts n201 f most (length events) s a × (heard_in n201 (port_of r).received ≡ events)) (putting n201 f most (length events) events) L w there back h one
-        (inr (waits, omega (arith, (few-bits b w there back h)), omega (arith, (carried-so b w there back h))), refl) in
+        (inr (waits, omega (arith, (few-now m (longest m) w few b)), omega (arith, (carried-so b w there back h))), refl) in
         let s1 = sender b w1 in
-        let more = more-then (next_of_card s1.line s1.card.card ≡ gave (Some f)) (length events) (length (frames_of n201 s1)) (length (left_of (port_of s1))) (length events) x1.0 in
-        comes b w1 first.there' first.back' first.follows (still-short L w short) (subst (λ es. length es < length (frames_of n201 s1)) (sym x1.1) more) later
+        let more = more-then m (next_of_card s1.line s1.card.card ≡ gave (Some f)) (length events) (length (frames_of n201 s1)) (length (left_of (port_of s1))) (length events) x1.0 in
+        comes m b w1 first.there' first.back' first.follows (still-short L w short) (few L (omega arith) b) (subst (λ es. length es < length (frames_of n201 s1)) (sym x1.1) more) later
 
     gives-none : (b : Bool) (way : List (List ℕ)) (w : Circuit) → ((f : NextFrame) → next_of_card (sender b w).line (sender b w).card.card ≡ gave (Some f) → ⊥)
         → next_of_card (sender b w).line (sender b w).card.card ≡ gave None
@@ -187,10 +207,10 @@ module _ (n201 way : ℕ) where
         go : (o : Option NextFrame) → next_of_card s.line s.card.card ≡ gave o → next_of_card s.line s.card.card ≡ gave None
         go o e = grind arith
 
-    pub still-before : (w : Circuit) (there back : List (List ℕ)) → Follows n201 c d w there back → IsShort w → takings (doings_meant (many block) w) (as_wire there back w) ≡ 0 → IsStill (as_wire there back w)
-    still-before w there back h short none = record {
-      near = gives-none false there w (none-waits false w there back h short none);
-      far = gives-none true back w (none-waits true w there back h short none);
-      near_way = none-on_way false w there back h short none;
-      far_way = none-on_way true w there back h short none;
+    pub still-before : (m : ℕ) (w : Circuit) (there back : List (List ℕ)) → Follows n201 c d w there back → IsShort w → AreFew m (longest m) w → takings (doings_meant (many (block m)) w) (as_wire there back w) ≡ 0 → IsStill (as_wire there back w)
+    still-before m w there back h short few none = record {
+      near = gives-none false there w (none-waits m false w there back h short few none);
+      far = gives-none true back w (none-waits m true w there back h short few none);
+      near_way = none-on_way m false w there back h short few none;
+      far_way = none-on_way m true w there back h short few none;
     }

@@ -1,24 +1,22 @@
 -- A call without noise, in which no timer falls due: so many beats after the last request all is told.
-use Rattle.std.proofs.Common.{arith, ◌≡◌, ℕ, zero, suc, ◌+◌, ◌*◌, ◌-◌, ◌/◌, ◌≤◌, ◌<◌, ◌||◌, false, List, [], ◌∷◌, ◌++◌, length, map, replicate, drop, refl, sym, ap, ◌∙◌, subst, All, append-nil}
+use Rattle.std.proofs.Common.{arith, ◌≡◌, ℕ, zero, suc, ◌+◌, ◌*◌, ◌-◌, ◌/◌, ◌≤◌, ◌<◌, false, List, [], ◌∷◌, ◌++◌, length, map, replicate, drop, refl, sym, ap, ◌∙◌, subst, All, append-nil}
 use Rattle.std.specs.Prelude.{fold}
 use Rattle.std.proofs.lemmas.List.{length-replicate}
 use Rattle.std.proofs.lemmas.List.Elements.{All-nil, All-cons, All-head, All-tail}
 use Rattle.model_bits.specs.StuffingLaws.{AreOctets}
 use Rattle.model_bits.specs.Sent.{idle}
 use Rattle.model_bits.specs.Stream.{heard_in}
-use Rattle.model_line.specs.Request.{Request, Establish, Data, Assign}
+use Rattle.model_line.specs.Request.{Request, Establish}
 use Rattle.model_line.specs.Event as line
 use Rattle.model_line.specs.Sound.{IsInRange}
 use Rattle.model_line.specs.declared.config.Config.{Config}
 use Rattle.model_card.specs.ports.Codec.{frames_among}
 use Rattle.model_card.specs.ports.Port as port
 use Rattle.model_card.specs.ports.Port.{Port, fresh_port}
-use Rattle.lapd_frame.specs.declared.services.Service.{Service}
 use Rattle.model_line.specs.Event.{LineTold}
 use Rattle.laws_wire.specs.Call as call
 unfoldable use Rattle.laws_wire.specs.Call.{both_call}
 unfoldable use Rattle.laws_wire.specs.Wire.{doing_all as wire_doing_all, turns as wire_turns}
-use Rattle.laws_wire.proofs.Run.{calls-come-through}
 use Rattle.laws_wire.specs.Call.{CanCall, confirmed, indicated, data_told}
 use Rattle.laws_order.specs.circuit.Beats.{enough_beats, longest}
 use Rattle.laws_wire.specs.Wire as wire
@@ -35,7 +33,7 @@ use Rattle.laws_order.proofs.OfCircuit.Ran.{Ran, AsksOctets, goes-on, within-por
 use Rattle.laws_time.specs.circuit.Answered.{IsClean}
 use Rattle.laws_time.specs.circuit.Arriving.{calls}
 use Rattle.laws_time.specs.circuit.Clocked.{TimedEndpoint, Clocked, Beat, plain, comes_to, gone, beat, after, clean, flags}
-use Rattle.laws_time.specs.circuit.InBeats.{IsDataOf, AsksData, IsUndue, IsToldAll, ACallTakesBeats, granted_in}
+use Rattle.laws_time.specs.circuit.InBeats.{IsDataOf, AsksData, IsUndue, IsToldAll, ACallTakesBeats, granted_in, AreShort, AShortCallTakesBeats}
 unfoldable use Rattle.laws_time.specs.circuit.InBeats.{NoneFallsDue}
 use Rattle.laws_time.specs.circuit.LongEnough.{Line, begins}
 unfoldable use Rattle.laws_time.specs.circuit.LongEnough.{pulling}
@@ -45,7 +43,9 @@ use Rattle.laws_time.proofs.OfCircuit.InBeatsIdle.{opened, first-port, first-sta
 use Rattle.laws_time.proofs.OfCircuit.InBeatsRun as run
 unfoldable use Rattle.laws_time.proofs.OfCircuit.InBeatsRun.{steps_near, steps_far, all_steps}
 use Rattle.laws_time.proofs.OfCircuit.InBeatsRun.{ask, near-done, far-done, both_hear, comes-at}
-use Rattle.laws_time.proofs.OfCircuit.InBeatsTold.{Comes, all-told}
+use Rattle.laws_time.proofs.OfCircuit.InBeatsCall.{Due, near-none, far-none, call-comes}
+use Rattle.laws_time.proofs.OfCircuit.InBeatsShort.{short-at}
+use Rattle.laws_time.proofs.OfCircuit.InBeatsTold.{Comes, all-told, all-told-short}
 
 -- Ends of which the stations are the same.
 alike-of : (s u : Endpoint) → as_endpoint [] u ≡ as_endpoint [] s → Alike s u
@@ -154,66 +154,6 @@ module _ (n201 k : ℕ) where
     are = ap (λ (p : Port). framed (frames_among p.items)) is ∙ ap framed (none-among k) ∙ sym (ap (λ r. heard_in n201 r ++ framed []) none);
     octets = subst (λ (p : Port). All AreOctets (frames_among p.items)) (sym is) (subst (All AreOctets) (sym (none-among k)) (All-nil AreOctets));
   }
-
--- ---- a call of frames, in which data alone is asked for
-
-module _ (service : Service) (tei : ℕ) where
-  abbrev Due : LineTold → List (List ℕ) → List LineTold
-  Due first granted = first ∷ map (data_told service tei) granted
-
-  abbrev Talks : wire.StepAt → Type 0
-  Talks x = call.IsTalk service tei x
-
-  one-call : (x : wire.StepAt) → Talks x → call.IsCall service tei x
-  one-call (wire.at_near (wire.requests (Data s t contents))) is = is
-  one-call (wire.at_far (wire.requests (Data s t contents))) is = is
-  one-call (wire.at_near wire.sends) is = tt
-  one-call (wire.at_far wire.sends) is = tt
-  one-call (wire.at_near wire.receives) is = tt
-  one-call (wire.at_far wire.receives) is = tt
-  one-call other is = absurd is
-
-  are-calls : (es : List wire.StepAt) → All Talks es → All (call.IsCall service tei) es
-  are-calls [] all = All-nil (call.IsCall service tei)
-  are-calls (e ∷ es) all = All-cons (call.IsCall service tei) e es (one-call e (All-head Talks e es all)) (are-calls es (All-tail Talks e es all))
-
-  one-none : (x : wire.StepAt) → Talks x → (w : wire.Wire) → call.calls_back x w ≡ false
-  one-none (wire.at_near act) is w = refl
-  one-none (wire.at_far (wire.requests (Data s t contents))) is w = refl
-  one-none (wire.at_far wire.sends) is w = refl
-  one-none (wire.at_far wire.receives) is w = refl
-  one-none other is w = absurd is
-
-  none-call : (es : List wire.StepAt) → All Talks es → (w : wire.Wire) → call.both_call es w ≡ false
-  unfolding both_call
-  none-call [] all w = refl
-  none-call (e ∷ es) all w =
-      let first = one-none e (All-head Talks e es all) w in let rest = none-call es (All-tail Talks e es all) (wire.doing e w) in (λ i. first i || rest i)
-
-  none-given : (a : line.Answer) → wire.unless_refused a [] ≡ []
-  none-given a = grind arith
-
-  grants-none : (r : Request) → wire.contents_requested r ≡ [] → (s : FrameEndpoint) → (wire.happens (line.request r) s).granted ≡ s.granted
-  grants-none r none s =
-      ap (λ xs. s.granted ++ wire.unless_refused (wire.answered (line.request r) s) xs) none ∙ ap (λ ys. s.granted ++ ys) (none-given (wire.answered (line.request r) s)) ∙ append-nil s.granted
-
-  module _ (c d : Config) (line other : ℕ) (can : CanCall c line d other tei) where
-    abbrev starts : wire.Wire
-    starts = call.calling service tei c line d other
-
-    near-none : (call.calling service tei c line d other).near.granted ≡ []
-    near-none = grants-none (Establish service tei) refl (call.assigned c line tei) ∙ grants-none (Assign tei) refl (call.endpoint c line)
-
-    far-none : (call.calling service tei c line d other).far.granted ≡ []
-    far-none = grants-none (Assign tei) refl (call.endpoint d other)
-
-    call-comes : (es : List wire.StepAt) → All Talks es → Comes service tei 2 (Due (confirmed service tei)) (Due (indicated service tei)) (call.calling service tei c line d other) es
-    call-comes es all =
-        let came : call.ComesThrough service tei (wire_turns es starts) false (wire_doing_all es starts) =
-        subst (λ b. call.ComesThrough service tei (wire_turns es starts) b (wire_doing_all es starts)) (none-call es all starts) (calls-come-through service c d line other tei es can (are-calls es all)) in
-        let turns = came.turns in
-        let none = ap length near-none in let none_far = ap length far-none in
-        record { turns = omega (arith, turns, none, none_far); near = came.near.0; far = came.far.0; near_all = came.near.1; far_all = came.far.1 }
 
 module _ (l : Line) (b : Beat) (bs : List Beat) (n : ℕ) (can : CanCall l.near l.near_line l.far l.far_line l.tei) (data_alone : All (AsksData l) (b ∷ bs)) (are_clean : All IsClean (b ∷ bs))
     (undue : NoneFallsDue l.rate (calls l b ∷ (bs ++ replicate n plain)) (begins l)) where
@@ -359,21 +299,45 @@ module _ (l : Line) (b : Beat) (bs : List Beat) (n : ℕ) (can : CanCall l.near 
   Told z =
       (z.near.told ≡ confirmed l.service l.tei ∷ map (data_told l.service l.tei) z.far.granted) × (z.far.told ≡ indicated l.service l.tei ∷ map (data_told l.service l.tei) z.near.granted)
 
-  pub all-is-told : enough_beats l.near.n201 l.way false (granted_in w) ≤ n → IsToldAll l (clean l.rate n w)
-  all-is-told enough =
-      let s = sim in let z = last-sim in
-      let few = is-long.near in let few_far = is-long.far in
-      let granted = ap length s.near.same.alike.granted in let granted_far = ap length s.far.same.alike.granted in
-      let none = granted-none in
-      let same : length v.near.granted + length v.far.granted - (length v0.near.granted + length v0.far.granted) ≡ granted_in w = omega (arith, none, granted, granted_far) in
-      let told : Told (doing_all (many n) (doing_all ds v0)) =
-      all-told l.service l.tei l.near l.far l.near.n201 l.way fits fits-far v0 follows 2 (Due l.service l.tei (confirmed l.service l.tei)) (Due l.service l.tei (indicated l.service l.tei)) comes
-      n ds all-data (run.many-data l near far) (omega (arith, few)) (omega (arith, few_far))
-      (subst (λ g. (2 + 2 * g) * (longest l.near.n201 + (longest l.near.n201 + l.way)) ≤ n) (sym same) enough) in
+  few-near : length v.near.way ≤ l.way
+  few-near = let few = is-long.near in omega (arith, few)
+
+  few-far : length v.far.way ≤ l.way
+  few-far = let few = is-long.far in omega (arith, few)
+
+  same-count : length v.near.granted + length v.far.granted - (length v0.near.granted + length v0.far.granted) ≡ granted_in w
+  same-count =
+      let s = sim in let none = granted-none in
+      let granted = ap length s.near.same.alike.granted in let granted_far = ap length s.far.same.alike.granted in omega (arith, none, granted, granted_far)
+
+  told-so : Told (doing_all (many n) (doing_all ds v0)) → IsToldAll l (clean l.rate n w)
+  told-so told =
+      let z = last-sim in
       record {
         near = sym z.near.same.alike.told ∙ told.0 ∙ ap (λ g. confirmed l.service l.tei ∷ map (data_told l.service l.tei) g) z.far.same.alike.granted;
         far = sym z.far.same.alike.told ∙ told.1 ∙ ap (λ g. indicated l.service l.tei ∷ map (data_told l.service l.tei) g) z.near.same.alike.granted;
       }
 
+  pub all-is-told : enough_beats l.near.n201 l.way false (granted_in w) ≤ n → IsToldAll l (clean l.rate n w)
+  all-is-told enough =
+      told-so
+      (all-told l.service l.tei l.near l.far l.near.n201 l.way fits fits-far v0 follows 2 (Due l.service l.tei (confirmed l.service l.tei)) (Due l.service l.tei (indicated l.service l.tei)) comes
+      n ds all-data (run.many-data l near far) few-near few-far (subst (λ g. (2 + 2 * g) * (longest l.near.n201 + (longest l.near.n201 + l.way)) ≤ n) (sym same-count) enough))
+
+  one-more : 3 + 2 * granted_in w ≡ suc (2 + 2 * (length v.near.granted + length v.far.granted - (length v0.near.granted + length v0.far.granted)))
+  one-more = let same = same-count in omega (arith, same)
+
+  pub all-is-told-short : (m : ℕ) → AreShort m (clean l.rate n w).near → AreShort m (clean l.rate n w).far → (3 + 2 * granted_in w) * (longest m + (longest m + l.way)) ≤ n → IsToldAll l (clean l.rate n w)
+  all-is-told-short m small small_far enough =
+      let z = last-sim in
+      let last = doing_all (many n) (doing_all ds v0) in
+      told-so
+      (all-told-short l.service l.tei l.near l.far l.near.n201 l.way fits fits-far v0 follows 2 (Due l.service l.tei (confirmed l.service l.tei)) (Due l.service l.tei (indicated l.service l.tei)) comes
+      n ds all-data (run.many-data l near far) m (short-at m l.way (port_of (clean l.rate n w).near.at) (port_of last.near) z.near.same.port small) (short-at m l.way (port_of (clean l.rate n w).far.at) (port_of last.far) z.far.same.port small_far)
+      few-near few-far (subst (λ k. k * (longest m + (longest m + l.way)) ≤ n) one-more enough))
+
 pub a-call-takes-beats : ACallTakesBeats
 a-call-takes-beats l b bs n can data_alone are_clean undue enough = all-is-told l b bs n can data_alone are_clean undue enough
+
+pub a-short-call-takes-beats : AShortCallTakesBeats
+a-short-call-takes-beats l b bs n m can data_alone are_clean undue = λ small small_far enough. all-is-told-short l b bs n can data_alone are_clean undue m small small_far enough

@@ -4,7 +4,7 @@ use Rattle.std.specs.Option.{option_map_or}
 use Rattle.model_bits.specs.Bits.{number_of}
 unfoldable use Rattle.model_bits.specs.Bits.{low_bits}
 use Rattle.model_bits.specs.Framer.{runs_low}
-use Rattle.model_bits.specs.Sent.{idle}
+use Rattle.model_bits.specs.Sent.{Item, idle}
 use Rattle.model_line.specs.Event as line
 use Rattle.model_line.specs.Event.{LineTold, given_in}
 use Rattle.model_line.specs.Request.{Request}
@@ -14,7 +14,7 @@ use Rattle.model_card.specs.Card.{Card}
 use Rattle.model_card.specs.Event as frames
 unfoldable use Rattle.model_card.specs.ports.Card.{after, answer, meant}
 use Rattle.model_card.specs.ports.Card.{answer_to, card_after}
-use Rattle.model_card.specs.ports.Codec.{octet_pulled}
+use Rattle.model_card.specs.ports.Codec.{frames_among, octet_pulled}
 use Rattle.model_card.specs.ports.Port as port
 use Rattle.model_card.specs.ports.Port.{Port, left_of, next_octet, with_item, with_octet, item_of, frame_begun, orders_with, answer_of}
 use Rattle.laws_order.specs.circuit.Circuit.{Endpoint, port_of, happens, answered, told_by, unless_refused, contents_in, with_first_of, without_first}
@@ -62,6 +62,11 @@ answer-plus (port.expiry timer) o k p = refl
 answer-plus (port.request r) o k p = refl
 answer-plus port.pull o k p =
     ap (λ v. port.pulled v (is_some (frame_begun o)) (option_map_or orders_with (frame_begun o) [])) (ap next_octet (item-plus k o p) ∙ octet-plus k (with_item o p))
+
+-- They are no frames.
+pub frames-plus : (k : ℕ) (items : List Item) → frames_among (replicate k idle ++ items) ≡ frames_among items
+frames-plus zero items = refl
+frames-plus (suc k) items = frames-plus k items
 
 -- What a card of frames says to what an event means, and where that leads.
 abbrev pub said_of : Card → ℕ → Option line.Event → Option line.Answer

@@ -1,21 +1,14 @@
 -- Without noise each frame that was put on the line is received so many beats later.
-use Rattle.std.proofs.Common.{arith, ◌≡◌, ℕ, suc, ◌+◌, ◌≤◌, List, [], ◌∷◌, ◌++◌, length, take, drop, refl, sym, ap, ◌∙◌, subst, All, inl, inr, append-nil, append_assoc, length-append}
-use Rattle.std.specs.Prelude.{flat_map}
+use Rattle.std.proofs.Common.{arith, ◌≡◌, ℕ, suc, ◌+◌, ◌≤◌, List, [], ◌∷◌, ◌++◌, length, take, drop, refl, sym, ap, ◌∙◌, subst, All, inr, append-nil, append_assoc, length-append}
 use Rattle.std.proofs.lemmas.List.{length-drop, length-map, take-append-drop, length-take-le}
-use Rattle.std.proofs.lemmas.List.Elements.{All-nil, All-cons, All-head, All-tail, All-take, All-drop}
+use Rattle.std.proofs.lemmas.List.Elements.{All-head, All-tail, All-take, All-drop}
 use Rattle.std.proofs.lemmas.List.Sums.{fold-append}
-use Rattle.model_bits.specs.Bits.{bits}
-use Rattle.model_bits.specs.Framer.{item_octets}
-use Rattle.model_bits.specs.Sent.{Item, idle, frame, item_text, line_text}
-use Rattle.model_bits.proofs.BitLemmas.{length-bits}
-use Rattle.model_bits.proofs.Division.Unique.{length-check}
-use Rattle.model_card.proofs.OfPorts.LastItem.{IsCut}
-use Rattle.laws_line.proofs.OfCard.Meanwhile.{all-right}
+use Rattle.model_bits.specs.Sent.{Item}
 use Rattle.model_bits.specs.Stream as stream
 use Rattle.model_bits.specs.Stream.{heard_in}
 use Rattle.model_line.specs.declared.config.Config.{Config}
 use Rattle.model_card.specs.ports.Codec.{frames_among}
-use Rattle.model_card.specs.ports.Port.{Port, left_of}
+use Rattle.model_card.specs.ports.Port.{Port}
 use Rattle.model_card.specs.ports.Pulls.{longest_text}
 use Rattle.model_card.specs.ports.Sound.{IsSoundPort}
 use Rattle.laws_order.specs.circuit.Beats.{longest}
@@ -29,10 +22,9 @@ use Rattle.laws_time.specs.circuit.Clocked.{Clocked, Beat, beat, after}
 use Rattle.laws_time.specs.circuit.InBeats.{Begins, AreShort, HasReceived, FramesComeInBeats}
 use Rattle.laws_time.specs.circuit.LongEnough.{Line, IsTalk, begins}
 use Rattle.laws_time.proofs.OfCircuit.AnsweredBits.{longer-begins}
-use Rattle.laws_time.proofs.OfCircuit.InBeatsAs.{plus}
-use Rattle.laws_time.proofs.OfCircuit.Open.{stuffed-longest}
+use Rattle.laws_time.proofs.OfCircuit.InBeatsAs.{plus, frames-plus}
 use Rattle.laws_time.proofs.OfCircuit.InBeatsKept.{Kept, one-kept, all-kept, first-kept, fits, fits-far, On, Beaten}
-use Rattle.laws_time.proofs.OfCircuit.InBeatsRest.{frames-plus}
+use Rattle.laws_time.proofs.OfCircuit.InBeatsShort.{all-small, left-few}
 
 -- ---- what so many beats make of a port
 
@@ -62,36 +54,6 @@ grown-one size n p q r h g =
       received = omega (arith, first, rest);
       on = λ items most a x. subst (On size items most r) (let e : (a + 1) + n ≡ a + suc n = omega arith in e) (g.on items most (a + 1) (h.on items most a x));
     }
-
--- ---- so few bits are left of frames that are so short
-
-text-longest : (m : ℕ) (item : Item) → item_octets item ≤ m + 4 → length (item_text item) ≤ longest_text m
-text-longest m item few = grind (arith, stuffed-longest, length-append, length-bits, length-check)
-
-line-longer : (front : List Item) (last : Item) → length (line_text (front ++ last ∷ [])) ≡ length (line_text front) + length (item_text last)
-line-longer [] last = let same = ap length (append-nil (item_text last)) in omega (arith, same)
-line-longer (item ∷ front) last =
-    let rest = line-longer front last in
-    let one = length-append (item_text item) (flat_map item_text (front ++ last ∷ [])) in let two = length-append (item_text item) (flat_map item_text front) in omega (arith, rest, one, two)
-
-all-small : (m : ℕ) (items : List Item) → All (λ (octets : List ℕ). length octets ≤ m + 4) (frames_among items) → All (λ item. item_octets item ≤ m + 4) items
-all-small m [] h = All-nil (λ item. item_octets item ≤ m + 4)
-all-small m (idle ∷ items) h = All-cons (λ item. item_octets item ≤ m + 4) idle items (omega arith) (all-small m items h)
-all-small m (frame octets ∷ items) h =
-    All-cons (λ item. item_octets item ≤ m + 4) (frame octets) items (All-head (λ (octets : List ℕ). length octets ≤ m + 4) octets (frames_among items) h)
-    (all-small m items (All-tail (λ (octets : List ℕ). length octets ≤ m + 4) octets (frames_among items) h))
-
-left-few : (m : ℕ) (p : Port) → IsCut p.items p.given → All (λ item. item_octets item ≤ m + 4) p.items → length (left_of p) ≤ longest_text m
-left-few m p (inl none) small =
-    let all = ap (λ items. length (line_text items)) none in let left = length-drop (length (bits p.given)) (line_text p.items) in omega (arith, all, left)
-left-few m p (inr h) small =
-    let all = ap (λ items. length (line_text items)) h.items_are ∙ line-longer h.front h.last in
-    let its = subst (All (λ item. item_octets item ≤ m + 4)) h.items_are small in
-    let last = All-head (λ item. item_octets item ≤ m + 4) h.last [] (all-right (λ item. item_octets item ≤ m + 4) h.front (h.last ∷ []) its) in
-    let short = text-longest m h.last last in
-    let before = h.before in
-    let left = length-drop (length (bits p.given)) (line_text p.items) in
-    omega (arith, all, left, before, short)
 
 -- ---- from one end to the other
 

@@ -1,8 +1,7 @@
 -- A link at rest on a line without noise: so many beats after the last request all is told that was granted since.
-use Rattle.std.proofs.Common.{arith, ◌≡◌, ℕ, zero, suc, ◌+◌, ◌*◌, ◌-◌, ◌≤◌, List, [], ◌∷◌, ◌++◌, length, map, drop, replicate, refl, sym, ap, ◌∙◌, subst, All, append_assoc}
+use Rattle.std.proofs.Common.{arith, ◌≡◌, ℕ, suc, ◌+◌, ◌*◌, ◌-◌, ◌≤◌, List, [], ◌∷◌, ◌++◌, length, map, drop, replicate, refl, sym, ap, ◌∙◌, subst, All, append_assoc}
 use Rattle.std.proofs.lemmas.List.{length-drop}
 use Rattle.std.proofs.lemmas.List.Elements.{All-head, All-tail}
-use Rattle.model_bits.specs.Sent.{Item, idle}
 use Rattle.model_bits.specs.Stream.{heard_in}
 use Rattle.model_line.specs.Event.{LineTold}
 use Rattle.model_line.specs.Sound.{IsInRange}
@@ -27,19 +26,16 @@ use Rattle.laws_order.proofs.OfCircuit.Through.{all-heard}
 use Rattle.laws_time.specs.circuit.Answered.{IsClean}
 use Rattle.laws_time.specs.circuit.Clocked.{Clocked, Beat, plain, beat, after, clean}
 unfoldable use Rattle.laws_time.specs.circuit.Clocked.{fall_due}
-use Rattle.laws_time.specs.circuit.InBeats.{AsksData, granted_in, as_frames, IsAtRest, IsToldSince, Begins, MessagesTakeBeats}
+use Rattle.laws_time.specs.circuit.InBeats.{AsksData, granted_in, as_frames, IsAtRest, IsToldSince, Begins, MessagesTakeBeats, AreShort, ShortMessagesTakeBeats}
 unfoldable use Rattle.laws_time.specs.circuit.InBeats.{NoneFallsDue}
 use Rattle.laws_time.specs.circuit.LongEnough.{Line, IsTalk, begins}
-use Rattle.laws_time.proofs.OfCircuit.InBeatsAs.{Alike, plus}
+use Rattle.laws_time.proofs.OfCircuit.InBeatsAs.{Alike, plus, frames-plus}
 use Rattle.laws_time.proofs.OfCircuit.InBeatsKept.{Kept, all-kept, first-kept, fits, fits-far}
 use Rattle.laws_time.proofs.OfCircuit.InBeatsRun as run
 unfoldable use Rattle.laws_time.proofs.OfCircuit.InBeatsRun.{all_steps}
 use Rattle.laws_time.proofs.OfCircuit.InBeatsRun.{ask, both_hear, comes-at, undue-parts, plain-clean}
-use Rattle.laws_time.proofs.OfCircuit.InBeatsTold.{Comes, all-told}
-
-pub frames-plus : (k : ℕ) (items : List Item) → frames_among (replicate k idle ++ items) ≡ frames_among items
-frames-plus zero items = refl
-frames-plus (suc k) items = frames-plus k items
+use Rattle.laws_time.proofs.OfCircuit.InBeatsShort.{short-at}
+use Rattle.laws_time.proofs.OfCircuit.InBeatsTold.{Comes, all-told, all-told-short}
 
 module _ (l : Line) (fit : Begins l) where
   abbrev near : IsInRange l.near
@@ -143,25 +139,54 @@ module _ (l : Line) (fit : Begins l) where
           subst (λ es. run.Sim l near far (clean l.rate n w) (doing_all es (doing_all (all_steps bs) k.v))) (run.plain-steps l near far n)
           (run.all-beats l near far (replicate n plain) (run.plain-data l near far n) (plain-clean n) w parts.1 (doing_all (all_steps bs) k.v) sim)
 
-      told-since : 2 * (granted_in w - granted_in r) * (longest l.near.n201 + (longest l.near.n201 + l.way)) ≤ n → IsToldSince l r (clean l.rate n w)
-      told-since enough =
-          let s = sim in let z = last-sim in
-          let u = doing_all ds k.v in
-          let x = run.all-long l near far bs k.v is_long in
-          let few = x.near in let few_far = x.far in
+      long-then : run.IsLong l near far (doing_all (all_steps bs) k.v)
+      long-then = run.all-long l near far bs k.v is_long
+
+      few-near : length (doing_all (all_steps bs) k.v).near.way ≤ l.way
+      few-near = let few = long-then.near in omega (arith, few)
+
+      few-far : length (doing_all (all_steps bs) k.v).far.way ≤ l.way
+      few-far = let few = long-then.far in omega (arith, few)
+
+      same-count : granted_in w - granted_in r ≡ length (doing_all (all_steps bs) k.v).near.granted + length (doing_all (all_steps bs) k.v).far.granted - (length k.v.near.granted + length k.v.far.granted)
+      same-count =
+          let s = sim in
           let a = ap length s.near.same.alike.granted in let b = ap length s.far.same.alike.granted in
-          let c = ap length k.sim.near.same.alike.granted in let d = ap length k.sim.far.same.alike.granted in
-          let same_count : 2 * (granted_in w - granted_in r) ≡ 0 + 2 * (length u.near.granted + length u.far.granted - (length v.near.granted + length v.far.granted)) = omega (arith, a, b, c, d) in
-          let told =
-          all-told l.service l.tei l.near l.far l.near.n201 l.way (fits l fit) (fits-far l fit) k.v follows 0 NearDue FarDue comes n ds (run.all-data l near far bs data_alone) (run.many-data l near far)
-          (omega (arith, few)) (omega (arith, few_far)) (subst (λ g. g * (longest l.near.n201 + (longest l.near.n201 + l.way)) ≤ n) same_count enough) in
+          let c = ap length k.sim.near.same.alike.granted in let d = ap length k.sim.far.same.alike.granted in omega (arith, a, b, c, d)
+
+      abbrev last : Circuit
+      last = doing_all (many n) (doing_all (all_steps bs) k.v)
+
+      told-so : (last.near.told ≡ NearDue last.far.granted) × (last.far.told ≡ FarDue last.near.granted) → IsToldSince l r (clean l.rate n w)
+      told-so told =
+          let z = last-sim in
           record {
             near = sym z.near.same.alike.told ∙ told.0 ∙ ap NearDue z.far.same.alike.granted;
             far = sym z.far.same.alike.told ∙ told.1 ∙ ap FarDue z.near.same.alike.granted;
           }
+
+      told-since : 2 * (granted_in w - granted_in r) * (longest l.near.n201 + (longest l.near.n201 + l.way)) ≤ n → IsToldSince l r (clean l.rate n w)
+      told-since enough =
+          told-so
+          (all-told l.service l.tei l.near l.far l.near.n201 l.way (fits l fit) (fits-far l fit) k.v follows 0 NearDue FarDue comes n ds (run.all-data l near far bs data_alone) (run.many-data l near far)
+          few-near few-far (subst (λ g. g * (longest l.near.n201 + (longest l.near.n201 + l.way)) ≤ n) (let same = same-count in let e : 2 * (granted_in w - granted_in r) ≡ 0 + 2 * (length (doing_all (all_steps bs) k.v).near.granted + length (doing_all (all_steps bs) k.v).far.granted - (length k.v.near.granted + length k.v.far.granted)) = omega (arith, same) in e) enough))
+
+      told-short : (m : ℕ) → AreShort m (clean l.rate n w).near → AreShort m (clean l.rate n w).far → (1 + 2 * (granted_in w - granted_in r)) * (longest m + (longest m + l.way)) ≤ n → IsToldSince l r (clean l.rate n w)
+      told-short m small small_far enough =
+          let z = last-sim in
+          told-so
+          (all-told-short l.service l.tei l.near l.far l.near.n201 l.way (fits l fit) (fits-far l fit) k.v follows 0 NearDue FarDue comes n ds (run.all-data l near far bs data_alone) (run.many-data l near far)
+          m (short-at m l.way (port_of (clean l.rate n w).near.at) (port_of last.near) z.near.same.port small) (short-at m l.way (port_of (clean l.rate n w).far.at) (port_of last.far) z.far.same.port small_far)
+          few-near few-far (subst (λ g. g * (longest m + (longest m + l.way)) ≤ n) (let same = same-count in let e : 1 + 2 * (granted_in w - granted_in r) ≡ suc (0 + 2 * (length (doing_all (all_steps bs) k.v).near.granted + length (doing_all (all_steps bs) k.v).far.granted - (length k.v.near.granted + length k.v.far.granted))) = omega (arith, same) in e) enough))
 
 pub messages-take-beats : MessagesTakeBeats
 messages-take-beats l b before bs n fit talk data_alone clean_before are_clean = λ rest undue enough.
     let first = first-kept l fit b (All-head (IsTalk l) b before talk) (All-head IsClean b before clean_before) in
     let k = all-kept l fit before (All-tail (IsTalk l) b before talk) (All-tail IsClean b before clean_before) (beat l.rate (begins l) b) first in
     told-since l fit (after l.rate (b ∷ before) (begins l)) k rest bs n data_alone are_clean undue k.long enough
+
+pub short-messages-take-beats : ShortMessagesTakeBeats
+short-messages-take-beats l b before bs n m fit talk data_alone clean_before are_clean = λ rest undue small small_far enough.
+    let first = first-kept l fit b (All-head (IsTalk l) b before talk) (All-head IsClean b before clean_before) in
+    let k = all-kept l fit before (All-tail (IsTalk l) b before talk) (All-tail IsClean b before clean_before) (beat l.rate (begins l) b) first in
+    told-short l fit (after l.rate (b ∷ before) (begins l)) k rest bs n data_alone are_clean undue k.long m small small_far enough

@@ -21,7 +21,8 @@ use Rattle.laws_order.specs.circuit.Circuit.{Endpoint, Circuit, Step, requests, 
 unfoldable use Rattle.laws_order.specs.circuit.Circuit.{doing_all}
 use Rattle.laws_order.specs.circuit.Through.{IsTalk}
 use Rattle.laws_order.proofs.OfCircuit.Beats.{finds}
-use Rattle.laws_order.proofs.OfCircuit.Comes.{block}
+use Rattle.laws_order.proofs.OfCircuit.Comes.{block, AreFew, all-few, few-fewer}
+use Rattle.laws_time.proofs.OfCircuit.InBeatsShort.{AreShortAt, few-of-short}
 use Rattle.laws_order.proofs.OfCircuit.Onward.{acts-append, meant-append, many-append, many-add}
 unfoldable use Rattle.laws_order.proofs.OfCircuit.Onward.{many}
 use Rattle.laws_order.proofs.OfCircuit.Projected.{as_wire, hearing_means, doing_meant, Fits, Follows, Done, all-done}
@@ -212,12 +213,32 @@ module _ (service : Service) (tei : ℕ) where
       within : (after g one n : ℕ) → after + one ≤ suc g * one → g * one ≤ n → after ≤ n
       within after g one n before enough = let sum = suc-mul g one in omega (arith, before, enough, sum)
 
+      -- with frames of at most so many octets of information
+      pub all-told-by : (m : ℕ) → AreFew size way m (suc (most + 2 * (granted_of (doing_all ds begun) - granted_of begun)) * block size way m) (doing_all ds begun)
+          → length (doing_all ds begun).near.way ≤ way → length (doing_all ds begun).far.way ≤ way
+          → (most + 2 * (granted_of (doing_all ds begun) - granted_of begun)) * (longest m + (longest m + way)) ≤ n → NearAll (now n) × FarAll (now n)
+      all-told-by m bits few few_far enough =
+          let g = most + 2 * (granted_of w - granted_of begun) in
+          let one = block size way m in
+          let few-taken = few-takings (suc g * one) in
+          let x = finds size way service tei c d fits fits_far m (suc g) w first.there' first.back' first.follows (record { near = few; far = few_far }) bits (omega (arith, few-taken)) in
+          let y = apart x.after n (within x.after g one n x.before enough) in
+          subst (λ n. NearAll (now n) × FarAll (now n)) y.1 (then-told x.after y.0 x.still)
+
       pub all-told : length (doing_all ds begun).near.way ≤ way → length (doing_all ds begun).far.way ≤ way
           → (most + 2 * (granted_of (doing_all ds begun) - granted_of begun)) * (longest size + (longest size + way)) ≤ n → NearAll (now n) × FarAll (now n)
       all-told few few_far enough =
+          all-told-by size
+          (all-few size way service tei c d fits fits_far (suc (most + 2 * (granted_of w - granted_of begun)) * block size way size) w first.there' first.back' first.follows) few few_far enough
+
+      -- and they are such in so many beats, if those that were put on the lines by then are
+      pub all-told-short : (m : ℕ) → AreShortAt m (port_of (now n).near) → AreShortAt m (port_of (now n).far)
+          → length (doing_all ds begun).near.way ≤ way → length (doing_all ds begun).far.way ≤ way
+          → suc (most + 2 * (granted_of (doing_all ds begun) - granted_of begun)) * (longest m + (longest m + way)) ≤ n → NearAll (now n) × FarAll (now n)
+      all-told-short m small small_far few few_far enough =
           let g = most + 2 * (granted_of w - granted_of begun) in
-          let one = block size way in
-          let few-taken = few-takings (suc g * one) in
-          let x = finds size way service tei c d fits fits_far (suc g) w first.there' first.back' first.follows (record { near = few; far = few_far }) (omega (arith, few-taken)) in
-          let y = apart x.after n (within x.after g one n x.before enough) in
-          subst (λ n. NearAll (now n) × FarAll (now n)) y.1 (then-told x.after y.0 x.still)
+          let bits = few-of-short size way m service tei c d fits fits_far n w first.there' first.back' first.follows small small_far in
+          all-told-by m (few-fewer size way m n (suc g * block size way m) w enough bits) few few_far (shorter g (block size way m) n enough)
+        where
+          shorter : (g one n : ℕ) → suc g * one ≤ n → g * one ≤ n
+          shorter g one n enough = let sum = suc-mul g one in omega (arith, enough, sum)

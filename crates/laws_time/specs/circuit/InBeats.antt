@@ -49,6 +49,18 @@ ACallTakesBeats =
     NoneFallsDue l.rate (calls l b ∷ bs ++ replicate n plain) (begins l) →
     let w = after l.rate (calls l b ∷ bs) (begins l) in enough_beats l.near.n201 l.way false (granted_in w) ≤ n → IsToldAll l (clean l.rate n w)
 
+-- Each frame that was put on its line by an end has at most so many octets of information. (Address and control field have at most four.)
+abbrev pub AreShort : ℕ → TimedEndpoint → Type 0
+AreShort m s = All (λ octets. length octets ≤ m + 4) (frames_among (port_of s.at).items)
+
+-- If the frames that went by then are so short, L is the longest of them, and one frame more is counted: (3 + 2 u) (2 L + D).
+abbrev pub AShortCallTakesBeats : Type 0
+AShortCallTakesBeats =
+    (l : Line) (b : Beat) (bs : List Beat) (n m : ℕ) → CanCall l.near l.near_line l.far l.far_line l.tei → All (AsksData l) (b ∷ bs) → All IsClean (b ∷ bs) →
+    NoneFallsDue l.rate (calls l b ∷ bs ++ replicate n plain) (begins l) →
+    let w = after l.rate (calls l b ∷ bs) (begins l) in let last = clean l.rate n w in AreShort m last.near → AreShort m last.far →
+    (3 + 2 * granted_in w) * (longest m + (longest m + l.way)) ≤ n → IsToldAll l last
+
 -- An end as one of frames, with none in transit. It has nothing left if each frame that it put on its line was received whole, no
 -- contents are unsent, and it owes no acknowledgement.
 abbrev pub as_frames : TimedEndpoint → FrameEndpoint
@@ -83,14 +95,18 @@ MessagesTakeBeats =
     let w = after l.rate bs r in let longest_frame = longest l.near.n201 in
     2 * (granted_in w - granted_in r) * (longest_frame + (longest_frame + l.way)) ≤ n → IsToldSince l r (clean l.rate n w)
 
+-- The same with the longest frame that went by then, and one frame more.
+abbrev pub ShortMessagesTakeBeats : Type 0
+ShortMessagesTakeBeats =
+    (l : Line) (b : Beat) (before bs : List Beat) (n m : ℕ) → Begins l → All (IsTalk l) (b ∷ before) → All (AsksData l) bs → All IsClean (b ∷ before) → All IsClean bs →
+    let r = after l.rate (b ∷ before) (begins l) in IsAtRest l r → NoneFallsDue l.rate (bs ++ replicate n plain) r →
+    let w = after l.rate bs r in let last = clean l.rate n w in AreShort m last.near → AreShort m last.far →
+    (1 + 2 * (granted_in w - granted_in r)) * (longest m + (longest m + l.way)) ≤ n → IsToldSince l r last
+
 -- Each frame that was put on its line by an end stands in what the other has received, in order, before anything else.
 abbrev pub HasReceived : Line → TimedEndpoint → TimedEndpoint → Type 0
 HasReceived l s other =
     (more : List stream.Event) × (stream.heard_in l.near.n201 (port_of other.at).received ≡ map (λ octets. stream.frame octets) (frames_among (port_of s.at).items) ++ more)
-
--- Each has at most so many octets of information. (Address and control field have at most four.)
-abbrev pub AreShort : ℕ → TimedEndpoint → Type 0
-AreShort m s = All (λ octets. length octets ≤ m + 4) (frames_among (port_of s.at).items)
 
 -- Without noise it is so L + D beats later, whatever is asked for and whichever timers fall due, if L is the longest of these frames.
 abbrev pub FramesComeInBeats : Type 0

@@ -1,5 +1,5 @@
 -- Worked values: how many beats are enough for a call, and what comes of one if noise takes its SABME. Each computes.
-use Rattle.std.specs.Prelude.{◌≡◌, ℕ, false, List, [], ◌∷◌, ◌++◌, replicate, None, Some, refl}
+use Rattle.std.specs.Prelude.{◌≡◌, ℕ, ◌+◌, ◌*◌, false, List, [], ◌∷◌, ◌++◌, replicate, None, Some, refl}
 use Rattle.lapd_clock.specs.Timer.{T203}
 use Rattle.lapd_frame.specs.declared.addresses.Side.TheVariants.{Network, User}
 use Rattle.lapd_frame.specs.declared.services.Service.TheVariants.{Call}
@@ -14,7 +14,7 @@ use Rattle.model_line.specs.Request.{Data}
 use Rattle.model_line.specs.declared.config.Config.{Config}
 use Rattle.model_card.specs.ports.Card as ports
 use Rattle.model_timed.specs.Clock.{Clock}
-use Rattle.laws_order.specs.circuit.Beats.{enough_beats}
+use Rattle.laws_order.specs.circuit.Beats.{enough_beats, longest}
 use Rattle.laws_time.specs.circuit.Arriving.{calls}
 use Rattle.laws_time.specs.circuit.Clocked.{Clocked, Beat, plain, after, fall_due}
 use Rattle.laws_time.specs.circuit.InBeats.{granted_in}
@@ -27,6 +27,10 @@ basic_rate = refl
 
 primary_rate : enough_beats 260 16 false 5 ≡ 7896
 primary_rate = refl
+
+-- If no content has more than 40 octets, five are told within 767 ms at 16 kbit/s, too.
+short_contents : (3 + 2 * 5) * (longest 40 + (longest 40 + 4)) ≡ 1534
+short_contents = refl
 
 abbrev pub network : Config
 network = record { lines = 1; terminals = 1; k = 1; k16 = 1; queue = 1; unit_queue = 1; control = 2; slots = 4; n201 = 8; n200 = 3; side = Network; sapi = 16; seed = None }

@@ -1,7 +1,7 @@
 -- Hand-written answers for `a_call_takes_beats`.
-use Rattle.laws_time.proofs.OfCircuit.InBeats.{a-call-takes-beats}
+use Rattle.laws_time.proofs.OfCircuit.InBeats.{a-call-takes-beats, a-short-call-takes-beats}
 use Rattle.laws_time.proofs.OfCircuit.InBeatsDue.{none-falls-due-before}
-use Rattle.laws_time.proofs.OfCircuit.InBeatsRest.{messages-take-beats}
+use Rattle.laws_time.proofs.OfCircuit.InBeatsRest.{messages-take-beats, short-messages-take-beats}
 use Rattle.laws_time.proofs.circuit.a_call_takes_beats.Goals as goal
 
 pub returns-clause-told : goal.returns-clause-told
@@ -12,3 +12,9 @@ returns-clause-undue c = none-falls-due-before
 
 pub returns-clause-since : goal.returns-clause-since
 returns-clause-since c = messages-take-beats
+
+pub returns-clause-short : goal.returns-clause-short
+returns-clause-short c = a-short-call-takes-beats
+
+pub returns-clause-short_since : goal.returns-clause-short_since
+returns-clause-short_since c = short-messages-take-beats

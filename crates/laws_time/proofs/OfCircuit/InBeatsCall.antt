@@ -1,0 +1,79 @@
+-- A call of frames, in which data alone is asked for once one end has asked for the establishment.
+use Rattle.std.proofs.Common.{arith, ◌≡◌, ℕ, ◌||◌, false, List, [], ◌∷◌, ◌++◌, length, map, refl, ap, ◌∙◌, subst, All, append-nil}
+use Rattle.std.proofs.lemmas.List.Elements.{All-nil, All-cons, All-head, All-tail}
+use Rattle.model_line.specs.Request.{Request, Establish, Data, Assign}
+use Rattle.model_line.specs.Event as line
+use Rattle.model_line.specs.declared.config.Config.{Config}
+use Rattle.lapd_frame.specs.declared.services.Service.{Service}
+use Rattle.model_line.specs.Event.{LineTold}
+use Rattle.laws_wire.specs.Call as call
+unfoldable use Rattle.laws_wire.specs.Call.{both_call}
+unfoldable use Rattle.laws_wire.specs.Wire.{doing_all as wire_doing_all, turns as wire_turns}
+use Rattle.laws_wire.proofs.Run.{calls-come-through}
+use Rattle.laws_wire.specs.Call.{CanCall, confirmed, indicated, data_told}
+use Rattle.laws_wire.specs.Wire as wire
+use Rattle.laws_wire.specs.Wire.{Endpoint as FrameEndpoint}
+unfoldable use Rattle.laws_order.specs.circuit.Circuit.{doing_all}
+unfoldable use Rattle.laws_order.proofs.OfCircuit.Onward.{many}
+unfoldable use Rattle.laws_time.specs.circuit.InBeats.{NoneFallsDue}
+unfoldable use Rattle.laws_time.specs.circuit.LongEnough.{pulling}
+unfoldable use Rattle.laws_time.proofs.OfCircuit.InBeatsRun.{steps_near, steps_far, all_steps}
+use Rattle.laws_time.proofs.OfCircuit.InBeatsTold.{Comes}
+
+module _ (service : Service) (tei : ℕ) where
+  abbrev pub Due : LineTold → List (List ℕ) → List LineTold
+  Due first granted = first ∷ map (data_told service tei) granted
+
+  abbrev Talks : wire.StepAt → Type 0
+  Talks x = call.IsTalk service tei x
+
+  one-call : (x : wire.StepAt) → Talks x → call.IsCall service tei x
+  one-call (wire.at_near (wire.requests (Data s t contents))) is = is
+  one-call (wire.at_far (wire.requests (Data s t contents))) is = is
+  one-call (wire.at_near wire.sends) is = tt
+  one-call (wire.at_far wire.sends) is = tt
+  one-call (wire.at_near wire.receives) is = tt
+  one-call (wire.at_far wire.receives) is = tt
+  one-call other is = absurd is
+
+  are-calls : (es : List wire.StepAt) → All Talks es → All (call.IsCall service tei) es
+  are-calls [] all = All-nil (call.IsCall service tei)
+  are-calls (e ∷ es) all = All-cons (call.IsCall service tei) e es (one-call e (All-head Talks e es all)) (are-calls es (All-tail Talks e es all))
+
+  one-none : (x : wire.StepAt) → Talks x → (w : wire.Wire) → call.calls_back x w ≡ false
+  one-none (wire.at_near act) is w = refl
+  one-none (wire.at_far (wire.requests (Data s t contents))) is w = refl
+  one-none (wire.at_far wire.sends) is w = refl
+  one-none (wire.at_far wire.receives) is w = refl
+  one-none other is w = absurd is
+
+  none-call : (es : List wire.StepAt) → All Talks es → (w : wire.Wire) → call.both_call es w ≡ false
+  unfolding both_call
+  none-call [] all w = refl
+  none-call (e ∷ es) all w =
+      let first = one-none e (All-head Talks e es all) w in let rest = none-call es (All-tail Talks e es all) (wire.doing e w) in (λ i. first i || rest i)
+
+  none-given : (a : line.Answer) → wire.unless_refused a [] ≡ []
+  none-given a = grind arith
+
+  grants-none : (r : Request) → wire.contents_requested r ≡ [] → (s : FrameEndpoint) → (wire.happens (line.request r) s).granted ≡ s.granted
+  grants-none r none s =
+      ap (λ xs. s.granted ++ wire.unless_refused (wire.answered (line.request r) s) xs) none ∙ ap (λ ys. s.granted ++ ys) (none-given (wire.answered (line.request r) s)) ∙ append-nil s.granted
+
+  module _ (c d : Config) (line other : ℕ) (can : CanCall c line d other tei) where
+    abbrev starts : wire.Wire
+    starts = call.calling service tei c line d other
+
+    pub near-none : (call.calling service tei c line d other).near.granted ≡ []
+    near-none = grants-none (Establish service tei) refl (call.assigned c line tei) ∙ grants-none (Assign tei) refl (call.endpoint c line)
+
+    pub far-none : (call.calling service tei c line d other).far.granted ≡ []
+    far-none = grants-none (Assign tei) refl (call.endpoint d other)
+
+    pub call-comes : (es : List wire.StepAt) → All Talks es → Comes service tei 2 (Due (confirmed service tei)) (Due (indicated service tei)) (call.calling service tei c line d other) es
+    call-comes es all =
+        let came : call.ComesThrough service tei (wire_turns es starts) false (wire_doing_all es starts) =
+        subst (λ b. call.ComesThrough service tei (wire_turns es starts) b (wire_doing_all es starts)) (none-call es all starts) (calls-come-through service c d line other tei es can (are-calls es all)) in
+        let turns = came.turns in
+        let none = ap length near-none in let none_far = ap length far-none in
+        record { turns = omega (arith, turns, none, none_far); near = came.near.0; far = came.far.0; near_all = came.near.1; far_all = came.far.1 }

@@ -1,14 +1,14 @@
 -- A timer in its place, and in the set.
-use Rattle.lapd_clock.proofs.Vocabulary.{◌≡◌, ℕ, zero, suc, ◌<◌, ◌≤◌, Bool, true, false, cond, not, ◌&&◌, ◌||◌, List, [], ◌∷◌, length, filter, set, refl, sym, ap, ◌∙◌, subst, arith, All, AllByRecursion, HoldsAt, nat_tests, Timer, Expiry, is_before, is_of, is_held, without, never, put_in_order, in_order, cases_lt, inl, inr}
+use Rattle.lapd_clock.proofs.Vocabulary.{◌≡◌, ℕ, zero, suc, ◌<◌, ◌≤◌, Bool, true, false, cond, not, ◌&&◌, ◌||◌, List, [], ◌∷◌, length, filter, get_or, get_or-map, set, refl, sym, ap, ◌∙◌, subst, arith, All, AllByRecursion, HoldsAt, nat_tests, Timer, Expiry, is_before, is_of, is_held, without, never, put_in_order, in_order, cases_lt, inl, inr}
 use Rattle.std.proofs.lemmas.Bool.{and_parts}
 use Rattle.std.specs.Prelude.{Option, None, Some, IfSome, IfNone}
 use Rattle.std.proofs.lemmas.List.Elements.{All-head, All-tail}
 use Rattle.lapd_clock.proofs.Ordered.{filter-put_in_order}
 use Rattle.lapd_clock.proofs.TimerOrder.{before_order}
 use Rattle.lapd_clock.proofs.StandsFor.{IsInOrder-in_order}
-use Rattle.lapd_moments.specs.Places.{is_running, timers_in, at, with_timer, without_timer, runs_as, place_runs, expiry_of, expiries_of, is_nowhere, RunsAt, IsItsPlace}
+use Rattle.lapd_moments.specs.Places.{is_running, timers_in, nothing, at, with_timer, without_timer, runs_as, place_runs, expiry_of, expiries_of, is_nowhere, RunsAt, IsItsPlace}
 use Rattle.lapd_moments.specs.declared.place.Place.{Place}
-use Rattle.lapd_moments.proofs.Standing.{parted, rests, All-in_order, All-map}
+use Rattle.lapd_moments.proofs.Standing.{there, parted, rests, All-in_order, All-map}
 
 -- what stands at a place that rests is nothing to the set
 resting : (es : List Expiry) (i : ℕ) (z w : Expiry) → never ≤ z.moment → never ≤ w.moment → filter is_running (set es i z) ≡ filter is_running (set es i w)
@@ -21,6 +21,12 @@ set_own : (es : List Expiry) (i : ℕ) → set es i (at i es) ≡ es
 set_own [] i = refl
 set_own (x ∷ xs) zero = refl
 set_own (x ∷ xs) (suc i) = ap (λ ys. x ∷ ys) (set_own xs i)
+
+-- a stop at a place that rests
+pub stops_nothing : (ps : List Place) (es : List Expiry) (i : ℕ) (u : Place) → expiries_of ps ≡ es → i < length es → u ≡ get_or ps i u → u.moment ≡ never → es ≡ without_timer i es
+stops_nothing ps es i u is within at_it rests =
+    let moment_is : (at i es).moment ≡ never = ap (λ (e : Expiry). e.moment) (ap (at i) (sym is) ∙ get_or-map expiry_of ps i u nothing (there i ps es is within) ∙ ap expiry_of (sym at_it)) ∙ rests in
+    sym (ap (λ m. set es i (record (at i es) { moment = m })) (sym moment_is) ∙ set_own es i)
 
 set_twice : (es : List Expiry) (i : ℕ) (z w : Expiry) → set (set es i z) i w ≡ set es i w
 set_twice [] i z w = refl

@@ -22,6 +22,11 @@ earliest-one ps some = record {
     zero-is : {i : ℕ} → i < 1 → 0 ≡ i
     zero-is there = omega (arith, there)
 
+pub record IsTakenIn (ps : List Place) (n f l o : ℕ) : Type 0 where
+  pub so_far : IsEarliest (n + 1) f o ps
+  pub least : (d : Place) → (get_or ps f d).moment ≡ l
+  pub ordered : l ≤ o
+
 module _ (ps : List Place) (n first others : ℕ) (u : Place) (within : n < length ps) (h : IsEarliest n first others ps) (m : ℕ) (least_is : (d : Place) → (get_or ps first d).moment ≡ m) where
   pub its : (d : Place) → (get_or ps n d).moment ≡ (get_or ps n u).moment
   its d = ap (λ (q : Place). q.moment) (get_or_default ps n d u within)
@@ -61,6 +66,28 @@ module _ (ps : List Place) (n first others : ℕ) (u : Place) (within : n < leng
       | inl before ↦ omega (arith, less, h.others_late i d before apart)
       | inr from ↦ omega (arith, own, last there from d)
     ];
+  }
+
+  -- what is known with one more that is earlier than the others
+  pub nearer : (f l o : ℕ) → (get_or ps n u).moment < m → f ≡ n → l ≡ (get_or ps n u).moment → o ≡ m → IsTakenIn ps n f l o
+  nearer f l o less first_is least_now others_are = record {
+    so_far = subst (λ k. IsEarliest (n + 1) k o ps) (sym first_is) (earlier o less (omega (arith, others_are)));
+    least = λ d. ap (λ k. (get_or ps k d).moment) first_is ∙ its d ∙ sym least_now;
+    ordered = omega (arith, least_now, others_are, less);
+  }
+
+  pub farther : (f l o : ℕ) → m ≤ (get_or ps n u).moment → (get_or ps n u).moment < others → f ≡ first → l ≡ m → o ≡ (get_or ps n u).moment → IsTakenIn ps n f l o
+  farther f l o more less first_is least_now others_are = record {
+    so_far = subst (λ k. IsEarliest (n + 1) k o ps) (sym first_is) (later o more (omega (arith, others_are, less)) (omega (arith, others_are)));
+    least = λ d. ap (λ k. (get_or ps k d).moment) first_is ∙ least_is d ∙ sym least_now;
+    ordered = omega (arith, least_now, others_are, more);
+  }
+
+  pub neither : (f l o : ℕ) → others ≤ (get_or ps n u).moment → m ≤ others → f ≡ first → l ≡ m → o ≡ others → IsTakenIn ps n f l o
+  neither f l o past order first_is least_now others_are = record {
+    so_far = subst (λ k. IsEarliest (n + 1) k o ps) (sym first_is) (later o (omega (arith, past, order)) (omega (arith, others_are)) (omega (arith, others_are, past)));
+    least = λ d. ap (λ k. (get_or ps k d).moment) first_is ∙ least_is d ∙ sym least_now;
+    ordered = omega (arith, least_now, others_are, order);
   }
 
 -- ---- which leads after a change

@@ -147,16 +147,26 @@ fn earliest(places: &[Place]) -> (usize, u64)
     let mut others = NEVER;
     for place in 1..places.len() {
         let moment = places[place].moment;
-        // Mostly it is not among the two that are the earliest so far.
         if moment < others {
-            if moment < least {
-                others = least;
-                least = moment;
-                first = place;
-            } else {
-                others = moment;
-            }
+            take(place, moment, &mut first, &mut least, &mut others);
         }
     }
     (first, others)
+}
+
+/// One more place has an earlier moment than the others: it is the earliest, or the earliest of the others.
+// It stands apart, since mostly none has: so that to go on to the next is a jump, and no moves.
+#[cold]
+#[inline(never)]
+fn take(place: usize, moment: u64, first: &mut usize, least: &mut u64, others: &mut u64)
+    ensures earliest { moment < least.old → (first.new ≡ place) × (least.new ≡ moment) × (others.new ≡ least.old) }
+    ensures other { least.old ≤ moment → (first.new ≡ first.old) × (least.new ≡ least.old) × (others.new ≡ moment) }
+{
+    if moment < *least {
+        *others = *least;
+        *least = moment;
+        *first = place;
+    } else {
+        *others = moment;
+    }
 }

@@ -178,8 +178,10 @@ impl Moments {
         requires place { place < length self.old }
         ensures after { self.new ≡ without_timer place self.old }
     {
-        let timer = self.places[place].timer;
-        self.start(place, timer, NEVER);
+        let its = self.places[place];
+        if its.moment != NEVER {
+            self.start(place, its.timer, NEVER);
+        }
     }
 
     /// The place at which a timer of a line runs, if it runs at any: it looks through all places.

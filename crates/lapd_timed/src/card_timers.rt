@@ -210,6 +210,19 @@ impl CardTimers {
             → TimersStand self.new (after e m) (obeyed line orders.now c) }
     {
         if !self.exchange_alone(line, orders) {
+            self.obey_in_places(card, line, orders);
+        }
+    }
+
+    /// Carries out the orders in their places, which are looked for.
+    #[inline(never)]
+    fn obey_in_places<S: Shelf>(&mut self, card: &FrameCard<S>, line: usize, orders: &[Order])
+        ensures lines { self.new.lines ≡ self.old.lines }
+        ensures terminals { self.new.terminals ≡ self.old.terminals }
+        ensures after { (e : Event) (m : Card) (c : Clock) → HasLedTo S.store card.now line e m → orders.now ≡ orders_at e m → AreLeft e self.old m c
+            → TimersStand self.new (after e m) (obeyed line orders.now c) }
+    {
+        if !self.exchange_in_places(card, line, orders) {
             self.obey_each(card, line, orders);
         }
     }
@@ -269,6 +282,48 @@ impl CardTimers {
             let (stopped, started) = (Timer::T200(service, tei), Timer::T203(service, tei));
             let due_at = self.moment + self.lengths.of(started);
             return self.moments.exchange(line, stopped, started, true, due_at);
+        }
+        false
+    }
+
+    /// The same in the places of the link, if its TEI is on the line: they are looked for once.
+    #[inline(always)]
+    fn exchange_in_places<S: Shelf>(
+        &mut self,
+        card: &FrameCard<S>,
+        line: usize,
+        orders: &[Order],
+    ) -> bool
+        ensures lines { self.new.lines ≡ self.old.lines }
+        ensures terminals { self.new.terminals ≡ self.old.terminals }
+        ensures after { result ≡ true → (e : Event) (m : Card) (c : Clock) → HasLedTo S.store card.now line e m → orders.now ≡ orders_at e m → AreLeft e self.old m c
+            → TimersStand self.new (after e m) (obeyed line orders.now c) }
+        ensures unchanged { result ≡ false → self.new ≡ self.old }
+    {
+        if line >= self.lines || line >= card.lines() {
+            return false;
+        }
+        if let Some((service, tei)) = link_sends(orders) {
+            let Some(number) = self.link(card, line, service, tei) else {
+                return false;
+            };
+            let started = Timer::T200(service, tei);
+            let due_at = self.moment + self.lengths.of(started);
+            self.moments
+                .start(slot(self.terminals, line, number, 2), started, due_at);
+            self.moments.stop(slot(self.terminals, line, number, 3));
+            return true;
+        }
+        if let Some((service, tei)) = link_rests(orders) {
+            let Some(number) = self.link(card, line, service, tei) else {
+                return false;
+            };
+            let started = Timer::T203(service, tei);
+            let due_at = self.moment + self.lengths.of(started);
+            self.moments.stop(slot(self.terminals, line, number, 2));
+            self.moments
+                .start(slot(self.terminals, line, number, 3), started, due_at);
+            return true;
         }
         false
     }

@@ -1,8 +1,8 @@
 -- One place more is the earliest, or the earliest of the others, or neither.
-use Rattle.std.proofs.Common.{◌∙◌, ◌+◌, ap, subst, sym, arith, get_or}
-use Rattle.lapd_moments.specs.Bounds.{IsEarliest}
-use Rattle.lapd_moments.proofs.Keeping.{its, earlier, later}
-use Rattle.lapd_moments.proofs.lead.earliest.Goals.{then-moment-others+then-moment-least, then-moment-others+else-moment-least, else-moment-others}
+use Rattle.std.proofs.Common.{◌∙◌, arith, inl, inr}
+use Rattle.lapd_clock.proofs.Vocabulary.{cases_lt}
+use Rattle.lapd_moments.proofs.Keeping.{IsTakenIn, nearer, farther, neither}
+use Rattle.lapd_moments.proofs.lead.earliest.Goals.{then-moment-others, else-moment-others}
 use Rattle.lapd_moments.proofs.lead.earliest.Goals as goal
 
 pub loop-place-preserved : goal.loop-place-preserved
@@ -11,25 +11,13 @@ loop-place-preserved c =
     let n = c.loop-place.place in
     let so = c.loop-place.invariant.so_far in
     let is = c.loop-place.invariant.least in
-    elim c.if-moment-others.branch [
-      | then-moment-others+then-moment-least b ↦ record {
-        so_far = subst (λ k. IsEarliest (n + 1) k c.if-moment-others.others ps) (sym b.first-is)
-            (subst (λ r. IsEarliest (n + 1) n r ps) (sym b.others-is) (earlier ps n c.loop-place.first c.loop-place.others _ (omega (arith)) so c.loop-place.least is c.loop-place.least b.if-moment-least.true (omega arith)));
-        least = λ d. ap (λ k. (get_or ps k d).moment) b.first-is ∙ its ps n c.loop-place.first c.loop-place.others _ (omega (arith)) so c.loop-place.least is d ∙ sym b.least-is;
-        ordered = omega (arith, b.least-is, b.others-is, b.if-moment-least.true);
-      }
-      | then-moment-others+else-moment-least b ↦ record {
-        so_far = subst (λ k. IsEarliest (n + 1) k c.if-moment-others.others ps) (sym b.first-is)
-            (subst (λ r. IsEarliest (n + 1) c.loop-place.first r ps) (sym b.others-is)
-            (later ps n c.loop-place.first c.loop-place.others _ (omega (arith)) so c.loop-place.least is _ b.if-moment-least.false (omega (arith, b.if-moment-others.true)) (omega arith)));
-        least = λ d. ap (λ k. (get_or ps k d).moment) b.first-is ∙ is d ∙ sym b.least-is;
-        ordered = omega (arith, b.least-is, b.others-is, b.if-moment-least.false);
-      }
-      | else-moment-others b ↦ record {
-        so_far = subst (λ k. IsEarliest (n + 1) k c.if-moment-others.others ps) (sym b.first-is)
-            (subst (λ r. IsEarliest (n + 1) c.loop-place.first r ps) (sym b.others-is)
-            (later ps n c.loop-place.first c.loop-place.others _ (omega (arith)) so c.loop-place.least is c.loop-place.others (omega (arith, b.if-moment-others.false, c.loop-place.invariant.ordered)) (omega arith) b.if-moment-others.false));
-        least = λ d. ap (λ k. (get_or ps k d).moment) b.first-is ∙ is d ∙ sym b.least-is;
-        ordered = omega (arith, b.least-is, b.others-is, c.loop-place.invariant.ordered);
-      }
-    ]
+    let taken : IsTakenIn ps n c.if-moment-others.first c.if-moment-others.least c.if-moment-others.others = elim c.if-moment-others.branch [
+      | then-moment-others b ↦ elim (cases_lt _ c.loop-place.least) [
+        | inl less ↦ let e = b.take.ensures.earliest less in
+            nearer ps n c.loop-place.first c.loop-place.others _ (omega arith) so c.loop-place.least is _ _ _ less (b.first-is ∙ e.0) (b.least-is ∙ e.1) (b.others-is ∙ e.2)
+        | inr more ↦ let e = b.take.ensures.other more in
+            farther ps n c.loop-place.first c.loop-place.others _ (omega arith) so c.loop-place.least is _ _ _ more b.if-moment-others.true (b.first-is ∙ e.0) (b.least-is ∙ e.1) (b.others-is ∙ e.2)
+      ]
+      | else-moment-others b ↦ neither ps n c.loop-place.first c.loop-place.others _ (omega arith) so c.loop-place.least is _ _ _ b.if-moment-others.false c.loop-place.invariant.ordered b.first-is b.least-is b.others-is
+    ] in
+    record { so_far = taken.so_far; least = taken.least; ordered = taken.ordered }

@@ -1,5 +1,6 @@
 -- So many beats are enough.
-use Rattle.laws_order.proofs.Vocabulary.{IsToldAll, ◌≡◌, ℕ, zero, suc, ◌+◌, ◌*◌, ◌-◌, ◌≤◌, ◌<◌, Bool, false, ◌||◌, List, [], ◌∷◌, ◌++◌, length, map, refl, sym, ap, ◌∙◌, subst, arith, append-nil, append_assoc, All, if◌then◌else◌, append_cancel_left, All-append, All-head, All-tail, Service, Config, LineTold, Assign, CanCall, confirmed, told_first, data_told, Wire, IsStill, asks-way, doing-append, longest}
+use Rattle.laws_order.proofs.Vocabulary.{IsToldAll, ◌≡◌, ℕ, zero, suc, ◌+◌, ◌*◌, ◌-◌, ◌≤◌, ◌<◌, Bool, false, ◌||◌, List, [], ◌∷◌, ◌++◌, length, map, refl, sym, ap, ◌∙◌, subst, arith, append-nil, append_assoc, All, if◌then◌else◌, append_cancel_left, All-append, All-head, All-tail, Service, Config, LineTold, Assign, CanCall, confirmed, told_first, data_told, Wire, IsStill, asks-way, doing-append}
+use Rattle.laws_order.proofs.Vocabulary.{longest}
 use Rattle.laws_order.proofs.Vocabulary.{beats, enough_beats, granted_of, AllIsToldInBeats, wire_turns, wire_doing_all, Establish, Circuit, OctetStepAt, doing, or-both}
 use Rattle.laws_wire.specs.Call as call
 unfoldable use Rattle.laws_wire.specs.Wire.{doing_all as frames_done}

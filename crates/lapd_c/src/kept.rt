@@ -123,11 +123,11 @@ impl KeptCard {
         ensures timed { (e : Event) (m : Card) (c : Clock) → LedTo self.old.card line e m → listed orders.now ≡ orders_at e m
             → AreLeftIn e self.old.timers m c → TimersStandIn self.new.timers (after e m) (obeyed line (orders_at e m) c) }
     {
+        report.show_begun(more);
         if self.timers.is_some() {
-            report.show_begun(more);
             self.carry_out(line, orders.as_slice());
         } else {
-            report.show_given(orders, more);
+            report.add_orders(orders);
         }
         self.tell_reopened(line, report);
     }

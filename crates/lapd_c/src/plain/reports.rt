@@ -1,6 +1,6 @@
 //! The report of an event.
 
-ghost use Rattle.std.specs.Prelude.{◌≡◌, ◌≤◌, [], false, true, length, take, map, min};
+ghost use Rattle.std.specs.Prelude.{◌≡◌, ◌≤◌, Bool, [], false, true, length, take, map, min};
 ghost use Rattle.std.specs.Option.{option_copied};
 ghost use Rattle.lapd_c.specs.{listed, told_beside, nothing, plain_note, plain_order, ShowsReopened, with_reopened, Shows, ShowsPull, SameButContents, contents_in, contents_or_none, mark_of, orders_of};
 
@@ -78,16 +78,15 @@ impl PlainReport {
         self.order_count = write_order_list(&mut self.orders, orders);
     }
 
-    /// Shows that a frame was given to be sent: its orders, and whether another waits on its line.
+    /// Shows the orders, too, of an answer to a pull of which all else is shown.
     #[inline(always)]
-    pub fn show_given(&mut self, orders: &ShortList<Order>, more: bool)
-        ensures { ShowsPull self.new true more (listed orders.now) }
+    pub fn add_orders(&mut self, orders: &ShortList<Order>)
+        ensures { (begun more : Bool) → ShowsPull self.old begun more [] → ShowsPull self.new begun more (listed orders.now) }
     {
-        self.show_begun(more);
         self.order_count = write_order_list(&mut self.orders, orders);
     }
 
-    /// The same without orders.
+    /// Shows that a frame was given to be sent, and whether another waits on its line, and no orders.
     #[inline(always)]
     pub fn show_begun(&mut self, more: bool)
         ensures { ShowsPull self.new true more [] }

@@ -10,10 +10,10 @@ use Rattle.lapd_c.proofs.kept.KeptCard.settle_given.Goals as goal
 
 pub returns-clause-shown : goal.returns-clause-shown
 returns-clause-shown c = elim c.if-is_some.branch [
-  | then-is_some b ↦ given_shown_by c.tell_reopened.new.report b.show_begun.new.self c.args.more _ true (listed c.args.orders.now) (c.tell_reopened.ensures.rest ∙ ap (with_reopened c.tell_reopened.new.report) b.report-is)
-      (sym b.if-is_some.true ∙ c.is_some.ensures) b.show_begun.ensures
-  | else-is_some b ↦ given_shown_by c.tell_reopened.new.report b.show_given.new.self c.args.more _ false (listed c.args.orders.now) (c.tell_reopened.ensures.rest ∙ ap (with_reopened c.tell_reopened.new.report) b.report-is)
-      (sym b.if-is_some.false ∙ c.is_some.ensures) b.show_given.ensures
+  | then-is_some b ↦ given_shown_by c.tell_reopened.new.report c.show_begun.new.self c.args.more _ true (listed c.args.orders.now) (c.tell_reopened.ensures.rest ∙ ap (with_reopened c.tell_reopened.new.report) b.report-is)
+      (sym b.if-is_some.true ∙ c.is_some.ensures) c.show_begun.ensures
+  | else-is_some b ↦ given_shown_by c.tell_reopened.new.report b.add_orders.new.self c.args.more _ false (listed c.args.orders.now) (c.tell_reopened.ensures.rest ∙ ap (with_reopened c.tell_reopened.new.report) b.report-is)
+      (sym b.if-is_some.false ∙ c.is_some.ensures) (b.add_orders.ensures true c.args.more c.show_begun.ensures)
 ]
 
 -- what was told before the orders were carried out is told of the same card and the same marks

@@ -39,7 +39,8 @@ RUNS = {
     'no_slot_is_lost': 'laws_trace WorkedRooms', 'counters_count': 'laws_trace WorkedCounters',
     'causes_are_told': 'laws_trace WorkedCauses', 'a_dead_line_is_told': 'laws_time WorkedSilence', 'answers_come_in_time': 'laws_time circuit/WorkedLongEnough',
     'commands_are_answered': 'laws_time circuit/WorkedAnswered',
-    'calls_bear_noise': 'laws_time circuit/WorkedArriving', 'a_call_outlasts_noise': 'laws_time circuit/WorkedInCall',
+    'calls_bear_noise': 'laws_time circuit/WorkedArriving', 'a_call_outlasts_noise': 'laws_time circuit/WorkedInCall', 'a_call_takes_beats': 'laws_time circuit/WorkedInBeats',
+    'frames_come_in_beats': 'laws_time circuit/WorkedInBeats',
     'no_answer_is_awaited_longer': 'laws_time ArrivalsWorked',
     'n200_takes_its_time': 'laws_time ArrivalsWorked',
     'timers_are_true': 'model_timed Worked', 'timers_run_the_same': 'model_timed WorkedOctets',
@@ -65,6 +66,10 @@ MOST_ROWS = 4
 SHARED = {'a call': ['CanCall c line d other tei'], 'talk': ['All (IsTalk service tei) ds'],
           'rough talk': ['All (IsRoughTalk service tei) ds'], 'full talk': ['All (IsFullTalk service tei) ds'],
           'possible steps': ['All (IsPossible service tei w) hs'], 'within k': ['(terms c service tei).k ≤ k', '(terms d service tei).k ≤ k'],
+          'a quiet call': ['CanCall l.near l.near_line l.far l.far_line l.tei', 'All (AsksData l) (b ∷ bs)', 'All IsClean (b ∷ bs)',
+                           'NoneFallsDue l.rate (calls l b ∷ bs ++ replicate n plain) (begins l)'],
+          'a quiet line': ['Begins l', 'All (IsTalk l) (b ∷ before)', 'All IsClean (b ∷ before)', 'All IsClean bs'],
+          'at rest': ['All (AsksData l) bs', 'IsAtRest l r', 'NoneFallsDue l.rate (bs ++ replicate n plain) r'],
           'a timed line': ['IsInRange c', 'number < c.lines', 'ArePrompt w.kind late before begun', 'ArePrompt w.kind late steps t']}
 MACHINE_ROW = re.compile(r'^machine: (\S+)$|^law: (\S+) (\S+)', re.MULTILINE)
 
@@ -137,7 +142,10 @@ class Statement:
         shared = [it for it in next(iter(found.values())) if all(it in them for them in found.values())]
         shared = [] if len(found) == 1 and ' ' in next(iter(found)) else shared
         own = {name.rpartition(' ')[2]: [it for it in them if it not in shared] for name, them in found.items()}
-        parts = [quoted(shared)] * bool(shared) + ['*%s*: %s' % (name, quoted(them)) for name, them in own.items() if them]
+        said, parts = {}, [quoted(shared)] * bool(shared)
+        for name, them in own.items():
+            parts += ['*%s*: %s' % (name, shortest(them, said))] * bool(them)
+            said[name] = them
         return '. '.join(parts) or 'none'
 
     def sentence_of(self, place, row):
@@ -170,6 +178,15 @@ def quoted(premises):
     named = {name: them for name, them in SHARED.items() if all(it in premises for it in them)}
     rest = [it for it in premises if not any(it in them for them in named.values())]
     return '; '.join([*named] + ['`%s`' % it for it in rest]) or 'none'
+
+
+def shortest(premises, said):
+    """Premises as a list of code, or as those of another clause that was said before and what there is besides, in fewer words."""
+    ways = [quoted(premises)]
+    for name, them in said.items():
+        if all(it in premises for it in them):
+            ways.append('; '.join(['as *%s*' % name] + [quoted([it for it in premises if it not in them])] * (len(them) < len(premises))))
+    return min(ways, key=lambda it: len(it.split()))
 
 
 def parted(rows, names):

@@ -5,6 +5,7 @@ pub mod LongEnough
 pub mod Answered
 pub mod Worked
 pub mod WorkedLongEnough
+pub mod WorkedTooLate
 pub mod WorkedAnswered
 pub mod Arriving
 pub mod WorkedArriving

@@ -40,8 +40,9 @@ pub fn ends_are_timed_cards()
 /// another, runs for at least 2 (L + D) + 9 (c + c') octet times, and a millisecond more, as moments are whole. L is the
 /// longest frame in octets, D octets are in transit, and c and c' control frames may wait at the two ends. Noise makes
 /// no frame: each frame that is heard stood at that place in what the other end gave. Layer 3 of each end asks for
-/// anything of the link except unit data and deactivation. (Unit data goes before all frames of a link. With a shorter
-/// T200 the law is false, `specs/circuit/WorkedLongEnough`.)
+/// anything of the link except unit data and deactivation. (Unit data goes before all frames of a link. With it, or with
+/// noise that makes a frame, the law is false, `specs/circuit/WorkedTooLate`; with a shorter T200, too,
+/// `specs/circuit/WorkedLongEnough`.)
 pub fn answers_come_in_time()
     ensures { AnswersComeInTime }
 {}

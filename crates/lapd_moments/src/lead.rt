@@ -1,6 +1,6 @@
 //! Which place of a line falls due first, when one of them changes.
 
-ghost use Rattle.std.specs.Prelude.{◌≡◌, ◌+◌, ◌*◌, ◌^◌, ◌<◌, ◌≤◌, ℕ, List, length, set, IfOk};
+ghost use Rattle.std.specs.Prelude.{◌≡◌, ◌+◌, ◌*◌, ◌^◌, ◌<◌, ◌≤◌, false, ℕ, List, length, set, IfOk};
 ghost use Rattle.lapd_moments.specs.Bounds.{IsEarliest, IsLead, IsSooner};
 ghost use Rattle.lapd_moments.specs.Places.{AreFirstPlaces};
 
@@ -19,21 +19,22 @@ pub(crate) struct Lead {
 }
 
 impl Lead {
-    /// The same with another place that leads, of a line whose places begin here: it counts as used.
+    /// Another place leads, of a line whose places begin here: one that counts as used from now on (`is_new`), or one that has
+    /// been used.
     #[inline(always)]
-    pub fn moved_to(&self, place: usize, begin: usize) -> Lead
+    pub fn pass_to(&mut self, place: usize, begin: usize, is_new: bool)
         requires within { begin ≤ place }
         requires few { place < 2 ^ 32 }
-        ensures place { result.place ≡ place }
-        ensures others { result.others ≡ self.now.others }
-        ensures used { self.now.used ≤ result.used }
-        ensures counts { place + 1 ≤ begin + result.used }
-        ensures few { (count : ℕ) → self.now.used ≤ count → place < begin + count → result.used ≤ count }
+        requires used { is_new ≡ false → place + 1 ≤ begin + self.old.used }
+        ensures place { self.new.place ≡ place }
+        ensures others { self.new.others ≡ self.old.others }
+        ensures used { self.old.used ≤ self.new.used }
+        ensures counts { place + 1 ≤ begin + self.new.used }
+        ensures few { (count : ℕ) → self.old.used ≤ count → place < begin + count → self.new.used ≤ count }
     {
-        Lead {
-            place,
-            others: self.others,
-            used: self.used.max(place + 1 - begin),
+        self.place = place;
+        if is_new {
+            self.used = self.used.max(place + 1 - begin);
         }
     }
 }

@@ -150,8 +150,11 @@ impl Moments {
             return false;
         }
         let before = self.leads[line];
+        if due_at > before.others {
+            return false;
+        }
         let leading = &self.places[before.place];
-        if leading.moment == NEVER || due_at > before.others || !leading.is(stopped) {
+        if leading.moment == NEVER || !leading.is(stopped) {
             return false;
         }
         let Some(beside) = beside(&self.places, before.place, is_next) else {
@@ -165,7 +168,7 @@ impl Moments {
         starting.timer = started;
         self.places[before.place].moment = NEVER;
         self.bounds[line] = due_at;
-        self.leads[line] = before.moved_to(beside, line * self.each);
+        self.leads[line].pass_to(beside, line * self.each, is_next);
         let (not_before, found) = sooner(self.not_before, self.found, line, due_at);
         self.not_before = not_before;
         self.found = found;
@@ -225,7 +228,7 @@ impl Moments {
     {
         let place = self.first(now)?;
         let first = self.places[place];
-        self.stop(place);
+        self.start(place, first.timer, NEVER);
         Some((first.line, first.timer))
     }
 

@@ -39,18 +39,17 @@ impl Lead {
     }
 }
 
-/// The moment before which no timer falls due, and the line that a look found last, now that a timer of a line falls due at a
-/// moment.
+/// A timer of a line falls due at a moment now. If that is not later than the moment before which none fell due, it is that
+/// moment from now on, and the line is the one that a look found last.
 #[inline(always)]
-pub(crate) fn sooner(not_before: u64, found: usize, line: usize, moment: u64) -> (u64, usize)
-    ensures { IsSooner not_before found line moment result.0 result.1 }
+pub(crate) fn put_sooner(not_before: &mut u64, found: &mut usize, line: usize, moment: u64)
+    ensures { IsSooner not_before.old found.old line moment not_before.new found.new }
 {
-    if moment > not_before {
-        return (not_before, found);
+    if moment <= *not_before {
+        // If others may fall due then, it is as if the first line had been found.
+        *found = if moment < *not_before { line } else { 0 };
+        *not_before = moment;
     }
-    // If others may fall due then, it is as if the first line had been found.
-    let found = if moment < not_before { line } else { 0 };
-    (moment, found)
 }
 
 /// Of each line its first place leads, since none has been used.

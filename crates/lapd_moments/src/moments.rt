@@ -5,7 +5,7 @@ ghost use Rattle.lapd_clock.specs.Timers.{first_due, first_moment};
 ghost use Rattle.lapd_clock.specs.Firsts.{never};
 ghost use Rattle.lapd_moments.specs.Places.{timers_in, with_timer, without_timer, AreNotBefore, IsExchanged, IsFirstUntil, IsRestarted, IsTaken, RunsAt, is_nowhere};
 
-use crate::lead::{Lead, first_places, lead_after, sooner};
+use crate::lead::{Lead, first_places, lead_after, put_sooner};
 use crate::look::{first_line, look};
 use crate::place::{NEVER, Place, beside, running_place};
 use lapd_frame::Timer;
@@ -103,9 +103,7 @@ impl Moments {
         );
         self.bounds[line] = least;
         self.leads[line] = lead;
-        let (not_before, found) = sooner(self.not_before, self.found, line, moment);
-        self.not_before = not_before;
-        self.found = found;
+        put_sooner(&mut self.not_before, &mut self.found, line, moment);
     }
 
     /// Starts a timer of a line anew, and answers whether it did. It does so only if the timer runs, falls due first of its
@@ -169,9 +167,7 @@ impl Moments {
         self.places[before.place].moment = NEVER;
         self.bounds[line] = due_at;
         self.leads[line].pass_to(beside, line * self.each, is_next);
-        let (not_before, found) = sooner(self.not_before, self.found, line, due_at);
-        self.not_before = not_before;
-        self.found = found;
+        put_sooner(&mut self.not_before, &mut self.found, line, due_at);
         true
     }
 

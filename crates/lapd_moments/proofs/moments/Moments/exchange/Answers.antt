@@ -21,7 +21,7 @@ invariant_of-self c =
     (ap (λ (p : Place). p.line) (c.index_mut-starting.ensures.value ∙ get_or_default ps j v c.index.result.now there ∙ sym c.index.ensures) ∙ c.if-index-line.false)
     (are-apart c.args.is_next c.index-before.result.now.place j c.in-Some.ensures.beside) c.index_mut.ensures.value (omega (arith, c.if-due_at-before.false)) (omega arith)
     c.pass_to.new.self c.pass_to.ensures.place (c.pass_to.ensures.others ∙ ap (λ (l : Lead). l.others) same) (omega (arith, c.pass_to.ensures.used, ap (λ (l : Lead). l.used) same)) c.pass_to.ensures.counts
-    (λ count used high. c.pass_to.ensures.few count (omega (arith, used, ap (λ (l : Lead). l.used) same)) high) c.sooner-not_before.result.0 c.sooner-not_before.result.1 c.sooner-not_before.ensures
+    (λ count used high. c.pass_to.ensures.few count (omega (arith, used, ap (λ (l : Lead). l.used) same)) high) c.put_sooner.new.not_before c.put_sooner.new.found c.put_sooner.ensures
 
 pub returns-clause-done : goal.returns-clause-done
 returns-clause-done c = λ _.

@@ -1,10 +1,12 @@
 -- Which place of a line leads, when a timer is started or stopped.
-use Rattle.lapd_clock.proofs.Vocabulary.{◌≡◌, ℕ, zero, suc, ◌+◌, ◌-◌, ◌*◌, ◌/◌, ◌<◌, ◌≤◌, List, [], ◌∷◌, length, length-set, get_or, set, slice_index, refl, sym, ap, ◌∙◌, subst, arith, inl, inr, cases_lt, cases_eq, get_or_default, never, Timer}
+use Rattle.lapd_clock.proofs.Vocabulary.{◌≡◌, Bool, true, false, ℕ, zero, suc, ◌+◌, ◌-◌, ◌*◌, ◌/◌, ◌<◌, ◌≤◌, List, [], ◌∷◌, length, length-set, get_or, set, slice_index, refl, sym, ap, ◌∙◌, subst, arith, inl, inr, cases_lt, cases_eq, get_or_default, never, Timer}
+use Rattle.std.proofs.lemmas.Bool.{false≢true}
 use Rattle.std.proofs.lemmas.List.{get_or-set_other}
 use Rattle.std.proofs.lemmas.Grind.{get_or-set_at}
 use Rattle.std.proofs.lemmas.List.Edits.{get_or-between, length-between}
 use Rattle.std.specs.List.{between}
 use Rattle.lapd_moments.specs.Bounds.{IsEarliest, IsLead, IsSooner, AreKept, AreNoEarlier}
+use Rattle.lapd_moments.specs.Places.{IsBeside}
 use Rattle.lapd_moments.specs.declared.lead.Lead.{Lead}
 use Rattle.lapd_moments.specs.declared.place.Place.{Place}
 use Rattle.lapd_moments.proofs.Standing.{no_sooner, set_later}
@@ -395,6 +397,11 @@ module _ (not_before found each line : ℕ) (bounds : List ℕ) (leads : List Le
               its_line = λ before. omega (arith, sooner.its_line before, soon, small);
               other_line = λ before. absurd (omega (arith, before));
             }) final))
+
+  -- the place before one that runs has been used
+  pub used-before : (is_next : Bool) (j : ℕ) → IsBeside is_next l.place j → is_next ≡ false → (u.moment ≡ never → ⊥) → j + 1 ≤ line * each + l.used
+  used-before true j is none runs = absurd (false≢true (sym none))
+  used-before false j is none runs = omega (arith, is, is-used runs)
 
   pub takes-its-turn : (j : ℕ) (v w : Place) (timer : Timer) (moment : ℕ) → j < length ps → v ≡ get_or ps j v → v.line ≡ line → (j ≡ l.place → ⊥) → w ≡ get_or (set ps j (record v { moment = moment; timer = timer })) l.place w
       → moment ≤ l.others → l.others ≤ never → (lead : Lead) → lead.place ≡ j → lead.others ≡ l.others → l.used ≤ lead.used → j + 1 ≤ line * each + lead.used

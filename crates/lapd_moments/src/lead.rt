@@ -1,6 +1,6 @@
 //! Which place of a line falls due first, when one of them changes.
 
-ghost use Rattle.std.specs.Prelude.{◌≡◌, ◌+◌, ◌*◌, ◌^◌, ◌<◌, ◌≤◌, ℕ, List, length, set, IfOk};
+ghost use Rattle.std.specs.Prelude.{◌≡◌, ◌+◌, ◌*◌, ◌^◌, ◌<◌, ◌≤◌, false, ℕ, List, length, set, IfOk};
 ghost use Rattle.lapd_moments.specs.Bounds.{IsEarliest, IsLead, IsSooner};
 ghost use Rattle.lapd_moments.specs.Places.{AreFirstPlaces};
 
@@ -19,37 +19,37 @@ pub(crate) struct Lead {
 }
 
 impl Lead {
-    /// The same with another place that leads, of a line whose places begin here: it counts as used.
+    /// Another place leads, of a line whose places begin here: one that counts as used from now on (`is_new`), or one that has
+    /// been used.
     #[inline(always)]
-    pub fn moved_to(&self, place: usize, begin: usize) -> Lead
+    pub fn pass_to(&mut self, place: usize, begin: usize, is_new: bool)
         requires within { begin ≤ place }
         requires few { place < 2 ^ 32 }
-        ensures place { result.place ≡ place }
-        ensures others { result.others ≡ self.now.others }
-        ensures used { self.now.used ≤ result.used }
-        ensures counts { place + 1 ≤ begin + result.used }
-        ensures few { (count : ℕ) → self.now.used ≤ count → place < begin + count → result.used ≤ count }
+        requires used { is_new ≡ false → place + 1 ≤ begin + self.old.used }
+        ensures place { self.new.place ≡ place }
+        ensures others { self.new.others ≡ self.old.others }
+        ensures used { self.old.used ≤ self.new.used }
+        ensures counts { place + 1 ≤ begin + self.new.used }
+        ensures few { (count : ℕ) → self.old.used ≤ count → place < begin + count → self.new.used ≤ count }
     {
-        Lead {
-            place,
-            others: self.others,
-            used: self.used.max(place + 1 - begin),
+        self.place = place;
+        if is_new {
+            self.used = self.used.max(place + 1 - begin);
         }
     }
 }
 
-/// The moment before which no timer falls due, and the line that a look found last, now that a timer of a line falls due at a
-/// moment.
+/// A timer of a line falls due at a moment now. If that is not later than the moment before which none fell due, it is that
+/// moment from now on, and the line is the one that a look found last.
 #[inline(always)]
-pub(crate) fn sooner(not_before: u64, found: usize, line: usize, moment: u64) -> (u64, usize)
-    ensures { IsSooner not_before found line moment result.0 result.1 }
+pub(crate) fn put_sooner(not_before: &mut u64, found: &mut usize, line: usize, moment: u64)
+    ensures { IsSooner not_before.old found.old line moment not_before.new found.new }
 {
-    if moment > not_before {
-        return (not_before, found);
+    if moment <= *not_before {
+        // If others may fall due then, it is as if the first line had been found.
+        *found = if moment < *not_before { line } else { 0 };
+        *not_before = moment;
     }
-    // If others may fall due then, it is as if the first line had been found.
-    let found = if moment < not_before { line } else { 0 };
-    (moment, found)
 }
 
 /// Of each line its first place leads, since none has been used.

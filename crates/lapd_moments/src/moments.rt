@@ -5,7 +5,7 @@ ghost use Rattle.lapd_clock.specs.Timers.{first_due, first_moment};
 ghost use Rattle.lapd_clock.specs.Firsts.{never};
 ghost use Rattle.lapd_moments.specs.Places.{timers_in, with_timer, without_timer, AreNotBefore, IsExchanged, IsFirstUntil, IsRestarted, IsTaken, RunsAt, is_nowhere};
 
-use crate::lead::{Lead, first_places, lead_after, sooner};
+use crate::lead::{Lead, first_places, lead_after, put_sooner};
 use crate::look::{first_line, look};
 use crate::place::{NEVER, Place, beside, running_place};
 use lapd_frame::Timer;
@@ -103,9 +103,7 @@ impl Moments {
         );
         self.bounds[line] = least;
         self.leads[line] = lead;
-        let (not_before, found) = sooner(self.not_before, self.found, line, moment);
-        self.not_before = not_before;
-        self.found = found;
+        put_sooner(&mut self.not_before, &mut self.found, line, moment);
     }
 
     /// Starts a timer of a line anew, and answers whether it did. It does so only if the timer runs, falls due first of its
@@ -150,8 +148,11 @@ impl Moments {
             return false;
         }
         let before = self.leads[line];
+        if due_at > before.others {
+            return false;
+        }
         let leading = &self.places[before.place];
-        if leading.moment == NEVER || due_at > before.others || !leading.is(stopped) {
+        if leading.moment == NEVER || !leading.is(stopped) {
             return false;
         }
         let Some(beside) = beside(&self.places, before.place, is_next) else {
@@ -165,10 +166,8 @@ impl Moments {
         starting.timer = started;
         self.places[before.place].moment = NEVER;
         self.bounds[line] = due_at;
-        self.leads[line] = before.moved_to(beside, line * self.each);
-        let (not_before, found) = sooner(self.not_before, self.found, line, due_at);
-        self.not_before = not_before;
-        self.found = found;
+        self.leads[line].pass_to(beside, line * self.each, is_next);
+        put_sooner(&mut self.not_before, &mut self.found, line, due_at);
         true
     }
 
@@ -225,7 +224,7 @@ impl Moments {
     {
         let place = self.first(now)?;
         let first = self.places[place];
-        self.stop(place);
+        self.start(place, first.timer, NEVER);
         Some((first.line, first.timer))
     }
 

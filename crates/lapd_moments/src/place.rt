@@ -75,7 +75,10 @@ pub(crate) fn beside(places: &[Place], place: usize, is_next: bool) -> Option<us
             None
         };
     }
-    place.checked_sub(1)
+    if place == 0 {
+        return None;
+    }
+    Some(place - 1)
 }
 
 /// Which of the places falls due first.

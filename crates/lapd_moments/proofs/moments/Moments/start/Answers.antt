@@ -29,7 +29,7 @@ invariant_of-self c =
     let ps = c.self.inside.places.items in
     let u = c.index_mut-its.result.now in
     let at_it = c.index_mut-its.ensures.value in
-    kept-after nb found each c.args.place bounds leads ps u c.self.invariant within at_it c.sooner-not_before.result.0 c.sooner-not_before.result.1 c.lead_after-least.result.0 c.lead_after-least.result.1 _ refl c.sooner-not_before.ensures
+    kept-after nb found each c.args.place bounds leads ps u c.self.invariant within at_it c.put_sooner.new.not_before c.put_sooner.new.found c.lead_after-least.result.0 c.lead_after-least.result.1 _ refl c.put_sooner.ensures
     (subst (λ xs. IsLead (u.line * each) each c.lead_after-least.result.0 c.lead_after-least.result.1 xs) c.deref.ensures.value
     (c.lead_after-least.ensures each ps _
     (its-lead nb found each c.args.place bounds leads ps u c.self.invariant within at_it c.index.result.now c.index-2.result.now c.index.ensures c.index-2.ensures)

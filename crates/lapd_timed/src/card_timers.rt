@@ -157,8 +157,7 @@ impl CardTimers {
     }
 
     /// Carries out what a card has ordered at a line, in the answer to an event, at the moment. The card is where the event has
-    /// led; the event was no expiry but of the timer that [`CardTimers::due`] has just taken out. Of a line that there is not,
-    /// nothing is carried out.
+    /// led; the event was no expiry but of the timer that [`CardTimers::due`] has just taken out.
     ///
     /// Mostly there is one order, for the T203 that falls due first of its line, and then no place is looked for.
     // It stands apart, so that a card without timers of its own has no part of it in its way.

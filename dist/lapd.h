@@ -19,9 +19,10 @@
  *
  * lapd_memory.h declares the functions of memory.
  *
- * A null pointer is answered by LAPD_WRONG_POINTER: by lapd.c always, and with a library of the toolchain's where the program
- * is compiled with -DLAPD_CHECKED, by lapd_checked.h. So compile a program that is not finished yet. A pointer to octets may
- * be null there if its length is 0.
+ * A call that answers a status answers LAPD_WRONG_POINTER to a null pointer: by lapd.c always, and with a library of the
+ * toolchain's if the program is compiled with -DLAPD_CHECKED, by lapd_checked.h. So compile a program that is not finished yet;
+ * in C++ all its files or none, as an inline function has one definition. A pointer to octets may be null there if its length is
+ * 0. Calls that answer no status, as lapd_tells, lapd_note_text and lapd_card_octets, look at no pointer.
  *
  * What the caller promises, and no call can test:
  *
@@ -41,7 +42,8 @@
  * Everything else is tested. Each function says by its status what was wrong, and then nothing has changed: neither
  * the card or clock, nor what the other pointers point to. There are three exceptions: LAPD_NO_PLACE of
  * lapd_clock_apply_report; a link waits for room after LAPD_REFUSED_QUEUE_FULL of lapd_data; and it is the moment of
- * lapd_fall_due after its LAPD_NO_TIMER. If several things are wrong, the first is told: that a pointer is null, that
+ * lapd_fall_due after its LAPD_NO_TIMER. A loop in these comments ends at the first status that is not LAPD_OK: look at which it
+ * is. If several things are wrong, the first is told: that a pointer is null, that
  * there is no card or clock, that the card is of the other kind, the line, the other arguments in their order. A
  * refusal of a request is told last.
  */
@@ -361,8 +363,8 @@ typedef struct lapd_lengths {
 
 /*
  * Starts a card of octets that keeps its own timers: no clock is needed, and no order is to be carried out. It is at moment 0,
- * and its calls happen at the moment that lapd_fall_due named last. So call that first: a timer that another call starts
- * before it runs from moment 0. Its reports have no orders, and lapd_expire answers LAPD_WRONG_CARD, as its expiries are its
+ * and its calls happen at the moment that lapd_fall_due was told last. So tell it the time first: a timer that another call
+ * starts before runs from moment 0. Its reports have no orders, and lapd_expire answers LAPD_WRONG_CARD, as its expiries are its
  * own; all other calls are the same. LAPD_WRONG_TIME: a length is out of range.
  */
 LAPD_STATUS lapd_card_start_timed(lapd_card *card, const lapd_config *config, const lapd_lengths *lengths);
@@ -370,8 +372,11 @@ LAPD_STATUS lapd_card_start_timed(lapd_card *card, const lapd_config *config, co
 /*
  * Starts a card of frames that keeps its own timers in the same way.
  *
- *     while (lapd_fall_due(&card, now(), &report) == LAPD_OK)
- *         ... what the report tells of report.line
+ *     uint32_t status;
+ *     while ((status = lapd_fall_due(&card, now(), &report)) == LAPD_OK)
+ *         ... what the report tells of report.line, if anything
+ *     if (status != LAPD_NO_TIMER)
+ *         ... a fault: with LAPD_WRONG_TIME the clock was set back, and no timer falls due
  *     if a frame came:  lapd_frame(&card, line, frame, length, &report);  ... what the report tells
  *     for (uint32_t line = 0; lapd_next_waiting(&card, line, &line) == LAPD_OK; line++)
  *         ... lapd_next_frame, where the controller of this line has room
@@ -423,12 +428,14 @@ LAPD_STATUS lapd_frame(lapd_card *card, uint32_t line, const uint8_t *octets, si
 LAPD_STATUS lapd_frame_failed(lapd_card *card, uint32_t line, uint8_t cause, lapd_report *report);
 
 /*
- * Gives the next frame of a line to send: writes it in front of `out`, from the address to the information, without a
- * check, and *length is how many octets it has. The frame counts as sent then, so call it when the controller can take
- * one. LAPD_NO_FRAME: none waits, and nothing has changed. LAPD_WRONG_LENGTH: `room` is less than n201 and four, whatever
- * waits. After the frame nothing of `out` is written; `out` lies outside of *report. A card that keeps its own timers has
- * carried out the report's orders, and it has none; of another, carry them out as those of each other call. If
- * report->more is 0, the next call would answer LAPD_NO_FRAME, unless something happens at the line before it.
+ * Gives the next frame of a line to send: writes it in front of `out`, from the address to the information, without a check,
+ * and *length is how many octets it has. An I-frame counts as sent then, and its T200 runs; T200 of SABME, DISC or an
+ * enquiry runs since that was queued. So call it as soon as the controller can take a frame, and not before: if none is
+ * taken until N200 is used up, links are lost (errors G, H, I). LAPD_NO_FRAME: none waits, and nothing has changed.
+ * LAPD_WRONG_LENGTH: `room` is less than n201 and four, whatever waits. After the frame nothing of `out` is written; `out`
+ * lies outside of *report. A card that keeps its own timers has carried out the report's orders, and it has none; of
+ * another, carry them out as those of each other call. If report->more is 0, the next call would answer LAPD_NO_FRAME,
+ * unless something happens at the line before it.
  *
  *     uint8_t out[LAPD_MOST_FRAME];
  *     for (size_t length; lapd_next_frame(&card, line, out, sizeof out, &length, &report) == LAPD_OK;)
@@ -482,16 +489,19 @@ LAPD_STATUS lapd_request(lapd_card *card, uint32_t line, uint8_t request, uint8_
 
 /*
  * The time is now a moment, in milliseconds from any origin; and the timer that is due first, if one is, expires: the report
- * tells what that led to, at its line. So call it until it answers LAPD_NO_TIMER: then nothing is due, and calls happen at
- * this moment. At one moment: by line, then T200 before T203 before T201 or T202, by TEI, and call control before packet.
+ * tells what that led to, at its line, and tells nothing if it led to a frame alone. However late the call is, the timer expires
+ * at this moment, and what it starts runs from then on. So call it until it answers LAPD_NO_TIMER: then nothing is due, and
+ * calls happen at this moment. At one moment: by line, then T200 before T203 before T201 or T202, by TEI, and call control
+ * before packet.
  * LAPD_WRONG_TIME: a moment before the last one, or 2^63 and later, and nothing has changed. Nothing falls due until the last
- * moment has come again, so take a clock that is never set back, and look at the status that ends the loop.
+ * moment has come again, so take a clock that is never set back, and look at the status that ends the loop. One moment that is
+ * far too great stops all timers of the card for good: then free it, and start another.
  */
 LAPD_STATUS lapd_fall_due(lapd_card *card, uint64_t now, lapd_report *report);
 
 /* When the timer falls due that falls due first: nothing falls due before, unless another call starts a timer. So ask once all
- * other calls of a turn are made. If lapd_fall_due has answered LAPD_NO_TIMER, it is later than now. LAPD_NO_TIMER: none
- * runs. */
+ * other calls of a turn are made. If lapd_fall_due has answered LAPD_NO_TIMER, it is later than now; while a timer that is due
+ * is left, it has passed. LAPD_NO_TIMER: none runs. */
 LAPD_STATUS lapd_next_moment(lapd_card *card, uint64_t *moment);
 
 /* ---- What a card says of itself --------------------------------------------------------------------------------- */
@@ -647,7 +657,7 @@ typedef struct lapd_clock {
 
 #define LAPD_CLOCK_NONE { false, LAPD_NULL }
 
-/* The latest moment that a timer may be ordered at: 2^63 ms. */
+/* The latest moment at which a clock takes an order: 2^63 ms. A card's own time stays before it (lapd_fall_due). */
 #define LAPD_LATEST (UINT64_C(1) << 63)
 
 /* A timer that fell due. */

@@ -8,10 +8,13 @@
  *         for (lapd::note note : report.notes())
  *             tell(report.line(), note.text(), note.tei);
  *     };
- *     if (lapd::status is = card.start(config, lengths); is != lapd::status::ok)
+ *     lapd::status is = card.start(config, lengths);
+ *     if (is != lapd::status::ok)
  *         return fail(lapd::text(is));
- *     while (card.fall_due(now(), report) == lapd::status::ok) // one timer after the other
+ *     while ((is = card.fall_due(now(), report)) == lapd::status::ok) // one timer after the other
  *         layer_3();
+ *     if (is != lapd::status::no_timer) // wrong_time: the clock was set back
+ *         return fail(lapd::text(is));
  *     if (card.frame(0, octets, report) == lapd::status::ok)
  *         layer_3();
  *
@@ -286,7 +289,8 @@ public:
         return of(lapd_expire(&card_, line, &raw, to.raw()));
     }
     // Of a card that keeps its own timers; at another status::wrong_card.
-    /// The time is now this moment, and what is due first falls due; status::no_timer if nothing is due.
+    /// The time is now this moment, and what is due first falls due; status::no_timer if nothing is due, and status::wrong_time of
+    /// a moment before the last one.
     status fall_due(uint64_t now, report &to) { return of(lapd_fall_due(&card_, now, to.raw())); }
     /// When the first timer falls due; status::no_timer if none runs.
     status next_moment(uint64_t &moment) { return of(lapd_next_moment(&card_, &moment)); }

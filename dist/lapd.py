@@ -5,11 +5,12 @@
     # Basic access: windows of 1 for call control and 3 for packet mode (Q.921, 5.9.5)
     config = lapd.Config(lines=1, terminals=8, k=1, k16=3, queue=8, unit_queue=4, control=4, slots=64, n201=260, n200=3)
     with lapd.TimedFrameCard(config) as card:
+        list(card.fall_due(now=5000))                           # the time first: timers run from then on
         card.assign(0, 64)
         report = card.frame(0, bytes.fromhex("00817F"))         # SABME of TEI 64
         print([str(note) for note in report.notes])             # ['establish-indication']
         octets, report = card.next_frame(0)                     # UA: 008173
-        for report in card.fall_due(now=10000):                 # T203: the terminal is asked whether it is still there
+        for report in card.fall_due(now=15000):                 # T203: the terminal is asked whether it is still there
             octets, report = card.next_frame(report.line)       # RR, P=1: 02810101
 
 lapd.h says of each call what it does. Here a card is a `TimedCard` (for octets) or a `TimedFrameCard` (for frames), which keep
@@ -682,7 +683,7 @@ class FrameCard(AnyCard):
 
 class _Timed(AnyCard):
     """What a card that keeps its own timers does besides: its reports have no orders. Its calls happen at the moment of
-    `fall_due`, and at 0 before the first."""
+    `fall_due`, and at 0 before the first: so tell it the time before all else."""
 
     def __init__(self, config: Config, t200: int = 1000, t203: int = 10000, t201: int = 1000, t202: int = 2000) -> None:
         self._lengths = _Lengths(*(_whole(_U32, it) for it in (t200, t203, t201, t202)))
@@ -694,8 +695,8 @@ class _Timed(AnyCard):
     def fall_due(self, now: int) -> Iterator[Report]:
         """The time is now this moment: what is due falls due, one after the other, and each tells what it led to.
 
-        Take all of them, as `for report in card.fall_due(now)` does. Nothing falls due, and no time passes, before the
-        first is asked for."""
+        Take all of them, as `for report in card.fall_due(now)` or `list(..)` does: the call alone does nothing. An Error with
+        WRONG_TIME: the moment is before the last one, or 2^63 and later."""
         while _unless(Status.NO_TIMER, "lapd_fall_due", self._at, now, ctypes.byref(self._told)):
             yield _report(self._told)
 

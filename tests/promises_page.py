@@ -10,6 +10,7 @@ The law that docs/PROOFS.md prints whole, HEADLINE, needs at most MOST_LINES.
 The worked run of a promise is that of RUNS: a file of worked values that names a definition which the promise needs."""
 import re
 import sys
+import textwrap
 
 from premises import ALWAYS, of_claim, of_definition
 from promised import DRIVE, OF_ONE_CARD, OF_TWO_CARDS, RECORDS, listed, rows_at
@@ -204,7 +205,8 @@ def page():
     it, lines = Statement(), []
     always = of_definition(it.files[('laws_trace', 'Trace')].definitions[ALWAYS])['']
     lines += ['', '`%s`: %s.' % (ALWAYS, quoted(always))]
-    lines += ['%s: %s.' % (name.capitalize(), '; '.join('`%s`' % it for it in them)) for name, them in SHARED.items()]
+    told = ['%s: %s.' % (name.capitalize(), '; '.join('`%s`' % it for it in them)) for name, them in SHARED.items()]
+    lines += [textwrap.fill(it, 120, break_on_hyphens=False, break_long_words=False) for it in told]
     for place, rows in it.rows_of.items():
         lines += ['', '## %s' % (title(place)[0].upper() + title(place)[1:])]
         for row in rows:

@@ -52,15 +52,16 @@ def machine(wasm: str, folder: str) -> Machine:
 
 
 def plain(body: str) -> str:
-    """wasm2c's text without indentation, for a machine that holds its memory itself. What it asks of its system are functions
-    that begin with host_."""
+    """wasm2c's text without indentation and with short names of what is local to a function, for a machine that holds its memory
+    itself. What it asks of its system are functions that begin with host_."""
     body = re.sub(r"^ +", "", body, flags=re.M)
     body = re.sub(r"^.*\bZ_env_instance;\n", "", body, flags=re.M)
     body = re.sub(r"\(\*Z_envZ_(\w+)\)\(instance->Z_env_instance(, )?", r"host_\1(instance\2", body)
     body = re.sub(r"\bZ_machine_instance_t ?\* ?", "machine *", body)
     body = body.replace("instance->w2c_memory.pages", "(u32)(instance->octets / 65536)")
     body = body.replace("&instance->w2c_memory", "instance").replace("instance->w2c_memory", "instance")
-    return re.sub(r"\b(i\d\d_(?:load|store)\w*)\(instance, (\(u64\)\(w2c_i\d+\))(?: \+ (\d+)u?)?", access, body)
+    body = re.sub(r"\b(i\d\d_(?:load|store)\w*)\(instance, (\(u64\)\(w2c_i\d+\))(?: \+ (\d+)u?)?", access, body)
+    return re.sub(r"\bw2c_([BLijlp]\d+)\b", r"w_\1", body)
 
 
 def access(found: "re.Match[str]") -> str:

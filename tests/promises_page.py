@@ -206,7 +206,7 @@ def page():
     always = of_definition(it.files[('laws_trace', 'Trace')].definitions[ALWAYS])['']
     lines += ['', '`%s`: %s.' % (ALWAYS, quoted(always))]
     told = ['%s: %s.' % (name.capitalize(), '; '.join('`%s`' % it for it in them)) for name, them in SHARED.items()]
-    lines += [textwrap.fill(it, 120, break_on_hyphens=False, break_long_words=False) for it in told]
+    lines += sum((textwrap.wrap(it, 120, break_on_hyphens=False, break_long_words=False) for it in told), [])
     for place, rows in it.rows_of.items():
         lines += ['', '## %s' % (title(place)[0].upper() + title(place)[1:])]
         for row in rows:

@@ -14,7 +14,7 @@
 //!
 //! # Open
 //!
-//! That commands and answers find a place. How soon what was granted arrives as timers fall due.
+//! That commands and answers find a place. How soon what was granted arrives after noise, or as timers fall due.
 
 ghost use Rattle.laws_time.specs.circuit.Answered.{AnEnquiryIsAnswered, CommandsAreAnswered, NoNoiseIsClear, OneEnquiryIsEnough};
 ghost use Rattle.laws_time.specs.circuit.Arriving.{CallsBearNoise};

@@ -18,7 +18,8 @@ use crate::fault::StartFault;
 use crate::requests::TeiRequest;
 use lapd_frame::{Note, Order, Refusal, ShortList, Side, Timer};
 use lapd_tei::{TeiOutcome, Teis};
-use lapd_terminal::{News, T202Order, TerminalOutcome, TerminalTeis};
+use lapd_terminal::{News, T202Order, TerminalOutcome};
+use lapd_terminal_teis::TerminalTeis;
 use model_line::Config;
 use std::alloc::Global;
 

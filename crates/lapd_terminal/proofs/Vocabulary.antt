@@ -21,7 +21,6 @@ pub use Rattle.lapd_tei.proofs.SoundWords.{table-empty}
 pub use Rattle.lapd_terminal.specs.Machine.{Asking, Procedure, Terminal, Verifying, fresh}
 pub use Rattle.lapd_terminal.specs.Messages.{IdentityCheckResponse, IdentityRequest, IdentityVerify, Message, action_of}
 pub use Rattle.lapd_terminal.specs.Numbers.{next_number}
-pub use Rattle.lapd_terminal.specs.Outcome.{terminal_of}
 pub use Rattle.lapd_tei.specs.Table.{itself, named, teis_on}
 pub use Rattle.lapd_terminal.specs.Sound.{IsSound, IsSoundProcedure, IsSoundQueue, has_slot, is_asked, is_due, may_ask, may_verify, slot_of}
 pub use Rattle.lapd_terminal.specs.Words.{is_other, is_request, is_response, is_response_of, is_verified, is_verify, put_at, with_request, with_verify}

@@ -1,15 +1,11 @@
 -- What the code's values stand for.
 use Rattle.std.specs.Prelude.{Option}
 use Rattle.lapd_terminal.specs.declared.outcome.TerminalOutcome.{TerminalOutcome}
-use Rattle.lapd_terminal.specs.declared.terminal_teis.TerminalTeis.TheInside.{Inside}
 use Rattle.lapd_terminal.specs.Machine.{Terminal, TerminalTold, nothing, T202Order}
 use Rattle.lapd_terminal.specs.Words.{Course}
 
 abbrev pub told_of : TerminalOutcome → TerminalTold
 told_of o = record { news = o.news; change = o.change; order = o.order; unserved = o.unserved }
-
-abbrev pub terminal_of : Inside → Terminal
-terminal_of t = record { places = t.table; number = t.number; procedure = t.procedure; waiting = t.queue }
 
 -- where an event has led, as an outcome tells it
 abbrev pub led_to : Terminal → TerminalOutcome → Course

@@ -37,8 +37,8 @@ impl Default for Message {
 }
 
 impl Message {
-    // The frame of the message, without its frame check.
-    pub(crate) fn frame(self) -> [u8; 8]
+    /// The frame of the message, without its frame check.
+    pub fn frame(self) -> [u8; 8]
         requires { action_of self < 128 }
         ensures { result ≡ frame_of self }
     {
@@ -57,8 +57,8 @@ impl Message {
         octets
     }
 
-    // Its message type (table 8).
-    pub(crate) fn kind(self) -> u8
+    /// Its message type (table 8).
+    pub fn kind(self) -> u8
         ensures { result ≡ type_of self }
     {
         match self {
@@ -82,29 +82,29 @@ impl Message {
         [ENTITY, high, low, self.kind(), 2 * action + 1]
     }
 
-    // Which message it is: an identity request,
-    pub(crate) fn is_request(self) -> bool
+    /// Whether it is an identity request,
+    pub fn is_request(self) -> bool
         ensures { result ≡ is_request self }
     {
         matches!(self, Message::IdentityRequest { .. })
     }
 
-    // a verify,
-    pub(crate) fn is_verify(self) -> bool
+    /// a verify,
+    pub fn is_verify(self) -> bool
         ensures { result ≡ is_verify self }
     {
         matches!(self, Message::IdentityVerify { .. })
     }
 
-    // a check response,
-    pub(crate) fn is_response(self) -> bool
+    /// a check response,
+    pub fn is_response(self) -> bool
         ensures { result ≡ is_response self }
     {
         matches!(self, Message::IdentityCheckResponse { .. })
     }
 
-    // or that for this TEI.
-    pub(crate) fn is_response_of(self, tei: u8) -> bool
+    /// or that for this TEI.
+    pub fn is_response_of(self, tei: u8) -> bool
         ensures { result ≡ is_response_of tei self }
     {
         match self {

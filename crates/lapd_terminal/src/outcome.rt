@@ -47,8 +47,8 @@ impl TerminalOutcome {
     ghost use Rattle.lapd_terminal.specs.Machine.{nothing};
     ghost use Rattle.lapd_tei.specs.declared.outcome.Change.TheVariants.{Gained};
 
-    // Nothing happened.
-    pub(crate) fn nothing() -> TerminalOutcome
+    /// Nothing happened.
+    pub fn nothing() -> TerminalOutcome
         ensures { told_of result ≡ nothing }
     {
         TerminalOutcome {
@@ -59,8 +59,8 @@ impl TerminalOutcome {
         }
     }
 
-    // A message that is not served.
-    pub(crate) fn unserved() -> TerminalOutcome
+    /// A message that is not served.
+    pub fn unserved() -> TerminalOutcome
         ensures { told_of result ≡ record nothing { unserved = true } }
     {
         TerminalOutcome {
@@ -69,8 +69,8 @@ impl TerminalOutcome {
         }
     }
 
-    // Management is told, and nothing else happened.
-    pub(crate) fn told(news: News) -> TerminalOutcome
+    /// Management is told, and nothing else happened.
+    pub fn told(news: News) -> TerminalOutcome
         ensures { told_of result ≡ record nothing { news = Some news } }
     {
         TerminalOutcome {
@@ -79,8 +79,8 @@ impl TerminalOutcome {
         }
     }
 
-    // T202 is started or stopped, and nothing is told.
-    pub(crate) fn ordered(order: Option<T202Order>) -> TerminalOutcome
+    /// T202 is started or stopped, and nothing is told.
+    pub fn ordered(order: Option<T202Order>) -> TerminalOutcome
         ensures { told_of result ≡ record nothing { order = order } }
     {
         TerminalOutcome {
@@ -89,8 +89,8 @@ impl TerminalOutcome {
         }
     }
 
-    // A TEI came to the line, and nothing is told.
-    pub(crate) fn gained(tei: u8, place: usize) -> TerminalOutcome
+    /// A TEI came to the line, and nothing is told.
+    pub fn gained(tei: u8, place: usize) -> TerminalOutcome
         ensures { told_of result ≡ record nothing { change = Some (Gained tei place) } }
     {
         TerminalOutcome {

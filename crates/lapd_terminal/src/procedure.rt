@@ -25,7 +25,7 @@ pub enum Procedure {
 }
 
 /// Whether this TEI is verified.
-pub(crate) fn is_verified(procedure: Option<Procedure>, tei: u8) -> bool
+pub fn is_verified(procedure: Option<Procedure>, tei: u8) -> bool
     ensures { result ≡ is_verified tei procedure }
 {
     match procedure {
@@ -35,7 +35,7 @@ pub(crate) fn is_verified(procedure: Option<Procedure>, tei: u8) -> bool
 }
 
 /// What is ordered of T202 if a procedure ends.
-pub(crate) fn stop_of(procedure: Option<Procedure>) -> Option<T202Order>
+pub fn stop_of(procedure: Option<Procedure>) -> Option<T202Order>
     ensures { result ≡ stop_of procedure }
 {
     match procedure {

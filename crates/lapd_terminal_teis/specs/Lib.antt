@@ -1,0 +1,2 @@
+-- What the code of a terminal's TEI management stands for.
+pub mod Outcome

@@ -3,8 +3,8 @@ use Rattle.lapd_c.proofs.Vocabulary.{◌≡◌, ℕ, Result, Ok, IfOk, IfSome, O
 use Rattle.std.specs.Prelude.{Err}
 use Rattle.std.proofs.Common.{IsOkAnd}
 use Rattle.std.specs.Result.{result_ok}
-use Rattle.lapd_card.specs.declared.kinds.CardKind.{CardKind}
-use Rattle.lapd_card.specs.declared.kinds.CardKind.TheVariants as kinds
+use Rattle.model_card.specs.declared.kinds.CardKind.{CardKind}
+use Rattle.model_card.specs.declared.kinds.CardKind.TheVariants as kinds
 use Rattle.lapd_timed.specs.Stands.{TimersStand}
 use Rattle.lapd_timed.specs.declared.card_timers.CardTimers.{CardTimers}
 use Rattle.model_card.specs.Card as cards

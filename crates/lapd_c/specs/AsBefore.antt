@@ -1,7 +1,7 @@
 -- A card whose timers are the caller's, by the contracts of a start, of a call, and of an expiry.
 use Rattle.std.specs.Prelude.{◌≡◌, ℕ, IfOk}
 use Rattle.lapd_card.specs.Kinds.{Machine, after, answer}
-use Rattle.lapd_card.specs.declared.kinds.CardKind.{CardKind}
+use Rattle.model_card.specs.declared.kinds.CardKind.{CardKind}
 use Rattle.model_card.specs.Event.{at}
 use Rattle.model_line.specs.Event.{expiry}
 use Rattle.lapd_c.specs.declared.card.CardHandle.{CardHandle}

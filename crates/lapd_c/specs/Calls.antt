@@ -11,8 +11,8 @@ use Rattle.model_line.specs.Refusal.{refusal}
 use Rattle.model_line.specs.Request.{Request}
 use Rattle.lapd_frame.specs.declared.refusals.Refusal.{Refusal}
 use Rattle.lapd_card.specs.Kinds.{Machine, with_ports, alone, card_in, AnyStands, counters_of}
-use Rattle.lapd_card.specs.declared.kinds.CardKind.{CardKind}
-use Rattle.lapd_card.specs.declared.kinds.CardKind.TheVariants as kinds
+use Rattle.model_card.specs.declared.kinds.CardKind.{CardKind}
+use Rattle.model_card.specs.declared.kinds.CardKind.TheVariants as kinds
 use Rattle.lapd_c.specs.declared.card.CardHandle.{CardHandle}
 use Rattle.lapd_c.specs.declared.kept.KeptCard.{KeptCard}
 use Rattle.lapd_c.specs.declared.plain.config.PlainConfig.{PlainConfig}

@@ -8,7 +8,7 @@ use Rattle.lapd_card.specs.declared.kinds.AnyCard.{AnyCard}
 use Rattle.lapd_c.specs.declared.link_marks.LinkMarks.{LinkMarks}
 use Rattle.lapd_c.specs.CardSlots.{HeldCard}
 use Rattle.lapd_card.specs.Kinds.{kind_of, Machine, with_ports, alone, AnyStands}
-use Rattle.lapd_card.specs.declared.kinds.CardKind.{CardKind}
+use Rattle.model_card.specs.declared.kinds.CardKind.{CardKind}
 
 -- The card that is there, with the marks of its links that wait for room, or none; that card alone; and its kind.
 abbrev pub card_of : CardHandle → HeldCard

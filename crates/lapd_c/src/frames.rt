@@ -6,7 +6,7 @@ ghost use Rattle.lapd_c.specs.{FramesWithLine, IsFirstWaiting, has_next, next_wa
 ghost use Rattle.model_card.specs.Card as machine;
 ghost use Rattle.model_card.specs.Machine.{after, answer};
 ghost use Rattle.lapd_c.specs.Faults.{fault_in};
-ghost use Rattle.lapd_card.specs.declared.kinds.CardKind.TheVariants as kinds;
+ghost use Rattle.model_card.specs.declared.kinds.CardKind.TheVariants as kinds;
 ghost use Rattle.lapd_c.specs.Statuses as status;
 
 use crate::card::CardHandle;

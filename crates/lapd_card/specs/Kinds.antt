@@ -18,8 +18,8 @@ use Rattle.lapd_card.specs.FrameStands.{FrameStands}
 use Rattle.lapd_card.specs.Stands.{OctetCardStands}
 use Rattle.lapd_card.specs.declared.kinds.AnyCard.{AnyCard}
 use Rattle.lapd_card.specs.declared.kinds.AnyCard.TheVariants.{Octets, Frames}
-use Rattle.lapd_card.specs.declared.kinds.CardKind.{CardKind}
-use Rattle.lapd_card.specs.declared.kinds.CardKind.TheVariants as kinds
+use Rattle.model_card.specs.declared.kinds.CardKind.{CardKind}
+use Rattle.model_card.specs.declared.kinds.CardKind.TheVariants as kinds
 
 abbrev pub kind_of : AnyCard → CardKind
 kind_of (Octets card) = kinds.Octets

@@ -14,13 +14,6 @@ use lapd_frame::{Refusal, Timer};
 use lapd_line::{BareReport, Request};
 use lapd_store::RawShelf;
 
-/// Whether a card takes and gives octets, or whole frames.
-#[derive(Clone, Copy)]
-pub enum CardKind {
-    Octets,
-    Frames,
-}
-
 /// A card that takes and gives octets, or one that takes and gives whole frames, over a shelf of raw memory.
 #[derive(Debug, Drop)]
 pub enum AnyCard {

@@ -3,7 +3,7 @@ use Rattle.std.specs.Prelude.{ℕ, ◌≤◌, List, take, Result, Ok, Err}
 use Rattle.lapd_script.specs.declared.kind.FaultKind.{FaultKind}
 use Rattle.lapd_transcript.specs.declared.counters.CounterGroup.{CounterGroup}
 use Rattle.lapd_script.specs.declared.command.Asked.{Asked}
-use Rattle.lapd_script.specs.declared.command.CardKind.{CardKind}
+use Rattle.model_card.specs.declared.kinds.CardKind.{CardKind}
 use Rattle.lapd_script.specs.declared.command.Durations.{Durations}
 use Rattle.model_line.specs.declared.faults.Fault.{Fault}
 use Rattle.model_line.specs.declared.config.Config.{Config}

@@ -3,7 +3,7 @@ use Rattle.std.specs.Prelude.{ℕ, Bool, true, false, if◌then◌else◌, List,
 use Rattle.lapd_frame.specs.declared.services.Service.TheVariants.{Call, Packet}
 use Rattle.lapd_script.specs.declared.command.Asked.{Asked}
 use Rattle.lapd_script.specs.declared.command.Asked.TheVariants.{Assign, Remove, Check, Disown, Verify, Establish, Release, SetBusy, ClearBusy, Deactivate, Data, Unit}
-use Rattle.lapd_script.specs.declared.command.CardKind.TheVariants.{Octets, Frames}
+use Rattle.model_card.specs.declared.kinds.CardKind.TheVariants.{Octets, Frames}
 use Rattle.lapd_transcript.specs.declared.counters.CounterGroup.TheVariants.{Line, Messages}
 use Rattle.lapd_script.specs.declared.word.Word.{Word}
 use Rattle.lapd_script.specs.declared.word.Word.TheVariants.{Card, Rx, In, Failed, Next, Down, AskTei, Pull, Wait, Timers, Stored, Counters, Ask}

@@ -7,7 +7,7 @@ use Rattle.lapd_frame.specs.declared.faults.ReadFault.TheVariants.{Short}
 use Rattle.lapd_frame.specs.declared.services.Service.TheVariants.{Call, Packet}
 use Rattle.lapd_script.specs.declared.kind.FaultKind.TheVariants.{UnknownWord, BadNumberOfWords, BadNumber, BadOctets, BadCause}
 use Rattle.lapd_script.specs.declared.command.Asked as asked
-use Rattle.lapd_script.specs.declared.command.CardKind.TheVariants.{Octets, Frames}
+use Rattle.model_card.specs.declared.kinds.CardKind.TheVariants.{Octets, Frames}
 use Rattle.model_line.specs.declared.faults.Fault.TheVariants.{Ragged}
 use Rattle.lapd_transcript.specs.declared.counters.CounterGroup.TheVariants as group
 use Rattle.lapd_script.specs.Meaning.{skip, card, rx, into, failed, next, down, ask_tei, pull, wait, timers, stored, counters, ask}

@@ -2,6 +2,7 @@
 
 use lapd_frame::Service;
 use lapd_transcript::CounterGroup;
+use model_card::CardKind;
 use model_line::{Config, Fault};
 
 /// What layer 3 asks for, in a line that names a card's line and a TEI.
@@ -31,15 +32,6 @@ pub enum Asked {
     Data(Service),
     /// `unit`, `unit16`: contents without acknowledgement.
     Unit(Service),
-}
-
-/// What goes between a card and its lines.
-#[derive(Clone, Copy, PartialEq)]
-pub enum CardKind {
-    /// `card`: octets, one after the other.
-    Octets,
-    /// `frames`: whole frames, as a controller does the rest.
-    Frames,
 }
 
 /// How many milliseconds timers run, 1 to 3,600,000 each.

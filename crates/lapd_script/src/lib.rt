@@ -33,12 +33,13 @@ mod word;
 mod words;
 
 pub use arguments::job;
-pub use command::{Asked, CardKind, Command, Durations};
+pub use command::{Asked, Command, Durations};
 pub use fault_lines::{refuse, refuse_digits, refuse_words};
 pub use faults::{LineFault, PlayFault};
 pub use jobs::{Job, Limits};
 pub use kind::FaultKind;
 pub use lines::ScriptLines;
+pub use model_card::CardKind;
 pub use read::read_line;
 pub use shown::{FrameFault, show_frame};
 pub use values::octets;

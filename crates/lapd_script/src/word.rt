@@ -3,9 +3,10 @@
 ghost use Rattle.std.specs.Prelude.{◌≡◌};
 ghost use Rattle.lapd_script.specs.Word.{word_named, asked_named, carries_octets};
 
-use crate::command::{Asked, CardKind};
+use crate::command::Asked;
 use lapd_frame::Service;
 use lapd_transcript::CounterGroup;
+use model_card::CardKind;
 
 /// The first word of a line.
 #[derive(Clone, Copy)]

@@ -7,10 +7,9 @@ use Rattle.lapd_card.specs.Stands as octets
 use Rattle.lapd_card.specs.FrameCard as frames_card
 use Rattle.lapd_card.specs.FrameStands as frames
 use Rattle.lapd_card.specs.Kinds as kinds
-use Rattle.lapd_card.specs.declared.kinds.CardKind.TheVariants as variants
 use Rattle.lapd_card.proofs.OneOctet.{IsPassedOn, expiry_passes, request_passes, meant_is, passed_after, passed_answer}
 use Rattle.lapd_frame.specs.declared.timers.Timer.{Timer}
-use Rattle.lapd_script.specs.declared.command.CardKind.TheVariants as kind
+use Rattle.model_card.specs.declared.kinds.CardKind.TheVariants as kind
 use Rattle.model_card.specs.Counted as counts
 use Rattle.model_card.specs.Event as frame_event
 use Rattle.model_card.specs.Machine as frame_machine
@@ -125,8 +124,8 @@ module _ {w : What} {e : port.Event} {f : line_event.Event} (both : IsOfBoth w e
         ∙ ap (λ o. counts.all_counted (counters_of (Octets old)) (option_to_list (option_map (frame_moment b.card) o))) (sym (meant_is both.passes line b.card))
         ∙ octets_counted line w e both.octets (counters_of (Octets old)) b on.kind;
   }
-  lead_on (Octets old) (Frames new) leads = let is : variants.Frames ≡ variants.Octets = leads.kind in absurd (cc)
-  lead_on (Frames old) (Octets new) leads = let is : variants.Octets ≡ variants.Frames = leads.kind in absurd (cc)
+  lead_on (Octets old) (Frames new) leads = let is : kind.Frames ≡ kind.Octets = leads.kind in absurd (cc)
+  lead_on (Frames old) (Octets new) leads = let is : kind.Octets ≡ kind.Frames = leads.kind in absurd (cc)
   lead_on (Frames old) (Frames new) leads = record {
     kind = refl;
     config = leads.config;
@@ -155,14 +154,6 @@ octets_on (Frames card) b on is = absurd (cc)
 frames_on : (card : AnyCard) (b : machine.Board) → OnBoard card b → kind_of card ≡ kind.Frames → AnyStands card (alone b.card.card)
 frames_on (Frames card) b on is = on.stands
 frames_on (Octets card) b on is = absurd (cc)
-
-pub is_octets : (card : AnyCard) → kind_of card ≡ kind.Octets → kinds.kind_of card ≡ variants.Octets
-is_octets (Octets card) is = refl
-is_octets (Frames card) is = absurd (cc)
-
-pub is_frames : (card : AnyCard) → kind_of card ≡ kind.Frames → kinds.kind_of card ≡ variants.Frames
-is_frames (Frames card) is = refl
-is_frames (Octets card) is = absurd (cc)
 
 -- the card of frames stands for that of the board
 pub inside : (card : AnyCard) (b : machine.Board) → OnBoard card b → FrameCardStands (frames_of card) b.card.card

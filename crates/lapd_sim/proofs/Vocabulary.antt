@@ -19,7 +19,7 @@ pub use Rattle.lapd_script.specs.Meaning.{Meaning, meant}
 pub use Rattle.lapd_script.specs.Pieces.{line_in, pieces_of, with_octet}
 pub use Rattle.lapd_script.specs.Read.{read}
 pub use Rattle.lapd_script.specs.ScriptLines.{Advances, AreLeft, IsNext, IsReady, IsTooLong, held}
-pub use Rattle.lapd_script.specs.declared.command.CardKind.{CardKind}
+pub use Rattle.model_card.specs.declared.kinds.CardKind.{CardKind}
 pub use Rattle.lapd_script.specs.declared.faults.LineFault.{LineFault}
 pub use Rattle.lapd_script.specs.declared.faults.LineFault.TheVariants.{Faulty}
 pub use Rattle.lapd_script.specs.declared.faults.PlayFault.{PlayFault}
@@ -27,10 +27,10 @@ pub use Rattle.lapd_script.specs.declared.faults.PlayFault.TheVariants.{OutOfMem
 pub use Rattle.lapd_script.specs.declared.kind.FaultKind.{FaultKind}
 pub use Rattle.lapd_script.specs.declared.kind.FaultKind.TheVariants.{BadFrame, BadLine, TooLong}
 pub use Rattle.lapd_script.specs.declared.lines.ScriptLines.{ScriptLines}
-pub use Rattle.lapd_card.specs.Kinds.{AnyLeads, AnyStands, CardStands, FrameCardStands, Machine, alone, card_in, config_of, counters_of, frames_of, shelf_of, with_ports}
+pub use Rattle.lapd_card.specs.Kinds.{AnyLeads, AnyStands, CardStands, FrameCardStands, Machine, alone, card_in, config_of, counters_of, frames_of, kind_of, shelf_of, with_ports}
 pub use Rattle.lapd_card.specs.declared.kinds.AnyCard.{AnyCard}
 pub use Rattle.lapd_card.specs.declared.kinds.AnyCard.TheVariants.{Frames, Octets}
-pub use Rattle.lapd_sim.specs.Boards.{Leads, OnBoard, kind_of}
+pub use Rattle.lapd_sim.specs.Boards.{Leads, OnBoard}
 pub use Rattle.lapd_sim.specs.Obeyed.{Does, HasExpired, Obeys, Said, SetupSays, StartsBy, Tells, said, said_by, said_of, said_with, said_without, scene, written}
 pub use Rattle.lapd_sim.specs.Pages.{PutsNone, PutsSome, Reaches, is_cut}
 pub use Rattle.lapd_sim.specs.Plays.{AreAnswered, Plays, PlaysOctets, PlaysOn, is_whole, whole_lines}

@@ -1,16 +1,10 @@
 -- The card of an exchange, of either kind, and the board of a machine that it stands for.
 use Rattle.std.specs.Prelude.{◌≡◌}
-use Rattle.lapd_card.specs.Kinds.{CardStands, FrameCardStands, config_of, counters_of}
+use Rattle.lapd_card.specs.Kinds.{CardStands, FrameCardStands, config_of, counters_of, kind_of}
 use Rattle.lapd_card.specs.declared.kinds.AnyCard.{AnyCard}
 use Rattle.lapd_card.specs.declared.kinds.AnyCard.TheVariants.{Octets, Frames}
-use Rattle.lapd_script.specs.declared.command.CardKind.{CardKind}
-use Rattle.lapd_script.specs.declared.command.CardKind.TheVariants as kind
 use Rattle.lapd_sim.specs.machine.Board as machine
 use Rattle.lapd_sim.specs.machine.Board.{Event, after, counted}
-
-abbrev pub kind_of : AnyCard → CardKind
-kind_of (Octets card) = kind.Octets
-kind_of (Frames card) = kind.Frames
 
 -- A card of octets stands for that of the board, one of frames for the card inside.
 abbrev pub StandsOn : AnyCard → machine.Board → Type 0

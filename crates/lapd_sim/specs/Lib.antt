@@ -10,7 +10,7 @@ pub mod Plays
 pub mod Serves
 pub mod machine
 -- the words of the contracts, from where they are defined
-pub use Rattle.lapd_card.specs.Kinds.{config_of, counters_of}
+pub use Rattle.lapd_card.specs.Kinds.{config_of, counters_of, kind_of}
 pub use Rattle.lapd_line.specs.Reports.{told_beside, IsClear}
 pub use Rattle.lapd_script.specs.Bound.{bound}
 pub use Rattle.lapd_script.specs.FaultLines.{IsWrittenOrFails, play_line}
@@ -32,7 +32,7 @@ pub use Rattle.model_bits.specs.Stream.{dropped}
 pub use Rattle.model_line.specs.Came.{came, cause_of}
 pub use Rattle.model_line.specs.Request.{request_of}
 pub use Rattle.model_timed.specs.Clock.{at_moment}
-pub use Rattle.lapd_sim.specs.Boards.{kind_of, OnBoard}
+pub use Rattle.lapd_sim.specs.Boards.{OnBoard}
 pub use Rattle.lapd_sim.specs.Obeyed.{Answers, Begins, Does, HasExpired, said, SetupSays, StartsBy, written}
 pub use Rattle.lapd_sim.specs.Pages.{is_cut, PutsNone, PutsSome, Reaches}
 pub use Rattle.lapd_sim.specs.Plays.{Shows}

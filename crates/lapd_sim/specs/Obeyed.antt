@@ -1,6 +1,6 @@
 -- What a line of a script was answered with: what has been written, and what the setup stands for after it.
 use Rattle.std.specs.Prelude.{◌≡◌, ℕ, List, [], Option, None, Some, Result, Ok, Err}
-use Rattle.lapd_script.specs.declared.command.CardKind.{CardKind}
+use Rattle.model_card.specs.declared.kinds.CardKind.{CardKind}
 use Rattle.lapd_script.specs.declared.kind.FaultKind.{FaultKind}
 use Rattle.lapd_script.specs.Meaning.{Meaning}
 use Rattle.lapd_script.specs.Read.{read}

@@ -2,7 +2,7 @@
 
 ghost use Rattle.std.specs.Prelude.{◌≡◌, ◌<◌, ◌≤◌, ◌^◌, [], ℕ, length, take, None, option_copied, IfSome, IfNone};
 ghost use Rattle.lapd_sim.specs.{kind_of, on, told_beside, written, IsClear, Puts};
-ghost use Rattle.lapd_script.specs.declared.command.CardKind.TheVariants.{Octets};
+ghost use Rattle.model_card.specs.declared.kinds.CardKind.TheVariants.{Octets};
 ghost use Rattle.lapd_script.specs.Meaning as meaning;
 ghost use Rattle.lapd_sim.specs.machine.Board as event;
 ghost use Rattle.lapd_sim.specs.machine.Board.{told};

@@ -1,10 +1,9 @@
 //! What a script is played on, and how it obeys the lines of the script.
 
 ghost use Rattle.std.specs.Prelude.{◌≡◌, ◌≢◌, ◌<◌, ◌≤◌, ◌^◌, length, vec_len, MatchResult};
-ghost use Rattle.lapd_card.specs.Kinds.{config_of};
+ghost use Rattle.lapd_card.specs.Kinds.{config_of, kind_of};
 ghost use Rattle.lapd_script.specs.Meaning as meaning;
-ghost use Rattle.lapd_script.specs.declared.command.CardKind.TheVariants.{Frames, Octets};
-ghost use Rattle.lapd_sim.specs.Boards.{kind_of};
+ghost use Rattle.model_card.specs.declared.kinds.CardKind.TheVariants.{Frames, Octets};
 ghost use Rattle.lapd_sim.specs.machine.Setup as machine;
 ghost use Rattle.model_line.specs.Sound.{IsInRange};
 

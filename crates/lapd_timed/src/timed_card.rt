@@ -4,7 +4,7 @@ ghost use Rattle.std.specs.Prelude.{◌≡◌, ◌⊎◌, ◌^◌, ◌<◌, ◌�
 ghost use Rattle.lapd_card.specs.{answer_of_request, came, cause_of, gave_in, listed, octets_of, pulled_of, refusal, request_of, starts, told_beside, told_if_at, told_in, written, IsClear, IsQuiet};
 ghost use Rattle.lapd_clock.specs.Given.{lengths_of};
 ghost use Rattle.lapd_card.specs.Kinds.{alone, answer, card_in, config_of, frames_of, kind_of, line_count, with_ports, AnyLeads, AnyStands, Machine};
-ghost use Rattle.lapd_card.specs.declared.kinds.CardKind.TheVariants.{Frames, Octets};
+ghost use Rattle.model_card.specs.declared.kinds.CardKind.TheVariants.{Frames, Octets};
 ghost use Rattle.model_bits.specs.Stream as stream;
 ghost use Rattle.model_card.specs.Card.{Card, is_full, line_at};
 ghost use Rattle.model_card.specs.Event.{at};

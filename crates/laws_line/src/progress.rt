@@ -16,7 +16,8 @@ ghost use Rattle.laws_line.specs.Drains.{after_takes, frames_to_go, most_frames,
 /// there are frames to go. Then nothing waits on the line except I-frames beyond a closed window, of a terminal that is
 /// taken for busy, or of a link that is not in state 7 (`drained`). Then no call takes a frame, and the line stays as
 /// it is (`idle`). A configuration gives a number that the frames to go of its lines are never above (`few`). And after
-/// as many calls as frames may be sent none is taken (`ends`).
+/// as many calls as frames may be sent none is taken (`ends`). `calls_come_to_an_end` of `Promises` stands on it, and
+/// `cards_deliver` of `laws_wire` counts frames to go as it does.
 pub fn takes_come_to_an_end()
     ensures exact { (c : Config) (l : Line) → IsSound c l → (frames_to_go c l ≡ 0) ↔ HasNothing c l }
     ensures drained { (c : Config) (n : ℕ) (l : Line) → IsInRange c → IsSound c l → frames_to_go c l ≤ n → HasNothing c (after_takes c n l) }

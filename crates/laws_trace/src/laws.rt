@@ -364,9 +364,9 @@ pub fn no_slot_is_lost()
 /// the next frame. Of what is heard one is due in these cases, whatever happened to the card before.
 ///
 /// A stretch that is no frame has its own cause: `Abort`, `Ragged`, `Short` or `Fcs`. A frame has `Extension` if its
-/// extension bits are not those of two octets, and `Sapi` if its SAPI is not 0, 16 or 63. It has `Tei` if its SAPI is 0
-/// or 16 and its TEI is not on the line, and if its SAPI is 63 and its TEI is not 127. On the user's side a UI with SAPI
-/// 0 or 16, TEI 127 and at most N201 octets has none.
+/// extension bits are not those of two octets. It has `Sapi` if its SAPI is not 0, 63 or that of the second service
+/// ([`services_have_their_sapis`]). It has `Tei` if it is of a service and its TEI is not on the line, or if its SAPI is
+/// 63 and its TEI is not 127. On the user's side a UI of a service with TEI 127 and at most N201 octets has none.
 ///
 /// A frame for a link whose TEI is on the line has `Unserved` if the link does not serve it in the state that
 /// [`links_move`] tells. In states 7 and 8 a link serves each frame, also one that is malformed. In states 4, 5 and 6 it

@@ -1,16 +1,15 @@
 -- The second phase of such a call: one end still rings, and the other is up.
-use Rattle.laws_wire.proofs.Vocabulary.{arith, ◌≡◌, ℕ, true, List, [], ◌∷◌, ◌++◌, map, refl, sym, ap, subst, ◌∙◌, ◌⊎◌, inl, inr, append-nil, option_to_list, All-head, Service, Parts, spelling, Terms, course, IsInRange, LinkEndpoint, with_link, frames_of, Config, terms, Endpoint, Wire, with_first_of, without_first, EndStep, requests, expires, sends, receives, loses, acting, turned, frame_comes}
-use Rattle.laws_wire.proofs.Vocabulary.{confirmed, indicated, IsRoughTalkOf, own_side}
+use Rattle.laws_wire.proofs.Vocabulary.{arith, ◌≡◌, ℕ, true, List, [], ◌∷◌, ◌++◌, refl, sym, ap, subst, ◌∙◌, ◌⊎◌, inl, inr, append-nil, All-head, Service, Parts, spelling, Terms, course, IsInRange, LinkEndpoint, frames_of, Config, terms, Endpoint, Wire, with_first_of, without_first, EndStep, requests, expires, sends, receives, loses, acting, turned, frame_comes}
+use Rattle.laws_wire.proofs.Vocabulary.{indicated, IsRoughTalkOf, own_side}
 use Rattle.model_link.specs.Events as link
-use Rattle.laws_wire.proofs.Answered.{takes-granted}
 use Rattle.laws_wire.proofs.Acting.{Acted, up-asks, up-expires, up-gives, up-loses}
 use Rattle.laws_wire.proofs.Calling.{sabme, ua, end, caller}
 use Rattle.laws_wire.proofs.Fair.{HasError, sabme-error}
-use Rattle.laws_wire.proofs.Held.{Held, TellsIt, Erred, now-erred, held-first, taken-told, taken-stands, held-taken}
+use Rattle.laws_wire.proofs.Held.{Erred, now-erred, taken-told}
 use Rattle.laws_wire.proofs.Joint.{Joint, IsMeant}
 use Rattle.laws_wire.proofs.LossyPhases.{made, for-data, for-timer, first-way, empty, UaOrNone, IsHalf, Went, as-up, no-take, no-take_far, no-loss_far, reface}
-use Rattle.laws_wire.proofs.Ringing.{ringing, answered, IsSabme, AreSabmes, Ignores, ignores}
-use Rattle.laws_wire.proofs.StillRinging.{StillRings, rings-asks, rings-expires, rings-gives, rings-loses}
+use Rattle.laws_wire.proofs.Ringing.{ringing, answered, IsSabme, AreSabmes}
+use Rattle.laws_wire.proofs.StillRinging.{StillRings, rings-asks, rings-expires, rings-gives, rings-loses, ignores-frame, hears-ua}
 use Rattle.laws_wire.proofs.Talking.{Face}
 
 module _ (service : Service) (tei : ℕ) (c d : Config) (p q : ℕ) (face : Face c d) (back : Face d c) (rt : IsInRange (terms c service tei)) (ru : IsInRange (terms d service tei)) where
@@ -34,42 +33,33 @@ module _ (service : Service) (tei : ℕ) (c d : Config) (p q : ℕ) (face : Face
     caller_end = end t (ringing h.repeats h.waiting) h.way
 
     -- the first frame on the way of the other, where it is not UA
-    unheard-by : (f : Parts) (fs : List Parts) → h.m.way ≡ f ∷ fs → IsMeant f → h.first ≡ [] → Acted service tei q (indicated service tei ∷ []) d (without_first w.far) (end t caller []) h.first []
+    unheard-by : (f : Parts) (fs : List Parts) → h.m.way ≡ f ∷ fs → IsMeant f → Acted service tei q (indicated service tei ∷ []) d (without_first w.far) (end t caller []) h.first []
         → Leads (acting receives w)
-    unheard-by f fs e meant none x =
-        let way = first-way service tei d q _ w.far h.m f fs e h.far.held in
-        let i : Ignores t h.repeats h.waiting f = ignores t h.repeats h.waiting f meant.number meant.means in
-        let s' = frame_comes (spelling (own_side d) f) w.near in
-        let event = link.received (link.frame f) in
-        let tells : TellsIt service tei (course t event caller_end.link) =
-        record {
-          its_notes = i.notes ∙ ap (λ o. map (λ octets. Rattle.lapd_frame.specs.declared.notes.Note.TheVariants.Data service tei) (option_to_list o)) (sym i.delivered);
-          no_unit = i.unit;
-        } in
-        let is : with_link event caller_end ≡ caller_end = (λ j. record caller_end { link = i.stays j; delivered = ap option_to_list i.delivered j }) in
-        let near : Held c service tei p [] s' caller_end =
-        subst (Held c service tei p [] s') is (held-taken service tei p [] c w.near caller_end h.near d face f way.1 tells (ap (λ l. l.contents) i.stays)) in
-        subst (λ ways. Leads (record { near = with_first_of ways w.near; far = without_first w.far })) (sym way.0)
-        (grind arith)
+    unheard-by f fs e meant x =
+        inl (inr (inl (record {
+          repeats = h.repeats;
+          waiting = h.waiting;
+          way = h.way;
+          near = ignores-frame service tei c d p q face w h.repeats h.waiting h.way h.near (indicated service tei ∷ []) h.m h.far.held f fs e meant.number meant.means;
+          sabmes = h.sabmes;
+          m = x.n;
+          first = h.first;
+          line = x.near;
+          is_ua = h.is_ua;
+          far = x.at;
+        })))
 
     -- UA comes
     confirms : (fs : List Parts) → h.m.way ≡ ua u ∷ fs → Acted service tei q (indicated service tei ∷ []) d (without_first w.far) (end t caller []) [] [] → Leads (acting receives w)
     confirms fs e x =
-        let f = ua u in
-        let way = first-way service tei d q _ w.far h.m f fs e h.far.held in
-        let s' = frame_comes (spelling (own_side d) f) w.near in
         let n' = end t (answered h.repeats h.waiting) h.way in
         let there : Joint x.n n' x.near [] =
         record {
           there = record { carried = x.at.joint.there.carried; rising = x.at.joint.there.rising; delivered = x.at.joint.there.delivered; accepted = x.at.joint.there.accepted };
           back = record { carried = x.at.joint.back.carried; rising = x.at.joint.back.rising; delivered = x.at.joint.back.delivered; accepted = x.at.joint.back.accepted };
         } in
-        let held : Held c service tei p (confirmed service tei ∷ []) s' n' =
-        held-first service tei p [] c w.near caller_end h.near (confirmed service tei) s' n' (course t (link.received (link.frame f)) caller_end.link) refl refl refl
-        (taken-stands service tei p [] c w.near caller_end h.near d face f way.1) (takes-granted (spelling (own_side d) f) w.near) refl
-        (taken-told service tei p [] c w.near caller_end h.near d face f way.1) refl refl in
-        subst (λ ways. Leads (record { near = with_first_of ways w.near; far = without_first w.far })) (sym way.0)
-        (as-up service tei c d p q (record { near = s'; far = without_first w.far }) (record {
+        let held = hears-ua service tei c d p q face w h.repeats h.waiting h.way h.near (indicated service tei ∷ []) h.m h.far.held u fs e in
+        as-up service tei c d p q (acting receives w) (record {
           n = n';
           m = x.n;
           first = h.way ++ frames_of t h.waiting;
@@ -78,7 +68,7 @@ module _ (service : Service) (tei : ℕ) (c d : Config) (p q : ℕ) (face : Face
           sabmes = h.sabmes;
           near = record { held = held; up = refl; line = sym (append-nil (h.way ++ frames_of t h.waiting)); joint = (record { there = there.back; back = there.there }) };
           far = reface service tei c d p q (indicated service tei ∷ []) d q (without_first w.far) x.n (end t caller []) n' [] x.near [] x.at there;
-        }))
+        })
 
     -- what was before the line
     only-ua : (f : Parts) (others : List Parts) → h.first ≡ f ∷ others → (f ≡ ua u) × (others ≡ [])
@@ -90,7 +80,7 @@ module _ (service : Service) (tei : ℕ) (c d : Config) (p q : ℕ) (face : Face
       where
         go : ((h.first ≡ []) × IsMeant f × Acted service tei q (indicated service tei ∷ []) d (without_first w.far) (end t caller []) h.first [])
             ⊎ ((others : List Parts) × (h.first ≡ f ∷ others) × Acted service tei q (indicated service tei ∷ []) d (without_first w.far) (end t caller []) others []) → Leads (acting receives w)
-        go (inl (none, meant, x)) = unheard-by f fs e meant none x
+        go (inl (none, meant, x)) = unheard-by f fs e meant x
         go (inr (others, is, x)) =
             let only = only-ua f others is in
             confirms fs (e ∙ ap (λ y. y ∷ fs) only.0) (subst (λ first. Acted service tei q (indicated service tei ∷ []) d (without_first w.far) (end t caller []) first []) only.1 x)

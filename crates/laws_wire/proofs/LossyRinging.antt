@@ -1,13 +1,11 @@
 -- The first phase of such a call: one end rings, and the other is down.
-use Rattle.laws_wire.proofs.Vocabulary.{◌≡◌, ℕ, false, List, [], ◌∷◌, ◌++◌, map, drop, None, refl, sym, ap, subst, ◌∙◌, ◌⊎◌, inl, inr, arith, All-head, Service, Parts, spelling, Terms, fresh, course, IsInRange, with_link, frames_of, Config, request, terms, refusal, Data, Endpoint, Wire, happens, with_first_of, without_first, EndStep, requests, expires, sends, receives, loses, acting, turned}
-use Rattle.laws_wire.proofs.Vocabulary.{frame_comes, indicated, IsRoughTalkOf, received, LinkData, frame, own_side}
-use Rattle.laws_wire.proofs.Answered.{takes-granted}
-use Rattle.laws_wire.proofs.Calling.{sabme, ua, end, answering, takes-sabme, told-of-sabme}
-use Rattle.laws_wire.proofs.Held.{Held, Erred, held-given, held-lost, held-first, taken-told, taken-stands, held-expired, held-asked}
-use Rattle.laws_wire.proofs.LossyPhases.{made, for-data, for-timer, first-way, empty, IsRinging, Went, no-take, no-take_far}
+use Rattle.laws_wire.proofs.Vocabulary.{◌≡◌, ℕ, false, List, [], ◌∷◌, ◌++◌, drop, None, refl, sym, ap, subst, ◌∙◌, ◌⊎◌, inl, inr, arith, All-head, Service, Parts, Terms, fresh, IsInRange, frames_of, Config, request, terms, refusal, Data, Endpoint, Wire, happens, EndStep, requests, expires, sends, receives, loses, acting, turned}
+use Rattle.laws_wire.proofs.Vocabulary.{IsRoughTalkOf, LinkData}
+use Rattle.laws_wire.proofs.Calling.{sabme, ua, end, answering}
+use Rattle.laws_wire.proofs.Held.{Held, Erred, held-given, held-lost, held-expired, held-asked}
+use Rattle.laws_wire.proofs.LossyPhases.{made, for-data, for-timer, empty, IsRinging, Went, no-take, no-take_far}
 use Rattle.laws_wire.proofs.Ringing.{ringing, IsSabme, AreSabmes, one-sabme_less}
-use Rattle.laws_wire.proofs.Standing.{IsCarried, StationStands}
-use Rattle.laws_wire.proofs.StillRinging.{StillRings, rings-asks, rings-expires, rings-gives, rings-loses}
+use Rattle.laws_wire.proofs.StillRinging.{StillRings, rings-asks, rings-expires, rings-gives, rings-loses, hears-sabme}
 use Rattle.laws_wire.proofs.Talking.{Face}
 
 module _ (service : Service) (tei : ℕ) (c d : Config) (p q : ℕ) (face : Face c d) (back : Face d c) (rt : IsInRange (terms c service tei)) (ru : IsInRange (terms d service tei)) where
@@ -48,40 +46,21 @@ module _ (service : Service) (tei : ℕ) (c d : Config) (p q : ℕ) (face : Face
         ]
 
     -- SABME comes
-    module _ (fs : List Parts) (e : h.way ≡ sabme t ∷ fs) where
-      abbrev call : Parts
-      call = sabme t
-
-      its_way : (w.near.way ≡ spelling (own_side c) call ∷ map (spelling (own_side c)) fs) × IsCarried c service tei call
-      its_way = first-way service tei c p [] w.near (end t (ringing h.repeats h.waiting) h.way) call fs e h.near
-
-      abbrev reached : Endpoint
-      reached = frame_comes (spelling (own_side c) call) w.far
-
-      becomes : with_link (received (frame call)) (end u fresh []) ≡ end u answering []
-      becomes = ap (λ y. end u y []) (takes-sabme u ru t)
-
-      answered_by : Held d service tei q (indicated service tei ∷ []) reached (end u answering [])
-      answered_by =
-          held-first service tei q [] d w.far (end u fresh []) h.far (indicated service tei) reached (end u answering []) (course u (received (frame call)) fresh) refl refl refl
-          (subst (StationStands d service tei q reached) becomes (taken-stands service tei q [] d w.far (end u fresh []) h.far c back call its_way.1)) (takes-granted (spelling (own_side c) call) w.far) refl
-          (taken-told service tei q [] d w.far (end u fresh []) h.far c back call its_way.1) (told-of-sabme u ru t) refl
-
-      answers : Leads (turned (acting receives (turned w)))
-      answers =
-          subst (λ way. Leads (record { near = without_first w.near; far = with_first_of way w.far })) (sym its_way.0)
-          (inl (inr (inl (record {
-            repeats = h.repeats;
-            waiting = h.waiting;
-            way = drop 1 h.way;
-            near = held-lost service tei p [] c w.near (end t (ringing h.repeats h.waiting) h.way) h.near;
-            sabmes = one-sabme_less t h.way h.waiting h.sabmes;
-            m = end u answering [];
-            first = ua u ∷ [];
-            line = [];
-            is_ua = inr refl;
-            far = record { held = answered_by; up = refl; line = refl; joint = grind arith };
-          }))))
+    answers : (fs : List Parts) → h.way ≡ sabme t ∷ fs → Leads (turned (acting receives (turned w)))
+    answers fs e =
+        let near = end t (ringing h.repeats h.waiting) h.way in
+        inl (inr (inl (record {
+          repeats = h.repeats;
+          waiting = h.waiting;
+          way = drop 1 h.way;
+          near = held-lost service tei p [] c w.near near h.near;
+          sabmes = one-sabme_less t h.way h.waiting h.sabmes;
+          m = end u answering [];
+          first = ua u ∷ [];
+          line = [];
+          is_ua = inr refl;
+          far = record { held = hears-sabme service tei d c q p back ru (turned w) h.far near h.near t fs e; up = refl; line = refl; joint = grind arith };
+        })))
 
     first-is : (f : Parts) (fs : List Parts) → h.way ≡ f ∷ fs → f ≡ sabme t
     first-is f fs e = All-head (IsSabme t) f (fs ++ frames_of t h.waiting) (subst (λ way. AreSabmes t way h.waiting) e h.sabmes)

@@ -8,11 +8,11 @@ use Rattle.laws_wire.proofs.Held.{Held}
 use Rattle.laws_wire.proofs.Ringing.{ringing}
 use Rattle.laws_wire.proofs.Talking.{Face}
 use Rattle.laws_wire.proofs.TimelyAnswered.{waits-still, comes-still}
-use Rattle.laws_wire.proofs.TimelyPhases.{Goes}
-use Rattle.laws_wire.proofs.TimelyRinging.{not-still, called-still}
+use Rattle.laws_wire.proofs.TimelyPhases.{Down, Goes}
 use Rattle.laws_wire.proofs.LossyRun.{setting}
 use Rattle.laws_wire.proofs.TimelyRun.{starts, step, what-is-lost-arrives}
 use Rattle.laws_wire.proofs.TimelyUp.{each-timer, hushed, none-open}
+use Rattle.laws_wire.proofs.UaLost.{still-rings}
 
 -- where no error is told as T200 expires N200 is not used up
 fair-may : (service : Service) (tei : ℕ) (s : Endpoint) → HasNoError (happens (expiry (T200 service tei)) s) → MayRepeat service tei s
@@ -37,12 +37,12 @@ module _ (service : Service) (tei : ℕ) (c d : Config) (p q : ℕ) (face : Face
       )
 
   both-open : (w : Wire) → On w → IsStill w → BothOpen w
-  both-open w (inl h) still = of-ends w [] [] (end (terms c service tei) (ringing h.repeats []) []) (end (terms d service tei) fresh []) h.near h.far still
-  both-open w (inr (inl h)) still = absurd (not-still service tei c d p q face back rt ru w h still)
-  both-open w (inr (inr (inl h))) still = absurd (called-still service tei c d p q face back rt ru w h still)
-  both-open w (inr (inr (inr (inl h)))) still = absurd (waits-still service tei c d p q face back rt ru w h.m h.is still)
-  both-open w (inr (inr (inr (inr (inl h))))) still = absurd (comes-still service tei c d p q face back rt ru w h.m h.is still)
-  both-open w (inr (inr (inr (inr (inr h))))) still = of-ends w _ _ h.n h.m h.up.near h.up.far still
+  both-open w (inl h) still =
+      let r = still-rings service tei c d p q face back rt ru (Down service tei c d p q) w h still in
+      of-ends w [] [] (end (terms c service tei) (ringing r.repeats []) []) (end (terms d service tei) fresh []) r.near r.far still
+  both-open w (inr (inl h)) still = absurd (waits-still service tei c d p q face back rt ru w h.m h.is still)
+  both-open w (inr (inr (inl h))) still = absurd (comes-still service tei c d p q face back rt ru w h.m h.is still)
+  both-open w (inr (inr (inr h))) still = of-ends w _ _ h.n h.m h.up.near h.up.far still
 
   near-timely : (act : EndStep) → IsRoughTalkOf service tei act → (w : Wire) → (IsStill w → IsNoneOpen w.near w.far) → IsStillOf act w → IsTimelyOf act w
   near-timely act is w open_ x = grind (arith, each-timer, fair-may)

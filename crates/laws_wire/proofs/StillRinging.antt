@@ -1,11 +1,16 @@
--- An end that rings, whatever the other does.
+-- An end that rings: what it does, whatever the other does; and what it hears.
 use Rattle.laws_wire.proofs.Vocabulary.{◌≡◌, ℕ, false, List, [], map, drop, None, sym, ap, subst, ◌∙◌, ◌⊎◌, inl, inr, All, option_to_list, Service, Timer, Parts, ControlFrame, Terms, LinkTimer, course, LinkEndpoint, with_link, with_sent, Config, terms, expiry, request, next, refusal, Course, Data, Endpoint, happens, without_first, LinkData, expired}
+use Rattle.laws_wire.proofs.Vocabulary.{◌∷◌, refl, spelling, fresh, IsInRange, LineTold, Wire, frame_comes, with_first_of, confirmed, indicated, NoteData, Means, own_side}
+use Rattle.model_link.specs.Events as link
 use Rattle.model_link.specs.declared.timers.LinkTimer.TheVariants as link_timer
-use Rattle.laws_wire.proofs.Calling.{end}
+use Rattle.laws_wire.proofs.Answered.{takes-granted}
+use Rattle.laws_wire.proofs.Calling.{end, sabme, ua, answering, takes-sabme, told-of-sabme}
 use Rattle.laws_wire.proofs.Fair.{HasError}
-use Rattle.laws_wire.proofs.Held.{Held, TellsIt, Erred, now-erred, held-given, held-lost, expired-told, held-expired, held-asked}
-use Rattle.laws_wire.proofs.LossyPhases.{Aims}
-use Rattle.laws_wire.proofs.Ringing.{ringing, IsSabme, AreSabmes, Rings, t200-rings, t203-rings, RingsOn, gives-sabme, one-sabme_more, one-sabme_less}
+use Rattle.laws_wire.proofs.Held.{Held, TellsIt, Erred, now-erred, held-given, held-lost, held-first, held-taken, taken-told, taken-stands, expired-told, held-expired, held-asked}
+use Rattle.laws_wire.proofs.LossyPhases.{Aims, first-way}
+use Rattle.laws_wire.proofs.Ringing.{ringing, answered, Ignores, ignores, IsSabme, AreSabmes, Rings, t200-rings, t203-rings, RingsOn, gives-sabme, one-sabme_more, one-sabme_less}
+use Rattle.laws_wire.proofs.Standing.{StationStands}
+use Rattle.laws_wire.proofs.Talking.{Face}
 
 module _ (service : Service) (tei : ℕ) (c : Config) (p : ℕ) where
   abbrev t : Terms
@@ -77,3 +82,56 @@ module _ (service : Service) (tei : ℕ) (c : Config) (p : ℕ) where
       held = held-lost service tei p [] c s rung h;
       sabmes = one-sabme_less t way ws sabmes;
     }
+
+-- ---- what it hears, and how an end that is down takes its SABME
+
+module _ (service : Service) (tei : ℕ) (c d : Config) (p q : ℕ) (face : Face c d) where
+  -- frames of an end that is up
+  module _ (w : Wire) (k : ℕ) (ws : List ControlFrame) (way : List Parts) (near : Held c service tei p [] w.near (end (terms c service tei) (ringing k ws) way)) (past : List LineTold) (M : LinkEndpoint)
+      (far : Held d service tei q past w.far M) where
+    abbrev it : LinkEndpoint
+    it = end (terms c service tei) (ringing k ws) way
+
+    -- one that has an N(R), or is REJ, is not served
+    pub ignores-frame : (f : Parts) (fs : List Parts) → M.way ≡ f ∷ fs → (number : ℕ) → Means number f.control → Held c service tei p [] (with_first_of w.far.way w.near) it
+    ignores-frame f fs first number means =
+        let its_way = first-way service tei d q past w.far M f fs first far in
+        let i : Ignores (terms c service tei) k ws f = ignores (terms c service tei) k ws f number means in
+        let s' = frame_comes (spelling (own_side d) f) w.near in
+        let event = link.received (link.frame f) in
+        let tells : TellsIt service tei (course (terms c service tei) event it.link) =
+        record { its_notes = i.notes ∙ ap (λ o. map (λ octets. NoteData service tei) (option_to_list o)) (sym i.delivered); no_unit = i.unit } in
+        let is : with_link event it ≡ it = (λ j. record it { link = i.stays j; delivered = ap option_to_list i.delivered j }) in
+        let taken : Held c service tei p [] s' it =
+        subst (Held c service tei p [] s') is (held-taken service tei p [] c w.near it near d face f its_way.1 tells (ap (λ l. l.contents) i.stays)) in
+        subst (λ ways. Held c service tei p [] (with_first_of ways w.near) it) (sym its_way.0) taken
+
+    -- UA: the establishment is told
+    pub hears-ua : (s : Terms) (fs : List Parts) → M.way ≡ ua s ∷ fs → Held c service tei p (confirmed service tei ∷ []) (with_first_of w.far.way w.near) (end (terms c service tei) (answered k ws) way)
+    hears-ua s fs first =
+        let f = ua s in
+        let its_way = first-way service tei d q past w.far M f fs first far in
+        let s' = frame_comes (spelling (own_side d) f) w.near in
+        let n = end (terms c service tei) (answered k ws) way in
+        let told : Held c service tei p (confirmed service tei ∷ []) s' n =
+        held-first service tei p [] c w.near it near (confirmed service tei) s' n (course (terms c service tei) (link.received (link.frame f)) it.link) refl refl refl
+        (taken-stands service tei p [] c w.near it near d face f its_way.1) (takes-granted (spelling (own_side d) f) w.near) refl
+        (taken-told service tei p [] c w.near it near d face f its_way.1) refl refl in
+        subst (λ ways. Held c service tei p (confirmed service tei ∷ []) (with_first_of ways w.near) n) (sym its_way.0) told
+
+  -- SABME of an end comes to one that is down: the establishment is told, and UA waits
+  pub hears-sabme : IsInRange (terms c service tei) → (w : Wire) → Held c service tei p [] w.near (end (terms c service tei) fresh []) → (m : LinkEndpoint) → Held d service tei q [] w.far m
+      → (s : Terms) (fs : List Parts) → m.way ≡ sabme s ∷ fs → Held c service tei p (indicated service tei ∷ []) (with_first_of w.far.way w.near) (end (terms c service tei) answering [])
+  hears-sabme ranges w near m far s fs first =
+      let t = terms c service tei in
+      let down = end t fresh [] in
+      let n = end t answering [] in
+      let f = sabme s in
+      let its_way = first-way service tei d q [] w.far m f fs first far in
+      let s' = frame_comes (spelling (own_side d) f) w.near in
+      let becomes : with_link (link.received (link.frame f)) down ≡ n = ap (λ y. end t y []) (takes-sabme t ranges s) in
+      let told : Held c service tei p (indicated service tei ∷ []) s' n =
+      held-first service tei p [] c w.near down near (indicated service tei) s' n (course t (link.received (link.frame f)) fresh) refl refl refl
+      (subst (StationStands c service tei p s') becomes (taken-stands service tei p [] c w.near down near d face f its_way.1)) (takes-granted (spelling (own_side d) f) w.near) refl
+      (taken-told service tei p [] c w.near down near d face f its_way.1) (told-of-sabme t ranges s) refl in
+      subst (λ ways. Held c service tei p (indicated service tei ∷ []) (with_first_of ways w.near) n) (sym its_way.0) told

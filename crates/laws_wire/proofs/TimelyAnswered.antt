@@ -1,20 +1,21 @@
 -- The next phases of such a call: the other end is up, and its UA waits, or is on its way before all else.
-use Rattle.laws_wire.proofs.Vocabulary.{arith, ◌≡◌, ℕ, false, List, [], ◌∷◌, None, refl, sym, ap, subst, ◌∙◌, ◌⊎◌, inl, inr, All-tail, Service, Timer, Parts, spelling, Terms, TimerRecovery, LinkTimer, T203, course, given, IsInRange, LinkEndpoint, with_link, with_sent, offer-gave, Config, expiry, request, next, terms, awaits_answer, CanRepeat, T200, refusal, Data, Endpoint, Wire, happens}
-use Rattle.laws_wire.proofs.Vocabulary.{with_first_of, EndStep, requests, expires, sends, receives, loses, acting, turned, IsStill, frame_comes, confirmed, indicated, IsRoughTalkOf, is_final, IsLongEnough, IsTimelyOf, IsSpared, gives_one, is_ua, true, received, LinkData, frame, expired, timer_T200, timer_T203, own_side}
+use Rattle.laws_wire.proofs.Vocabulary.{arith, ◌≡◌, ℕ, false, List, [], ◌∷◌, None, refl, sym, ap, subst, ◌∙◌, ◌⊎◌, inl, inr, All-tail, Service, Timer, Parts, Terms, TimerRecovery, LinkTimer, T203, given, IsInRange, LinkEndpoint, with_link, with_sent, offer-gave, Config, expiry, request, next, terms, awaits_answer, CanRepeat, T200, refusal, Data, Endpoint, Wire, happens}
+use Rattle.laws_wire.proofs.Vocabulary.{EndStep, requests, expires, sends, receives, loses, acting, turned, IsStill, confirmed, indicated, IsRoughTalkOf, is_final, IsLongEnough, IsTimelyOf, IsSpared, gives_one, is_ua, true, LinkData, expired, timer_T200, timer_T203}
 use Rattle.laws_link.specs.two.Timely as two_links_timely
-use Rattle.laws_wire.proofs.Answered.{takes-granted}
 use Rattle.laws_wire.proofs.Awaited.{closed, may-there, long-there, gives-first, waits-first, goes-first}
 use Rattle.laws_wire.proofs.Asking.{with_more, asked-form}
 use Rattle.laws_wire.proofs.Calling.{its_ua, ua, end, with_ua_waiting, with_ua_first}
 use Rattle.laws_wire.proofs.Firm.{Firm, firm-turned, firm-sends, firm-asks, firm-expires}
-use Rattle.laws_wire.proofs.Held.{Held, held-given, held-lost, held-first, taken-told, taken-stands, held-asked}
-use Rattle.laws_wire.proofs.LossyPhases.{made, for-data, Aims, first-way, empty}
+use Rattle.laws_wire.proofs.Held.{Held, held-given, held-lost, held-asked}
+use Rattle.laws_wire.proofs.LossyPhases.{made, for-data, Aims, empty}
 use Rattle.laws_wire.proofs.Ringing.{ringing, answered}
+use Rattle.laws_wire.proofs.StillRinging.{hears-ua}
 use Rattle.laws_wire.proofs.Talking.{Face}
 use Rattle.laws_wire.proofs.TimelyFirst.{takes-none, loses-none, gives-nothing, asks-refused}
 use Rattle.laws_wire.proofs.TimelyUp.{each-timer, hushed, timer-held, never, BothUp}
 use Rattle.laws_wire.proofs.TimelyPhases as phases
-use Rattle.laws_wire.proofs.TimelyPhases.{silent-t203, ringing-open}
+use Rattle.laws_wire.proofs.TimelyPhases.{ringing-open}
+use Rattle.laws_wire.proofs.UaLost.{silent-t203}
 
 sends-ua : (n : LinkEndpoint) → n.link.waiting ≡ [] → n.way ≡ [] → with_sent (with_ua_waiting n) ≡ with_ua_first n
 sends-ua n waiting none = grind (arith, ua)
@@ -33,10 +34,10 @@ module _ (service : Service) (tei : ℕ) (c d : Config) (p q : ℕ) (face : Face
   Goes w = phases.Goes service tei c d p q w
 
   as-waits : {w : Wire} (m : LinkEndpoint) → UaWaits m w → Goes w
-  as-waits m h = inr (inr (inr (inl (record { m = m; is = h }))))
+  as-waits m h = inr (inl (record { m = m; is = h }))
 
   as-comes : {w : Wire} (m : LinkEndpoint) → UaGoes m w → Goes w
-  as-comes m h = inr (inr (inr (inr (inl (record { m = m; is = h })))))
+  as-comes m h = inr (inr (inl (record { m = m; is = h })))
 
   -- it is asked to send more
   module _ (k : ℕ) (m : LinkEndpoint) (its : LinkEndpoint → LinkEndpoint) (form : (octets : List ℕ) → with_more octets (its m) ≡ its (with_more octets m))
@@ -75,7 +76,7 @@ module _ (service : Service) (tei : ℕ) (c d : Config) (p q : ℕ) (face : Face
         (λ octets. as-waits m (subst (λ s. UaWaits m (record w { near = s })) (sym (asks-refused service tei c p [] w.near waits_end h.near (λ octets none. cc none) octets)) h)) r is
     waits-near (expires timer) is x =
         each-timer service tei (λ timer. IsTimelyOf (expires timer) w → Goes (acting (expires timer) w)) (λ x. absurd (waits-first is_final (with_ua_waiting m) its_ua [] refl refl (ringing-open service tei c d p q h.repeats [] [] w (with_ua_waiting m) (indicated service tei ∷ []) h.near h.far x.0).responses))
-        (λ x. as-waits m (still-waits (happens (expiry (timer_T203 service tei)) w.near) (silent-t203 service tei c d p q h.repeats [] [] w.near h.near))) timer is x
+        (λ x. as-waits m (still-waits (happens (expiry (timer_T203 service tei)) w.near) (silent-t203 service tei c p h.repeats [] [] w.near h.near))) timer is x
     waits-near sends is x = as-waits m (still-waits (happens next w.near) (gives-nothing service tei c p [] w.near waits_end h.near refl))
     waits-near receives is x = as-waits m (subst (UaWaits m) (sym (takes-none w (empty service tei d q _ w.far (with_ua_waiting m) h.far h.way))) h)
     waits-near loses is x = as-waits m (subst (UaWaits m) (sym (loses-none w (empty service tei c p [] w.near waits_end h.near refl))) h)
@@ -115,20 +116,11 @@ module _ (service : Service) (tei : ℕ) (c d : Config) (p q : ℕ) (face : Face
     comes-still still = let no : ua m.terms ∷ m.way ≡ [] = (hushed service tei d q _ w.far (with_ua_first m) h.far still.far still.far_way).way in cc no
 
     pub confirms : BothUp service tei c d p q (confirmed service tei ∷ []) (indicated service tei ∷ []) (acting receives w) (end t (answered h.repeats []) []) m
-    confirms =
-        let f = ua m.terms in
-        let way = first-way service tei d q _ w.far (with_ua_first m) f m.way refl h.far in
-        let s' = frame_comes (spelling (own_side d) f) w.near in
-        let n' = end t (answered h.repeats []) [] in
-        let held : Held c service tei p (confirmed service tei ∷ []) s' n' =
-        held-first service tei p [] c w.near comes_end h.near (confirmed service tei) s' n' (course t (received (frame f)) comes_end.link) refl refl refl
-        (taken-stands service tei p [] c w.near comes_end h.near d face f way.1) (takes-granted (spelling (own_side d) f) w.near) refl
-        (taken-told service tei p [] c w.near comes_end h.near d face f way.1) refl refl in
-        record {
-          near = subst (λ ways. Held c service tei p (confirmed service tei ∷ []) (with_first_of ways w.near) n') (sym way.0) held;
-          far = held-lost service tei q _ d w.far (with_ua_first m) h.far;
-          firm = h.firm;
-        }
+    confirms = record {
+      near = hears-ua service tei c d p q face w h.repeats [] [] h.near (indicated service tei ∷ []) (with_ua_first m) h.far m.terms m.way refl;
+      far = held-lost service tei q _ d w.far (with_ua_first m) h.far;
+      firm = h.firm;
+    }
 
     pub comes-near : (act : EndStep) → IsRoughTalkOf service tei act → IsTimelyOf act w → Goes (acting act w)
     comes-near (requests r) is x =
@@ -136,9 +128,9 @@ module _ (service : Service) (tei : ℕ) (c d : Config) (p q : ℕ) (face : Face
         (λ octets. as-comes m (subst (λ s. UaGoes m (record w { near = s })) (sym (asks-refused service tei c p [] w.near comes_end h.near (λ octets none. cc none) octets)) h)) r is
     comes-near (expires timer) is x =
         each-timer service tei (λ timer. IsTimelyOf (expires timer) w → Goes (acting (expires timer) w)) (λ x. absurd (goes-first is_final (with_ua_first m) (ua m.terms) m.way refl refl (ringing-open service tei c d p q h.repeats [] [] w (with_ua_first m) (indicated service tei ∷ []) h.near h.far x.0).responses))
-        (λ x. as-comes m (record { repeats = h.repeats; near = silent-t203 service tei c d p q h.repeats [] [] w.near h.near; far = h.far; firm = h.firm })) timer is x
+        (λ x. as-comes m (record { repeats = h.repeats; near = silent-t203 service tei c p h.repeats [] [] w.near h.near; far = h.far; firm = h.firm })) timer is x
     comes-near sends is x = as-comes m (record { repeats = h.repeats; near = gives-nothing service tei c p [] w.near comes_end h.near refl; far = h.far; firm = h.firm })
-    comes-near receives is x = (inr (inr (inr (inr (inr (record { n = end t (answered h.repeats []) []; m = m; up = confirms }))))))
+    comes-near receives is x = inr (inr (inr (record { n = end t (answered h.repeats []) []; m = m; up = confirms })))
     comes-near loses is x = as-comes m (subst (UaGoes m) (sym (loses-none w (empty service tei c p [] w.near comes_end h.near refl))) h)
 
     comes-asks : (octets : List ℕ) → Goes (made w (happens (request (Data service tei octets)) w.far))

@@ -1,11 +1,12 @@
 -- A call in which T200 is timely: SABME waits, is on its way, or was lost; then UA waits, and is on its way; then both ends are up.
-use Rattle.laws_wire.proofs.Vocabulary.{◌≡◌, ℕ, List, [], ◌∷◌, refl, ◌⊎◌, Service, Parts, ControlFrame, Terms, T203, fresh, LinkEndpoint, Config, LineTold, expiry, terms, Endpoint, Wire, happens, confirmed, indicated, IsLongEnough, timer_T203}
+use Rattle.laws_wire.proofs.Vocabulary.{◌≡◌, ℕ, List, [], ◌∷◌, refl, ◌⊎◌, Service, Parts, ControlFrame, Terms, fresh, LinkEndpoint, Config, LineTold, terms, Endpoint, Wire, confirmed, indicated, IsLongEnough}
 use Rattle.laws_wire.proofs.Awaited.{NoneOpen, long-there}
-use Rattle.laws_wire.proofs.Calling.{sabme, end, with_ua_waiting, with_ua_first}
+use Rattle.laws_wire.proofs.Calling.{end, with_ua_waiting, with_ua_first}
 use Rattle.laws_wire.proofs.Firm.{Firm}
-use Rattle.laws_wire.proofs.Held.{Held, held-expired}
-use Rattle.laws_wire.proofs.Ringing.{ringing, answered, its_sabme}
+use Rattle.laws_wire.proofs.Held.{Held}
+use Rattle.laws_wire.proofs.Ringing.{ringing, answered}
 use Rattle.laws_wire.proofs.TimelyUp.{AreUp}
+use Rattle.laws_wire.proofs.UaLost.{RingingAt}
 
 module _ (service : Service) (tei : ℕ) (c d : Config) (p q : ℕ) where
   abbrev t : Terms
@@ -14,11 +15,9 @@ module _ (service : Service) (tei : ℕ) (c d : Config) (p q : ℕ) where
   abbrev u : Terms
   u = terms d service tei
 
-  -- one end rings, with this waiting and this on its way, and the other is down
-  pub record Rings (ws : List ControlFrame) (way : List Parts) (w : Wire) : Type 0 where
-    pub repeats : ℕ
-    pub near : Held c service tei p [] w.near (end t (ringing repeats ws) way)
-    pub far : Held d service tei q [] w.far (end u fresh [])
+  -- the other end is down
+  abbrev pub Down : Endpoint → Type 0
+  Down s = Held d service tei q [] s (end u fresh [])
 
   -- the other is up, its UA waits, or is on its way before all else
   pub record UaWaits (m : LinkEndpoint) (w : Wire) : Type 0 where
@@ -44,14 +43,9 @@ module _ (service : Service) (tei : ℕ) (c d : Config) (p q : ℕ) where
     pub is : UaGoes m w
 
   abbrev pub Goes : Wire → Type 0
-  Goes w = Rings [] [] w ⊎ Rings (its_sabme ∷ []) [] w ⊎ Rings [] (sabme t ∷ []) w ⊎ Waits w ⊎ Comes w ⊎ AreUp service tei c d p q (confirmed service tei ∷ []) (indicated service tei ∷ []) w
+  Goes w = RingingAt service tei c p Down w ⊎ Waits w ⊎ Comes w ⊎ AreUp service tei c d p q (confirmed service tei ∷ []) (indicated service tei ∷ []) w
 
   -- while it rings no answer is to come as T200 expires
   pub ringing-open : (k : ℕ) (ws : List ControlFrame) (way : List Parts) (w : Wire) (m : LinkEndpoint) (past : List LineTold) → Held c service tei p [] w.near (end t (ringing k ws) way) → Held d service tei q past w.far m
       → IsLongEnough service tei w.near w.far → NoneOpen (end t (ringing k ws) way) m
   ringing-open k ws way w m past near far long = long-there service tei c d p q w.near w.far (end t (ringing k ws) way) m near.stands far.stands long refl
-
-  -- while an end rings T203 does not run
-  pub silent-t203 : (k : ℕ) (ws : List ControlFrame) (way : List Parts) (s : Endpoint) → Held c service tei p [] s (end t (ringing k ws) way)
-      → Held c service tei p [] (happens (expiry (timer_T203 service tei)) s) (end t (ringing k ws) way)
-  silent-t203 k ws way s h = held-expired service tei p [] c s (end t (ringing k ws) way) h (timer_T203 service tei) T203 (λ l. refl) (record { its_notes = refl; no_unit = refl }) refl

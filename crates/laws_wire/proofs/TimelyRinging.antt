@@ -1,18 +1,15 @@
--- The first phases of such a call: one end rings, and the other is down.
-use Rattle.laws_wire.proofs.Vocabulary.{◌≡◌, ℕ, ◌+◌, ◌<◌, true, List, [], ◌∷◌, map, None, refl, sym, ap, subst, ◌∙◌, inl, inr, arith, nat_lt, option_to_list, lt-ltb, Service, Timer, Parts, spelling, ControlFrame, Terms, LinkTimer, fresh, course, given, IsInRange, LinkEndpoint, with_link, Config, expiry, terms, T200, Course, Data, Wire, happens, EndStep, requests, expires, sends, receives, loses}
-use Rattle.laws_wire.proofs.Vocabulary.{acting, turned, IsStill, frame_comes, indicated, IsRoughTalkOf, is_poll, MayRepeat, IsTimelyOf, received, frame, expired, timer_T200, timer_T203, NoteData, own_side}
-use Rattle.laws_wire.proofs.Answered.{takes-granted}
-use Rattle.laws_wire.proofs.Awaited.{may-there, waits-first, goes-first}
-use Rattle.laws_wire.proofs.Calling.{sabme, end, answering, called, takes-sabme, told-of-sabme}
-use Rattle.laws_wire.proofs.Held.{Held, TellsIt, held-given, held-lost, held-first, taken-told, taken-stands, held-expired}
-use Rattle.laws_wire.proofs.LossyPhases.{made, for-data, for-timer, Aims, first-way, empty}
-use Rattle.laws_wire.proofs.Ringing.{ringing, its_sabme, repeated, t200-repeats}
-use Rattle.laws_wire.proofs.Standing.{StationStands}
+-- The first phases of such a call: one end rings, and the other is down. They are those of a call in which UA may be lost, too.
+use Rattle.laws_wire.proofs.Vocabulary.{◌≡◌, ℕ, [], ◌∷◌, refl, sym, subst, inl, inr, Service, Terms, IsInRange, LinkEndpoint, Config, terms, Wire, EndStep, requests, expires, sends, receives, loses, acting, turned, IsRoughTalkOf, IsTimelyOf, IsAsked, IsFullTalkOf}
+use Rattle.laws_wire.proofs.Calling.{sabme, end, called}
+use Rattle.laws_wire.proofs.Held.{Held, held-lost}
+use Rattle.laws_wire.proofs.LossyPhases.{for-data, empty}
+use Rattle.laws_wire.proofs.Ringing.{ringing, its_sabme}
+use Rattle.laws_wire.proofs.StillRinging.{hears-sabme}
 use Rattle.laws_wire.proofs.Talking.{Face}
-use Rattle.laws_wire.proofs.TimelyFirst.{firm-first, takes-none, loses-none, gives-nothing, asks-refused}
-use Rattle.laws_wire.proofs.TimelyUp.{each-timer, hushed}
+use Rattle.laws_wire.proofs.TimelyFirst.{firm-first, takes-none}
 use Rattle.laws_wire.proofs.TimelyPhases as phases
-use Rattle.laws_wire.proofs.TimelyPhases.{silent-t203, ringing-open}
+use Rattle.laws_wire.proofs.UaLost.{RingsAt, RingingAt}
+use Rattle.laws_wire.proofs.UaLostRun.{down-near, down-far}
 
 module _ (service : Service) (tei : ℕ) (c d : Config) (p q : ℕ) (face : Face c d) (back : Face d c) (rt : IsInRange (terms c service tei)) (ru : IsInRange (terms d service tei)) where
   abbrev t : Terms
@@ -21,139 +18,47 @@ module _ (service : Service) (tei : ℕ) (c d : Config) (p q : ℕ) (face : Face
   abbrev u : Terms
   u = terms d service tei
 
-  abbrev Rings : List ControlFrame → List Parts → Wire → Type 0
-  Rings ws way w = phases.Rings service tei c d p q ws way w
+  abbrev Ringing : Wire → Type 0
+  Ringing w = RingingAt service tei c p (phases.Down service tei c d p q) w
 
   abbrev Goes : Wire → Type 0
   Goes w = phases.Goes service tei c d p q w
 
-  as-asking : {w : Wire} → Rings (its_sabme ∷ []) [] w → Goes w
-  as-asking h = inr (inl h)
+  full : (act : EndStep) → IsRoughTalkOf service tei act → IsFullTalkOf service tei act
+  full (requests r) is = for-data service tei (IsAsked service tei) (λ octets. (refl, refl)) r is
+  full (expires timer) is = is
+  full act is = tt
 
-  as-called : {w : Wire} → Rings [] (sabme t ∷ []) w → Goes w
-  as-called h = inr (inr (inl h))
+  pub ringing-near : (w : Wire) → Ringing w → (act : EndStep) → IsRoughTalkOf service tei act → IsTimelyOf act w → Ringing (acting act w)
+  ringing-near w h act is x = down-near service tei c d p q face back rt ru w h act (full act is) x
 
-  module _ (ws : List ControlFrame) (way : List Parts) (w : Wire) (h : Rings ws way w) where
-    rings-asks : (octets : List ℕ) → Rings ws way (acting (requests (Data service tei octets)) w)
-    rings-asks octets =
-        subst (λ s. Rings ws way (record w { near = s })) (sym (asks-refused service tei c p [] w.near (end t (ringing h.repeats ws) way) h.near (λ octets none. cc none) octets)) h
+  -- the other takes SABME, or nothing
+  pub answers : (w : Wire) → RingsAt service tei c p (phases.Down service tei c d p q) [] (sabme t ∷ []) w → phases.UaWaits service tei c d p q (end u called []) (turned (acting receives (turned w)))
+  answers w h =
+      let near = end t (ringing h.repeats []) (sabme t ∷ []) in
+      record {
+        repeats = h.repeats;
+        waiting = refl;
+        way = refl;
+        near = held-lost service tei p [] c w.near near h.near;
+        far = hears-sabme service tei d c q p back ru (turned w) h.far near h.near t [] refl;
+        firm = firm-first t u rt ru face.n201 h.repeats;
+      }
 
-    rings-t203 : Rings ws way (acting (expires (timer_T203 service tei)) w)
-    rings-t203 = record { repeats = h.repeats; near = silent-t203 service tei c d p q h.repeats ws way w.near h.near; far = h.far }
+  takes : (w : Wire) → Ringing w → Goes (turned (acting receives (turned w)))
+  takes w h = go h
+    where
+      none : (n : LinkEndpoint) → Held c service tei p [] w.near n → n.way ≡ [] → Goes (turned (acting receives (turned w)))
+      none n near empty-way = inl (subst (λ w'. Ringing (turned w')) (sym (takes-none (turned w) (empty service tei c p [] w.near n near empty-way))) h)
 
-    down-asks : (octets : List ℕ) → Rings ws way (turned (acting (requests (Data service tei octets)) (turned w)))
-    down-asks octets =
-        subst (λ s. Rings ws way (made w s)) (sym (asks-refused service tei d q [] w.far (end u fresh []) h.far (λ octets none. cc none) octets)) h
+      go : Ringing w → Goes (turned (acting receives (turned w)))
+      go (inl x) = none (end t (ringing x.repeats []) []) x.near refl
+      go (inr (inl x)) = none (end t (ringing x.repeats (its_sabme ∷ [])) []) x.near refl
+      go (inr (inr x)) = inr (inl (record { m = end u called []; is = answers w x }))
 
-    pub down-expires : (timer : Timer) (its : LinkTimer) → Aims service tei timer its → Rings ws way (turned (acting (expires timer) (turned w)))
-    down-expires timer its aims = record {
-      repeats = h.repeats;
-      near = h.near;
-      far = held-expired service tei q [] d w.far (end u fresh []) h.far timer its aims (record { its_notes = refl; no_unit = refl }) refl;
-    }
-
-    down-gives : Rings ws way (turned (acting sends (turned w)))
-    down-gives = record { repeats = h.repeats; near = h.near; far = gives-nothing service tei d q [] w.far (end u fresh []) h.far refl }
-
-    -- all but taking SABME
-    pub down-acts : way ≡ [] → (act : EndStep) → IsRoughTalkOf service tei act → Rings ws way (turned (acting act (turned w)))
-    down-acts none (requests r) is = for-data service tei (λ r. Rings ws way (turned (acting (requests r) (turned w)))) down-asks r is
-    down-acts none (expires timer) is = for-timer service tei (λ timer. Rings ws way (turned (acting (expires timer) (turned w)))) down-expires timer is
-    down-acts none sends is = down-gives
-    down-acts none receives is = grind (arith, takes-none, empty, end, ringing)
-    down-acts none loses is = subst (λ w'. Rings ws way (turned w')) (sym (loses-none (turned w) (empty service tei d q [] w.far (end u fresh []) h.far refl))) h
-
-  -- nothing waits, and nothing is on its way
-  module _ (w : Wire) (h : Rings [] [] w) where
-    abbrev rung : LinkEndpoint
-    rung = end t (ringing h.repeats []) []
-
-    room : nat_lt 0 t.control ≡ true
-    room = let low = rt.control_low in lt-ltb 0 t.control (omega (arith, low))
-
-    pub repeats-sabme : (timer : Timer) → Aims service tei timer T200 → h.repeats < t.n200 → Rings (its_sabme ∷ []) [] (acting (expires timer) w)
-    repeats-sabme timer aims few =
-        let x : Course = course t (expired T200) (ringing h.repeats []) in
-        let is : x ≡ repeated t h.repeats room = t200-repeats t h.repeats room few in
-        let delivered = ap (λ (y : Course). y.delivered) is in
-        let tells : TellsIt service tei x = record {
-          its_notes = ap (λ (y : Course). y.notes) is ∙ ap (λ o. map (λ octets. NoteData service tei) (option_to_list o)) (sym delivered);
-          no_unit = ap (λ (y : Course). y.unit) is;
-        } in
-        let kept : x.link.contents ≡ [] = ap (λ (y : Course). y.link.contents) is in
-        let becomes : with_link (expired T200) rung ≡ end t (ringing (h.repeats + 1) (its_sabme ∷ [])) [] =
-        (λ i. record rung { link = (is i).link; delivered = option_to_list (is i).delivered }) in
-        record {
-          repeats = h.repeats + 1;
-          near = subst (Held c service tei p [] (happens (expiry timer) w.near)) becomes (held-expired service tei p [] c w.near rung h.near timer T200 aims tells kept);
-          far = h.far;
-        }
-
-    pub few-repeats : MayRepeat service tei w.near → h.repeats < t.n200
-    few-repeats may = may-there service tei c p w.near rung h.near.stands may refl refl
-
-    pub silent-near : (act : EndStep) → IsRoughTalkOf service tei act → IsTimelyOf act w → Goes (acting act w)
-    silent-near (requests r) is x = for-data service tei (λ r. Goes (acting (requests r) w)) (λ octets. (inl (rings-asks [] [] w h octets))) r is
-    silent-near (expires timer) is x =
-        each-timer service tei (λ timer. IsTimelyOf (expires timer) w → Goes (acting (expires timer) w))
-        (λ x. as-asking (repeats-sabme (timer_T200 service tei) (λ l. refl) (few-repeats x.1))) (λ x. (inl (rings-t203 [] [] w h))) timer is x
-    silent-near sends is x = (inl (record { repeats = h.repeats; near = gives-nothing service tei c p [] w.near rung h.near refl; far = h.far }))
-    silent-near receives is x = (inl (subst (Rings [] []) (sym (takes-none w (empty service tei d q [] w.far (end u fresh []) h.far refl))) h))
-    silent-near loses is x = inl (subst (Rings [] []) (sym (loses-none w (empty service tei c p [] w.near rung h.near refl))) h)
-
-  -- SABME waits
-  module _ (w : Wire) (h : Rings (its_sabme ∷ []) [] w) where
-    abbrev asker : LinkEndpoint
-    asker = end t (ringing h.repeats (its_sabme ∷ [])) []
-
-    pub gives-sabme : Rings [] (sabme t ∷ []) (acting sends w)
-    gives-sabme = record { repeats = h.repeats; near = held-given service tei p [] c w.near asker h.near refl; far = h.far }
-
-    pub not-still : IsStill w → ⊥
-    not-still still = let no : given t (ringing h.repeats (its_sabme ∷ [])) ≡ None = (hushed service tei c p [] w.near asker h.near still.near still.near_way).given in cc no
-
-    pub asking-near : (act : EndStep) → IsRoughTalkOf service tei act → IsTimelyOf act w → Goes (acting act w)
-    asking-near (requests r) is x = for-data service tei (λ r. Goes (acting (requests r) w)) (λ octets. as-asking (rings-asks (its_sabme ∷ []) [] w h octets)) r is
-    asking-near (expires timer) is x =
-        each-timer service tei (λ timer. IsTimelyOf (expires timer) w → Goes (acting (expires timer) w)) (λ x. absurd (waits-first is_poll asker its_sabme [] refl refl (ringing-open service tei c d p q h.repeats (its_sabme ∷ []) [] w (end u fresh []) [] h.near h.far x.0).commands))
-        (λ x. as-asking (rings-t203 (its_sabme ∷ []) [] w h)) timer is x
-    asking-near sends is x = as-called gives-sabme
-    asking-near receives is x = as-asking (subst (Rings (its_sabme ∷ []) []) (sym (takes-none w (empty service tei d q [] w.far (end u fresh []) h.far refl))) h)
-    asking-near loses is x = as-asking (subst (Rings (its_sabme ∷ []) []) (sym (loses-none w (empty service tei c p [] w.near asker h.near refl))) h)
-
-  -- it is on its way
-  module _ (w : Wire) (h : Rings [] (sabme t ∷ []) w) where
-    abbrev caller_end : LinkEndpoint
-    caller_end = end t (ringing h.repeats []) (sabme t ∷ [])
-
-    pub called-still : IsStill w → ⊥
-    called-still still = let no : sabme t ∷ [] ≡ [] = (hushed service tei c p [] w.near caller_end h.near still.near still.near_way).way in cc no
-
-    pub called-near : (act : EndStep) → IsRoughTalkOf service tei act → IsTimelyOf act w → Goes (acting act w)
-    called-near (requests r) is x = for-data service tei (λ r. Goes (acting (requests r) w)) (λ octets. as-called (rings-asks [] (sabme t ∷ []) w h octets)) r is
-    called-near (expires timer) is x =
-        each-timer service tei (λ timer. IsTimelyOf (expires timer) w → Goes (acting (expires timer) w)) (λ x. absurd (goes-first is_poll caller_end (sabme t) [] refl refl (ringing-open service tei c d p q h.repeats [] (sabme t ∷ []) w (end u fresh []) [] h.near h.far x.0).commands))
-        (λ x. as-called (rings-t203 [] (sabme t ∷ []) w h)) timer is x
-    called-near sends is x = as-called (record { repeats = h.repeats; near = gives-nothing service tei c p [] w.near caller_end h.near refl; far = h.far })
-    called-near receives is x = as-called (subst (Rings [] (sabme t ∷ [])) (sym (takes-none w (empty service tei d q [] w.far (end u fresh []) h.far refl))) h)
-    called-near loses is x = inl (record { repeats = h.repeats; near = held-lost service tei p [] c w.near caller_end h.near; far = h.far })
-
-    -- the other takes it
-    pub answers : (phases.UaWaits service tei c d p q (end u called []) (turned (acting receives (turned w))))
-    answers =
-        let f = sabme t in
-        let way = first-way service tei c p [] w.near caller_end f [] refl h.near in
-        let reached = frame_comes (spelling (own_side c) f) w.far in
-        let becomes : with_link (received (frame f)) (end u fresh []) ≡ end u answering [] = ap (λ y. end u y []) (takes-sabme u ru t) in
-        let held : Held d service tei q (indicated service tei ∷ []) reached (end u answering []) =
-        held-first service tei q [] d w.far (end u fresh []) h.far (indicated service tei) reached (end u answering []) (course u (received (frame f)) fresh) refl refl refl
-        (subst (StationStands d service tei q reached) becomes (taken-stands service tei q [] d w.far (end u fresh []) h.far c back f way.1)) (takes-granted (spelling (own_side c) f) w.far) refl
-        (taken-told service tei q [] d w.far (end u fresh []) h.far c back f way.1) (told-of-sabme u ru t) refl in
-        grind (arith, held-lost, answering, firm-first)
-
-    pub called-far : (act : EndStep) → IsRoughTalkOf service tei act → Goes (turned (acting act (turned w)))
-    called-far (requests r) is =
-        for-data service tei (λ r. Goes (turned (acting (requests r) (turned w)))) (λ octets. as-called (down-asks [] (sabme t ∷ []) w h octets)) r is
-    called-far (expires timer) is =
-        for-timer service tei (λ timer. Goes (turned (acting (expires timer) (turned w)))) (λ timer its aims. as-called (down-expires [] (sabme t ∷ []) w h timer its aims)) timer is
-    called-far act is = grind (arith, as-called, down-gives, sabme, end, called, answers, loses-none, empty)
+  pub ringing-far : (w : Wire) → Ringing w → (act : EndStep) → IsRoughTalkOf service tei act → Goes (turned (acting act (turned w)))
+  ringing-far w h (requests r) is = inl (down-far service tei c d p q face back rt ru w h (requests r) (λ e. cc e) (full (requests r) is))
+  ringing-far w h (expires timer) is = inl (down-far service tei c d p q face back rt ru w h (expires timer) (λ e. cc e) is)
+  ringing-far w h sends is = inl (down-far service tei c d p q face back rt ru w h sends (λ e. cc e) tt)
+  ringing-far w h receives is = takes w h
+  ringing-far w h loses is = inl (down-far service tei c d p q face back rt ru w h loses (λ e. cc e) tt)

@@ -1,18 +1,21 @@
 -- A whole call in which timers are timely: both ends stay up, and what was lost arrives.
-use Rattle.laws_wire.proofs.Vocabulary.{◌≡◌, ℕ, suc, ◌+◌, ◌<◌, Bool, true, false, ◌==◌, List, [], ◌∷◌, length, map, is_some, refl, sym, ap, ◌∙◌, inl, inr, eqb-true, arith, All, flat_map, list_any, and_parts, or_parts, All-nil, All-cons, All-head, All-tail, list_any-append, Note, Service, Timer, Parts, ControlFrame, fresh, IsInRange, Ends, Config, LineTold, terms, all-arrived, T200, Endpoint, Wire}
+use Rattle.laws_wire.proofs.Vocabulary.{◌≡◌, ℕ, suc, ◌+◌, Bool, true, false, ◌==◌, List, [], ◌∷◌, length, map, is_some, refl, sym, ap, ◌∙◌, inl, inr, eqb-true, arith, All, flat_map, list_any, and_parts, or_parts, All-nil, All-cons, All-head, All-tail, list_any-append, Note, Service, Timer, Parts, ControlFrame, fresh, IsInRange, Ends, Config, LineTold, terms, all-arrived, T200, Endpoint, Wire}
 use Rattle.laws_wire.proofs.Vocabulary.{EndStep, sends, receives, expires, StepAt, at_near, at_far, acting, turned, doing, doing_all, IsStill, calling, confirmed, indicated, data_told, for_layer_3, heard_in, is_error, HasNoError, IsRoughTalkOf, IsRoughTalk, is_poll, is_final, IsTimelyOf, IsSpared, IsTimely, StayTimely, both_expire, round, rounds, HasNoErrors, BothMayRepeat, HasMissing, HasArrived}
 use Rattle.laws_wire.proofs.Vocabulary.{with_t200_expired, WhatIsLostArrives, is_ua, frames_by, timer_T200, read_as, StayPatient, TwoLinksHasArrived, nothing-to_send, spelling, ◌++◌, LinkEndpoint, own_side}
-use Rattle.laws_wire.proofs.Awaited.{NoneOpen, open-here}
-use Rattle.laws_wire.proofs.Calling.{end, called}
+use Rattle.laws_wire.proofs.Awaited.{NoneOpen, may-there, open-here}
+use Rattle.laws_wire.proofs.Calling.{end, called, sabme}
+use Rattle.laws_wire.proofs.Held.{held-given, held-expired}
 use Rattle.laws_wire.proofs.LossyRun.{Setting, setting}
 use Rattle.laws_wire.proofs.Ringing.{answered, its_sabme}
 use Rattle.laws_wire.proofs.Ringing.{ringing as ringing_as}
 use Rattle.laws_wire.proofs.Talking.{Face}
 use Rattle.laws_wire.proofs.TimelyFirst.{near-ready, far-ready, there-taken, back-taken}
 use Rattle.laws_wire.proofs.TimelyAnswered.{gives-ua, confirms, waits-still, waits-near, waits-far, comes-still, comes-near, comes-far}
-use Rattle.laws_wire.proofs.TimelyPhases.{Rings, UaWaits, UaGoes, Goes}
-use Rattle.laws_wire.proofs.TimelyRinging as ringing
-use Rattle.laws_wire.proofs.TimelyRinging.{down-expires, down-acts, repeats-sabme, few-repeats, silent-near, gives-sabme, not-still, asking-near, called-still, called-near, called-far}
+use Rattle.laws_wire.proofs.TimelyPhases as phases
+use Rattle.laws_wire.proofs.TimelyPhases.{UaWaits, UaGoes, Goes}
+use Rattle.laws_wire.proofs.TimelyRinging.{ringing-near, answers, ringing-far}
+use Rattle.laws_wire.proofs.UaLost.{RingsAt, rings-untold, repeats-sabme, still-rings}
+use Rattle.laws_wire.proofs.UaLostRun.{there}
 use Rattle.laws_wire.proofs.UaSettled.{nothing-said, loose-goes_on, loose-settles}
 use Rattle.laws_wire.proofs.LooseUp.{LooseAt}
 use Rattle.laws_wire.proofs.Loose.{as-loose}
@@ -56,22 +59,24 @@ module _ (service : Service) (tei : ℕ) (c d : Config) (p q : ℕ) (face : Face
   abbrev On : Wire → Type 0
   On w = Goes service tei c d p q w
 
+  abbrev Down : Endpoint → Type 0
+  Down s = phases.Down service tei c d p q s
+
+  abbrev Rings : List ControlFrame → List Parts → Wire → Type 0
+  Rings ws way w = RingsAt service tei c p Down ws way w
+
   -- each act of either end
   near-goes : (act : EndStep) → IsRoughTalkOf service tei act → (w : Wire) → IsTimelyOf act w → On w → On (acting act w)
-  near-goes act is w x (inl h) = silent-near service tei c d p q face back rt ru w h act is x
-  near-goes act is w x (inr (inl h)) = asking-near service tei c d p q face back rt ru w h act is x
-  near-goes act is w x (inr (inr (inl h))) = called-near service tei c d p q face back rt ru w h act is x
-  near-goes act is w x (inr (inr (inr (inl h)))) = waits-near service tei c d p q face back rt ru w h.m h.is act is x
-  near-goes act is w x (inr (inr (inr (inr (inl h))))) = comes-near service tei c d p q face back rt ru w h.m h.is act is x
-  near-goes act is w x (inr (inr (inr (inr (inr h))))) = inr (inr (inr (inr (inr (up-acts service tei c d p q face (confirmed service tei ∷ []) (indicated service tei ∷ []) w h.n h.m h.up act is x)))))
+  near-goes act is w x (inl h) = inl (ringing-near service tei c d p q face back rt ru w h act is x)
+  near-goes act is w x (inr (inl h)) = waits-near service tei c d p q face back rt ru w h.m h.is act is x
+  near-goes act is w x (inr (inr (inl h))) = comes-near service tei c d p q face back rt ru w h.m h.is act is x
+  near-goes act is w x (inr (inr (inr h))) = inr (inr (inr (up-acts service tei c d p q face (confirmed service tei ∷ []) (indicated service tei ∷ []) w h.n h.m h.up act is x)))
 
   far-goes : (act : EndStep) → IsRoughTalkOf service tei act → (w : Wire) → IsTimelyOf act (turned w) → IsSpared act w → On w → On (turned (acting act (turned w)))
-  far-goes act is w x y (inl h) = inl (down-acts service tei c d p q face back rt ru [] [] w h refl act is)
-  far-goes act is w x y (inr (inl h)) = inr (inl (down-acts service tei c d p q face back rt ru (its_sabme ∷ []) [] w h refl act is))
-  far-goes act is w x y (inr (inr (inl h))) = called-far service tei c d p q face back rt ru w h act is
-  far-goes act is w x y (inr (inr (inr (inl h)))) = waits-far service tei c d p q face back rt ru w h.m h.is act is y
-  far-goes act is w x y (inr (inr (inr (inr (inl h))))) = comes-far service tei c d p q face back rt ru w h.m h.is act is x y
-  far-goes act is w x y (inr (inr (inr (inr (inr h))))) = grind (arith, turned-are, up-acts)
+  far-goes act is w x y (inl h) = ringing-far service tei c d p q face back rt ru w h act is
+  far-goes act is w x y (inr (inl h)) = waits-far service tei c d p q face back rt ru w h.m h.is act is y
+  far-goes act is w x y (inr (inr (inl h))) = comes-far service tei c d p q face back rt ru w h.m h.is act is x y
+  far-goes act is w x y (inr (inr (inr h))) = grind (arith, turned-are, up-acts)
 
   pub step : (k : StepAt) → IsRoughTalk service tei k → (w : Wire) → IsTimely k w → On w → On (doing k w)
   step (at_near act) is w x h = near-goes act is w x h
@@ -84,12 +89,10 @@ module _ (service : Service) (tei : ℕ) (c d : Config) (p q : ℕ) (face : Face
       runs ds (All-tail (IsRoughTalk service tei) k ds all) (doing k w) x.1 (step k (All-head (IsRoughTalk service tei) k ds all) w x.0 h)
 
   pub fair : (w : Wire) → On w → HasNoErrors w
-  fair w (inl h) = ((nothing-heard w.near h.near.heard, nothing-heard w.far h.far.heard))
-  fair w (inr (inl h)) = ((nothing-heard w.near h.near.heard, nothing-heard w.far h.far.heard))
-  fair w (inr (inr (inl h))) = ((nothing-heard w.near h.near.heard, nothing-heard w.far h.far.heard))
-  fair w (inr (inr (inr (inl h)))) = (nothing-heard w.near h.is.near.heard, (grind (arith, all-fair, data-fair)))
-  fair w (inr (inr (inr (inr (inl h))))) = (nothing-heard w.near h.is.near.heard, (grind (arith, all-fair, data-fair)))
-  fair w (inr (inr (inr (inr (inr h))))) = grind (arith, all-fair, data-fair)
+  fair w (inl h) = (nothing-heard w.near (rings-untold service tei c p Down w h), nothing-heard w.far (there service tei c d p q face back rt ru w Down h).heard)
+  fair w (inr (inl h)) = (nothing-heard w.near h.is.near.heard, (grind (arith, all-fair, data-fair)))
+  fair w (inr (inr (inl h))) = (nothing-heard w.near h.is.near.heard, (grind (arith, all-fair, data-fair)))
+  fair w (inr (inr (inr h))) = grind (arith, all-fair, data-fair)
 
   -- ---- where both ends are up
 
@@ -133,20 +136,24 @@ module _ (service : Service) (tei : ℕ) (c d : Config) (p q : ℕ) (face : Face
         (x.near, x.far, x.rests)
 
   -- SABME was lost: it goes again, and both are up
-  module _ (w : Wire) (h : Rings service tei c d p q [] [] w) (may : BothMayRepeat service tei w) where
+  module _ (w : Wire) (h : Rings [] [] w) (may : BothMayRepeat service tei w) where
     abbrev timer : Timer
     timer = timer_T200 service tei
 
     abbrev expired : Wire
     expired = with_t200_expired service tei w
 
-    few : h.repeats < (terms c service tei).n200
-    few = few-repeats service tei c d p q face back rt ru w h may.0
+    repeated : Rings (its_sabme ∷ []) [] (acting (expires timer) w)
+    repeated =
+        let few = may-there service tei c p w.near (end (terms c service tei) (ringing_as h.repeats []) []) h.near.stands may.0 refl refl in
+        repeats-sabme service tei c d p q face back rt ru Down w h few
 
-    again : Rings service tei c d p q (its_sabme ∷ []) [] expired
-    again =
-        let w' = acting (expires timer) w in
-        down-expires service tei c d p q face back rt ru (its_sabme ∷ []) [] w' (repeats-sabme service tei c d p q face back rt ru w h timer (λ l. refl) few) timer T200 (λ l. refl)
+    again : Rings (its_sabme ∷ []) [] expired
+    again = record {
+      repeats = repeated.repeats;
+      near = repeated.near;
+      far = held-expired service tei q [] d w.far (end (terms d service tei) fresh []) h.far timer T200 (λ l. refl) (record { its_notes = refl; no_unit = refl }) refl;
+    }
 
     -- the first round
     record First (w' : Wire) : Type 0 where
@@ -159,7 +166,9 @@ module _ (service : Service) (tei : ℕ) (c d : Config) (p q : ℕ) (face : Face
         let w1 = acting sends expired in
         let w2 = turned (acting receives (turned w1)) in
         let m = end (terms d service tei) called [] in
-        let h2 : UaWaits service tei c d p q m w2 = ringing.answers service tei c d p q face back rt ru w1 (gives-sabme service tei c d p q face back rt ru expired again) in
+        let asker = end (terms c service tei) (ringing_as again.repeats (its_sabme ∷ [])) [] in
+        let h1 : Rings [] (sabme (terms c service tei) ∷ []) w1 = record { repeats = again.repeats; near = held-given service tei p [] c expired.near asker again.near refl; far = again.far } in
+        let h2 : UaWaits service tei c d p q m w2 = answers service tei c d p q face back rt ru w1 h1 in
         let w3 = turned (acting sends (turned w2)) in
         let h3 : UaGoes service tei c d p q m w3 = gives-ua service tei c d p q face back rt ru w2 m h2 in
         record { repeats = h3.repeats; up = confirms service tei c d p q face back rt ru w3 m h3 }
@@ -188,14 +197,13 @@ module _ (service : Service) (tei : ℕ) (c d : Config) (p q : ℕ) (face : Face
         let m = end v fresh [] in
         let near = hushed service tei c p [] w.near n h.near still.near still.near_way in
         let w' = acting (expires timer) w in
-        let next = repeats-sabme service tei c d p q face back rt ru w h timer (λ l. refl) few in
-        let n' = end t (ringing_as next.repeats (its_sabme ∷ [])) [] in
+        let n' = end t (ringing_as repeated.repeats (its_sabme ∷ [])) [] in
         let sabme-alone = All-cons (λ (f : ControlFrame). is_final f.command f.control ≡ false) its_sabme [] refl (All-nil (λ (f : ControlFrame). is_final f.command f.control ≡ false)) in
         let open_ : NoneOpen m n' = record { commands = none-of service tei is_poll m refl refl; responses = record { waiting = sabme-alone; way = All-nil (λ (f : Parts). is_final f.address.command f.control ≡ false) } } in (
           (λ no. open-here service tei c d p q w.near w.far n m h.near.stands h.far.stands (none-open service tei n m near (hushed service tei d q [] w.far m h.far still.far still.far_way)), may.0),
           (
             (
-              (λ no. open-here service tei d c q p w.far w'.near m n' h.far.stands next.near.stands open_, may.1),
+              (λ no. open-here service tei d c q p w.far w'.near m n' h.far.stands repeated.near.stands open_, may.1),
               λ none. (ap (λ a. list_any (λ (x : Parts). is_ua x.control) (flat_map (read_as w.far.card.config) (frames_by a))) still.far),
             ),
             tt,
@@ -207,25 +215,21 @@ module _ (service : Service) (tei : ℕ) (c d : Config) (p q : ℕ) (face : Face
 
   -- where no turn is left before both are up SABME was lost
   pub arrives : (w : Wire) → On w → (u : ℕ) → IsStill w → HasMissing service tei u w → BothMayRepeat service tei w → Arrives u w
-  arrives w (inl h) u still missing may = lost-arrives w h may u
-  arrives w (inr (inl h)) u still missing may = absurd (not-still service tei c d p q face back rt ru w h still)
-  arrives w (inr (inr (inl h))) u still missing may = absurd (called-still service tei c d p q face back rt ru w h still)
-  arrives w (inr (inr (inr (inl h)))) u still missing may = absurd (waits-still service tei c d p q face back rt ru w h.m h.is still)
-  arrives w (inr (inr (inr (inr (inl h))))) u still missing may = absurd (comes-still service tei c d p q face back rt ru w h.m h.is still)
-  arrives w (inr (inr (inr (inr (inr h))))) u still missing may = up-arrives w h.n h.m h.up still may u missing
+  arrives w (inl h) u still missing may = lost-arrives w (still-rings service tei c d p q face back rt ru Down w h still) may u
+  arrives w (inr (inl h)) u still missing may = absurd (waits-still service tei c d p q face back rt ru w h.m h.is still)
+  arrives w (inr (inr (inl h))) u still missing may = absurd (comes-still service tei c d p q face back rt ru w h.m h.is still)
+  arrives w (inr (inr (inr h))) u still missing may = up-arrives w h.n h.m h.up still may u missing
 
   -- and there T200 of both ends is timely
   pub goes-on : (w : Wire) → On w → IsStill w → BothMayRepeat service tei w → StayTimely (both_expire service tei) w
-  goes-on w (inl h) still may = lost-goes_on w h may still
-  goes-on w (inr (inl h)) still may = absurd (not-still service tei c d p q face back rt ru w h still)
-  goes-on w (inr (inr (inl h))) still may = absurd (called-still service tei c d p q face back rt ru w h still)
-  goes-on w (inr (inr (inr (inl h)))) still may = absurd (waits-still service tei c d p q face back rt ru w h.m h.is still)
-  goes-on w (inr (inr (inr (inr (inl h))))) still may = absurd (comes-still service tei c d p q face back rt ru w h.m h.is still)
-  goes-on w (inr (inr (inr (inr (inr h))))) still may = up-goes_on w h.n h.m h.up still may
+  goes-on w (inl h) still may = lost-goes_on w (still-rings service tei c d p q face back rt ru Down w h still) may still
+  goes-on w (inr (inl h)) still may = absurd (waits-still service tei c d p q face back rt ru w h.m h.is still)
+  goes-on w (inr (inr (inl h))) still may = absurd (comes-still service tei c d p q face back rt ru w h.m h.is still)
+  goes-on w (inr (inr (inr h))) still may = up-goes_on w h.n h.m h.up still may
 
 -- a call as it begins
 pub starts : (service : Service) (c d : Config) (line other tei : ℕ) → Setting service c d line other tei → Goes service tei c d 0 0 (calling service tei c line d other)
-starts service c d line other tei x = inr (inl (record { repeats = 0; near = x.near_held; far = x.far_held }))
+starts service c d line other tei x = inl (inr (inl (record { repeats = 0; near = x.near_held; far = x.far_held })))
 
 pub what-is-lost-arrives : WhatIsLostArrives
 what-is-lost-arrives service c d line other tei ds can talk = λ timely.

@@ -1,18 +1,18 @@
 -- The phases of a call in which UA may be lost: one end rings, and the other is down; or it is up, and its UA waits, is on its way, or is
 -- not to come.
-use Rattle.laws_wire.proofs.Vocabulary.{◌≡◌, ℕ, ◌+◌, ◌<◌, ◌≤◌, Bool, true, false, not, List, [], ◌∷◌, ◌++◌, map, take, refl, sym, ap, subst, ◌∙◌, ◌⊎◌, inl, inr, arith, nat_lt, option_to_list, lt-ltb, All, All-head, All-drop, Control, Service, Parts, spelling, ControlFrame, Terms, course, IsInRange, LinkEndpoint, with_link, Config, LineTold, expiry, request, terms, Request, Means, Rising, kind_of}
-use Rattle.laws_wire.proofs.Vocabulary.{one_enquiry, tally, line, HasNo, T200, Course, Endpoint, Wire, happens, frame_comes, with_first_of, without_first, EndStep, requests, expires, sends, receives, loses, acting, confirmed, heard_in, is_poll, IsTimelyOf, IsFullTalkOf, timer_T200, timer_T203, NoteData, own_side}
+use Rattle.laws_wire.proofs.Vocabulary.{◌≡◌, ℕ, ◌+◌, ◌<◌, ◌≤◌, Bool, true, false, not, List, [], ◌∷◌, ◌++◌, map, take, refl, sym, ap, subst, ◌∙◌, ◌⊎◌, inl, inr, arith, nat_lt, option_to_list, lt-ltb, All, All-head, All-drop, Control, Service, Parts, ControlFrame, Terms, course, IsInRange, LinkEndpoint, with_link, Config, LineTold, expiry, request, terms, Request, Rising, kind_of, T203}
+use Rattle.laws_wire.proofs.Vocabulary.{one_enquiry, tally, line, HasNo, T200, Course, Endpoint, Wire, happens, without_first, EndStep, requests, expires, sends, receives, loses, acting, IsStill, confirmed, heard_in, is_poll, IsTimelyOf, IsFullTalkOf, timer_T200, timer_T203, NoteData}
 use Rattle.model_link.specs.Events as link
 use Rattle.laws_wire.proofs.Awaited.{awaits-is, may-there, none-there, goes-first, waits-first}
 use Rattle.laws_wire.proofs.Calling.{sabme, end}
-use Rattle.laws_wire.proofs.Held.{TellsIt, Held, held-given, held-lost, held-taken, held-expired}
+use Rattle.laws_wire.proofs.Held.{TellsIt, Held, held-given, held-lost, held-expired}
 use Rattle.laws_wire.proofs.LooseUp.{for-asked}
-use Rattle.laws_wire.proofs.LossyPhases.{first-way, empty}
-use Rattle.laws_wire.proofs.Ringing.{ringing, its_sabme, repeated, t200-repeats, Ignores, ignores}
+use Rattle.laws_wire.proofs.LossyPhases.{empty}
+use Rattle.laws_wire.proofs.Ringing.{ringing, its_sabme, repeated, t200-repeats}
+use Rattle.laws_wire.proofs.StillRinging.{ignores-frame}
 use Rattle.laws_wire.proofs.Talking.{Face}
 use Rattle.laws_wire.proofs.TimelyFirst.{takes-none, loses-none, gives-nothing, asks-refused, busy-refused, ready-refused}
-use Rattle.laws_wire.proofs.TimelyPhases.{silent-t203}
-use Rattle.laws_wire.proofs.TimelyUp.{each-timer}
+use Rattle.laws_wire.proofs.TimelyUp.{each-timer, hushed, none-waits}
 
 -- This goes before what is on the way of an end.
 abbrev pub behind : List Parts → LinkEndpoint → LinkEndpoint
@@ -34,6 +34,27 @@ none-asked t (f ∷ fs) h =
 pub taken-none : (r : ℕ) (xs : List (List ℕ)) → xs ≡ [] → r ≤ 0 → take r xs ≡ []
 taken-none r xs e le = ap (λ xs. take r xs) e ∙ (let none : r ≡ 0 = omega (arith, le) in ap (λ r. take r []) none)
 
+-- ---- one end rings, with this waiting and this on its way; and this holds of the other's station
+
+module _ (service : Service) (tei : ℕ) (c : Config) (p : ℕ) where
+  pub record RingsAt (P : Endpoint → Type 0) (ws : List ControlFrame) (way : List Parts) (w : Wire) : Type 0 where
+    pub repeats : ℕ
+    pub near : Held c service tei p [] w.near (end (terms c service tei) (ringing repeats ws) way)
+    pub far : P w.far
+
+  abbrev pub RingingAt : (Endpoint → Type 0) → Wire → Type 0
+  RingingAt P w = RingsAt P [] [] w ⊎ RingsAt P (its_sabme ∷ []) [] w ⊎ RingsAt P [] (sabme (terms c service tei) ∷ []) w
+
+  -- its layer 3 was told nothing
+  pub rings-untold : (P : Endpoint → Type 0) (w : Wire) → RingingAt P w → heard_in w.near ≡ []
+  rings-untold P w o = grind arith
+
+  -- T203 does not run
+  pub silent-t203 : (k : ℕ) (ws : List ControlFrame) (way : List Parts) (s : Endpoint) → Held c service tei p [] s (end (terms c service tei) (ringing k ws) way)
+      → Held c service tei p [] (happens (expiry (timer_T203 service tei)) s) (end (terms c service tei) (ringing k ws) way)
+  silent-t203 k ws way s h =
+      held-expired service tei p [] c s (end (terms c service tei) (ringing k ws) way) h (timer_T203 service tei) T203 (λ l. refl) (record { its_notes = refl; no_unit = refl }) refl
+
 module _ (service : Service) (tei : ℕ) (c d : Config) (p q : ℕ) (face : Face c d) (back : Face d c) (rt : IsInRange (terms c service tei)) (ru : IsInRange (terms d service tei)) where
   abbrev t : Terms
   t = terms c service tei
@@ -44,14 +65,11 @@ module _ (service : Service) (tei : ℕ) (c d : Config) (p q : ℕ) (face : Face
   room : nat_lt 0 t.control ≡ true
   room = let low = rt.control_low in lt-ltb 0 t.control (omega (arith, low))
 
-  -- ---- one end rings, with this waiting and this on its way; and this holds of the other's station
-  pub record Rings (P : Endpoint → Type 0) (ws : List ControlFrame) (way : List Parts) (w : Wire) : Type 0 where
-    pub repeats : ℕ
-    pub near : Held c service tei p [] w.near (end t (ringing repeats ws) way)
-    pub far : P w.far
+  abbrev pub Rings : (Endpoint → Type 0) → List ControlFrame → List Parts → Wire → Type 0
+  Rings P ws way w = RingsAt service tei c p P ws way w
 
   abbrev pub Ringing : (Endpoint → Type 0) → Wire → Type 0
-  Ringing P w = Rings P [] [] w ⊎ Rings P (its_sabme ∷ []) [] w ⊎ Rings P [] (sabme t ∷ []) w
+  Ringing P w = RingingAt service tei c p P w
 
   -- what is asked of it is refused
   asks-held : (ws : List ControlFrame) (way : List Parts) (k : ℕ) (s : Endpoint) → Held c service tei p [] s (end t (ringing k ws) way) → (r : Request) → IsFullTalkOf service tei (requests r)
@@ -69,29 +87,10 @@ module _ (service : Service) (tei : ℕ) (c d : Config) (p q : ℕ) (face : Face
   near-waits k w h never (requests r) not is x = asks-held [] [] k w.near h r is
   near-waits k w h never (expires timer) not is x =
       each-timer service tei (λ timer. IsTimelyOf (expires timer) w → Held c service tei p [] (happens (expiry timer) w.near) (end t (ringing k []) [])) (λ x. absurd (never x))
-      (λ x. silent-t203 service tei c d p q k [] [] w.near h) timer is x
+      (λ x. silent-t203 service tei c p k [] [] w.near h) timer is x
   near-waits k w h never sends not is x = gives-nothing service tei c p [] w.near (end t (ringing k []) []) h refl
   near-waits k w h never receives not is x = absurd (not refl)
   near-waits k w h never loses not is x = held-lost service tei p [] c w.near (end t (ringing k []) []) h
-
-  -- a frame of a link that is up is not served
-  module _ (ws : List ControlFrame) (way : List Parts) (w : Wire) (repeats : ℕ) (near : Held c service tei p [] w.near (end t (ringing repeats ws) way)) (past : List LineTold) (M : LinkEndpoint)
-      (held : Held d service tei q past w.far M) where
-    abbrev it : LinkEndpoint
-    it = end t (ringing repeats ws) way
-
-    pub ignores-frame : (f : Parts) (fs : List Parts) → M.way ≡ f ∷ fs → (number : ℕ) → Means number f.control → Held c service tei p [] (with_first_of w.far.way w.near) it
-    ignores-frame f fs first number means =
-        let its_way = first-way service tei d q past w.far M f fs first held in
-        let i : Ignores t repeats ws f = ignores t repeats ws f number means in
-        let s' = frame_comes (spelling (own_side d) f) w.near in
-        let event = link.received (link.frame f) in
-        let tells : TellsIt service tei (course t event it.link) =
-        assumption (i.notes ∙ ap (λ o. map (λ octets. NoteData service tei) (option_to_list o)) (sym i.delivered)) in
-        let is : with_link event it ≡ it = (λ j. record it { link = i.stays j; delivered = ap option_to_list i.delivered j }) in
-        let taken : Held c service tei p [] s' it =
-        subst (Held c service tei p [] s') is (held-taken service tei p [] c w.near it near d face f its_way.1 tells (ap (λ l. l.contents) i.stays)) in
-        subst (λ ways. Held c service tei p [] (with_first_of ways w.near) it) (sym its_way.0) taken
 
   -- so it rings on, as it takes
   pub ringing-takes : (P : Endpoint → Type 0) (ws : List ControlFrame) (way : List Parts) (w : Wire) → Rings P ws way w → P (without_first w.far) → (past : List LineTold) (M : LinkEndpoint)
@@ -102,7 +101,7 @@ module _ (service : Service) (tei : ℕ) (c d : Config) (p q : ℕ) (face : Face
       go [] e = subst (Rings P ws way) (sym (takes-none w (empty service tei d q past w.far M held e))) h
       go (f ∷ fs) e =
           let x = subst (λ its. Rising 0 r (its ++ rest)) e rising in
-          record { repeats = h.repeats; near = ignores-frame ws way w h.repeats h.near past M held f fs e x.0 x.2; far = lost }
+          record { repeats = h.repeats; near = ignores-frame service tei c d p q face w h.repeats ws way h.near past M held f fs e x.0 x.2; far = lost }
 
   module _ (P : Endpoint → Type 0) where
     abbrev R : List ControlFrame → List Parts → Wire → Type 0
@@ -116,7 +115,11 @@ module _ (service : Service) (tei : ℕ) (c d : Config) (p q : ℕ) (face : Face
       near-asks r is = record { repeats = h.repeats; near = asks-held ws way h.repeats w.near h.near r is; far = h.far }
 
       near-t203 : R ws way (acting (expires (timer_T203 service tei)) w)
-      near-t203 = record { repeats = h.repeats; near = silent-t203 service tei c d p q h.repeats ws way w.near h.near; far = h.far }
+      near-t203 = record { repeats = h.repeats; near = silent-t203 service tei c p h.repeats ws way w.near h.near; far = h.far }
+
+      -- where no turn is left, nothing waits, and nothing is on its way
+      quiet : IsStill w → (ws ≡ []) × (way ≡ [])
+      quiet still = let x = hushed service tei c p [] w.near n h.near still.near still.near_way in (none-waits service tei n x, x.way)
 
       near-loses : way ≡ [] → R ws way (acting loses w)
       near-loses none = subst (R ws way) (sym (loses-none w (empty service tei c p [] w.near n h.near none))) h
@@ -184,4 +187,9 @@ module _ (service : Service) (tei : ℕ) (c d : Config) (p q : ℕ) (face : Face
     near-rings w (inr (inr h)) act not is x = calling w h act not is x
 
     pub not-told : (w : Wire) → Ringing P w → heard_in w.near ≡ []
-    not-told w o = grind arith
+    not-told w o = rings-untold service tei c p P w o
+
+    pub still-rings : (w : Wire) → Ringing P w → IsStill w → R [] [] w
+    still-rings w (inl h) still = h
+    still-rings w (inr (inl h)) still = absurd (cc (quiet (its_sabme ∷ []) [] w h still).0)
+    still-rings w (inr (inr h)) still = absurd (cc (quiet [] (sabme t ∷ []) w h still).1)

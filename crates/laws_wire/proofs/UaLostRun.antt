@@ -7,10 +7,9 @@ use Rattle.laws_wire.proofs.Calling.{end, answering, sabme, ua}
 use Rattle.laws_wire.proofs.Held.{Held, held-lost, held-expired}
 use Rattle.laws_wire.proofs.LooseUp.{for-asked, LooseUp, loose-turned-up, loose-acts}
 use Rattle.laws_wire.proofs.Ringing.{ringing, its_sabme}
+use Rattle.laws_wire.proofs.StillRinging.{hears-sabme}
 use Rattle.laws_wire.proofs.Talking.{Face}
 use Rattle.laws_wire.proofs.TimelyFirst.{takes-none, gives-nothing, asks-refused, busy-refused, ready-refused}
-use Rattle.laws_wire.proofs.TimelyPhases as phases
-use Rattle.laws_wire.proofs.TimelyRinging as first_ringing
 use Rattle.laws_wire.proofs.TimelyUp.{each-timer}
 use Rattle.laws_wire.proofs.UaBefore.{more-told, with_before, timely-with}
 use Rattle.laws_wire.proofs.UaCalledAt.{none-informed}
@@ -198,10 +197,10 @@ module _ (service : Service) (tei : ℕ) (c d : Config) (p q : ℕ) (face : Face
     down-acts h receives not is = absurd (not refl)
     down-acts h loses not is = held-lost service tei q [] d w.far down h
 
-    down-far : Rs Down w → (act : EndStep) → (act ≡ receives → ⊥) → IsFullTalkOf service tei act → Rs Down (done act w)
+    pub down-far : Rs Down w → (act : EndStep) → (act ≡ receives → ⊥) → IsFullTalkOf service tei act → Rs Down (done act w)
     down-far h act not is = all-far Down Down w (done act w) (grind arith) (λ y. down-acts y act not is) h
 
-    there : (P : Endpoint → Type 0) → Rs P w → P w.far
+    pub there : (P : Endpoint → Type 0) → Rs P w → P w.far
     there o x = grind arith
 
     down-takes : Rs Down w → ((takes_sabme w ≡ false) × Rs Down (done receives w)) ⊎ ((takes_sabme w ≡ true) × R (Waiting (indicated service tei ∷ []) false) [] [] (done receives w))
@@ -212,18 +211,17 @@ module _ (service : Service) (tei : ℕ) (c d : Config) (p q : ℕ) (face : Face
         let none = empty-way w (end (terms c service tei) (ringing h.repeats (its_sabme ∷ [])) []) [] h.near refl in
         inl ((ap (λ way. is_any way && length (heard_in w.near) == 0) none), stays w (Rs Down) none (inr (inl h)))
     down-takes (inr (inr h)) =
-        let was : phases.Rings service tei c d p q [] (sabme (terms c service tei) ∷ []) w = record { repeats = h.repeats; near = h.near; far = h.far } in
-        let now = first_ringing.answers service tei c d p q face back rt ru w was in
+        let asker = end (terms c service tei) (ringing h.repeats []) (sabme (terms c service tei) ∷ []) in
         inr (
           ap (λ way. is_any way && length (heard_in w.near) == 0) h.near.stands.way ∙ ap (λ ts. length ts == 0) h.near.heard,
           record {
-            repeats = now.repeats;
-            near = now.near;
+            repeats = h.repeats;
+            near = held-lost service tei p [] c w.near asker h.near;
             far = record {
               M = end (terms d service tei) answering [];
               old = [];
               post = [];
-              held = now.far;
+              held = hears-sabme service tei d c q p back ru (turned w) h.far asker h.near (terms c service tei) [] refl;
               waits = refl;
               delivered = refl;
               rising = omega arith;
@@ -233,7 +231,7 @@ module _ (service : Service) (tei : ℕ) (c d : Config) (p q : ℕ) (face : Face
           },
         )
 
-    down-near : Rs Down w → (act : EndStep) → IsFullTalkOf service tei act → IsTimelyOf act w → Rs Down (acting act w)
+    pub down-near : Rs Down w → (act : EndStep) → IsFullTalkOf service tei act → IsTimelyOf act w → Rs Down (acting act w)
     down-near h (requests r) is x = near-rings service tei c d p q face back rt ru Down w h (requests r) (λ e. cc e) is x
     down-near h (expires timer) is x = near-rings service tei c d p q face back rt ru Down w h (expires timer) (λ e. cc e) is x
     down-near h sends is x = near-rings service tei c d p q face back rt ru Down w h sends (λ e. cc e) is x

@@ -1,23 +1,22 @@
 -- The end that is called, once it took SABME: its UA is not to come, waits, or is on its way behind what went before.
 use Rattle.std.specs.Prelude.{◌≤◌}
-use Rattle.laws_wire.proofs.Vocabulary.{◌≡◌, ℕ, Bool, false, not, ◌||◌, IsTrue, List, [], ◌∷◌, ◌++◌, refl, sym, ap, subst, ◌∙◌, ◌⊎◌, inl, inr, append_assoc, append-nil, true≢false, arith, All, All-head, All-nil, Service, Parts, spelling, ControlFrame, LinkTimer, Terms, is_multiple_frame, has_outstanding, frame_of, frames_of, course, given, IsInRange, LinkEndpoint, with_sent, Config, LineTold}
-use Rattle.laws_wire.proofs.Vocabulary.{next, terms, Rising, Sane, HasNo, offer-gave, Endpoint, Wire, happens, frame_comes, with_first_of, without_first, EndStep, requests, expires, sends, receives, loses, acting, turned, confirmed, is_poll, is_final, IsTimelyOf, frame_given, with_link, two_ends_without_first, link_expires, TwoEndsStep, Ends, two_ends_acting, link_requests, link_sends, after}
-use Rattle.laws_wire.proofs.Vocabulary.{IsFullTalkOf, gives_information, all-right, line_of, line-grows, rising-reports, offer-stays, rising-lower, flows-low, own_side}
+use Rattle.laws_wire.proofs.Vocabulary.{◌≡◌, ℕ, Bool, false, not, ◌||◌, IsTrue, List, [], ◌∷◌, ◌++◌, refl, sym, ap, subst, ◌∙◌, ◌⊎◌, inl, inr, append_assoc, append-nil, true≢false, arith, All, All-head, All-nil, Service, Parts, ControlFrame, LinkTimer, Terms, is_multiple_frame, has_outstanding, frame_of, frames_of, given, IsInRange, LinkEndpoint, with_sent, Config, LineTold}
+use Rattle.laws_wire.proofs.Vocabulary.{next, terms, Rising, Sane, HasNo, offer-gave, Endpoint, Wire, happens, without_first, EndStep, requests, expires, sends, receives, loses, acting, turned, is_poll, is_final, IsTimelyOf, frame_given, with_link, two_ends_without_first, link_expires, TwoEndsStep, Ends, two_ends_acting, link_requests, link_sends, after}
+use Rattle.laws_wire.proofs.Vocabulary.{IsFullTalkOf, gives_information, all-right, line_of, line-grows, rising-reports, offer-stays, rising-lower, flows-low}
 use Rattle.model_link.specs.Events as link
 use Rattle.laws_link.specs.two.Timely as two_links_timely
 use Rattle.laws_wire.proofs.Acting.{ranges, sound}
-use Rattle.laws_wire.proofs.Answered.{takes-granted}
 use Rattle.laws_wire.proofs.Awaited.{closed}
 use Rattle.laws_wire.proofs.Calling.{its_ua, ua, end}
-use Rattle.laws_wire.proofs.Held.{Held, held-given, held-lost, held-first, taken-told, taken-stands}
+use Rattle.laws_wire.proofs.Held.{Held, held-given, held-lost}
 use Rattle.laws_wire.proofs.Loose.{Loose, loose-turned, loose-after}
 use Rattle.laws_wire.proofs.LooseUp.{LooseUp}
-use Rattle.laws_wire.proofs.LossyPhases.{first-way}
 use Rattle.laws_wire.proofs.Ringing.{ringing, answered}
+use Rattle.laws_wire.proofs.StillRinging.{ignores-frame, hears-ua}
 use Rattle.laws_wire.proofs.Talking.{Face}
 use Rattle.laws_wire.proofs.UaCalled.{sane-after, Poised, PoisedOn, poised-on, loose-poised}
 use Rattle.laws_wire.proofs.UaCalledAt.{offer-rejecting, same-flag, FreeAs, StirsAt, asked-at, expired-at, flagged-at}
-use Rattle.laws_wire.proofs.UaLost.{behind, IsNoPoll, none-asked, taken-none, first_near, ignores-frame}
+use Rattle.laws_wire.proofs.UaLost.{behind, IsNoPoll, none-asked, taken-none, first_near}
 
 module _ (service : Service) (tei : ℕ) (c d : Config) (p q : ℕ) (face : Face c d) (back : Face d c) (rt : IsInRange (terms c service tei)) (ru : IsInRange (terms d service tei)) (past : List LineTold) where
   abbrev t : Terms
@@ -344,24 +343,17 @@ module _ (service : Service) (tei : ℕ) (c d : Config) (p q : ℕ) (face : Face
     ignores-first f fs e rising =
         let far : Its w.far (behind ((f ∷ fs) ++ ua u ∷ []) h.m) = subst (λ stale. Its w.far (behind (stale ++ ua u ∷ []) h.m)) e h.far in
         let lost : Its (without_first w.far) (behind (fs ++ ua u ∷ []) h.m) = held-lost service tei q past d w.far (behind ((f ∷ fs) ++ ua u ∷ []) h.m) far in
-        let near = ignores-frame service tei c d p q face back rt ru [] [] w h.repeats h.near past (behind ((f ∷ fs) ++ ua u ∷ []) h.m) far f ((fs ++ ua u ∷ []) ++ h.m.way) refl rising.0 rising.2 in
+        let near = ignores-frame service tei c d p q face w h.repeats [] [] h.near past (behind ((f ∷ fs) ++ ua u ∷ []) h.m) far f ((fs ++ ua u ∷ []) ++ h.m.way) refl rising.0 rising.2 in
         record { repeats = h.repeats; near = near; m = h.m; stale = fs; far = lost; rising = rising-lower rising.0 0 0 fs (omega arith) rising.3; loose = h.loose; rejecting = h.rejecting; flag = h.flag }
 
     confirms : h.stale ≡ [] → LooseUp service tei c d p q (first_near service tei c d p q face back rt ru) past (acting receives w)
     confirms e =
         let f = ua u in
-        let rung = end t (ringing h.repeats []) [] in
         let far : Its w.far (behind (f ∷ []) h.m) = subst (λ stale. Its w.far (behind (stale ++ f ∷ []) h.m)) e h.far in
-        let way = first-way service tei d q past w.far (behind (f ∷ []) h.m) f h.m.way refl far in
-        let s' = frame_comes (spelling (own_side d) f) w.near in
-        let held : Held c service tei p (confirmed service tei ∷ []) s' n =
-        held-first service tei p [] c w.near rung h.near (confirmed service tei) s' n (course t (link.received (link.frame f)) rung.link) refl refl refl
-        (taken-stands service tei p [] c w.near rung h.near d face f way.1) (takes-granted (spelling (own_side d) f) w.near) refl
-        (taken-told service tei p [] c w.near rung h.near d face f way.1) refl refl in
         record {
           n = n;
           m = h.m;
-          near = subst (λ ways. Held c service tei p (confirmed service tei ∷ []) (with_first_of ways w.near) n) (sym way.0) held;
+          near = hears-ua service tei c d p q face w h.repeats [] [] h.near past (behind (f ∷ []) h.m) far u h.m.way refl;
           far = held-lost service tei q past d w.far (behind (f ∷ []) h.m) far;
           loose = h.loose;
         }

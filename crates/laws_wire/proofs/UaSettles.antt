@@ -4,17 +4,17 @@ use Rattle.laws_wire.proofs.Vocabulary.{data_told, heard_in, IsFullTalk, StayPat
 use Rattle.laws_wire.specs.Facing.{line_of}
 use Rattle.laws_wire.proofs.Acting.{ranges}
 use Rattle.laws_wire.proofs.Awaited.{open-here, link-is}
-use Rattle.laws_wire.proofs.Calling.{end, asked, its_ua, sabme, ua}
+use Rattle.laws_wire.proofs.Calling.{end, asked, its_ua, ua}
 use Rattle.laws_wire.proofs.Held.{Held}
 use Rattle.laws_wire.proofs.LooseUp.{LooseAt}
 use Rattle.laws_wire.proofs.LossyRun.{Setting, setting}
 use Rattle.laws_wire.proofs.RestedRounds.{doing-append, many, many-rounds}
-use Rattle.laws_wire.proofs.Ringing.{ringing, its_sabme}
+use Rattle.laws_wire.proofs.Ringing.{ringing}
 use Rattle.laws_wire.proofs.Talking.{Face}
 use Rattle.laws_wire.proofs.TimelyUp.{IsHushed, hushed, none-waits, none-open}
 use Rattle.laws_wire.proofs.UaBefore.{before, with_before, timely-with}
 use Rattle.laws_wire.proofs.UaKnown.{Known, BothKnown, runs-known}
-use Rattle.laws_wire.proofs.UaLost.{Rings, not-told}
+use Rattle.laws_wire.proofs.UaLost.{Rings, not-told, still-rings}
 use Rattle.laws_wire.proofs.UaLostRun.{Away, Rs, Down, Up, IsCalled, Phase, Goes}
 use Rattle.laws_wire.proofs.UaMoves.{both-patient, many-full, many-patient}
 use Rattle.laws_wire.proofs.UaRings.{answers-again, answers-first, rings-again}
@@ -78,11 +78,6 @@ module _ (service : Service) (tei : ℕ) (c d : Config) (p q : ℕ) (face : Face
     far-quiet : (past : List LineTold) (M : LinkEndpoint) → Held d service tei q past v.far M → IsHushed service tei M
     far-quiet past M held = hushed service tei d q past v.far M held still.far still.far_way
 
-    near-quiet : (k : ℕ) (ws : List ControlFrame) (way : List Parts) → Held c service tei p [] v.near (end (terms c service tei) (ringing k ws) way) → (ws ≡ []) × (way ≡ [])
-    near-quiet k ws way held =
-        let x = hushed service tei c p [] v.near (end (terms c service tei) (ringing k ws) way) held still.near still.near_way in
-        (none-waits service tei (end (terms c service tei) (ringing k ws) way) x, x.way)
-
     -- no answer is to come
     long : (P : Endpoint → Type 0) → Rings service tei c d p q face back rt ru P [] [] v → (past : List LineTold) (M : LinkEndpoint) → Held d service tei q past v.far M → StayPatient (near_expires service tei) v
     unfolding StayPatient
@@ -92,9 +87,7 @@ module _ (service : Service) (tei : ℕ) (c d : Config) (p q : ℕ) (face : Face
         ((λ awaits. open-here service tei c d p q v.near v.far n M h.near.stands held.stands (none-open service tei n M quiet (far-quiet past M held)), may), tt)
 
     ringing-tells : (P : Endpoint → Type 0) → Rs service tei c d p q face back rt ru P v → (Rings service tei c d p q face back rt ru P [] [] v → Tells) → Tells
-    ringing-tells P (inl h) does = does h
-    ringing-tells P (inr (inl h)) does = absurd (cc (near-quiet h.repeats (its_sabme ∷ []) [] h.near).0)
-    ringing-tells P (inr (inr h)) does = absurd (cc (near-quiet h.repeats [] (sabme (terms c service tei) ∷ []) h.near).1)
+    ringing-tells P h does = does (still-rings service tei c d p q face back rt ru P v h still)
 
     called-tells : (past : List LineTold) (b : Bool) → heard_in v.near ≡ [] → IsCalled service tei c d p q face back rt ru past b v → Tells
     called-tells past b none (inl h) =

@@ -1,20 +1,19 @@
 -- A call from nothing, in which nothing is lost any more from some time on.
 use Rattle.laws_wire.proofs.Vocabulary.{arith, ◌≡◌, ℕ, true, false, [], ◌∷◌, ◌⊎◌, inl, inr, ◌≢◌, Service, Config, Wire, turned, doing_all, IsStill, calling, confirmed, indicated, all_told, heard_in, runs_t200, near_asks, far_asks, ever, ArrivesUnderTraffic}
-use Rattle.laws_wire.proofs.TimelyPhases.{Goes}
+use Rattle.laws_wire.proofs.TimelyPhases.{Down, Goes}
 use Rattle.laws_wire.proofs.LossyRun.{setting}
 use Rattle.laws_wire.proofs.TimelyRun.{starts, runs}
 use Rattle.laws_wire.proofs.TimelyUp.{AreUp, BothUp, turned-up}
+use Rattle.laws_wire.proofs.UaLost.{rings-untold}
 use Rattle.laws_wire.proofs.Underway.{SureUp, sure-runs, has-come}
 
 module _ (service : Service) (tei : ℕ) (c d : Config) (p q : ℕ) where
   -- once the end that called was told anything, both are up
   pub are-up : (w : Wire) → Goes service tei c d p q w → heard_in w.near ≢ [] → AreUp service tei c d p q (confirmed service tei ∷ []) (indicated service tei ∷ []) w
-  are-up w (inl h) told = absurd (told h.near.heard)
-  are-up w (inr (inl h)) told = absurd (told h.near.heard)
-  are-up w (inr (inr (inl h))) told = absurd (told h.near.heard)
-  are-up w (inr (inr (inr (inl h)))) told = absurd (told h.is.near.heard)
-  are-up w (inr (inr (inr (inr (inl h))))) told = absurd (told h.is.near.heard)
-  are-up w (inr (inr (inr (inr (inr h))))) told = h
+  are-up w (inl h) told = absurd (told (rings-untold service tei c p (Down service tei c d p q) w h))
+  are-up w (inr (inl h)) told = absurd (told h.is.near.heard)
+  are-up w (inr (inr (inl h))) told = absurd (told h.is.near.heard)
+  are-up w (inr (inr (inr h))) told = h
 
   abbrev Up : Type 0 → Type 0 → Wire → Type 0
   Up A B w = SureUp service tei c d p q (confirmed service tei ∷ []) (indicated service tei ∷ []) A B w

@@ -9,13 +9,16 @@
 //!
 //! The code of a card stands above, in another crate.
 //!
+//! - `kinds`: of octets or of frames.
 //! - `laws`: what holds of whole runs, as calls without effect.
 //! - `ports`: the same of a card of octets.
 #![tactic(auto)]
 
+mod kinds;
 mod laws;
 pub mod ports;
 
+pub use kinds::CardKind;
 pub use laws::{
     cards_stay_sound, deliveries_numbered, drops_change_nothing, drops_cost_nothing,
     frames_amortised, frames_amortised_from_zero, frames_by_event, lines_isolated, pool_never_full,

@@ -26,8 +26,8 @@ pub use Rattle.lapd_script.specs.Job.{Job, frame, job, job_or_none, limits, limi
 pub use Rattle.lapd_script.specs.Number.{number}
 pub use Rattle.lapd_script.specs.Pieces.{line_in, pieces_of}
 pub use Rattle.lapd_script.specs.Read.{read, ◌>>=◌}
-pub use Rattle.lapd_script.specs.declared.command.CardKind.{CardKind}
-pub use Rattle.lapd_script.specs.declared.command.CardKind.TheVariants.{Frames, Octets}
+pub use Rattle.model_card.specs.declared.kinds.CardKind.{CardKind}
+pub use Rattle.model_card.specs.declared.kinds.CardKind.TheVariants.{Frames, Octets}
 pub use Rattle.lapd_script.specs.declared.kind.FaultKind.{FaultKind}
 pub use Rattle.lapd_script.specs.declared.kind.FaultKind.TheVariants.{BadCard, BadFrame, BadLine, BadNumber, TimeOver, TooLong}
 pub use Rattle.lapd_transcript.specs.Listened.{found, frame_in, pulled_text}

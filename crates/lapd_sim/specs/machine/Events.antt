@@ -11,8 +11,8 @@ use Rattle.model_card.specs.ports.Card.{OctetCard}
 use Rattle.model_card.specs.ports.Event as octets
 use Rattle.model_card.specs.ports.Run as octet_runs
 use Rattle.lapd_sim.specs.machine.Board.{Board, pull, hears, next, expiry, request, Event, Moment, at, fresh, after_all, moments, AreAtLines, octet_event, frame_event, reply_of_octets, reply_of_frames}
-use Rattle.lapd_script.specs.declared.command.CardKind.{CardKind}
-use Rattle.lapd_script.specs.declared.command.CardKind.TheVariants.{Octets, Frames}
+use Rattle.model_card.specs.declared.kinds.CardKind.{CardKind}
+use Rattle.model_card.specs.declared.kinds.CardKind.TheVariants.{Octets, Frames}
 use Rattle.lapd_script.specs.declared.kind.FaultKind.{FaultKind}
 use Rattle.lapd_script.specs.Meaning as line
 use Rattle.lapd_script.specs.Read.{read}

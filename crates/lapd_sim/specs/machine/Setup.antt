@@ -4,7 +4,7 @@ use Rattle.std.specs.Prelude.{ℕ, List, [], ◌++◌, set, get_or, replicate}
 use Rattle.lapd_clock.specs.Timer.{standard}
 use Rattle.lapd_count.specs.declared.counters.Counters.{Counters}
 use Rattle.lapd_count.specs.Counters.{none_counted}
-use Rattle.lapd_script.specs.declared.command.CardKind.{CardKind}
+use Rattle.model_card.specs.declared.kinds.CardKind.{CardKind}
 use Rattle.lapd_transcript.specs.Terminal.{Terminal}
 use Rattle.model_line.specs.declared.config.Config.{Config}
 use Rattle.model_timed.specs.Clock.{Clock, stopped}

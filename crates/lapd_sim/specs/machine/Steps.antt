@@ -22,9 +22,9 @@ use Rattle.lapd_script.specs.declared.kind.FaultKind.{FaultKind}
 use Rattle.lapd_script.specs.declared.kind.FaultKind.TheVariants.{BadNumber, NoCard, SecondCard, BadCard, WrongCard, BadLine, BadFrame, TimeOver}
 use Rattle.lapd_script.specs.declared.command.Asked.{Asked}
 use Rattle.lapd_script.specs.declared.command.Asked.TheVariants as asked
-use Rattle.lapd_script.specs.declared.command.CardKind.{CardKind}
+use Rattle.model_card.specs.declared.kinds.CardKind.{CardKind}
 use Rattle.lapd_script.specs.declared.command.Durations.{Durations}
-use Rattle.lapd_script.specs.declared.command.CardKind.TheVariants.{Octets, Frames}
+use Rattle.model_card.specs.declared.kinds.CardKind.TheVariants.{Octets, Frames}
 use Rattle.lapd_script.specs.Meaning as line
 use Rattle.lapd_transcript.specs.Text.{report_text, refused_text, frame_text, nothing_text, stored_text}
 use Rattle.lapd_transcript.specs.declared.counters.CounterGroup.{CounterGroup}

@@ -27,7 +27,7 @@ use Rattle.model_card.proofs.OfPorts.PortGoesOn.{frames_among-append}
 use Rattle.model_card.proofs.OfPorts.Pulls.{pulls_are_takes}
 use Rattle.model_card.proofs.OfPorts.Reaching.{reached_sound, reached_after_all}
 use Rattle.model_card.proofs.OfPorts.Steps.{moments-append, config_stays as octets_config_stays}
-use Rattle.model_card.specs.ports.Pulls.{pulls_behind, most_pulls_behind}
+use Rattle.model_card.specs.ports.Pulls.{pulls_behind, most_pulls_behind, pulls_of}
 use Rattle.laws_line.proofs.OfCard.Spelling.{head}
 use Rattle.lapd_frame.specs.Grammar.{head_of}
 use Rattle.lapd_frame.specs.Senders.{renamed}
@@ -39,7 +39,7 @@ use Rattle.model_line.specs.Line.{service_at, terms}
 use Rattle.laws_line.proofs.OfCard.InOrder.{among-before, among-behind, among-mapped, has-end}
 use Rattle.laws_line.proofs.OfCard.Meanwhile.{call-behind, line-sound}
 use Rattle.laws_line.proofs.OfCard.Wherever.{all-left, waiting-taken}
-use Rattle.laws_line.specs.card.WaitingIsHeard.{AreHeardSince, WaitingIsHeard}
+use Rattle.laws_line.specs.card.WaitingIsHeard.{AreHeardSince}
 
 -- ---- calls among events of frames
 
@@ -238,6 +238,16 @@ stays-now : (number link tei : ℕ) (card : Card) (es : List frames.Event) → S
 unfolding StaysAt
 stays-now number link tei card [] on = on
 stays-now number link tei card (e ∷ es) on = on.0
+
+-- As `WaitingIsTaken` has it of calls for the next frame, with one call more: by that the closing flag has gone, too.
+abbrev WaitingIsHeard : OctetCard → List Event → Type 0
+WaitingIsHeard m events =
+    let c = m.card.config in
+    let meant = meant_all m events in
+    (number link tei : ℕ) → number < c.lines → link < link_count c → StaysAt number link tei m.card meant → IsNotDeactivated number link tei meant →
+    most_pulls_behind c.n201 (most_frames_before c + come_first_at number m.card meant + 1) ≤ pulls_of number events →
+    AreHeardSince c.n201 (port_at number m).given (port_at number (after_all m events)).given
+    (map (control_text c link tei) (link_at link (line_at number m.card)).waiting)
 
 pub waiting_heard : (m : OctetCard) (events : List Event) → IsReached m → AreAtLines m events → WaitingIsHeard m events
 waiting_heard m events r all number link tei few some on up enough =

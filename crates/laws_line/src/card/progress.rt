@@ -5,12 +5,7 @@ ghost use Rattle.model_card.specs.Card.{Card};
 ghost use Rattle.model_card.specs.Event.{Event};
 ghost use Rattle.model_card.specs.Run.{AreAtLines};
 ghost use Rattle.model_card.specs.Sound.{IsSound};
-ghost use Rattle.model_card.specs.ports.Card.{OctetCard};
-ghost use Rattle.model_card.specs.ports.Event as octets;
-ghost use Rattle.model_card.specs.ports.Reached.{IsReached};
-ghost use Rattle.model_card.specs.ports.Run as octets_run;
 ghost use Rattle.laws_line.specs.card.PromisesOfTakes.{Wherever, WaitingIsTaken, CallsComeToAnEnd};
-ghost use Rattle.laws_line.specs.card.WaitingIsHeard.{WaitingIsHeard};
 
 /// Calls for the next frame of a line serve it, wherever in a list of events they come, and whatever happens at the
 /// other lines of its card meanwhile. The control frames that wait on a link are given in order, each by one of them
@@ -19,11 +14,4 @@ ghost use Rattle.laws_line.specs.card.WaitingIsHeard.{WaitingIsHeard};
 pub fn takes_serve_wherever()
     ensures taken { (m : Card) (events : List Event) → IsSound m → AreAtLines m events → Wherever WaitingIsTaken m events }
     ensures ended { (m : Card) (events : List Event) → IsSound m → AreAtLines m events → Wherever CallsComeToAnEnd m events }
-{}
-
-/// What waits is heard: of a card of octets, the control frames that wait on a link, in order, by who receives the
-/// octets that the pulls of its line give. `answers_are_heard` of `laws_trace` stands on it.
-#[tactic(auto, using(crate::proofs::OfCard::GoingOut::waiting_heard))]
-pub fn waiting_is_heard()
-    ensures { (m : OctetCard) (events : List octets.Event) → IsReached m → octets_run.AreAtLines m events → WaitingIsHeard m events }
 {}

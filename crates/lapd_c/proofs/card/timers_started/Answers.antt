@@ -1,6 +1,6 @@
 -- Hand-written answers for `timers_started`: they stand beside a card of either kind.
 use Rattle.lapd_c.proofs.Vocabulary.{IfSome, sym, subst, card_in}
-use Rattle.lapd_card.specs.declared.kinds.CardKind.{CardKind}
+use Rattle.model_card.specs.declared.kinds.CardKind.{CardKind}
 use Rattle.lapd_clock.specs.Given.{lengths_of}
 use Rattle.lapd_timed.specs.Stands.{TimersStand}
 use Rattle.model_timed.specs.Clock.{stopped}

@@ -1,6 +1,6 @@
 -- Hand-written answers for `Setup::come`.
 use Rattle.lapd_sim.proofs.Vocabulary.{[], ◌≡◌, ◌<◌, ◌∙◌, Some, ap, length, refl, sym, subst, arith, option_copied, Config, config_of, frames_of, came, at, hears, told, told_beside, terminal_at, octets_sent, after_sending, with_event, with_terminal, after_rx, scene, kind_of, on, Tells, SetupStands, Sends, delivered_in, octets_of, told_in}
-use Rattle.lapd_script.specs.declared.command.CardKind.TheVariants as kind
+use Rattle.model_card.specs.declared.kinds.CardKind.TheVariants as kind
 use Rattle.lapd_sim.proofs.Boards.{else_of, frames_config, led_frames, timed_frames, told_frames, told_on}
 use Rattle.lapd_sim.proofs.Eachs.{each_at, each_set}
 use Rattle.lapd_sim.proofs.Scenes.{into_is, is_frame_is, moved_to, obeyed}

@@ -4,6 +4,7 @@
  * device with one frame a read and a write. The card keeps its timers, by the system's monotonic time (linecard.c).
  * Layer 3 answers every call (q931.h).
  *
+ *     cc -O2 -I ../../dist -o hardware hardware.c linecard.c trace.c pcap.c ../../dist/lapd.c
  *     hardware [--trace] [--check] [RECORD [CAPTURE]] <> LINE
  *
  * With --trace standard error has a log of each frame, note, expiry and state as well (trace.c).

@@ -4,6 +4,7 @@
  * the other, which have to come back as they are. At last it releases the link and ends. Meanwhile its card answers each
  * check of the TEI. If the network removes the TEI, it asks for another and begins anew.
  *
+ *     cc -O2 -I ../../dist -o terminal terminal.c linecard.c trace.c ../../dist/lapd.c
  *     terminal [--trace] [--seed NUMBER] [RECORD] < OCTETS > OCTETS
  *
  * Standard error tells what layer 3 is told. With --trace it has a log of how each frame begins, and of each note, expiry and

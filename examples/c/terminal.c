@@ -10,7 +10,7 @@
  * Standard error tells what layer 3 is told. With --trace it has a log of how each frame begins, and of each note, expiry and
  * state as well (trace.c). With RECORD, all that happens is written there as a script of docs/FORMAT.md: `lapdsim run <
  * RECORD` then shows the same. Its first reference number is of /dev/urandom, or this NUMBER.
- * examples/c/exchange.c is the other side: tests/c/run joins both by a socket.
+ * examples/c/exchange.c is the other side; a pipe joins both: mkfifo line && ./exchange < line | ./terminal > line
  */
 #define _POSIX_C_SOURCE 200809L
 

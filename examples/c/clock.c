@@ -4,6 +4,7 @@
  * clock of the library's, over a time of the program's own. A terminal with TEI 64 establishes its link and falls silent:
  * the card asks it again and again, establishes the link anew, and gives it up.
  *
+ *     cc -O2 -I ../../dist -o clock clock.c trace.c ../../dist/lapd.c
  *     clock [--trace]
  *
  * It prints what `lapdsim run` prints of the same. With --trace standard error has a log of each frame, note, order and

@@ -3,6 +3,7 @@
  * goes. The card keeps its timers, by the system's monotonic time (linecard.c). Layer 3 answers each message of a terminal
  * with the same message.
  *
+ *     cc -O2 -I ../../dist -o exchange exchange.c linecard.c trace.c pcap.c ../../dist/lapd.c
  *     exchange [--trace] [RECORD [CAPTURE]] < OCTETS > OCTETS
  *
  * Standard error tells what layer 3 is told. With --trace it has a log of how each frame begins, and of each note, expiry and

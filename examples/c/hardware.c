@@ -4,6 +4,7 @@
  * device with one frame a read and a write. The card keeps its timers, by the system's monotonic time (linecard.c).
  * Layer 3 answers every call (q931.h).
  *
+ *     cc -O2 -I ../../dist -o hardware hardware.c linecard.c trace.c pcap.c ../../dist/lapd.c
  *     hardware [--trace] [--check] [RECORD [CAPTURE]] <> LINE
  *
  * With --trace standard error has a log of each frame, note, expiry and state as well (trace.c).
@@ -95,33 +96,36 @@ static bool give(bool *is_full) {
     return true;
 }
 
-/* Serves the line until it ends. */
+/* Serves the line until it ends: what waits is sent, and then the program waits. */
 static bool serve(void) {
     uint8_t datagram[LONGEST_DATAGRAM];
-    bool good = true, is_full = false;
+    bool is_full = false;
     struct pollfd line = {.fd = STDIN_FILENO, .events = POLLIN, .revents = 0};
-    while (good && poll(&line, 1, linecard_patience(&own)) >= 0) {
-        good = linecard_pass(&own);
-        if (good && (line.revents & (POLLIN | POLLHUP | POLLERR)) != 0) {
+    while (give(&is_full)) {
+        line.events = is_full ? POLLIN | POLLOUT : POLLIN;
+        if (poll(&line, 1, linecard_patience(&own)) < 0)
+            return true;
+        if (!linecard_pass(&own))
+            return false;
+        if ((line.revents & (POLLIN | POLLHUP | POLLERR)) != 0) {
             ssize_t length = read(STDIN_FILENO, datagram, sizeof datagram);
             if (length <= 0)
                 return length == 0 || errno == ECONNRESET;
-            good = take(datagram, (size_t)length);
+            if (!take(datagram, (size_t)length))
+                return false;
         }
-        good = good && give(&is_full);
-        line.events = is_full ? POLLIN | POLLOUT : POLLIN;
     }
-    return good;
+    return false;
 }
 
-/* Starts the card, serves the line, and ends; whether all went well. */
+/* Starts the card, disowns the TEIs of an earlier run, serves the line, and ends; whether all went well. */
 static bool run(void) {
     if (own.record != NULL)
         fprintf(own.record, "frames " LINECARD_NUMBERS "\n");
     if (capture != NULL)
         pcap_begin(capture);
     uint32_t status = lapd_card_start_frames_timed(&own.card, &linecard_config, &linecard_lengths);
-    bool is_good = linecard_begin(&own, status) && serve();
+    bool is_good = linecard_begin(&own, status) && linecard_disown(&own) && serve();
     bool is_captured = linecard_close(&own, capture, "capture");
     return linecard_end(&own) && is_captured && is_good;
 }

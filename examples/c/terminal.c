@@ -4,12 +4,13 @@
  * the other, which have to come back as they are. At last it releases the link and ends. Meanwhile its card answers each
  * check of the TEI. If the network removes the TEI, it asks for another and begins anew.
  *
+ *     cc -O2 -I ../../dist -o terminal terminal.c linecard.c trace.c ../../dist/lapd.c
  *     terminal [--trace] [--seed NUMBER] [RECORD] < OCTETS > OCTETS
  *
  * Standard error tells what layer 3 is told. With --trace it has a log of how each frame begins, and of each note, expiry and
  * state as well (trace.c). With RECORD, all that happens is written there as a script of docs/FORMAT.md: `lapdsim run <
  * RECORD` then shows the same. Its first reference number is of /dev/urandom, or this NUMBER.
- * examples/c/exchange.c is the other side: tests/c/run joins both by a socket.
+ * examples/c/exchange.c is the other side; a pipe joins both: mkfifo line && ./exchange < line | ./terminal > line
  */
 #define _POSIX_C_SOURCE 200809L
 

@@ -4,6 +4,7 @@
  * user's side establishes the link, contents go both ways as fast as they are accepted, and in the end the user's side
  * releases the link. Each card keeps its timers, by a time of the wire's own.
  *
+ *     cc -O2 -I ../../dist -o wire wire.c trace.c ../../dist/lapd.c
  *     wire [--trace] [SEED LOSS COUNT [RECORD]]
  *
  * What each layer 3 is told is compared, octet by octet, with what the other's accepted requests had: it comes in

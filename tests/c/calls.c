@@ -359,16 +359,16 @@ static uint32_t disowns_all(const lapd_config basic) {
     return status;
 }
 
-static void disowns(uint32_t line, const uint8_t *frame) {
+static void disowns(const uint8_t *frame) {
     if (report.cause == LAPD_TEI && frame[0] >> 2 != 63 && frame[1] >> 1 != LAPD_GROUP_TEI)
-        (void)!told(lapd_disown(&card, line, frame[1] >> 1, &report));
+        (void)!told(lapd_disown(&card, report.line, frame[1] >> 1, &report));
 }
 
 /* A frame that is dropped, since its TEI is on no line; whether that is disowned. */
 static void is_dropped(uint8_t first, uint8_t second, bool is_disowned) {
     const uint8_t frame[] = {first, second, 0x7F};
     wants(lapd_frame(&card, 0, frame, sizeof frame, &report) == LAPD_OK && report.cause == LAPD_TEI, "an unknown TEI is known");
-    disowns(0, frame);
+    disowns(frame);
     if (is_disowned)
         removes(0, second >> 1);
 }

@@ -136,6 +136,19 @@ static bool terminal_asks(void) {
     return is_started;
 }
 
+#ifdef FRAMES
+/* Between its start and its loop the page has an exchange tell all terminals to give up their TEIs. */
+static uint32_t exchange_starts(void) {
+    uint32_t status = lapd_card_start_frames_timed(&card, &basic, &lengths);
+    for (uint32_t line = 0; line < basic.lines; line++)
+        for (int times = 0; status == LAPD_OK && times < 2; times++)
+            status = told(lapd_disown(&card, line, LAPD_GROUP_TEI, &report));
+    return status;
+}
+#undef lapd_card_start_frames_timed
+#define lapd_card_start_frames_timed(of, config, each) exchange_starts()
+#endif
+
 int main(void) {
     if (!is_as_said())
         return fail("docs/EMBEDDING.md says otherwise of its configurations");

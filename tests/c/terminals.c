@@ -317,6 +317,9 @@ static void sides(void) {
     terminal_wants(lapd_card_start_frames(&card, &of) == LAPD_BAD_SIDE && lapd_clock_start(&none, &of) == LAPD_BAD_SIDE, "a fourth side");
     of.n200 = 11;
     terminal_wants(lapd_card_start(&card, &of) == LAPD_BAD_N200 && !card.started, "the side goes before N200");
+    of.n200 = one.n200;
+    of.sapi = 63;
+    terminal_wants(lapd_card_start(&card, &of) == LAPD_BAD_SAPI && !card.started, "the side goes before the SAPI");
     of = one;
     of.seed = 0xFFFF;
     for (of.side = LAPD_NETWORK; of.side <= LAPD_TERMINAL; of.side++) {

@@ -45,7 +45,8 @@ impl TimedCard {
     ghost use Rattle.lapd_timed.specs.Carried.{AreCarriedOut};
     ghost use Rattle.lapd_timed.specs.TimedStands.{FramesStand, OctetsStand, Steps};
 
-    /// A card that has just begun, and the timers of it, of which none runs.
+    /// A card that has just begun, and the timers of it: of as many lines and terminals, none of which runs. With timers of
+    /// fewer terminals nothing would start those that are missing, and no clause speaks of such a card.
     pub fn new(card: AnyCard, timers: CardTimers) -> TimedCard
         requires { timers.lines ≡ line_count card }
         ensures card { result.card ≡ card }

@@ -1,17 +1,8 @@
-"""Copies of crates for tests/wrong-machines: of those that define machines and state laws, the definitions alone; of
-cards and of laws those on which rows stand."""
+"""The definitions of crates, module by module, for tests/wrong-machines."""
 import functools
 import os
 import re
-import shutil
 
-from vithrynel.crates import closure
-
-# The crates that define machines and state laws, those of cards and of laws, and what a copy of one doesn't have.
-MACHINES = re.compile(r"^(model|laws)_|^lapd_(tei|terminal|clock)$")
-LAWS = re.compile(r"^laws_|^model_(card|timed)$|^lapd_(clock|terminal)$")
-ROOT_FILE = "//! What wrong machines break.\n#![tactic(auto)]\n\n"
-DROPPED = "proofs", "out", "must-fail", "wrong-bodies.txt"
 # A worked value: its statement, what it unfolds, and its proof by computing, alone or field by field.
 WORKED = re.compile(
     r"^(?:pub )?(\S+) :(?:.*\n)(?:[ \t].*\n)*(?:unfolding .*\n)?\1 = (?:refl|record \{\n(?:[ \t].*\n)*\})\n",
@@ -19,19 +10,16 @@ WORKED = re.compile(
 )
 # What a file of worked values has beside them: imports and definitions.
 DEFINES = re.compile(r"(?:--.*\n)*(?:pub )?(?:use|abbrev|unfoldable) ")
-# An import of definitions: the crate, the way to a module or to a word of it, and the list of its words, if any. The
-# words that a line brings by a list, or by another name. And a line that hands words on.
-IMPORT = re.compile(r"\buse Rattle\.(\w+)\.specs\.([\w.]+)(\{[^}]*\})?")
+# The words that an import brings by a list, or by another name. And a line that hands words on.
 WORDS = re.compile(r"[^\s,{}]+(?=[,}])|(?<= as )\w+$", re.MULTILINE)
 HANDS_ON = re.compile(r"(?:unfoldable )?pub use ")
-# A plain type, and what it is named.
-TYPE = re.compile(r"^#\[derive\(Clone, Copy.*\npub(?:\(crate\))? (?:struct|enum) .*\{\n(?:.+\n|\n)*?\}\n", re.MULTILINE)
-# What no definition needs of them: what else they derive, what errors display, and of which values they are.
-DERIVED = re.compile(
-    r"^use thiserror::.*\n|(?<=^#\[derive\(Clone, Copy).*(?=\)\])|^ *#\[error\(.*\n|^ *ghost \w+: .*\n|^#!\[tactic.*\n",
-    re.MULTILINE,
-)
-NAME = re.compile(r"^pub (?:struct|enum) (\w+)", re.MULTILINE)
+# A type that a crate keeps to itself.
+KEPT = re.compile(r"^#\[derive\(Clone, Copy\)\]\npub\(crate\) (?:struct|enum) (\w+) \{\n(?:.+\n|\n)*?\}\n", re.MULTILINE)
+# An import of a list of words.
+LIST = re.compile(r"((?:unfoldable )?(?:pub )?use )(Rattle\.[\w.]*\w)\.\{([^}]*)\}$", re.MULTILINE)
+# A module by its full name, or a word of it; and the words that an import takes of it.
+FULL = re.compile(r"\bRattle\.\w+\.(?:specs|proofs)\.[\w.]*\w")
+TAKEN = re.compile(rf"({FULL.pattern})\.?(\{{[^}}]*\}})?")
 
 
 def read(path):
@@ -45,83 +33,37 @@ def write(path, text):
         it.write(text)
 
 
-def types_of(text):
-    """Returns what a file of src/ has of plain types, with the imports that they name; and the names of public ones."""
-    # (what holds of every value of a type needs words of proofs)
-    types = re.sub(r"^ +ghost .*\n", "", "\n".join(TYPE.findall(text)), flags=re.MULTILINE)
-
-    def is_named(line):
-        return any(re.search(rf"\b{it}\b", types) for it in re.findall(r"\w+", line.rpartition("::")[2]))
-
-    imports = [it for it in re.findall(r"^use .*;\n", text, re.MULTILINE) if is_named(it)]
-    return "".join(imports) + "\n" + types, NAME.findall(types)
-
-
 def files_in(folder):
     """Returns the files of a folder and of those in it, by their paths there."""
     return sorted(os.path.relpath(f"{at}/{it}", folder) for at, _, files in os.walk(folder) for it in files)
 
 
-def module_of(text, crate, src):
-    """Returns the modules of src/ whose types a file of specs/ names, by their paths."""
-    named = re.findall(rf"{crate}\.specs\.declared\.((?:[a-z]\w*\.)+)", text)
-    found = set()
-    for words in (it.rstrip(".").split(".") for it in named):
-        while words and "/".join(words) + ".rt" not in src:
-            words.pop()
-        found.add("/".join(words))
-    return found - {""}
+def without_worked(text, name):
+    """Returns the text of a module without its worked values."""
+    parts = WORKED.sub("", text).split("\n\n")
+    kept = [it for it in parts if not name.startswith("Worked") or DEFINES.match(it.lstrip("\n"))]
+    return "\n\n".join(kept).rstrip("\n") + "\n"
 
 
-def strip(folder, crate):
-    """Leaves of a crate what its definitions are: specs/ without worked values, and the types that specs/ name."""
-    named, src = set(), files_in(f"{folder}/src")
-    for file in files_in(f"{folder}/specs"):
-        text, (at, name) = read(f"{folder}/specs/{file}"), os.path.split(file)
-        if ".TheInside." in text:
-            # (it speaks of what values of the code stand for)
-            os.remove(f"{folder}/specs/{file}")
-            lib, module = f"{folder}/specs/{at or 'Lib'}.antt", name.removesuffix(".antt")
-            write(lib, re.sub(rf"^pub (mod {module}|use Rattle\.{crate}\.specs\.{module}\..*)\n", "", read(lib), flags=re.MULTILINE))
-        else:
-            parts = WORKED.sub("", text).split("\n\n")
-            is_worked = name.startswith("Worked")
-            kept = [it for it in parts if not is_worked or DEFINES.match(it.lstrip("\n"))]
-            write(f"{folder}/specs/{file}", "\n\n".join(kept).rstrip("\n") + "\n")
-            named |= module_of(text, crate, src)
-    texts = {it: types_of(read(f"{folder}/src/{it}.rt")) for it in sorted(named)}
-    shutil.rmtree(f"{folder}/src")
-    write_types(f"{folder}/src", "", texts)
+def modules_of(crates, name):
+    """Returns the definitions of a crate: the texts of its modules without worked values, by their full names."""
+    at, found = f"{crates}/{name}/specs", {}
+    for file in files_in(at):
+        text, path = read(f"{at}/{file}"), file.removesuffix(".antt").split("/")
+        # (those that only name others are left out)
+        if not re.search(r"^pub mod ", text, re.MULTILINE):
+            found[".".join(["Rattle", name, "specs", *path])] = without_worked(text, path[-1])
+    return found
 
 
-def write_types(src, at, texts):
-    """Writes the modules of a folder of src/ that have these types, and those of the folders in it."""
-    inside = {it.removeprefix(at).partition("/")[0] for it in texts if it.startswith(at)}
-    folders = sorted(it for it in inside if f"{at}{it}" not in texts)
-    modules = {it: texts[f"{at}{it}"] for it in sorted(inside) if f"{at}{it}" in texts}
-    uses = [f"pub use {it}::{{{', '.join(names)}}};\n" for it, (_, names) in modules.items() if names]
-    root = "".join(f"pub mod {it};\n" for it in folders) + "".join(f"mod {it};\n" for it in modules)
-    page = "//! Types.\n" if at else "//! Types.\n#![tactic(auto)]\n"
-    write(f"{src}/{at}mod.rt" if at else f"{src}/lib.rt", page + "\n" + root + "\n" + "".join(uses))
-    for it, (text, _) in modules.items():
-        write(f"{src}/{at}{it}.rt", f"//! Types.\n\n{text}")
-    for it in folders:
-        write_types(src, f"{at}{it}/", texts)
-
-
-def copy(crates, name, folder):
-    """Copies a crate. What was proved of a copy that lies there is kept."""
-    at = f"{folder}/{name}"
-    part, is_machine, is_there = f"{at}.part", MACHINES.search(name), os.path.isdir(f"{at}/out")
-    dropped = DROPPED if is_machine else ("out",) if is_there else ()
-    shutil.rmtree(part, ignore_errors=True)
-    shutil.copytree(f"{crates}/{name}", part, ignore=shutil.ignore_patterns(*dropped))
-    if is_machine:
-        strip(part, name)
-    if is_there:
-        os.rename(f"{at}/out", f"{part}/out")
-    shutil.rmtree(at, ignore_errors=True)
-    os.rename(part, at)
+def kept_types(crates, name):
+    """Returns the types that a crate keeps to itself: for the full name of each the file of src/ that has it, and its text."""
+    found = {}
+    for file in files_in(f"{crates}/{name}/src"):
+        for it in KEPT.finditer(read(f"{crates}/{name}/src/{file}")):
+            module = file.removesuffix(".rt").replace("/", ".")
+            found[f"Rattle.{name}.specs.declared.{module}.{it[1]}"] = file, it[0]
+    return found
 
 
 @functools.lru_cache(maxsize=None)
@@ -140,78 +82,30 @@ def narrowed(text, words=frozenset()):
     return "".join(it for it in lines if not re.match(r"(unfoldable )?(pub )?use ", it) or is_kept(it))
 
 
-def imported(crates, text):
-    """Returns the modules of crates that a text imports, by crate and path, each with its words, or '*' for all."""
+@functools.lru_cache(maxsize=None)
+def handed_on(text):
+    """Returns the words that a module hands on, each with the full name of where it takes it, and its word there."""
+    lines = [re.match(LIST, it) for it in text.splitlines() if HANDS_ON.match(it)]
+    return {word: (it[2], plain) for it in lines if it for plain, word in words_in(it[3])}
+
+
+def words_in(words):
+    """Returns the words of an import's list, each with what it is called there."""
+    return [(plain, other or plain) for plain, other in re.findall(r"([^\s,{}]+)(?: as ([^\s,{}]+))?", words)]
+
+
+def module_in(texts, name):
+    """Returns the module in which something with this full name stands, or ''."""
+    while name and name not in texts:
+        name = name.rpartition(".")[0]
+    return name
+
+
+def imports_of(texts, text):
+    """Returns the modules that a text names, each with the words that it takes of them, or '*' for all."""
     found = {}
-    for crate, way, words in IMPORT.findall(text):
-        path = way.rstrip(".").split(".")
-        while path and not os.path.isfile(f"{crates}/{crate}/specs/{'/'.join(path)}.antt"):
-            path.pop()
-        if path:
-            found.setdefault((crate, "/".join(path)), set()).update(re.findall(r"(?:[{]|, )([^\s,}]+)", words) or "*")
+    for full, words in TAKEN.findall(text):
+        name = module_in(texts, full)
+        if name:
+            found.setdefault(name, set()).update(re.findall(r"(?:\{|,\s)\s*([^\s,}]+)", words) or "*")
     return found
-
-
-def stood_on(crates, text):
-    """Returns the modules of crates on which a text stands, as `imported`."""
-    found, left = {}, [text]
-    while left:
-        for (crate, path), words in imported(crates, left.pop()).items():
-            known = found.setdefault((crate, path), set())
-            if not words <= known:
-                known |= words
-                left.append(narrowed(read(f"{crates}/{crate}/specs/{path}.antt"), frozenset(known)))
-    return found
-
-
-def keep(crates, names, text):
-    """Leaves of the crates of cards and of laws the modules on which a text stands."""
-    found = stood_on(crates, text)
-    for name in filter(LAWS.search, names):
-        specs, kept = f"{crates}/{name}/specs", {path: words for (crate, path), words in found.items() if crate == name}
-        folders = {"Lib", *(os.path.dirname(it) for it in kept)}
-        for file in files_in(specs):
-            path = file.removesuffix(".antt")
-            if path in kept:
-                write(f"{specs}/{file}", narrowed(read(f"{specs}/{file}"), frozenset(kept[path])))
-            elif path in folders:
-                below, left = "" if path == "Lib" else f"{path}/", {*kept, *folders}
-                lines = read(f"{specs}/{file}").splitlines(True)
-                there = [it for it in lines if not it.startswith("pub mod ") or below + it.split()[-1] in left]
-                write(f"{specs}/{file}", "".join(there))
-            else:
-                os.remove(f"{specs}/{file}")
-
-
-def taken_in(crates):
-    """Returns which crates of these another can take in: they are definitions, and no code stands on them."""
-    below = set().union(*(closure(crates, it) for it in crates if not MACHINES.search(it)))
-    return [it for it in crates if it not in below]
-
-
-def take_in(crates, names, folder):
-    """Puts definitions of crates, and their types, into a crate that stands on them, as modules of their names: it is checked
-    at once."""
-    of, typed = "|".join(names), []
-    ways = [
-        (rf"\bRattle\.({of})\.specs\.declared\.", r"Rattle.wrong.specs.declared.\1."),
-        (rf"\bRattle\.({of})\.specs\.", r"Rattle.wrong.specs.\1."),
-    ]
-    for name in names:
-        for file in files_in(f"{crates}/{name}/specs"):
-            to = f"{name}.antt" if file == "Lib.antt" else f"{name}/{file}"
-            write(f"{folder}/specs/{to}", read(f"{crates}/{name}/specs/{file}"))
-        files = files_in(f"{crates}/{name}/src")
-        typed += [name] * (files != ["lib.rt"])
-        for file in files if name in typed else ():
-            text = re.sub(r"^use crate::", f"use crate::{name}::", read(f"{crates}/{name}/src/{file}"), flags=re.MULTILINE)
-            text = re.sub(rf"^use ({of})::", r"use crate::\1::", DERIVED.sub("", text), flags=re.MULTILINE)
-            write(f"{folder}/src/{name}/{'mod.rt' if file == 'lib.rt' else file}", text)
-    lib, root = f"{folder}/specs/Lib.antt", f"{folder}/src/lib.rt"
-    write(lib, "".join(f"pub mod {it}\n" for it in names) + read(lib))
-    write(root, read(root).replace(ROOT_FILE, ROOT_FILE + "".join(f"pub mod {it};\n" for it in typed) + "\n"))
-    for file in (f"{part}/{it}" for part in ("specs", "proofs", "src") for it in files_in(f"{folder}/{part}")):
-        text = read(f"{folder}/{file}")
-        for old, new in ways:
-            text = re.sub(old, new, text)
-        write(f"{folder}/{file}", text)

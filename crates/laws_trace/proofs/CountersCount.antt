@@ -1,5 +1,5 @@
 -- Counters count what is seen: the law.
-use Rattle.laws_trace.proofs.Vocabulary.{◌≡◌, ℕ, ◌==◌, Bool, true, false, cond, List, [], ◌∷◌, ◌++◌, refl, ap, ◌∙◌, append-nil, flat_map, More, Side, Config, shown, answer_shown, Answer, refused, gave, Card, after, moments, arith, told, CardEvent as Event, card_answer as answer, Moment, notes_of, lost_in, trace_frame_in as frame_in}
+use Rattle.laws_trace.proofs.Vocabulary.{◌≡◌, ℕ, ◌==◌, Bool, true, false, cond, List, [], ◌∷◌, ◌++◌, refl, sym, ap, ◌∙◌, append-nil, flat_map, More, Side, Config, shown, answer_shown, Answer, refused, gave, Card, after, moments, arith, told, CardEvent as Event, card_answer as answer, Moment, notes_of, lost_in, trace_frame_in as frame_in}
 use Rattle.std.specs.Prelude.{map, None, Some}
 use Rattle.std.specs.Option.{option_map_or}
 use Rattle.lapd_count.specs.declared.counter.Counter.TheVariants.{Dropped}
@@ -22,7 +22,7 @@ of-answer side (gave None) = refl
 of-answer side (gave (Some next)) = grind (arith, append-nil)
 
 of-event : (c : Config) (e : line_event.Event) (a : Answer) → shown c e a ≡ names c.side e a
-of-event c (line_event.hears e) a = ap (λ xs. heard_shown c.side (Some e) ++ xs) (of-answer c.side a)
+of-event c (line_event.hears e) a = ap (λ xs. heard_shown c.side (Some e) ++ xs) (of-answer c.side a) ∙ ap (λ xs. xs ++ answer_names c.side a) (sym (append-nil (heard_shown c.side (Some e))))
 of-event c (line_event.expiry timer) a = of-answer c.side a
 of-event c (line_event.request r) a = of-answer c.side a
 of-event c line_event.next a = of-answer c.side a

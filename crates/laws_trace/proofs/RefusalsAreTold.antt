@@ -9,8 +9,9 @@ use Rattle.model_line.specs.Sides.{is_network}
 use Rattle.model_line.specs.Sound.{IsOfSide}
 use Rattle.model_line.specs.Event as line_event
 use Rattle.model_line.specs.Request.{Request, Establish, Release, Data, Unit, Assign, Remove, Check, Disown, AskTei, VerifyTei, SetBusy, ClearBusy, Deactivate, Down}
+use Rattle.laws_trace.specs.Configurations.{first_of}
 use Rattle.laws_trace.specs.NoSlotIsLost.{slots_taken}
-use Rattle.laws_trace.specs.RefusalsAreTold.{first_reason, reasons, RefusalsAreTold}
+use Rattle.laws_trace.specs.RefusalsAreTold.{reasons, RefusalsAreTold}
 use Rattle.laws_trace.specs.Managing.{own_of}
 use Rattle.laws_trace.specs.ManagingTerminal.{OfTerminal}
 use Rattle.laws_trace.proofs.Follows.{seen_check}
@@ -135,7 +136,7 @@ module _ (c : Config) (events : List Event) (number : ℕ) (ranged : IsInRange c
   at-network managed = network-alone c.side c.seed (is-so (manages c.side) managed)
 
   abbrev Same : Request → Type 0
-  Same r = refusal c (is_full card) r l ≡ first_reason (reasons c events number w r)
+  Same r = refusal c (is_full card) r l ≡ first_of (reasons c events number w r)
 
   unit-same : (service : Service) (tei : ℕ) (contents : List ℕ) → Same (Unit service tei contents)
   unit-same service tei contents =

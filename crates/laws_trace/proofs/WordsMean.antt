@@ -1,15 +1,16 @@
 -- What the words mean that laws share with the machine: each computes.
-use Rattle.laws_trace.proofs.Vocabulary.{◌≡◌, ℕ, ◌&&◌, not, false, [], Option, None, is_some, cond, refl, ap, le-ltb, line_at}
-use Rattle.std.proofs.lemmas.Bool.{true≢false}
+use Rattle.laws_trace.proofs.Vocabulary.{◌≡◌, ℕ, ◌==◌, ◌&&◌, not, [], flat_map, Option, None, is_some, cond, refl, ap, le-ltb, line_at}
 use Rattle.lapd_frame.specs.declared.addresses.Side.{Side}
 use Rattle.lapd_frame.specs.declared.addresses.Side.TheVariants.{User, Network}
 use Rattle.model_line.specs.Line.{is_at}
 use Rattle.laws_trace.specs.Managing.{manages}
 use Rattle.model_line.specs.Line.{state_of}
 use Rattle.model_line.specs.Event as line
+use Rattle.model_card.specs.Event as frame
 use Rattle.model_card.specs.ports.Codec.{heard_by, octet_come}
+use Rattle.model_card.specs.ports.Event as octet
 use Rattle.model_card.specs.ports.Port as port
-use Rattle.laws_trace.specs.Words.{WordsMeanThis, WordsOfOctetsMeanThis, is_heard, is_octet}
+use Rattle.laws_trace.specs.Words.{WordsMeanThis, WordsOfOctetsMeanThis, heard_in, octet_in}
 
 terminal-at : (side : Side) (seed : Option ℕ) → is_at side seed ≡ (not (manages side) && is_some seed)
 terminal-at Network seed = refl
@@ -28,29 +29,25 @@ words-mean-this = record {
   octets_at_lines = λ m events all. all;
 }
 
-none-comes : (what : port.Event) → is_octet what ≡ false → octet_come what ≡ []
-none-comes (port.octet value) is = absurd (true≢false is)
-none-comes (port.expiry timer) is = refl
-none-comes (port.request r) is = refl
-none-comes port.pull is = refl
+octet-in : (what : port.Event) → octet_come what ≡ octet_in what
+octet-in (port.octet value) = refl
+octet-in (port.expiry timer) = refl
+octet-in (port.request r) = refl
+octet-in port.pull = refl
 
-none-heard : (what : line.Event) → is_heard what ≡ false → heard_by what ≡ []
-none-heard (line.hears e) is = absurd (true≢false is)
-none-heard (line.expiry timer) is = refl
-none-heard (line.request r) is = refl
-none-heard line.next is = refl
+heard-in : (what : line.Event) → heard_by what ≡ heard_in what
+heard-in (line.hears e) = refl
+heard-in (line.expiry timer) = refl
+heard-in (line.request r) = refl
+heard-in line.next = refl
 
 pub words-of-octets-mean-this : WordsOfOctetsMeanThis
 words-of-octets-mean-this = record {
-  come = λ number events. refl;
-  comes = λ value. refl;
-  none_comes = none-comes;
+  come = λ number events. λ i. flat_map (λ (e : octet.Event). cond (e.line == number) (octet-in e.what i) []) events;
   pulled = λ number ms. refl;
   gives = λ value begun orders. refl;
   none_given = λ t. refl;
-  heard = λ number events. refl;
-  hears = λ e. refl;
-  none_heard = none-heard;
+  heard = λ number events. λ i. flat_map (λ (e : frame.Event). cond (e.line == number) (heard-in e.what i) []) events;
   asks = λ e. refl;
   asked = λ e. refl;
   expires = λ timer. (refl, refl);

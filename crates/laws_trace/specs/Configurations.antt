@@ -27,11 +27,12 @@ pub record HasRanges (c : Config) : Type 0 where
 abbrev pub RangesAreServed : Type 0
 RangesAreServed = (c : Config) → HasRanges c ↔ IsInRange c
 
--- Of the fields that are out of range the first is named (profile).
+-- Of the fields that are out of range the first is named; none is exactly if each value is within its range (profile; the windows,
+-- N201 and N200 by Q.921 clause 5.9).
 abbrev pub is_out : ℕ → ℕ → ℕ → Bool
 is_out low high n = not (nat_le low n && nat_le n high)
 
-abbrev pub first_of : List (Bool × Field) → Option Field
+abbrev pub first_of : {X : Type 0} → List (Bool × X) → Option X
 first_of [] = None
 first_of (one ∷ others) = if one.0 then Some one.1 else first_of others
 

@@ -1,5 +1,5 @@
 -- Why unit data, and what management asks for, is refused.
-use Rattle.std.specs.Prelude.{◌≡◌, ℕ, ◌==◌, ◌&&◌, ◌||◌, not, nat_le, nat_lt, Bool, List, [], ◌∷◌, length, Option, Some, None, is_some, IfSome, if◌then◌else◌}
+use Rattle.std.specs.Prelude.{◌≡◌, ℕ, ◌==◌, ◌&&◌, ◌||◌, not, nat_le, nat_lt, Bool, List, [], ◌∷◌, length, is_some, IfSome, if◌then◌else◌}
 use Rattle.lapd_frame.specs.declared.refusals.Refusal.{Refusal}
 use Rattle.lapd_frame.specs.declared.refusals.Refusal.TheVariants.{BadTei, NoLink, TooLong, QueueFull, PoolFull, WrongSide, TeiTaken, TableFull, CheckRunning, ControlFull}
 use Rattle.model_line.specs.declared.config.Config.{Config}
@@ -7,15 +7,11 @@ use Rattle.model_line.specs.Event.{refused, request}
 use Rattle.model_line.specs.Line.{is_terminal}
 use Rattle.model_line.specs.Request.{Request, Unit, Assign, Remove, Check, Disown, AskTei, VerifyTei}
 use Rattle.model_card.specs.Event.{Event}
+use Rattle.laws_trace.specs.Configurations.{first_of}
 use Rattle.laws_trace.specs.Managing.{Managed, is_on, is_in_use, is_full, manages, managed_after, own_of}
 use Rattle.laws_trace.specs.NoSlotIsLost.{slots_taken}
 use Rattle.laws_trace.specs.Observer.{moment_of}
 use Rattle.laws_trace.specs.UnitsGoOut.{units_of}
-
--- The first reason that holds.
-abbrev pub first_reason : List (Bool × Refusal) → Option Refusal
-first_reason [] = None
-first_reason (reason ∷ others) = if reason.0 then Some reason.1 else first_reason others
 
 -- The reasons in order (profile). Unit data is for a terminal, or from the network's side for the group, TEI 127; for one that is on
 -- the line; of at most N201 octets; and for it a place is left, and a slot. What management asks for is of a terminal's TEI. A trunk's
@@ -39,8 +35,8 @@ reasons c events number w (VerifyTei tei) =
     (not (is_terminal c), WrongSide) ∷ (nat_lt 126 tei, BadTei) ∷ (not (is_on tei w), NoLink) ∷ (is_some (own_of c w).procedure, CheckRunning) ∷ []
 reasons c events number w other = []
 
--- So it is refused, after whatever happened to the card.
+-- So it is refused for the first reason that holds, after whatever happened to the card.
 abbrev pub RefusalsAreTold : Config → List Event → ℕ → Type 0
 RefusalsAreTold c events number =
     (r : Request) →
-    IfSome (first_reason (reasons c events number (managed_after c number events) r)) (λ why. (moment_of c events number (request r)).answer ≡ refused why)
+    IfSome (first_of (reasons c events number (managed_after c number events) r)) (λ why. (moment_of c events number (request r)).answer ≡ refused why)

@@ -19,7 +19,7 @@ use Rattle.model_card.specs.Machine as machine
 use Rattle.model_card.specs.Run as frames
 use Rattle.model_card.specs.ports.Card as ports
 use Rattle.model_card.specs.ports.Card.{OctetCard}
-use Rattle.model_card.specs.ports.Codec.{asked_among, asked_in, asked_of, asked_with, heard_at, heard_by, octet_come, octet_pulled, octets_come, octets_pulled, IsAnswered, SaysSo}
+use Rattle.model_card.specs.ports.Codec.{asked_among, asked_in, asked_of, asked_with, heard_at, octet_pulled, octets_come, octets_pulled, IsAnswered, SaysSo}
 use Rattle.model_card.specs.ports.Event as octet
 use Rattle.model_card.specs.ports.Port as port
 use Rattle.model_card.specs.ports.Run as octets
@@ -32,14 +32,14 @@ NameLines card events = All (λ (e : frame.Event). e.line < card.config.lines) e
 abbrev pub OctetsNameLines : OctetCard → List octet.Event → Type 0
 OctetsNameLines m events = All (λ (e : octet.Event). e.line < m.card.config.lines) events
 
--- Whether an octet comes, or something is heard.
-abbrev pub is_octet : port.Event → Bool
-is_octet (port.octet value) = true
-is_octet other = false
+-- The octet that an event brings, and what it hears.
+abbrev pub octet_in : port.Event → List ℕ
+octet_in (port.octet value) = value ∷ []
+octet_in other = []
 
-abbrev pub is_heard : line.Event → Bool
-is_heard (line.hears e) = true
-is_heard other = false
+abbrev pub heard_in : line.Event → List stream.Event
+heard_in (line.hears e) = e ∷ []
+heard_in other = []
 
 abbrev pub HasNoOtherLine : Card → Type 0
 HasNoOtherLine card = (number : ℕ) (service : Service) (tei : ℕ) → card.config.lines ≤ number → state number service tei card ≡ None
@@ -70,28 +70,18 @@ pub record SaysWhatIsMeant : Type 0 where
   pub nothing_ends : (value : ℕ) (a : port.Answer) → SaysSo (port.octet value) a None → a ≡ port.told nothing
   pub nothing_pulled : (a : port.Answer) → SaysSo port.pull a None → (value : ℕ) × (a ≡ port.pulled value false [])
 
-abbrev pub NoneComes : Type 0
-NoneComes = (what : port.Event) → is_octet what ≡ false → octet_come what ≡ []
-
-abbrev pub NoneIsHeard : Type 0
-NoneIsHeard = (what : line.Event) → is_heard what ≡ false → heard_by what ≡ []
-
 abbrev pub MeansIts : octets.Moment → Type 0
 MeansIts m = IsAnswered m → SaysSo m.event.what m.answer (option_map (λ f. machine.answer f m.card.card) (ports.meant m.event m.card))
 
 -- So do the words by which a run of octets is a run of frames, and what comes and goes in it.
 pub record WordsOfOctetsMeanThis : Type 0 where
   -- The octets that come, and those that pulls give, are those of the events, and of the answers, at the line.
-  pub come : (number : ℕ) (events : List octet.Event) → octets_come number events ≡ flat_map (λ (e : octet.Event). if e.line == number then octet_come e.what else []) events
-  pub comes : (value : ℕ) → octet_come (port.octet value) ≡ value ∷ []
-  pub none_comes : NoneComes
+  pub come : (number : ℕ) (events : List octet.Event) → octets_come number events ≡ flat_map (λ (e : octet.Event). if e.line == number then octet_in e.what else []) events
   pub pulled : (number : ℕ) (ms : List octets.Moment) → octets_pulled number ms ≡ flat_map (λ (m : octets.Moment). if m.event.line == number then octet_pulled m.answer else []) ms
   pub gives : (value : ℕ) (begun : Bool) (orders : List Order) → octet_pulled (port.pulled value begun orders) ≡ value ∷ []
   pub none_given : (t : LineTold) → octet_pulled (port.told t) ≡ []
   -- What the card of frames hears at the line is what its events there hear.
-  pub heard : (number : ℕ) (events : List frame.Event) → heard_at number events ≡ flat_map (λ (e : frame.Event). if e.line == number then heard_by e.what else []) events
-  pub hears : (e : stream.Event) → heard_by (line.hears e) ≡ e ∷ []
-  pub none_heard : NoneIsHeard
+  pub heard : (number : ℕ) (events : List frame.Event) → heard_at number events ≡ flat_map (λ (e : frame.Event). if e.line == number then heard_in e.what else []) events
   -- An expiry and a request mean themselves, at their line.
   pub asks : (e : octet.Event) → asked_with e ≡ map (frame.at e.line) (asked_of e.what)
   pub asked : (e : frame.Event) → asked_among e ≡ map (frame.at e.line) (asked_in e.what)

@@ -19,11 +19,12 @@ use Rattle.model_card.specs.Event.{Event, at}
 use Rattle.model_card.specs.Run.{moments, after_all}
 use Rattle.laws_link.specs.Waiting.{as_response, as_command}
 use Rattle.laws_line.specs.card.Worked.{usual, on_0, up}
+use Rattle.laws_trace.specs.Configurations.{first_of}
 use Rattle.laws_trace.specs.Managing.{managed_after}
 use Rattle.laws_trace.specs.NoSlotIsLost.{slots_taken}
 use Rattle.laws_trace.specs.Observer.{in_state, moment_of}
 use Rattle.laws_trace.specs.Outgoing.{outgoing_of}
-use Rattle.laws_trace.specs.RefusalsAreTold.{first_reason, reasons}
+use Rattle.laws_trace.specs.RefusalsAreTold.{reasons}
 use Rattle.laws_trace.specs.RequestsTakeEffect.{Effect, effect, deactivated, of_tei}
 
 -- What the table has for a request of a link behind events, while a slot is free; and what the card answers.
@@ -155,7 +156,7 @@ ended = refl
 
 -- Of other requests: a check is refused while one goes on, and not while none does; and unit data of a TEI that is not on the line.
 abbrev refused_for : List Event → Request → Option Refusal
-refused_for events r = first_reason (reasons usual events 0 (managed_after usual 0 events) r)
+refused_for events r = first_of (reasons usual events 0 (managed_after usual 0 events) r)
 
 goes_on : refused_for (on ++ on_0 (Check 64) ∷ []) (Check 64) ≡ Some CheckRunning
 goes_on = refl

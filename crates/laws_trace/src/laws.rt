@@ -25,11 +25,15 @@ ghost use Rattle.laws_trace.specs.TurnsMeanwhile.{LinksTakeTurnsMeanwhile};
 ghost use Rattle.laws_trace.specs.UnitsAreGranted.{UnitsAreGranted};
 ghost use Rattle.laws_trace.specs.UnitsGoOut.{UnitsGoOut, AllUnitsGoOut};
 
-/// Each configuration within the ranges is served: no fault is found in it, and every law here speaks of it (`served`).
-/// With any other no card starts. The check names the first of its fields that is out of range (`named`; profile).
+/// The check of a configuration names the first of its fields that is out of range, and finds no fault exactly if none is.
+/// Every law here speaks of each configuration without a fault. With any other no card starts (profile).
 pub fn ranges_are_served()
-    ensures served { RangesAreServed }
-    ensures named { FirstFaultsAreNamed }
+    ensures { FirstFaultsAreNamed }
+{}
+
+/// The same in inequalities: no fault is found exactly if each value of the configuration is within its range.
+pub fn values_are_in_range()
+    ensures { RangesAreServed }
 {}
 
 /// The other side is heard. As frames are read, C/R bit 0 makes a command of one that a card of the network's side

@@ -25,7 +25,7 @@ pub use laws::{
     frames_are_octets, frames_are_read, granted_requests_take_effect, links_move,
     links_take_turns_meanwhile, news_is_told, no_slot_is_lost, nothing_is_lost_in_vain,
     ranges_are_served, rooms_are_told, services_have_their_sapis, teis_are_managed,
-    the_other_side_is_heard, timers_are_timely, timers_run, units_go_out,
+    the_other_side_is_heard, timers_are_timely, timers_run, units_go_out, values_are_in_range,
     what_is_due_joins_the_queue, what_is_given_is_due, what_is_told_was_heard,
 };
 pub use octets::{

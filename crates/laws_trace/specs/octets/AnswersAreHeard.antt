@@ -4,7 +4,8 @@ use Rattle.lapd_frame.specs.declared.services.Service.{Service}
 use Rattle.model_line.specs.declared.config.Config.{Config}
 use Rattle.laws_line.specs.Drains.{most_frames_before}
 use Rattle.laws_line.specs.card.WaitingIsHeard.{AreHeardSince}
-use Rattle.laws_trace.specs.AnswersAreGiven.{Stays, priority_added, queue, texts}
+use Rattle.laws_trace.specs.AnswersAreGiven.{Stays, priority_added, texts}
+use Rattle.laws_trace.specs.Outgoing.{outgoing_of}
 use Rattle.model_card.specs.ports.Card.{fresh}
 use Rattle.model_card.specs.ports.Event.{Event}
 use Rattle.model_card.specs.ports.GoingOut.{octets_given}
@@ -25,4 +26,4 @@ AllThatWaitsIsHeard c events line =
     (past later : List Event) (service : Service) (tei : ℕ) →
     events ≡ past ++ later →
     IsPulled c line service tei past later →
-    AreHeardSince c.n201 (octets_given c past line) (octets_given c events line) (texts c service tei (queue c line service tei (meant_all (fresh c) past)))
+    AreHeardSince c.n201 (octets_given c past line) (octets_given c events line) (texts c service tei (outgoing_of c service tei line (meant_all (fresh c) past)).waiting)

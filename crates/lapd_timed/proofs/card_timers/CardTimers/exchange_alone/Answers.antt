@@ -1,7 +1,7 @@
 -- The two orders are carried out where the timer that stops runs, and in the place beside.
 use Rattle.lapd_timed.specs.Stands.{held}
 use Rattle.lapd_timed.proofs.Carried.{rests-alone, sends-alone}
-use Rattle.lapd_timed.proofs.obeying.CardTimers.exchange_alone.Goals as goal
+use Rattle.lapd_timed.proofs.card_timers.CardTimers.exchange_alone.Goals as goal
 
 pub returns-in-Some-clause-after : goal.returns-in-Some-clause-after
 returns-in-Some-clause-after c = λ done.

@@ -5,7 +5,7 @@ use Rattle.model_card.specs.Machine.{after}
 use Rattle.model_timed.specs.Clock.{obeyed}
 use Rattle.lapd_timed.specs.Stands.{AreLeft, TimersStand, held}
 use Rattle.lapd_timed.proofs.Carried.{rested}
-use Rattle.lapd_timed.proofs.obeying.CardTimers.obey_list.Goals as goal
+use Rattle.lapd_timed.proofs.card_timers.CardTimers.obey_list.Goals as goal
 
 pub returns-in-None-clause-after : goal.returns-in-None-clause-after
 returns-in-None-clause-after g c = λ e m k led is left.

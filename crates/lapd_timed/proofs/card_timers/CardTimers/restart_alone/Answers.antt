@@ -2,7 +2,7 @@
 use Rattle.std.proofs.Common.{arith}
 use Rattle.lapd_timed.specs.Stands.{held}
 use Rattle.lapd_timed.proofs.Carried.{only-one, restarted-alone}
-use Rattle.lapd_timed.proofs.obeying.CardTimers.restart_alone.Goals as goal
+use Rattle.lapd_timed.proofs.card_timers.CardTimers.restart_alone.Goals as goal
 
 pub returns-clause-after : goal.returns-clause-after
 returns-clause-after c = λ done.

@@ -1,7 +1,7 @@
 -- Two orders of a link are carried out together; or each is carried out in its place.
 use Rattle.std.proofs.Common.{sym, subst}
 use Rattle.lapd_timed.specs.Stands.{AreLeft}
-use Rattle.lapd_timed.proofs.obeying.CardTimers.obey_in_places.Goals as goal
+use Rattle.lapd_timed.proofs.card_timers.CardTimers.obey_in_places.Goals as goal
 
 pub returns-then-not-exchange_in_places-clause-after : goal.returns-then-not-exchange_in_places-clause-after
 returns-then-not-exchange_in_places-clause-after g c = λ e m k led is left.

@@ -6,7 +6,7 @@ use Rattle.lapd_moments.specs.Places.{with_timer, without_timer}
 use Rattle.model_link.specs.declared.timers.LinkTimer.TheVariants as link
 use Rattle.lapd_timed.specs.Stands.{held}
 use Rattle.lapd_timed.proofs.Carried.{rests-done, sends-done}
-use Rattle.lapd_timed.proofs.obeying.CardTimers.exchange_in_places.Goals as goal
+use Rattle.lapd_timed.proofs.card_timers.CardTimers.exchange_in_places.Goals as goal
 
 pub returns-in-Some-clause-after : goal.returns-in-Some-clause-after
 returns-in-Some-clause-after g c = λ _.

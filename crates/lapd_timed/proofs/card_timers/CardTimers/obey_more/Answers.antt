@@ -1,7 +1,7 @@
 -- Two orders are carried out at once; or they are in their places.
 use Rattle.std.proofs.Common.{sym, subst}
 use Rattle.lapd_timed.specs.Stands.{AreLeft}
-use Rattle.lapd_timed.proofs.obeying.CardTimers.obey_more.Goals as goal
+use Rattle.lapd_timed.proofs.card_timers.CardTimers.obey_more.Goals as goal
 
 pub returns-then-not-exchange_alone-clause-after : goal.returns-then-not-exchange_alone-clause-after
 returns-then-not-exchange_alone-clause-after g c = λ e m k led is left.

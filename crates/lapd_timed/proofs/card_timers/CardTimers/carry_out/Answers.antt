@@ -4,7 +4,7 @@ use Rattle.lapd_clock.specs.Timer.{Start}
 use Rattle.lapd_moments.specs.Places.{with_timer}
 use Rattle.lapd_timed.specs.Stands.{held}
 use Rattle.lapd_timed.proofs.Carried.{IsDone, restart-done, start-done, start-nowhere, stop-done, stop-nowhere}
-use Rattle.lapd_timed.proofs.obeying.CardTimers.carry_out.Goals as goal
+use Rattle.lapd_timed.proofs.card_timers.CardTimers.carry_out.Goals as goal
 
 pub returns-then-restart-clause-after : goal.returns-then-restart-clause-after
 returns-then-restart-clause-after g c =

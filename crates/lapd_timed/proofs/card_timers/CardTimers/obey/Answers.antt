@@ -1,7 +1,7 @@
 -- One order is carried out at once; or each is carried out in its place.
 use Rattle.std.proofs.Common.{sym, subst}
 use Rattle.lapd_timed.specs.Stands.{AreLeft}
-use Rattle.lapd_timed.proofs.obeying.CardTimers.obey.Goals as goal
+use Rattle.lapd_timed.proofs.card_timers.CardTimers.obey.Goals as goal
 
 pub returns-then-not-restart_alone-clause-after : goal.returns-then-not-restart_alone-clause-after
 returns-then-not-restart_alone-clause-after g c = λ e m k led is left.

@@ -6,7 +6,7 @@ use Rattle.model_timed.specs.Clock.{Clock, obeyed}
 use Rattle.lapd_timed.specs.Stands.{held, AreAmid}
 use Rattle.lapd_timed.proofs.Calls.{one-more, all-done}
 use Rattle.lapd_timed.proofs.Carried.{order-placed, after-all}
-use Rattle.lapd_timed.proofs.obeying.CardTimers.carry_out_all.Goals as goal
+use Rattle.lapd_timed.proofs.card_timers.CardTimers.carry_out_all.Goals as goal
 
 pub loop-order-preserved : goal.loop-order-preserved
 loop-order-preserved g c =

@@ -110,8 +110,9 @@ pub extern "C" fn lapd_next_frame(
     lend!(kept of handle, Frames(card), line);
     match card.next_frame(line, out) {
         Ok(Some(next)) => {
-            *count = next.length;
+            // This comes first, while what was marked is at hand.
             let more = card.has_next(line);
+            *count = next.length;
             kept.settle_given(line, &next.order_list(), more, report);
             OK
         }

@@ -139,13 +139,27 @@ impl KeptCard {
         ensures timed { (e : Event) (m : Card) (c : Clock) → LedTo self.old.card line e m → listed orders.now ≡ orders_at e m
             → AreLeftIn e self.old.timers m c → TimersStandIn self.new.timers (after e m) (obeyed line (orders_at e m) c) }
     {
-        if matches!(orders, ShortList::None) {
-            return;
+        if !matches!(orders, ShortList::None) {
+            self.add_some_orders(line, *orders, report);
         }
+    }
+
+    // The same where there may be some.
+    // They are handed over by value, and it is compiled into its caller: so they lie in memory only if there are some.
+    #[inline(always)]
+    fn add_some_orders(&mut self, line: usize, orders: ShortList<Order>, report: &mut PlainReport)
+        ensures card { self.new.card ≡ self.old.card }
+        ensures refused { self.new.refused ≡ self.old.refused }
+        ensures shown { (begun more : Bool) → ShowsPull report.old begun more []
+            → ShowsPull report.new begun more (orders_by (is_some self.old.timers) (listed orders)) }
+        ensures there { is_some self.new.timers ≡ is_some self.old.timers }
+        ensures timed { (e : Event) (m : Card) (c : Clock) → LedTo self.old.card line e m → listed orders ≡ orders_at e m
+            → AreLeftIn e self.old.timers m c → TimersStandIn self.new.timers (after e m) (obeyed line (orders_at e m) c) }
+    {
         if self.timers.is_some() {
-            self.carry_out_list(line, orders);
+            self.carry_out_list(line, &orders);
         } else {
-            report.add_orders(orders);
+            report.add_orders(&orders);
         }
     }
 

@@ -82,9 +82,7 @@ impl LinkLayer {
 
     /// A frame of the grammar that is for no link, nor for layer 2 management. On the user's side it may bring unit data
     /// that the network sends to the group.
-    // What it is handed is a frame: where it is compiled into its caller, this is put together only if it is called. So of
-    // `message`.
-    #[inline(always)]
+    #[cold]
     fn for_nobody(&self, frame: Frame<'_>, cause: Cause, report: &mut BareReport)
         requires { IsClear report.old }
         ensures { (octets : List ℕ) → frame.entry.info.now ≡ drop (start_of frame.entry.control) octets
@@ -101,7 +99,6 @@ impl LinkLayer {
     }
 
     /// The service whose unit data a frame brings that the network sends to the group.
-    #[inline(always)]
     fn group_service(&self, frame: Frame<'_>) -> Option<Service>
         ensures { result ≡ group_service self.now.config (parts_of frame.entry) }
     {
@@ -207,7 +204,7 @@ impl LinkLayer {
     }
 
     /// A frame of layer 2 management. UI alone is served.
-    #[inline(always)]
+    #[cold]
     fn message<S: Shelf>(&mut self, frame: Frame<'_>, report: &mut BareReport, shelf: &mut S)
         requires stands { Standing self.old (S.store shelf.old) }
         requires clear { IsClear report.old }

@@ -105,7 +105,6 @@ impl Managing {
     }
 
     /// Serves a message of the other side: the information of a UI command with SAPI 63 and the group TEI.
-    #[cold]
     pub fn message(&mut self, information: &[u8]) -> TeiOutcome
         ensures answers { Answers (at_management (teis.message information.now)) self.old self.new result }
         ensures short { IsShort result }

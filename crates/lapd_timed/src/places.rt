@@ -35,7 +35,12 @@ impl CardTimers {
 
     /// The place of a timer of a line; none if it is one of a TEI that is not on the line.
     #[inline(always)]
-    pub(crate) fn place<S: Shelf>(&self, card: &FrameCard<S>, line: usize, timer: Timer) -> Option<usize>
+    pub(crate) fn place<S: Shelf>(
+        &self,
+        card: &FrameCard<S>,
+        line: usize,
+        timer: Timer,
+    ) -> Option<usize>
         requires line { line < self.now.lines }
         requires card { line < line_count card.now }
         ensures is { (m : Card) → FrameStands S.store card.now m → m.config.terminals ≡ self.now.terminals

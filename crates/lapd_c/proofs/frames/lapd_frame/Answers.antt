@@ -26,7 +26,7 @@ returns-clause-served c = λ m s w.
       seen_there c.in-Some.ensures.card c.settle.new.report _ (settled_answered _ c.settle.new.report c.show_delivered.new.report _ c.settle.ensures.rest
           (shown_told m (frame_comes c.args.line c.args.octets.now m) _ c.show_delivered.new.report t.reached.config (c.frame.ensures.told m t ∙ ap (λ (e : Event). answer e m) is)
           (subst (λ (n : ℕ). length (contents_or_none (delivered_in (octets n) c.frame.new.report)) ≤ 260
-              → Shows c.show_delivered.new.report (told_beside (delivered_in (octets n) c.frame.new.report) c.frame.new.report)) n201 c.show_delivered.ensures))),
+          → Shows c.show_delivered.new.report (told_beside (delivered_in (octets n) c.frame.new.report) c.frame.new.report)) n201 c.show_delivered.ensures))),
     )
 
 -- orders alone are

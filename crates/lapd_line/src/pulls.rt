@@ -128,7 +128,8 @@ impl LinkLayer {
         self.turn = number + 1;
     }
 
-    /// The oldest message of TEI management, if one waits; mostly none does.
+    /// The oldest message of TEI management.
+    // Mostly none waits.
     #[inline(always)]
     fn take_message<O: Outlet>(&mut self, out: &mut O) -> Option<ShortList<Order>>
         requires free { IsFree (O.loading out.old) }

@@ -5,7 +5,6 @@ ghost use Rattle.lapd_clock.specs.Given.{lengths_of};
 ghost use Rattle.model_card.specs.Card as machine;
 ghost use Rattle.model_card.specs.Card.{Card};
 ghost use Rattle.model_card.specs.Event.{at};
-ghost use Rattle.model_card.specs.Machine.{after};
 ghost use Rattle.model_line.specs.Event.{expiry};
 ghost use Rattle.model_line.specs.Sound.{IsInRange};
 ghost use Rattle.model_line.specs.declared.config.Config.{Config};

@@ -8,11 +8,15 @@ ghost use Rattle.model_card.specs.Machine.{after, answer};
 ghost use Rattle.lapd_c.specs.Faults.{fault_in};
 ghost use Rattle.model_card.specs.declared.kinds.CardKind.TheVariants as kinds;
 ghost use Rattle.lapd_c.specs.Statuses as status;
+ghost use Rattle.lapd_c.specs.{Shows, contents_or_none, told_beside};
+ghost use Rattle.lapd_card.specs.FrameCard.{line_count};
+ghost use Rattle.lapd_card.specs.{came, delivered_in, octets_of};
 
 use crate::card::CardHandle;
 use crate::lend::{lend, or_answer};
 use crate::plain::{NO_FRAME, OK, PlainReport, WRONG_LENGTH, fault_in};
-use lapd_card::BareReport;
+use lapd_card::{BareReport, FrameCard};
+use lapd_store::RawShelf;
 
 /// Takes a frame that came from a line, from its address to its information, without its check.
 #[unsafe(no_mangle)]
@@ -40,9 +44,26 @@ pub extern "C" fn lapd_frame(
         kept.settle_orders(line, &told.orders, report);
         return OK;
     }
-    report.show(&told, card.contents(line, octets, &told));
+    show_delivered(card, line, octets, &told, report);
     kept.settle(line, told.orders(), report);
     OK
+}
+
+// Shows what a frame of these octets led to, with the contents that it delivered.
+// It is compiled into its caller: so these are put together only if it is called.
+#[inline(always)]
+fn show_delivered(
+    card: &FrameCard<RawShelf>,
+    line: usize,
+    octets: &[u8],
+    told: &BareReport,
+    report: &mut PlainReport,
+)
+    requires { line < line_count card.now }
+    ensures { length (contents_or_none (delivered_in (octets_of (Some (came card.now.config.n201 octets.now))) told.now)) ≤ 260
+        → Shows report.new (told_beside (delivered_in (octets_of (Some (came card.now.config.n201 octets.now))) told.now) told.now) }
+{
+    report.show(told, card.contents(line, octets, told));
 }
 
 /// The controller of a line told a fault in place of a frame, by its cause: an abort, bits that are no whole octets, a
@@ -110,8 +131,9 @@ pub extern "C" fn lapd_next_frame(
     lend!(kept of handle, Frames(card), line);
     match card.next_frame(line, out) {
         Ok(Some(next)) => {
-            *count = next.length;
+            // This comes first, while what was marked is at hand.
             let more = card.has_next(line);
+            *count = next.length;
             kept.settle_given(line, &next.order_list(), more, report);
             OK
         }

@@ -1,7 +1,7 @@
 //! A card as C holds it: with the links that were refused contents because their queues were full, each of which is told once
 //! when it has room again; and with its timers, where it keeps its own.
 
-ghost use Rattle.std.specs.Prelude.{◌≡◌, ◌<◌, [], true, None, IfSome, is_some};
+ghost use Rattle.std.specs.Prelude.{◌≡◌, ◌<◌, Bool, [], true, None, IfSome, is_some};
 ghost use Rattle.model_card.specs.Card.{Card};
 ghost use Rattle.model_card.specs.Event.{Event};
 ghost use Rattle.model_card.specs.Machine.{after};
@@ -124,12 +124,43 @@ impl KeptCard {
             → AreLeftIn e self.old.timers m c → TimersStandIn self.new.timers (after e m) (obeyed line (orders_at e m) c) }
     {
         report.show_begun(more);
-        if self.timers.is_some() {
-            self.carry_out(line, orders.as_slice());
-        } else {
-            report.add_orders(orders);
-        }
+        self.add_orders(line, orders, report);
         self.tell_reopened(line, report);
+    }
+
+    // Carries out the orders of an answer of which all else is shown, or shows them, too. Mostly there is none.
+    #[inline(always)]
+    fn add_orders(&mut self, line: usize, orders: &ShortList<Order>, report: &mut PlainReport)
+        ensures card { self.new.card ≡ self.old.card }
+        ensures refused { self.new.refused ≡ self.old.refused }
+        ensures shown { (begun more : Bool) → ShowsPull report.old begun more []
+            → ShowsPull report.new begun more (orders_by (is_some self.old.timers) (listed orders.now)) }
+        ensures there { is_some self.new.timers ≡ is_some self.old.timers }
+        ensures timed { (e : Event) (m : Card) (c : Clock) → LedTo self.old.card line e m → listed orders.now ≡ orders_at e m
+            → AreLeftIn e self.old.timers m c → TimersStandIn self.new.timers (after e m) (obeyed line (orders_at e m) c) }
+    {
+        if !matches!(orders, ShortList::None) {
+            self.add_some_orders(line, *orders, report);
+        }
+    }
+
+    // The same where there may be some.
+    // They are handed over by value, and it is compiled into its caller: so they lie in memory only if there are some.
+    #[inline(always)]
+    fn add_some_orders(&mut self, line: usize, orders: ShortList<Order>, report: &mut PlainReport)
+        ensures card { self.new.card ≡ self.old.card }
+        ensures refused { self.new.refused ≡ self.old.refused }
+        ensures shown { (begun more : Bool) → ShowsPull report.old begun more []
+            → ShowsPull report.new begun more (orders_by (is_some self.old.timers) (listed orders)) }
+        ensures there { is_some self.new.timers ≡ is_some self.old.timers }
+        ensures timed { (e : Event) (m : Card) (c : Clock) → LedTo self.old.card line e m → listed orders ≡ orders_at e m
+            → AreLeftIn e self.old.timers m c → TimersStandIn self.new.timers (after e m) (obeyed line (orders_at e m) c) }
+    {
+        if self.timers.is_some() {
+            self.carry_out_list(line, &orders);
+        } else {
+            report.add_orders(&orders);
+        }
     }
 
     // Carries out the orders of a report, if the card keeps its own timers.

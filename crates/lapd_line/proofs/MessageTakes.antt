@@ -1,6 +1,6 @@
 -- A message of TEI management is taken, or none waits.
 use Rattle.lapd_line.proofs.Vocabulary.{◌≡◌, ℕ, List, [], ◌∷◌, drop, slice_get, Option, Some, None, IfSome, option_or, option_map, refl, sym, ap, subst, ◌∙◌, arith, none-some, Owned, Store, Side, Config, Line, Taken, message_taken, unit_taken, first_taken, round, IsSound, TakesSoundly, taken_sound, LinkLayer, LayerStands, Loading, Loads, Took, Takes, room_in, reference_in, Managing, is_terminals}
-use Rattle.lapd_line.proofs.Vocabulary.{management_of, offered_by, own_of}
+use Rattle.lapd_line.proofs.Vocabulary.{management_of, offered_by, own_of, is_some, false, false≢true}
 use Rattle.lapd_line.specs.Managing.{Gives, without_message}
 use Rattle.lapd_line.specs.declared.managing.Managing.TheVariants as kind
 use Rattle.lapd_line.proofs.LayerSteps.{stands_as}
@@ -66,3 +66,14 @@ module _ (e : LinkLayer) (s : Store) (new : Managing) (f g : Loading) where
       is m st =
           message_of_kind e.config e.teis m st.kind st.management st.own
           ∙ ap (option_map (λ os. record { frame = os; orders = []; line = record m { management = management_of (without_message e.teis); own = own_of (without_message e.teis) } })) (sym gave.offered)
+
+-- It is seen at once that none waits.
+not_some : {X : Type 0} (x : Option X) → is_some x ≡ false → x ≡ None
+not_some None none = refl
+not_some (Some x) none = absurd (false≢true (sym none))
+
+pub none_waits : (e : LinkLayer) (s : Store) (f : Loading) → is_some (offered_by e.config.side e.teis) ≡ false → Takes (λ c m. message_taken c m) e s f e s f None
+none_waits e s f none = no_message_loaded e s e.teis f f (record { offered = sym is; after = sym (none_left e.config.side e.teis is) })
+  where
+    is : offered_by e.config.side e.teis ≡ None
+    is = not_some (offered_by e.config.side e.teis) none

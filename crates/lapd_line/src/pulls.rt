@@ -129,7 +129,23 @@ impl LinkLayer {
     }
 
     /// The oldest message of TEI management.
+    // Mostly none waits.
+    #[inline(always)]
     fn take_message<O: Outlet>(&mut self, out: &mut O) -> Option<ShortList<Order>>
+        requires free { IsFree (O.loading out.old) }
+        requires room { 4 ≤ room_in (O.loading out.old) }
+        ensures { (store : Store) → Takes (λ c m. message_taken c m) self.old store (O.loading out.old) self.new store (O.loading out.new) (orders_taken result) }
+    {
+        if !self.teis.has_message() {
+            return None;
+        }
+        self.take_waiting_message(out)
+    }
+
+    /// The same where one may wait.
+    // It is compiled into its caller, too, so that `out` has no address; it is apart, so that octets are laid out only if one waits.
+    #[inline(always)]
+    fn take_waiting_message<O: Outlet>(&mut self, out: &mut O) -> Option<ShortList<Order>>
         requires free { IsFree (O.loading out.old) }
         requires room { 4 ≤ room_in (O.loading out.old) }
         ensures { (store : Store) → Takes (λ c m. message_taken c m) self.old store (O.loading out.old) self.new store (O.loading out.new) (orders_taken result) }

@@ -1,6 +1,6 @@
 //! Orders for the timers.
 
-ghost use Rattle.std.specs.Prelude.{◌≡◌, Some};
+ghost use Rattle.std.specs.Prelude.{◌≡◌, ◌∷◌, [], Some};
 ghost use Rattle.lapd_link.specs.{listed, timer_at, orders_for};
 
 use lapd_frame::{Order, ShortList, Timer};
@@ -61,8 +61,16 @@ fn put_start(
             let stop = Order::Stop(line_timer(terms, LinkTimer::T200));
             *list = ShortList::Two([stop, start]);
         }
-        _ => *list = ShortList::One([start]),
+        _ => put_one(list, start),
     }
+}
+
+// One order. All that write one do so here, so that it is put together in one way.
+#[inline(always)]
+fn put_one(list: &mut ShortList<Order>, order: Order)
+    ensures { listed list.new ≡ order ∷ [] }
+{
+    *list = ShortList::One([order]);
 }
 
 // Stop, where the event started none.
@@ -77,7 +85,7 @@ fn put_stop(
 {
     match before {
         Some(timer) if !is_the(timer, after) => {
-            *list = ShortList::One([Order::Stop(line_timer(terms, timer))]);
+            put_one(list, Order::Stop(line_timer(terms, timer)));
         }
         _ => *list = ShortList::None,
     }

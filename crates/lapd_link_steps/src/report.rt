@@ -111,10 +111,8 @@ impl BareReport {
     pub fn is_quiet(&self) -> bool
         ensures { result ≡ true → IsQuiet self.now }
     {
-        matches!(self.notes, ShortList::None)
-            && !self.unserved
-            && !self.has_contents()
-            && self.cause.is_none()
-            && self.lost == 0
+        // One test serves for all flags.
+        let is_flagged = self.unserved | self.delivered | self.unit | (self.lost > 0);
+        matches!(self.notes, ShortList::None) && !is_flagged && self.cause.is_none()
     }
 }

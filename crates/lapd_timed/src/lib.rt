@@ -25,10 +25,12 @@
 //! there. The contracts of each call say that the timers stand for its clock (`specs/Stands`), and a card with them for the
 //! timed card of its kind (`specs/TimedStands`).
 //!
-//! - `card_timers`: `CardTimers`. `timed_card`: `TimedCard`. `wrong_time`: the time that is refused.
+//! - `card_timers`: `CardTimers`; `obeying`: what it is ordered; `places`: where its timers are. `timed_card`: `TimedCard`. `wrong_time`: the time that is refused.
 #![tactic(auto)]
 
 mod card_timers;
+mod obeying;
+mod places;
 mod timed_card;
 mod wrong_time;
 

@@ -10,6 +10,7 @@ use lapd_frame::{ErrorCode, Note};
 use model_link::Terms;
 
 impl BareReport {
+    #[inline(always)]
     pub(crate) fn note(&mut self, note: Note)
         requires { HasRoom 1 0 self.old }
         ensures tells { Tells 1 0 self.old self.new }

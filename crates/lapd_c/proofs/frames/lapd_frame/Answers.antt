@@ -1,5 +1,5 @@
 -- Hand-written answers for `lapd_frame`: the frame is heard by the configuration of the machine.
-use Rattle.lapd_c.proofs.Vocabulary.{◌≤◌, ℕ, List, length, Option, Some, refl, sym, ap, subst, ◌∙◌, Config, told, Event, answer, frame_comes, Shows, contents_or_none, alone, Frames}
+use Rattle.lapd_c.proofs.Vocabulary.{◌≤◌, ℕ, length, Some, refl, sym, ap, subst, ◌∙◌, Config, told, Event, answer, frame_comes, Shows, contents_or_none, alone, Frames}
 use Rattle.lapd_line.proofs.Quiet.{quiet_told}
 use Rattle.lapd_line.specs.Reports.{delivered_in, octets_of, told_beside}
 use Rattle.model_card.specs.Machine.{after}
@@ -19,12 +19,14 @@ pub returns-clause-served : goal.returns-clause-served
 returns-clause-served c = λ m s w.
     let t = frames_there c.in-Some.ensures.card c.in-Frames.is m s in
     let is = comes_at c.args.line c.args.octets.now _ m t in
-    let delivered = c.contents.ensures ∙ ap (λ (d : Config). delivered_in (octets_of (Some (came d.n201 c.args.octets.now))) c.frame.new.report) c.frame.ensures.after.config in (
+    let n201 = ap (λ (d : Config). d.n201) c.frame.ensures.after.config in
+    let octets = λ (n : ℕ). octets_of (Some (came n c.args.octets.now)) in (
       refl,
       still_stands (alone (after (frame_comes c.args.line c.args.octets.now m) m)) c.settle.ensures.card (subst (λ (e : Event). FrameCardStands c.frame.new.self (after e m)) is (c.frame.ensures.after.stands m t)),
-      seen_there c.in-Some.ensures.card c.settle.new.report _ (settled_answered _ c.settle.new.report c.show.new.self _ c.settle.ensures.rest
-          (shown_told m (frame_comes c.args.line c.args.octets.now m) _ c.show.new.self t.reached.config (c.frame.ensures.told m t ∙ ap (λ (e : Event). answer e m) is)
-          (subst (λ (o : Option (List ℕ)). length (contents_or_none o) ≤ 260 → Shows c.show.new.self (told_beside o c.frame.new.report)) delivered c.show.ensures))),
+      seen_there c.in-Some.ensures.card c.settle.new.report _ (settled_answered _ c.settle.new.report c.show_delivered.new.report _ c.settle.ensures.rest
+          (shown_told m (frame_comes c.args.line c.args.octets.now m) _ c.show_delivered.new.report t.reached.config (c.frame.ensures.told m t ∙ ap (λ (e : Event). answer e m) is)
+          (subst (λ (n : ℕ). length (contents_or_none (delivered_in (octets n) c.frame.new.report)) ≤ 260
+          → Shows c.show_delivered.new.report (told_beside (delivered_in (octets n) c.frame.new.report) c.frame.new.report)) n201 c.show_delivered.ensures))),
     )
 
 -- orders alone are

@@ -1,7 +1,7 @@
 -- One place more is the earliest, or the earliest of the others, or neither.
 use Rattle.std.proofs.Common.{◌∙◌, arith, inl, inr}
 use Rattle.lapd_clock.proofs.Vocabulary.{cases_lt}
-use Rattle.lapd_moments.proofs.Keeping.{IsTakenIn, nearer, farther, neither}
+use Rattle.lapd_moments.proofs.Leading.{IsTakenIn, nearer, farther, neither}
 use Rattle.lapd_moments.proofs.lead.earliest.Goals.{then-moment-others, else-moment-others}
 use Rattle.lapd_moments.proofs.lead.earliest.Goals as goal
 

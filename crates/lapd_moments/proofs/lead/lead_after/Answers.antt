@@ -1,6 +1,6 @@
 -- The places that have been used are looked through.
 use Rattle.std.proofs.Common.{refl, arith}
-use Rattle.lapd_moments.proofs.Keeping.{found-in}
+use Rattle.lapd_moments.proofs.Leading.{found-in}
 use Rattle.lapd_moments.proofs.lead.lead_after.Goals as goal
 
 pub returns : goal.returns

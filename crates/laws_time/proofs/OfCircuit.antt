@@ -64,3 +64,6 @@ pub mod InBeatsKept
 pub mod InBeatsRest
 pub mod InBeatsFrames
 pub mod InBeatsRestMet
+pub mod AckedLinks
+pub mod AckedWire
+pub mod AckedCall

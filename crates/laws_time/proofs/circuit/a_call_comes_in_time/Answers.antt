@@ -1,0 +1,9 @@
+-- Hand-written answers for `a_call_comes_in_time`.
+use Rattle.laws_time.proofs.OfCircuit.AckedCall.{acknowledged-then}
+use Rattle.laws_time.proofs.circuit.a_call_comes_in_time.Goals as goal
+
+pub returns-clause-undue : goal.returns-clause-undue
+returns-clause-undue c = ?
+
+pub returns-clause-told : goal.returns-clause-told
+returns-clause-told c = ?

@@ -67,3 +67,4 @@ pub mod InBeatsRestMet
 pub mod AckedLinks
 pub mod AckedWire
 pub mod AckedCall
+pub mod AckedOn

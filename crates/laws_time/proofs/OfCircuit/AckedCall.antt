@@ -62,20 +62,20 @@ doing-turned : (k : StepAt) (w : Wire) → doing (turn k) (turned w) ≡ turned 
 doing-turned (at_near act) w = refl
 doing-turned (at_far act) w = refl
 
-turn-all : (es : List StepAt) (w : Wire) → doing_all (map turn es) (turned w) ≡ turned (doing_all es w)
+pub turn-all : (es : List StepAt) (w : Wire) → doing_all (map turn es) (turned w) ≡ turned (doing_all es w)
 unfolding doing_all
 turn-all [] w = refl
 turn-all (k ∷ ks) w = ap (doing_all (map turn ks)) (doing-turned k w) ∙ turn-all ks (doing k w)
 
-takes-turned : (k : StepAt) (w : Wire) → near_takes (turn k) (turned w) ≡ far_takes k w
+pub takes-turned : (k : StepAt) (w : Wire) → near_takes (turn k) (turned w) ≡ far_takes k w
 takes-turned (at_near act) w = refl
 takes-turned (at_far act) w = refl
 
-sends-turned : (k : StepAt) (w : Wire) → far_sends (turn k) (turned w) ≡ near_sends k w
+pub sends-turned : (k : StepAt) (w : Wire) → far_sends (turn k) (turned w) ≡ near_sends k w
 sends-turned (at_near act) w = refl
 sends-turned (at_far act) w = refl
 
-sum-turned : (f g : StepAt → Wire → ℕ) → ((k : StepAt) (w : Wire) → f (turn k) (turned w) ≡ g k w) → (es : List StepAt) (w : Wire) → sum_all f (map turn es) (turned w) ≡ sum_all g es w
+pub sum-turned : (f g : StepAt → Wire → ℕ) → ((k : StepAt) (w : Wire) → f (turn k) (turned w) ≡ g k w) → (es : List StepAt) (w : Wire) → sum_all f (map turn es) (turned w) ≡ sum_all g es w
 unfolding sum_all
 sum-turned f g same [] w = refl
 sum-turned f g same (k ∷ ks) w =
@@ -91,7 +91,7 @@ module _ (service : Service) (tei : ℕ) where
   talk-turned (at_near act) is = is
   talk-turned (at_far act) is = is
 
-  talks-turned : (es : List StepAt) → All Talks es → All Talks (map turn es)
+  pub talks-turned : (es : List StepAt) → All Talks es → All Talks (map turn es)
   talks-turned [] all = All-nil Talks
   talks-turned (k ∷ ks) all = All-cons Talks (turn k) (map turn ks) (talk-turned k (All-head Talks k ks all)) (talks-turned ks (All-tail Talks k ks all))
 

@@ -68,3 +68,4 @@ pub mod AckedLinks
 pub mod AckedWire
 pub mod AckedCall
 pub mod AckedOn
+pub mod AckedUp

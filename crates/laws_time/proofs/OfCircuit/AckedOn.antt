@@ -47,7 +47,7 @@ pub record Open (l : Link) : Type 0 where
 open-steady : (n : LinkEndpoint) → Steady n → Open n.link
 open-steady n h = record { state = h.state; free = h.peer_busy; ordered = h.sound.ordered; few = window n h }
 
-takes-few : (k : StepAt) (w : Wire) → near_takes k w ≤ 1
+pub takes-few : (k : StepAt) (w : Wire) → near_takes k w ≤ 1
 takes-few (at_near receives) w = go w.far.way
   where
     go : (way : List (List ℕ)) → one_if_any way ≤ 1
@@ -58,12 +58,12 @@ takes-few (at_near (requests r)) w = omega arith
 takes-few (at_near other) w = omega arith
 takes-few (at_far act) w = omega arith
 
-far-takes-few : (k : StepAt) (w : Wire) → far_takes k w ≤ 1
+pub far-takes-few : (k : StepAt) (w : Wire) → far_takes k w ≤ 1
 far-takes-few (at_near act) w = omega arith
 far-takes-few (at_far act) w = takes-few (at_near act) (turned w)
 
 -- a step with which the far end receives
-by-receipt : (k : StepAt) (w : Wire) (P : StepAt → Type 0) → far_takes k w ≡ 1 → (1 ≤ length w.near.way → P (at_far receives)) → P k
+pub by-receipt : (k : StepAt) (w : Wire) (P : StepAt → Type 0) → far_takes k w ≡ 1 → (1 ≤ length w.near.way → P (at_far receives)) → P k
 by-receipt (at_near act) w P one h = absurd (omega (arith, one))
 by-receipt (at_far receives) w P one h = h (go w.near.way one)
   where
@@ -74,7 +74,7 @@ by-receipt (at_far sends) w P one h = absurd (omega (arith, one))
 by-receipt (at_far (requests r)) w P one h = absurd (omega (arith, one))
 by-receipt (at_far other) w P one h = absurd (omega (arith, one))
 
-by-near-receipt : (k : StepAt) (w : Wire) (P : StepAt → Type 0) → near_takes k w ≡ 1 → (1 ≤ length w.far.way → P (at_near receives)) → P k
+pub by-near-receipt : (k : StepAt) (w : Wire) (P : StepAt → Type 0) → near_takes k w ≡ 1 → (1 ≤ length w.far.way → P (at_near receives)) → P k
 by-near-receipt (at_near act) w P one h = by-receipt (at_far act) (turned w) (λ k. P (turn k)) one h
 by-near-receipt (at_far act) w P one h = absurd (omega (arith, one))
 
@@ -116,7 +116,7 @@ module _ (service : Service) (tei : ℕ) (few : tei ≤ 126) (c d : Config) (fac
       let x = runs service tei few c d 0 0 face back rt ru es (are-calls service tei es all) false w weight h in
       (x.weight, subst (λ b. Goes service tei few c d 0 0 face back rt ru b (doing_all es w) x.weight) (none-call service tei es all w) x.goes)
 
-  on-step : (k : StepAt) → Talks k → (w : Wire) (weight : ℕ) → On w weight → (weight' : ℕ) × On (doing k w) weight'
+  pub on-step : (k : StepAt) → Talks k → (w : Wire) (weight : ℕ) → On w weight → (weight' : ℕ) × On (doing k w) weight'
   unfolding doing_all
   on-step k is w weight h = all-on (k ∷ []) (All-cons Talks k [] is (All-nil Talks)) w weight h
 
@@ -163,10 +163,10 @@ module _ (service : Service) (tei : ℕ) (few : tei ≤ 126) (c d : Config) (fac
 
   -- ---- the links
 
-  near-is : (first : Past) (w : Wire) (n : LinkEndpoint) → Holds c service tei 0 first w.near n → own_link service tei w.near ≡ n.link
+  pub near-is : (first : Past) (w : Wire) (n : LinkEndpoint) → Holds c service tei 0 first w.near n → own_link service tei w.near ≡ n.link
   near-is first w n h = own-stands service tei c 0 w.near n h.stands
 
-  far-is : (first : Past) (w : Wire) (m : LinkEndpoint) → Holds d service tei 0 first w.far m → own_link service tei w.far ≡ m.link
+  pub far-is : (first : Past) (w : Wire) (m : LinkEndpoint) → Holds d service tei 0 first w.far m → own_link service tei w.far ≡ m.link
   far-is first w m h = own-stands service tei d 0 w.far m h.stands
 
   abbrev Rings : Link → Type 0

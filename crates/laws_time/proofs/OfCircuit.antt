@@ -69,3 +69,4 @@ pub mod AckedWire
 pub mod AckedCall
 pub mod AckedOn
 pub mod AckedUp
+pub mod AckedTally

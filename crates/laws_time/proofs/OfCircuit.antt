@@ -70,3 +70,4 @@ pub mod AckedCall
 pub mod AckedOn
 pub mod AckedUp
 pub mod AckedTally
+pub mod AckedBeats

@@ -65,16 +65,16 @@ Octets r = AsksOctets (port.request r)
 
 -- Requests leave the port, and what is in transit.
 module _ (c : Config) (ranged : IsInRange c) where
-  ran-asked : (rs : List Request) → All Octets rs → (s : Endpoint) → Ran c s → Ran c (fold ask s rs)
+  pub ran-asked : (rs : List Request) → All Octets rs → (s : Endpoint) → Ran c s → Ran c (fold ask s rs)
   ran-asked [] all s h = h
   ran-asked (r ∷ rs) all s h = ran-asked rs (All-tail Octets r rs all) (ask s r) (goes-on c s (port.request r) (All-head Octets r rs all) h)
 
-  port-asked : (rs : List Request) → All Octets rs → (s : Endpoint) → Ran c s → port_of (fold ask s rs) ≡ port_of s
+  pub port-asked : (rs : List Request) → All Octets rs → (s : Endpoint) → Ran c s → port_of (fold ask s rs) ≡ port_of s
   port-asked [] all s h = refl
   port-asked (r ∷ rs) all s h =
       port-asked rs (All-tail Octets r rs all) (ask s r) (goes-on c s (port.request r) (All-head Octets r rs all) h) ∙ port-after s (port.request r) (within-ports c ranged s h)
 
-way-asked : (rs : List Request) (s : Endpoint) → (fold ask s rs).way ≡ s.way
+pub way-asked : (rs : List Request) (s : Endpoint) → (fold ask s rs).way ≡ s.way
 way-asked [] s = refl
 way-asked (r ∷ rs) s = way-asked rs (ask s r) ∙ asked-way r s
 

@@ -165,7 +165,7 @@ module _ (l : Line) (here : IsInRange l.near) (there : IsInRange l.far) where
   unfolding doing_all many
   beaten-many b v = refl
 
-  one-long : (b : Beat) (v : Circuit) → IsLong v → IsLong (beaten b v)
+  pub one-long : (b : Beat) (v : Circuit) → IsLong v → IsLong (beaten b v)
   one-long b v h =
       let u : Circuit = record { near = fold ask v.near b.near_asks; far = fold ask v.far b.far_asks } in
       let x = many-stay 1 u in

@@ -17,6 +17,7 @@ use Rattle.model_line.specs.Taken.{own_side}
 use Rattle.model_line.specs.declared.config.Config.{Config}
 use Rattle.laws_wire.specs.Call.{IsTalk, confirmed, indicated}
 use Rattle.laws_wire.specs.Facing.{own_link}
+use Rattle.laws_wire.specs.Wire as wire
 use Rattle.laws_wire.specs.Wire.{Endpoint, Wire, Step, StepAt, requests, sends, receives, at_near, at_far, acting, turned, doing, happens, with_first_of, frame_comes, frames_by, answered}
 unfoldable use Rattle.laws_wire.specs.Wire.{doing_all}
 use Rattle.laws_wire.proofs.Answered.{asks-way, takes-way}
@@ -28,8 +29,16 @@ use Rattle.laws_wire.proofs.Standing.{IsCarried, StationStands, gives-stands}
 use Rattle.laws_wire.proofs.Talking.{Face, Past, unheard, after_note, Holds, takes}
 use Rattle.laws_time.proofs.OfCircuit.AckedWire.{own-stands, one_if_any, near_takes, far_takes}
 unfoldable use Rattle.laws_time.proofs.OfCircuit.AckedCall.{sum_all}
-use Rattle.laws_time.proofs.OfCircuit.AckedCall.{far_sends, Up, up-step, up-all}
+use Rattle.laws_time.proofs.OfCircuit.AckedCall.{near_sends, far_sends, Up, up-step, up-all}
 use Rattle.laws_time.proofs.OfCircuit.AckedOn.{On, UpNow, on-step, all-on, takes-few, far-takes-few, by-receipt, by-near-receipt, near-is, far-is}
+
+any : (way : List (List ℕ)) → 1 ≤ length way → one_if_any way ≡ 1
+any [] some = absurd (omega (arith, some))
+any (o ∷ os) some = refl
+
+first-taken : (way : List (List ℕ)) (s : Endpoint) → (with_first_of way s).way ≡ s.way
+first-taken [] s = refl
+first-taken (o ∷ os) s = takes-way o s
 
 module _ (service : Service) (tei : ℕ) (few : tei ≤ 126) (c d : Config) (face : Face c d) (back : Face d c) (rt : IsInRange (terms c service tei)) (ru : IsInRange (terms d service tei)) where
   abbrev t : Terms
@@ -137,17 +146,9 @@ module _ (service : Service) (tei : ℕ) (few : tei ≤ 126) (c d : Config) (fac
   sent-step (at_near (requests r)) is w (h, inl some) = (half-step (at_near (requests r)) is w h, inl some)
   sent-step (at_near sends) is w (h, inl some) = (half-step (at_near sends) is w h, inl some)
   sent-step (at_near receives) is w (h, inl some) = (half-step (at_near receives) is w h, inr (up-heard (at_near receives) is w h (any w.far.way some)))
-    where
-      any : (way : List (List ℕ)) → 1 ≤ length way → one_if_any way ≡ 1
-      any [] some = absurd (omega (arith, some))
-      any (o ∷ os) some = refl
   sent-step (at_far (requests r)) is w (h, inl some) = (half-step (at_far (requests r)) is w h, inl (subst (λ way. 1 ≤ length way) (sym (asks-way r w.far)) some))
   sent-step (at_far sends) is w (h, inl some) = (half-step (at_far sends) is w h, inl (longer w some))
   sent-step (at_far receives) is w (h, inl some) = (half-step (at_far receives) is w h, inl (subst (λ way. 1 ≤ length way) (sym (first-taken w.near.way w.far)) some))
-    where
-      first-taken : (way : List (List ℕ)) (s : Endpoint) → (with_first_of way s).way ≡ s.way
-      first-taken [] s = refl
-      first-taken (o ∷ os) s = takes-way o s
   sent-step (at_near other) is w (h, inl some) = absurd is
   sent-step (at_far other) is w (h, inl some) = absurd is
 
@@ -201,15 +202,79 @@ module _ (service : Service) (tei : ℕ) (few : tei ≤ 126) (c d : Config) (fac
       go rest (suc zero) one = up-all service tei c d 0 0 face back first second ks (All-tail Talks k ks all) (doing k w) (up-heard k is w h one)
       go rest (suc (suc n)) more = let most = takes-few k w in absurd (omega (arith, most, more))
 
-  module _ (es fs gs : List StepAt) (one : All Talks es) (two : All Talks fs) (three : All Talks gs) (w : Wire) (weight : ℕ) (h : Calls w weight) where
-    -- So both ends are up.
-    pub both-up : 1 ≤ sum_all far_takes es w → 1 ≤ sum_all far_sends fs (doing_all es w) → length (doing_all fs (doing_all es w)).far.way ≤ sum_all near_takes gs (doing_all fs (doing_all es w))
-        → BothUp (doing_all gs (doing_all fs (doing_all es w)))
-    both-up heard asked all = go (sent-then fs two (doing_all es w) (half-then es one w weight h heard) asked)
-      where
-        v : Wire
-        v = doing_all fs (doing_all es w)
+  -- ---- the near end was asked for a frame: SABME is in transit, or was received
 
-        go : Sent (doing_all fs (doing_all es w)) → BothUp (doing_all gs (doing_all fs (doing_all es w)))
-        go (half_now, inl some) = up-by-takes gs three (doing_all fs (doing_all es w)) half_now (omega (arith, some, all))
-        go (half_now, inr up) = up-all service tei c d 0 0 face back first second gs three (doing_all fs (doing_all es w)) up
+  abbrev Rung : Wire → Type 0
+  Rung w = (1 ≤ length w.near.way) ⊎ HalfNow w
+
+  near-longer : (w : Wire) → 1 ≤ length w.near.way → 1 ≤ length (happens next w.near).way
+  near-longer w some = let more = length-append w.near.way (frames_by (answered next w.near)) in omega (arith, some, more)
+
+  rung-now : (w : Wire) (weight : ℕ) → Calls w weight → Rung (doing (at_near sends) w)
+  rung-now w weight (inl h) =
+      let near = h.both.near.stands in
+      let there = gives-stands service tei 0 w.near (end t asked []) (subst (λ k. StationStands k service tei 0 w.near (end t asked [])) (sym near.config) near) in
+      let way = ap length there.way in inl (omega (arith, way))
+  rung-now w weight (inr (inl h)) = let way = ap length h.both.near.stands.way in inl (near-longer w (omega (arith, way)))
+  rung-now w weight (inr (inr h)) = inr (half-step (at_near sends) tt w (weight, h))
+
+  rung-step : (k : StepAt) → Talks k → (w : Wire) (weight : ℕ) → Calls w weight → Rung w → Rung (doing k w)
+  rung-step k is w weight h (inr halved) = inr (half-step k is w halved)
+  rung-step (at_near (requests r)) is w weight h (inl some) = inl (subst (λ way. 1 ≤ length way) (sym (asks-way r w.near)) some)
+  rung-step (at_near sends) is w weight h (inl some) = inl (near-longer w some)
+  rung-step (at_near receives) is w weight h (inl some) = inl (subst (λ way. 1 ≤ length way) (sym (first-taken w.far.way w.near)) some)
+  rung-step (at_far (requests r)) is w weight h (inl some) = inl some
+  rung-step (at_far sends) is w weight h (inl some) = inl some
+  rung-step (at_far receives) is w weight h (inl some) = inr (half-heard (at_far receives) is w weight h (any w.near.way some))
+  rung-step (at_near other) is w weight h (inl some) = absurd is
+  rung-step (at_far other) is w weight h (inl some) = absurd is
+
+  rung-all : (es : List StepAt) → All Talks es → (w : Wire) (weight : ℕ) → Calls w weight → Rung w → Rung (doing_all es w)
+  unfolding doing_all
+  rung-all [] all w weight h rung = rung
+  rung-all (k ∷ ks) all w weight h rung =
+      let is = All-head Talks k ks all in
+      let on = on-step service tei few c d face back rt ru k is w weight h in
+      rung-all ks (All-tail Talks k ks all) (doing k w) on.0 on.1 (rung-step k is w weight h rung)
+
+  rung-then : (es : List StepAt) → All Talks es → (w : Wire) (weight : ℕ) → Calls w weight → 1 ≤ sum_all near_sends es w → Rung (doing_all es w)
+  unfolding doing_all sum_all
+  rung-then [] all w weight h some = absurd (omega (arith, some))
+  rung-then (k ∷ ks) all w weight h some =
+      let is = All-head Talks k ks all in
+      let on = on-step service tei few c d face back rt ru k is w weight h in
+      go k (near_sends k w) refl (rung-all ks (All-tail Talks k ks all) (doing k w) on.0 on.1) (λ more. rung-then ks (All-tail Talks k ks all) (doing k w) on.0 on.1 more) some
+    where
+      go : (k : StepAt) (n : ℕ) → near_sends k w ≡ n → (Rung (doing k w) → Rung (doing_all ks (doing k w))) → (1 ≤ sum_all near_sends ks (doing k w) → Rung (doing_all ks (doing k w)))
+          → 1 ≤ near_sends k w + sum_all near_sends ks (doing k w) → Rung (doing_all ks (doing k w))
+      go (at_near sends) n is now rest some = now (rung-now w weight h)
+      go (at_near receives) n is now rest some = rest (omega (arith, some))
+      go (at_near (requests r)) n is now rest some = rest (omega (arith, some))
+      go (at_near (wire.expires timer)) n is now rest some = rest (omega (arith, some))
+      go (at_near wire.loses) n is now rest some = rest (omega (arith, some))
+      go (at_far act) n is now rest some = rest (omega (arith, some))
+
+  module _ (rs es fs gs : List StepAt) (zero : All Talks rs) (one : All Talks es) (two : All Talks fs) (three : All Talks gs) (w : Wire) (weight : ℕ) (h : Calls w weight) where
+    abbrev v1 : Wire
+    v1 = doing_all rs w
+
+    abbrev v2 : Wire
+    v2 = doing_all es (doing_all rs w)
+
+    abbrev v3 : Wire
+    v3 = doing_all fs (doing_all es (doing_all rs w))
+
+    -- So both ends are up.
+    pub both-up : 1 ≤ sum_all near_sends rs w → length v1.near.way ≤ sum_all far_takes es v1 → 1 ≤ sum_all far_sends fs v2 → length v3.far.way ≤ sum_all near_takes gs v3 → BothUp (doing_all gs v3)
+    both-up asked_first there asked all = go (sent-then fs two v2 (halved (rung-then rs zero w weight h asked_first)) asked)
+      where
+        on : (weight' : ℕ) × Calls (doing_all rs w) weight'
+        on = all-on service tei few c d face back rt ru rs zero w weight h
+
+        halved : Rung (doing_all rs w) → HalfNow (doing_all es (doing_all rs w))
+        halved (inl some) = half-then es one (doing_all rs w) on.0 on.1 (omega (arith, some, there))
+        halved (inr half_now) = half-all es one (doing_all rs w) half_now
+
+        go : Sent v3 → BothUp (doing_all gs v3)
+        go (half_now, inl some) = up-by-takes gs three v3 half_now (omega (arith, some, all))
+        go (half_now, inr up) = up-all service tei c d 0 0 face back first second gs three v3 up

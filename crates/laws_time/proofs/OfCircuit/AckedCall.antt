@@ -83,6 +83,11 @@ sum-turned f g same (k ∷ ks) w =
     let rest = ap (sum_all f (map turn ks)) (doing-turned k w) ∙ sum-turned f g same ks (doing k w) in
     omega (arith, one, rest)
 
+pub record Moves (before now : Link) : Type 0 where
+  pub low : before.a ≤ now.a
+  pub high : now.a ≤ before.a + 127
+  pub sent : before.s ≤ now.s
+
 module _ (service : Service) (tei : ℕ) where
   abbrev Talks : StepAt → Type 0
   Talks k = IsTalk service tei k
@@ -102,7 +107,7 @@ module _ (service : Service) (tei : ℕ) where
       let one = infos-append (read_as c x) (parts_in service tei c (xs ++ ys)) in
       let two = infos-append (read_as c x) (parts_in service tei c xs) in omega (arith, rest, one, two)
 
-  grows : (c : Config) (t r r' s s' : ℕ) (way way' : List (List ℕ)) → Flows service tei c t r way r' way' → r + infos (parts_in service tei c way) ≡ s → r' + infos (parts_in service tei c way') ≡ s' → (r ≤ r') × (s ≤ s')
+  pub grows : (c : Config) (t r r' s s' : ℕ) (way way' : List (List ℕ)) → Flows service tei c t r way r' way' → r + infos (parts_in service tei c way) ≡ s → r' + infos (parts_in service tei c way') ≡ s' → (r ≤ r') × (s ≤ s')
   grows c t r r' s s' way way' (inl (none, same, (new, is))) h g =
       let sum = ap (λ x. infos (parts_in service tei c x)) is ∙ parts-append c way new in (omega (arith, same), omega (arith, h, g, same, sum))
   grows c t r r' s s' way way' (inr (one, (o, is, more))) h g =
@@ -138,6 +143,16 @@ module _ (service : Service) (tei : ℕ) where
     grown k is w h =
         let now = counts w h in let then = counts (doing k w) (up-step k is w h) in
         grows c (far_takes k w) (R w) (R (doing k w)) (S w) (S (doing k w)) w.near.way (doing k w).near.way (flows service tei c k is w now then) now then
+
+    -- V(A) goes on by no more than a window, and V(S) stays or goes on.
+    pub moves : (k : StepAt) → Talks k → (w : Wire) → Up w → Moves (own_link service tei w.near) (own_link service tei (doing k w).near)
+    moves k is w (n, m, h) =
+        let more = (grown k is w (n, m, h)).1 in let few = window-near service tei c d p q face back first second w n m h in
+        go few more (heeds-step service tei c d p q face back first second w n m h k is)
+      where
+        go : S w ≤ A w + 127 → S w ≤ S (doing k w) → Heeds service tei d (near_takes k w) (A w) (S w) w.far.way (A (doing k w)) (doing k w).far.way → Moves (own_link service tei w.near) (own_link service tei (doing k w).near)
+        go few more (inl (none, same, rest)) = record { low = omega (arith, same); high = omega (arith, same); sent = more }
+        go few more (inr (one, (o, f, v, is, read, low, up, says, same))) = record { low = omega (arith, same, low); high = omega (arith, same, up, few); sent = more }
 
     -- what is in transit from the far end is received
     acks-all-on : (few hi : ℕ) (es : List StepAt) → All Talks es → (w : Wire) → Up w → (j : ℕ) → hi ≤ S w → Acks service tei d few hi j (A w) w.far.way

@@ -13,13 +13,13 @@ use Rattle.model_link.specs.Link.{Link, fresh}
 use Rattle.model_link.specs.Sound.{IsInRange}
 use Rattle.model_link.specs.TwoEnds.{Endpoint as LinkEndpoint, with_link, with_sent}
 use Rattle.model_line.specs.Event.{next}
-use Rattle.model_line.specs.Line.{terms}
+use Rattle.model_line.specs.Line.{terms, place_in}
 use Rattle.model_line.specs.Taken.{own_side}
 use Rattle.model_line.specs.declared.config.Config.{Config}
 use Rattle.laws_link.proofs.OfTwo.AnyOrder.{Steady}
 use Rattle.laws_link.proofs.OfTwo.AnyOrderRuns.{Pair}
 use Rattle.laws_wire.specs.Call.{IsTalk, confirmed, indicated}
-use Rattle.laws_wire.specs.Facing.{own_link}
+use Rattle.laws_wire.specs.Facing.{own_link, line_of}
 use Rattle.laws_wire.specs.Wire.{Endpoint, Wire, Step, StepAt, requests, sends, receives, at_near, at_far, acting, turned, doing, happens, with_first_of, frame_comes, frames_by, answered}
 unfoldable use Rattle.laws_wire.specs.Wire.{doing_all}
 use Rattle.laws_wire.proofs.Answered.{asks-way, takes-way}
@@ -34,7 +34,7 @@ use Rattle.laws_wire.proofs.Up.{Talk, pair_of, turned-pair}
 use Rattle.laws_time.proofs.OfCircuit.AckedLinks.{infos, infos-append, lane-counts, window}
 use Rattle.laws_time.proofs.OfCircuit.AckedWire.{own-stands, parts_in, parts-are, one_if_any, takes_of, near_takes, far_takes, Counted, Flows, flows, Comes, comes-on, counted-up}
 unfoldable use Rattle.laws_time.proofs.OfCircuit.AckedCall.{sum_all}
-use Rattle.laws_time.proofs.OfCircuit.AckedCall.{near_sends, far_sends, turn, turn-all, takes-turned, sends-turned, sum-turned, talks-turned, Up, up-step, up-all, acknowledged-then}
+use Rattle.laws_time.proofs.OfCircuit.AckedCall.{near_sends, far_sends, turn, turn-all, takes-turned, sends-turned, sum-turned, talks-turned, grows, Moves, moves, Up, up-step, up-all, acknowledged-then}
 use Rattle.laws_time.proofs.OfCircuit.InBeatsCall.{are-calls, none-call}
 
 -- A link in state 7.
@@ -132,6 +132,9 @@ module _ (service : Service) (tei : ℕ) (few : tei ≤ 126) (c d : Config) (fac
   none-received : (m : LinkEndpoint) → Pair (pair_of (end t caller []) m) → m.link.r ≡ 0
   none-received m h = h.there.lane.0
 
+  none-acked : (m : LinkEndpoint) → Pair (pair_of (end t caller []) m) → m.link.a ≤ 0
+  none-acked m h = h.there.lane.1
+
   sent-by : (m : LinkEndpoint) → Pair (pair_of (end t caller []) m) → 0 + infos m.way ≡ m.link.s
   sent-by m h = lane-counts m.terms m.link.contents 0 m.link.s 0 m.link.r m.link.pending m.way h.back.lane
 
@@ -186,6 +189,20 @@ module _ (service : Service) (tei : ℕ) (few : tei ≤ 126) (c d : Config) (fac
   far-place w weight (inr (inr (inr (inl h)))) = inr (subst Open (sym (far-is second w (with_ua_first h.m) h.both.far)) (open-steady h.m h.pair.far))
   far-place w weight (inr (inr (inr (inr h)))) = inr (subst Open (sym (far-is second w h.m h.talk.far)) (open-steady h.m h.talk.pair.far))
 
+  pub near-placed : (w : Wire) (weight : ℕ) → On w weight → place_in (line_of w.near) tei ≡ Some 0
+  near-placed w weight (inl h) = h.both.near.stands.speaks.placed
+  near-placed w weight (inr (inl h)) = h.both.near.stands.speaks.placed
+  near-placed w weight (inr (inr (inl h))) = h.both.near.stands.speaks.placed
+  near-placed w weight (inr (inr (inr (inl h)))) = h.both.near.stands.speaks.placed
+  near-placed w weight (inr (inr (inr (inr h)))) = h.talk.near.stands.speaks.placed
+
+  pub far-placed : (w : Wire) (weight : ℕ) → On w weight → place_in (line_of w.far) tei ≡ Some 0
+  far-placed w weight (inl h) = h.both.far.stands.speaks.placed
+  far-placed w weight (inr (inl h)) = h.both.far.stands.speaks.placed
+  far-placed w weight (inr (inr (inl h))) = h.both.far.stands.speaks.placed
+  far-placed w weight (inr (inr (inr (inl h)))) = h.both.far.stands.speaks.placed
+  far-placed w weight (inr (inr (inr (inr h)))) = h.talk.far.stands.speaks.placed
+
   -- an end that received an I-frame
   up-by-near : (w : Wire) (weight : ℕ) → On w weight → 1 ≤ (own_link service tei w.near).r → UpNow w
   up-by-near w weight h some = go (near-place w weight h)
@@ -203,6 +220,52 @@ module _ (service : Service) (tei : ℕ) (few : tei ≤ 126) (c d : Config) (fac
       let is = ap (λ (l : Link). l.r) (far-is second w (with_ua_first h.m) h.both.far) in let none = none-received h.m h.pair in absurd (omega (arith, some, is, none))
   up-by-far w weight (inr (inr (inr (inr h)))) some = (h.n, h.m, h.talk)
 
+  -- ---- how far an end goes on with a step
+
+  flows-turned : (k : StepAt) → Talks k → (w : Wire) → Counted service tei d (turned w) → Counted service tei d (turned (doing k w))
+      → Flows service tei d (near_takes k w) (own_link service tei w.near).r w.far.way (own_link service tei (doing k w).near).r (doing k w).far.way
+  flows-turned (at_near act) is w h g = flows service tei d (at_far act) is (turned w) h g
+  flows-turned (at_far act) is w h g = flows service tei d (at_near act) is (turned w) h g
+
+  far-none : (w : Wire) (weight : ℕ) → On w weight → Rings (own_link service tei w.near) → (own_link service tei w.far).a ≡ 0
+  far-none w weight (inl h) rings = ap (λ (l : Link). l.a) (far-is unheard w (end u fresh []) h.both.far)
+  far-none w weight (inr (inl h)) rings = ap (λ (l : Link). l.a) (far-is unheard w (end u fresh []) h.both.far)
+  far-none w weight (inr (inr (inl h))) rings = let low = none-acked h.m h.pair in let is = ap (λ (l : Link). l.a) (far-is second w (with_ua_waiting h.m) h.both.far) in omega (arith, low, is)
+  far-none w weight (inr (inr (inr (inl h)))) rings = let low = none-acked h.m h.pair in let is = ap (λ (l : Link). l.a) (far-is second w (with_ua_first h.m) h.both.far) in omega (arith, low, is)
+  far-none w weight (inr (inr (inr (inr h)))) rings = let e : Established ≡ AwaitingEstablishment = sym h.talk.pair.near.state ∙ sym (ap (λ (l : Link). l.state) (near-is first w h.n h.talk.near)) ∙ rings.0 in absurd (cc e)
+
+  pub near-moves : (k : StepAt) → Talks k → (w : Wire) (weight : ℕ) → On w weight → Open (own_link service tei w.near) → Moves (own_link service tei w.near) (own_link service tei (doing k w).near)
+  near-moves k is w weight h is_open = go (near-place w weight h)
+    where
+      go : Rings (own_link service tei w.near) ⊎ (UpNow w × Open (own_link service tei w.near)) → Moves (own_link service tei w.near) (own_link service tei (doing k w).near)
+      go (inl rings) = let e : Established ≡ AwaitingEstablishment = sym is_open.state ∙ rings.0 in absurd (cc e)
+      go (inr (up, open_now)) = moves service tei c d 0 0 face back first second k is w up
+
+  pub far-moves : (act : Step) → Talks (at_far act) → (w : Wire) (weight : ℕ) → On w weight → Moves (own_link service tei w.far) (own_link service tei (doing (at_far act) w).far)
+  far-moves act is w weight h = go (near-place w weight h)
+    where
+      w' : Wire
+      w' = doing (at_far act) w
+
+      on : (weight' : ℕ) × On (doing (at_far act) w) weight'
+      on = on-step (at_far act) is w weight h
+
+      near-same : (act : Step) → Talks (at_far act) → own_link service tei (doing (at_far act) w).near ≡ own_link service tei w.near
+      near-same (requests r) is = refl
+      near-same sends is = refl
+      near-same receives is = refl
+      near-same other is = absurd is
+
+      go : Rings (own_link service tei w.near) ⊎ (UpNow w × Open (own_link service tei w.near)) → Moves (own_link service tei w.far) (own_link service tei (doing (at_far act) w).far)
+      go (inr (up, open_now)) = moves service tei d c 0 0 back face second first (at_near act) is (turned w) (up-turned w up)
+      go (inl rings) =
+          let none = far-none w weight h rings in
+          let none_then = far-none w' on.0 on.1 (subst Rings (sym (near-same act is)) rings) in
+          let now = (counted w weight h).1 in let then = (counted w' on.0 on.1).1 in
+          let more = (grows service tei d (near_takes (at_far act) w) (own_link service tei w.near).r (own_link service tei w'.near).r (own_link service tei w.far).s (own_link service tei w'.far).s w.far.way w'.far.way
+          (flows-turned (at_far act) is w now then) now then).1 in
+          record { low = omega (arith, none); high = omega (arith, none_then); sent = more }
+
   -- ---- what was sent comes
 
   comes-far : (n : ℕ) (es : List StepAt) → All Talks es → (w : Wire) (weight : ℕ) → On w weight → (j : ℕ) → Comes service tei c n j (own_link service tei w.far).r w.near.way
@@ -218,11 +281,6 @@ module _ (service : Service) (tei : ℕ) (few : tei ≤ 126) (c d : Config) (fac
       (flows service tei c k is w (counted w weight h).0 (counted w' on.0 on.1).0) x in
       subst (λ j. Comes service tei c n j (own_link service tei (doing_all ks w').far).r (doing_all ks w').near.way) (let e : j - t - rest ≡ j - (t + rest) = omega arith in e)
       (comes-far n ks (All-tail Talks k ks all) w' on.0 on.1 (j - t) one)
-
-  flows-turned : (k : StepAt) → Talks k → (w : Wire) → Counted service tei d (turned w) → Counted service tei d (turned (doing k w))
-      → Flows service tei d (near_takes k w) (own_link service tei w.near).r w.far.way (own_link service tei (doing k w).near).r (doing k w).far.way
-  flows-turned (at_near act) is w h g = flows service tei d (at_far act) is (turned w) h g
-  flows-turned (at_far act) is w h g = flows service tei d (at_near act) is (turned w) h g
 
   comes-near : (n : ℕ) (es : List StepAt) → All Talks es → (w : Wire) (weight : ℕ) → On w weight → (j : ℕ) → Comes service tei d n j (own_link service tei w.near).r w.far.way
       → Comes service tei d n (j - sum_all near_takes es w) (own_link service tei (doing_all es w).near).r (doing_all es w).far.way

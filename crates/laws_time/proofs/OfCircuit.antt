@@ -71,3 +71,4 @@ pub mod AckedOn
 pub mod AckedUp
 pub mod AckedTally
 pub mod AckedBeats
+pub mod AckedTimers

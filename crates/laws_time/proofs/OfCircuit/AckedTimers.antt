@@ -2,7 +2,7 @@
 use Rattle.std.proofs.Common.{arith, ◌≡◌, ℕ, ◌+◌, ◌%◌, ◌<◌, ◌≤◌, ◌==◌, ◌&&◌, ◌||◌, not, Bool, true, false, cond, List, [], ◌∷◌, ◌++◌, length, Option, Some, None, is_some, refl, sym, ap, ◌∙◌, subst, ◌⊎◌, inl, inr, eqb-true, eq-eqb}
 use Rattle.std.specs.Prelude.{nat_lt, if◌then◌else◌}
 use Rattle.std.specs.Option.{option_map_or}
-use Rattle.std.proofs.lemmas.Bool.{true≢false}
+use Rattle.std.proofs.lemmas.Bool.{true≢false, ltb-true, ltb-false}
 use Rattle.lapd_clock.specs.Moments.{moment_of}
 use Rattle.lapd_frame.specs.declared.controls.Control.{Control}
 use Rattle.lapd_frame.specs.declared.controls.Control.TheVariants.{Information, ReceiveReady, ReceiveNotReady, Reject, Sabme, Disc, Ua, Dm, Frmr, Ui, Xid}
@@ -86,3 +86,65 @@ module _ (c : Config) (o : Observed) (up : o.state ≡ 7) (free : o.busy ≡ fal
       go true f at_7 waits none = grind arith
       go false None at_7 waits none = grind arith
       go false (Some f) at_7 waits none = grind (arith, by-control)
+
+-- ---- what an observer knows of a link
+
+pub record IsSeen (o : Observed) (l : Link) : Type 0 where
+  pub state : o.state ≡ state_number l.state
+  pub numbers : is_multiple_frame l.state ≡ true → IsKnown (known_of o) l.a l.s l.peer_busy
+
+pub seen-at : (c : Config) (events : List frame_event.Event) (number : ℕ) (ranged : IsInRange c) (all : AreAtLines (cards.fresh c) events) (within : number < c.lines) (service : Service) (tei : ℕ) (l : Line)
+    → line_at number (frame_runs.after_all (cards.fresh c) events) ≡ l → (place : ℕ) → place_in l tei ≡ Some place → IsSeen (view_of c service tei number events).link (link_of service tei l)
+seen-at c events number ranged all within service tei l is place on =
+    let its = line_at number (frame_runs.after_all (cards.fresh c) events) in
+    let x = seen-before c events number ranged all within service tei place (ap (λ l. place_in l tei) is ∙ on) in
+    let known = (holds c events number ranged all within service tei).true_of in
+    let k = link_of service tei its in
+    subst (IsSeen (view_of c service tei number events).link) (ap (link_of service tei) is) (record {
+      state = x.state_is;
+      numbers = λ up. subst (λ (n : Known). IsKnown n k.a k.s k.peer_busy) (sym (numbers-now c events number ranged all within service tei)) (known-up k.state _ k.a k.s k.peer_busy up known);
+    })
+
+-- The states of a link in a call; and those in which it awaits an answer.
+abbrev pub IsFine : Link → Type 0
+IsFine l = (l.state ≡ TeiAssigned) ⊎ ((l.state ≡ AwaitingEstablishment) ⊎ Open l)
+
+abbrev pub Awaits : Link → Type 0
+Awaits l = (l.state ≡ AwaitingEstablishment) ⊎ (Open l × (l.a < l.s))
+
+differ : (a s : ℕ) → a < s → s ≤ a + 127 → (s % 128 == a % 128) ≡ false
+differ a s more few = go (s % 128 == a % 128) refl
+  where
+    go : (b : Bool) → (s % 128 == a % 128) ≡ b → b ≡ false
+    go false e = refl
+    go true e = let same = eqb-true (s % 128) (a % 128) e in absurd (omega (arith, same, more, few))
+
+module _ (o : Observed) (l : Link) (x : IsSeen o l) where
+  open-known : Open l → (o.state ≡ 7) × (o.acknowledged ≡ l.a % 128) × (o.next ≡ l.s % 128) × (o.busy ≡ false)
+  open-known h =
+      let k = x.numbers (ap is_multiple_frame h.state) in (x.state ∙ ap state_number h.state, k.acknowledged, k.next, k.busy_is ∙ h.free)
+
+  pub link-awaits : Awaits l → awaits o ≡ true
+  link-awaits (inl is) = let state = x.state ∙ ap state_number is in grind (arith, state)
+  link-awaits (inr (h, more)) =
+      let k = open-known h in
+      let apart : (o.next == o.acknowledged) ≡ false = (λ i. k.2 i == k.1 i) ∙ differ l.a l.s more h.few in
+      let state = k.0 in grind (arith, state, apart)
+
+  same-numbers : (n m : ℕ) → n ≡ m → (n == m) ≡ true
+  same-numbers n m e = eq-eqb n m e
+
+  pub awaits-link : IsFine l → awaits o ≡ true → Awaits l
+  awaits-link (inl is) waits = let state = x.state ∙ ap state_number is in absurd (true≢false (sym waits ∙ (grind (arith, state))))
+  awaits-link (inr (inl is)) waits = inl is
+  awaits-link (inr (inr h)) waits = go (nat_lt l.a l.s) refl
+    where
+      none : l.s ≤ l.a → awaits o ≡ false
+      none few =
+          let k = open-known h in let low = h.ordered in
+          let same : (o.next == o.acknowledged) ≡ true = same-numbers o.next o.acknowledged (k.2 ∙ ap (λ n. n % 128) (let e : l.s ≡ l.a = omega (arith, few, low) in e) ∙ sym k.1) in
+          let state = k.0 in let free = k.3 in grind (arith, state, same, free)
+
+      go : (b : Bool) → nat_lt l.a l.s ≡ b → Awaits l
+      go true e = inr (h, ltb-true l.a l.s e)
+      go false e = absurd (true≢false (sym waits ∙ none (ltb-false l.a l.s e)))

@@ -72,3 +72,4 @@ pub mod AckedUp
 pub mod AckedTally
 pub mod AckedBeats
 pub mod AckedTimers
+pub mod AckedEvents

@@ -73,3 +73,4 @@ pub mod AckedTally
 pub mod AckedBeats
 pub mod AckedTimers
 pub mod AckedEvents
+pub mod AckedOurs

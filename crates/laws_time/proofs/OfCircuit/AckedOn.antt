@@ -13,13 +13,13 @@ use Rattle.model_link.specs.Link.{Link, fresh}
 use Rattle.model_link.specs.Sound.{IsInRange}
 use Rattle.model_link.specs.TwoEnds.{Endpoint as LinkEndpoint, with_link, with_sent}
 use Rattle.model_line.specs.Event.{next}
-use Rattle.model_line.specs.Line.{terms, place_in}
+use Rattle.model_line.specs.Line.{terms}
 use Rattle.model_line.specs.Taken.{own_side}
 use Rattle.model_line.specs.declared.config.Config.{Config}
 use Rattle.laws_link.proofs.OfTwo.AnyOrder.{Steady}
 use Rattle.laws_link.proofs.OfTwo.AnyOrderRuns.{Pair}
 use Rattle.laws_wire.specs.Call.{IsTalk, confirmed, indicated}
-use Rattle.laws_wire.specs.Facing.{own_link, line_of}
+use Rattle.laws_wire.specs.Facing.{own_link}
 use Rattle.laws_wire.specs.Wire.{Endpoint, Wire, Step, StepAt, requests, sends, receives, at_near, at_far, acting, turned, doing, happens, with_first_of, frame_comes, frames_by, answered}
 unfoldable use Rattle.laws_wire.specs.Wire.{doing_all}
 use Rattle.laws_wire.proofs.Answered.{asks-way, takes-way}
@@ -189,19 +189,20 @@ module _ (service : Service) (tei : ℕ) (few : tei ≤ 126) (c d : Config) (fac
   far-place w weight (inr (inr (inr (inl h)))) = inr (subst Open (sym (far-is second w (with_ua_first h.m) h.both.far)) (open-steady h.m h.pair.far))
   far-place w weight (inr (inr (inr (inr h)))) = inr (subst Open (sym (far-is second w h.m h.talk.far)) (open-steady h.m h.talk.pair.far))
 
-  pub near-placed : (w : Wire) (weight : ℕ) → On w weight → place_in (line_of w.near) tei ≡ Some 0
-  near-placed w weight (inl h) = h.both.near.stands.speaks.placed
-  near-placed w weight (inr (inl h)) = h.both.near.stands.speaks.placed
-  near-placed w weight (inr (inr (inl h))) = h.both.near.stands.speaks.placed
-  near-placed w weight (inr (inr (inr (inl h)))) = h.both.near.stands.speaks.placed
-  near-placed w weight (inr (inr (inr (inr h)))) = h.talk.near.stands.speaks.placed
+  -- the station at either end
+  pub near-stands : (w : Wire) (weight : ℕ) → On w weight → (n : LinkEndpoint) × StationStands c service tei 0 w.near n
+  near-stands w weight (inl h) = (end t asked [], h.both.near.stands)
+  near-stands w weight (inr (inl h)) = (end t awaiting (sabme t ∷ []), h.both.near.stands)
+  near-stands w weight (inr (inr (inl h))) = (end t awaiting [], h.both.near.stands)
+  near-stands w weight (inr (inr (inr (inl h)))) = (end t awaiting [], h.both.near.stands)
+  near-stands w weight (inr (inr (inr (inr h)))) = (h.n, h.talk.near.stands)
 
-  pub far-placed : (w : Wire) (weight : ℕ) → On w weight → place_in (line_of w.far) tei ≡ Some 0
-  far-placed w weight (inl h) = h.both.far.stands.speaks.placed
-  far-placed w weight (inr (inl h)) = h.both.far.stands.speaks.placed
-  far-placed w weight (inr (inr (inl h))) = h.both.far.stands.speaks.placed
-  far-placed w weight (inr (inr (inr (inl h)))) = h.both.far.stands.speaks.placed
-  far-placed w weight (inr (inr (inr (inr h)))) = h.talk.far.stands.speaks.placed
+  pub far-stands : (w : Wire) (weight : ℕ) → On w weight → (m : LinkEndpoint) × StationStands d service tei 0 w.far m
+  far-stands w weight (inl h) = (end u fresh [], h.both.far.stands)
+  far-stands w weight (inr (inl h)) = (end u fresh [], h.both.far.stands)
+  far-stands w weight (inr (inr (inl h))) = (with_ua_waiting h.m, h.both.far.stands)
+  far-stands w weight (inr (inr (inr (inl h)))) = (with_ua_first h.m, h.both.far.stands)
+  far-stands w weight (inr (inr (inr (inr h)))) = (h.m, h.talk.far.stands)
 
   -- an end that received an I-frame
   up-by-near : (w : Wire) (weight : ℕ) → On w weight → 1 ≤ (own_link service tei w.near).r → UpNow w

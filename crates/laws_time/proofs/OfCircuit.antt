@@ -74,3 +74,4 @@ pub mod AckedBeats
 pub mod AckedTimers
 pub mod AckedEvents
 pub mod AckedOurs
+pub mod AckedEnds

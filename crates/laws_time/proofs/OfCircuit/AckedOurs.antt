@@ -34,7 +34,7 @@ use Rattle.laws_order.proofs.OfCircuit.AsFrames.{as_endpoint}
 use Rattle.laws_time.proofs.OctetsMean.{meant_at, orders-are}
 use Rattle.laws_time.proofs.OfCircuit.Orders.{AreOurs, asked-ours, heard-ours, next-ours}
 
-module _ (service : Service) (tei : ℕ) (c d : Config) (face : Face c d) (s : Endpoint) (n : LinkEndpoint) (stands : StationStands c service tei 0 (as_endpoint [] s) n) where
+module _ (service : Service) (tei : ℕ) (c d : Config) (face : Face c d) (s : Endpoint) (way : List (List ℕ)) (n : LinkEndpoint) (stands : StationStands c service tei 0 (as_endpoint way s) n) where
   abbrev card : Card
   card = s.card.card
 

@@ -75,3 +75,4 @@ pub mod AckedTimers
 pub mod AckedEvents
 pub mod AckedOurs
 pub mod AckedEnds
+pub mod AckedSides

@@ -173,13 +173,13 @@ module _ (service : Service) (tei : ℕ) (few : tei ≤ 126) (c d : Config) (fac
   far-is first w m h = own-stands service tei d 0 w.far m h.stands
 
   abbrev Rings : Link → Type 0
-  Rings l = (l.state ≡ AwaitingEstablishment) × (l.r ≡ 0)
+  Rings l = (l.state ≡ AwaitingEstablishment) × (l.r ≡ 0) × (l.a ≡ 0)
 
   pub near-place : (w : Wire) (weight : ℕ) → On w weight → Rings (own_link service tei w.near) ⊎ (UpNow w × Open (own_link service tei w.near))
-  near-place w weight (inl h) = inl (subst Rings (sym (near-is unheard w (end t asked []) h.both.near)) (refl, refl))
-  near-place w weight (inr (inl h)) = inl (subst Rings (sym (near-is unheard w (end t awaiting (sabme t ∷ [])) h.both.near)) (refl, refl))
-  near-place w weight (inr (inr (inl h))) = inl (subst Rings (sym (near-is unheard w (end t awaiting []) h.both.near)) (refl, refl))
-  near-place w weight (inr (inr (inr (inl h)))) = inl (subst Rings (sym (near-is unheard w (end t awaiting []) h.both.near)) (refl, refl))
+  near-place w weight (inl h) = inl (subst Rings (sym (near-is unheard w (end t asked []) h.both.near)) (refl, refl, refl))
+  near-place w weight (inr (inl h)) = inl (subst Rings (sym (near-is unheard w (end t awaiting (sabme t ∷ [])) h.both.near)) (refl, refl, refl))
+  near-place w weight (inr (inr (inl h))) = inl (subst Rings (sym (near-is unheard w (end t awaiting []) h.both.near)) (refl, refl, refl))
+  near-place w weight (inr (inr (inr (inl h)))) = inl (subst Rings (sym (near-is unheard w (end t awaiting []) h.both.near)) (refl, refl, refl))
   near-place w weight (inr (inr (inr (inr h)))) = inr ((h.n, h.m, h.talk), subst Open (sym (near-is first w h.n h.talk.near)) (open-steady h.n h.talk.pair.near))
 
   pub far-place : (w : Wire) (weight : ℕ) → On w weight → ((own_link service tei w.far).state ≡ TeiAssigned) ⊎ Open (own_link service tei w.far)
@@ -209,7 +209,7 @@ module _ (service : Service) (tei : ℕ) (few : tei ≤ 126) (c d : Config) (fac
   up-by-near w weight h some = go (near-place w weight h)
     where
       go : Rings (own_link service tei w.near) ⊎ (UpNow w × Open (own_link service tei w.near)) → UpNow w
-      go (inl (state, none)) = absurd (omega (arith, some, none))
+      go (inl (state, none, unacked)) = absurd (omega (arith, some, none))
       go (inr (up, open_now)) = up
 
   up-by-far : (w : Wire) (weight : ℕ) → On w weight → 1 ≤ (own_link service tei w.far).r → UpNow w
@@ -266,6 +266,24 @@ module _ (service : Service) (tei : ℕ) (few : tei ≤ 126) (c d : Config) (fac
           let more = (grows service tei d (near_takes (at_far act) w) (own_link service tei w.near).r (own_link service tei w'.near).r (own_link service tei w.far).s (own_link service tei w'.far).s w.far.way w'.far.way
           (flows-turned (at_far act) is w now then) now then).1 in
           record { low = omega (arith, none); high = omega (arith, none_then); sent = more }
+
+  pub near-low : (k : StepAt) → Talks k → (w : Wire) (weight : ℕ) → On w weight → (own_link service tei w.near).a ≤ (own_link service tei (doing k w).near).a
+  near-low k is w weight h = go (near-place w weight h)
+    where
+      go : Rings (own_link service tei w.near) ⊎ (UpNow w × Open (own_link service tei w.near)) → (own_link service tei w.near).a ≤ (own_link service tei (doing k w).near).a
+      go (inl (state, none, unacked)) = omega (arith, unacked)
+      go (inr (up, open_now)) = (moves service tei c d 0 0 face back first second k is w up).low
+
+  pub by-up : (w : Wire) → UpNow w → (own_link service tei w.near).state ≡ Established
+  by-up w (n, m, h) = ap (λ (l : Link). l.state) (near-is first w n h.near) ∙ h.pair.near.state
+
+  -- Once the near end is in state 7, it stays so.
+  pub up-stays : (es : List StepAt) → All Talks es → (w : Wire) (weight : ℕ) → On w weight → (own_link service tei w.near).state ≡ Established → (own_link service tei (doing_all es w).near).state ≡ Established
+  up-stays es all w weight h is = by-up (doing_all es w) (up-all service tei c d 0 0 face back first second es all w (go (near-place w weight h)))
+    where
+      go : Rings (own_link service tei w.near) ⊎ (UpNow w × Open (own_link service tei w.near)) → UpNow w
+      go (inl rings) = let e : Established ≡ AwaitingEstablishment = sym is ∙ rings.0 in absurd (cc e)
+      go (inr (up, open_now)) = up
 
   -- ---- what was sent comes
 

@@ -6,7 +6,7 @@ use Rattle.lapd_clock.specs.Timer.{Lengths}
 use Rattle.lapd_frame.specs.Grammar.{Parts}
 use Rattle.lapd_frame.specs.Senders.{spelling}
 use Rattle.model_bits.specs.Stream as stream
-use Rattle.model_link.specs.declared.states.State.TheVariants.{TeiAssigned, AwaitingEstablishment}
+use Rattle.model_link.specs.declared.states.State.TheVariants.{TeiAssigned, AwaitingEstablishment, Established}
 use Rattle.model_link.specs.Link.{Link}
 use Rattle.model_link.specs.TwoEnds.{Endpoint as LinkEndpoint}
 use Rattle.model_line.specs.Request.{Request, Data}
@@ -29,7 +29,7 @@ use Rattle.laws_order.specs.circuit.Circuit.{Endpoint, Circuit, Step, requests, 
 unfoldable use Rattle.laws_order.specs.circuit.Circuit.{doing_all}
 use Rattle.laws_order.proofs.OfCircuit.AsFrames.{as_endpoint}
 use Rattle.laws_order.proofs.OfCircuit.OneWay.{one-heard}
-use Rattle.laws_order.proofs.OfCircuit.Projected.{as_wire, act_meant, doing_meant, one-done}
+use Rattle.laws_order.proofs.OfCircuit.Projected.{as_wire, act_meant, doing_meant, doings_meant, one-done}
 use Rattle.laws_order.proofs.OfCircuit.Ran.{Ran, AsksOctets, goes-on, sound-port, on-line}
 use Rattle.laws_order.specs.circuit.Through as through
 use Rattle.laws_time.specs.circuit.Clocked.{TimedEndpoint, happens, asks}
@@ -45,7 +45,7 @@ use Rattle.laws_time.proofs.OfCircuit.AckedTimers.{IsFine}
 use Rattle.laws_time.proofs.OfCircuit.InBeatsAs.{Alike}
 use Rattle.laws_time.proofs.OfCircuit.InBeatsKept.{fits, fits-far}
 use Rattle.laws_time.proofs.OfCircuit.InBeatsRun.{ask}
-use Rattle.laws_time.proofs.OfCircuit.InBeatsTold.{IsDataStep, IsDataAt, one-meant, are-talk}
+use Rattle.laws_time.proofs.OfCircuit.InBeatsTold.{IsDataStep, IsDataAt, one-meant, all-meant, are-talk}
 use Rattle.laws_time.proofs.OfCircuit.Orders.{AreOurs}
 use Rattle.laws_wire.proofs.Run.{faces, faces-back}
 use Rattle.model_line.proofs.Ranges.{terms_in_range}
@@ -98,9 +98,9 @@ module _ (l : Line) (fit : Begins l) where
   far-station : (v : Circuit) (h : Now l fit v) → (m : LinkEndpoint) × StationStands l.far l.service l.tei 0 (as_endpoint h.back v.far) m
   far-station v h = on.far-stands l.service l.tei fit.call.terminal l.near l.far (face false) (face true) (terms_in_range l.near fit.call.near.0 l.service l.tei fit.call.terminal) (terms_in_range l.far fit.call.far.0 l.service l.tei fit.call.terminal) (wire_of v h) h.weight h.on_wire
 
-  fine-near : (x : Link) (A B : Type 0) → ((x.state ≡ AwaitingEstablishment) × A) ⊎ (B × Open x) → IsFine x
-  fine-near x A B (inl rings) = inr (inl rings.0)
-  fine-near x A B (inr up) = inr (inr up.1)
+  fine-near : (x : Link) (A B C : Type 0) → ((x.state ≡ AwaitingEstablishment) × A × C) ⊎ (B × Open x) → IsFine x
+  fine-near x A B C (inl rings) = inr (inl rings.0)
+  fine-near x A B C (inr up) = inr (inr up.1)
 
   fine-far : (x : Link) → (x.state ≡ TeiAssigned) ⊎ Open x → IsFine x
   fine-far x (inl is) = inl is
@@ -113,7 +113,7 @@ module _ (l : Line) (fit : Begins l) where
         way = h.there;
         n = x.0;
         stands = x.1;
-        fine = fine-near (link_of_end false v.near) _ _ (on.near-place l.service l.tei fit.call.terminal l.near l.far (face false) (face true) (terms_in_range l.near fit.call.near.0 l.service l.tei fit.call.terminal) (terms_in_range l.far fit.call.far.0 l.service l.tei fit.call.terminal) (wire_of v h) h.weight h.on_wire);
+        fine = fine-near (link_of_end false v.near) _ _ _ (on.near-place l.service l.tei fit.call.terminal l.near l.far (face false) (face true) (terms_in_range l.near fit.call.near.0 l.service l.tei fit.call.terminal) (terms_in_range l.far fit.call.far.0 l.service l.tei fit.call.terminal) (wire_of v h) h.weight h.on_wire);
       }
   facts true v h =
       let x = far-station v h in
@@ -162,6 +162,33 @@ module _ (l : Line) (fit : Begins l) where
   moves true act is v h is_open =
       let x = one-done l.near.n201 l.service l.tei l.near l.far (fits l fit) (fits-far l fit) (at_far act) (talk-one (at_far act) is) v h.there h.back h.follows in
       by-far (wire_of v h) (as_wire x.there' x.back' (doing (at_far act) v)) h.weight h.on_wire (act_meant act (turned v)) (one-meant l.service l.tei (at_far act) is v) x.same
+
+  low-near : (f f' : Wire) (weight : ℕ) → OnWire f weight → (o : Option wire.StepAt) → All (IsTalk l.service l.tei) (option_to_list o) → wire.doing_all (option_to_list o) f ≡ f' → (own_link l.service l.tei f.near).a ≤ (own_link l.service l.tei f'.near).a
+  unfolding wire_doing_all
+  low-near f f' weight h None all same = subst (λ (g : Wire). (own_link l.service l.tei f.near).a ≤ (own_link l.service l.tei g.near).a) same (omega arith)
+  low-near f f' weight h (Some k) all same =
+      subst (λ (g : Wire). (own_link l.service l.tei f.near).a ≤ (own_link l.service l.tei g.near).a) same
+      (on.near-low l.service l.tei fit.call.terminal l.near l.far (face false) (face true) (terms_in_range l.near fit.call.near.0 l.service l.tei fit.call.terminal) (terms_in_range l.far fit.call.far.0 l.service l.tei fit.call.terminal)
+      k (All-head (IsTalk l.service l.tei) k [] all) f weight h)
+
+  pub low : (b : Bool) (act : Step) → IsDataStep l.service l.tei act → (v : Circuit) → Now l fit v → (link_of_end b (end_of b v)).a ≤ (link_of_end b (end_of b (doing (at_end b act) v))).a
+  low false act is v h =
+      let x = one-done l.near.n201 l.service l.tei l.near l.far (fits l fit) (fits-far l fit) (at_near act) (talk-one (at_near act) is) v h.there h.back h.follows in
+      low-near (wire_of v h) (as_wire x.there' x.back' (doing (at_near act) v)) h.weight h.on_wire (doing_meant (at_near act) v) (one-meant l.service l.tei (at_near act) is v) x.same
+  low true act is v h =
+      let x = one-done l.near.n201 l.service l.tei l.near l.far (fits l fit) (fits-far l fit) (at_far act) (talk-one (at_far act) is) v h.there h.back h.follows in
+      (by-far (wire_of v h) (as_wire x.there' x.back' (doing (at_far act) v)) h.weight h.on_wire (act_meant act (turned v)) (one-meant l.service l.tei (at_far act) is v) x.same).low
+
+  -- Once the near end is in state 7, it stays so.
+  abbrev pub IsUpAt : Circuit → Type 0
+  IsUpAt v = (link_of_end false v.near).state ≡ Established
+
+  pub up-stays : (ds : List StepAt) → All (IsDataAt l.service l.tei) ds → (v : Circuit) → Now l fit v → IsUpAt v → IsUpAt (doing_all ds v)
+  up-stays ds all v h is =
+      let g = goes l fit ds all v h in
+      subst (λ (f : Wire). (own_link l.service l.tei f.near).state ≡ Established) g.same
+      (on.up-stays l.service l.tei fit.call.terminal l.near l.far (face false) (face true) (terms_in_range l.near fit.call.near.0 l.service l.tei fit.call.terminal) (terms_in_range l.far fit.call.far.0 l.service l.tei fit.call.terminal)
+      (doings_meant ds v) (all-meant l.service l.tei ds all v) (wire_of v h) h.weight h.on_wire is)
 
   -- ---- a frame that ends is one of the other end's
 

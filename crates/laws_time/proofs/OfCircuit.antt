@@ -76,3 +76,4 @@ pub mod AckedEvents
 pub mod AckedOurs
 pub mod AckedEnds
 pub mod AckedSides
+pub mod AckedRings

@@ -107,14 +107,14 @@ module _ (l : Line) (fit : Begins l) where
         same = x.same;
       }
 
-  tally : (ds : List StepAt) → All IsData ds → (v : Circuit) (h : Now v) → Tally l.near.n201 (doings_meant ds v) (as_wire h.there h.back v) v (doing_all ds v)
+  pub tally : (ds : List StepAt) → All IsData ds → (v : Circuit) (h : Now v) → Tally l.near.n201 (doings_meant ds v) (as_wire h.there h.back v) v (doing_all ds v)
   tally ds data_alone v h = all-tally l.near.n201 l.service l.tei l.near l.far (fits l fit) (fits-far l fit) ds (are-talk l.service l.tei ds data_alone) v h.there h.back h.follows
 
   -- All that one end has put on the line is heard by the other.
   abbrev pub HasHeard : Endpoint → Endpoint → Type 0
   HasHeard s r = (more : List stream.Event) × (heard_in l.near.n201 (port_of r).received ≡ framed (frames_among (port_of s).items) ++ more)
 
-  heard-all : (s r r' : Endpoint) (frames : List (List ℕ)) (n : ℕ) → Carries l.near.n201 (port_of s) s.way (port_of r).received frames → HasHeard s r' → heard_at l.near.n201 r' ≡ heard_at l.near.n201 r + n → length frames ≤ n
+  pub heard-all : (s r r' : Endpoint) (frames : List (List ℕ)) (n : ℕ) → Carries l.near.n201 (port_of s) s.way (port_of r).received frames → HasHeard s r' → heard_at l.near.n201 r' ≡ heard_at l.near.n201 r + n → length frames ≤ n
   heard-all s r r' frames n carries all tallied =
       let put = put-count l.near.n201 (port_of s) s.way (port_of r).received frames carries in
       let heard = ap length all.1 ∙ length-append (framed (frames_among (port_of s).items)) all.0 in
@@ -222,7 +222,7 @@ module _ (l : Line) (fit : Begins l) where
   done-append [] ys v = refl
   done-append (b ∷ xs) ys v = one-done b (xs ++ ys) v ∙ done-append xs ys (run.beaten l here there b v) ∙ ap (done ys) (sym (one-done b xs v))
 
-  data-steps : (bs : List Beat) → All (AsksData l) bs → All (IsDataAt l.service l.tei) (all_steps bs)
+  pub data-steps : (bs : List Beat) → All (AsksData l) bs → All (IsDataAt l.service l.tei) (all_steps bs)
   data-steps bs all = run.all-data l here there bs all
 
   pub goes-beats : (bs : List Beat) → All (AsksData l) bs → (v : Circuit) (h : Now v) → Now (done bs v)

@@ -77,3 +77,4 @@ pub mod AckedOurs
 pub mod AckedEnds
 pub mod AckedSides
 pub mod AckedRings
+pub mod AckedStep

@@ -78,3 +78,4 @@ pub mod AckedEnds
 pub mod AckedSides
 pub mod AckedRings
 pub mod AckedStep
+pub mod AckedUndue

@@ -267,7 +267,7 @@ module _ (l : Line) (fit : Begins l) where
   pub stands-then : (bs : List Beat) → All (AsksData l) bs → (v : Circuit) → Stands v → Stands (done bs v)
   stands-then bs all v h = record { now = goes-beats bs all v h.now; long = run.all-long l here there bs v h.long }
 
-  beaten-is : (b : Beat) (v : Circuit) → done (b ∷ []) v ≡ run.beaten l here there b v
+  pub beaten-is : (b : Beat) (v : Circuit) → done (b ∷ []) v ≡ run.beaten l here there b v
   unfolding all_steps doing_all
   beaten-is b v = one-done b [] v
 

@@ -65,7 +65,7 @@ pub asked-at : (rs : List Request) (a : TimedEndpoint) → (fold asks a rs).at �
 asked-at [] a = refl
 asked-at (r ∷ rs) a = asked-at rs (asks a r)
 
-undue-stays : (n : ℕ) (a : TimedEndpoint) → due a.clock ≡ None → fall_due n a ≡ a
+pub undue-stays : (n : ℕ) (a : TimedEndpoint) → due a.clock ≡ None → fall_due n a ≡ a
 unfolding fall_due
 undue-stays zero a none = refl
 undue-stays (suc n) a none = ap (λ o. fall_due n (option_map_or (falls a) o a)) none ∙ undue-stays n a none

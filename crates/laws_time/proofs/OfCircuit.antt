@@ -79,3 +79,4 @@ pub mod AckedSides
 pub mod AckedRings
 pub mod AckedStep
 pub mod AckedUndue
+pub mod AckedRun

@@ -3,7 +3,7 @@ use Rattle.laws_time.proofs.OfCircuit.AckedBeats.{acked-then}
 use Rattle.laws_time.proofs.OfCircuit.AckedUp.{both-up}
 use Rattle.laws_time.proofs.OfCircuit.AckedStep.{hear-run}
 use Rattle.laws_time.proofs.OfCircuit.AckedRings.{up-by}
-use Rattle.laws_time.proofs.OfCircuit.AckedUndue.{none-due}
+use Rattle.laws_time.proofs.OfCircuit.AckedRun.{none-falls-due}
 use Rattle.laws_time.proofs.OfCircuit.AckedOurs.{octet-ours}
 use Rattle.laws_time.proofs.circuit.a_call_comes_in_time.Goals as goal
 

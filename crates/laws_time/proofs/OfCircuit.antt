@@ -80,3 +80,4 @@ pub mod AckedRings
 pub mod AckedStep
 pub mod AckedUndue
 pub mod AckedRun
+pub mod AckedBegun

@@ -274,7 +274,7 @@ module _ (l : Line) (fit : Begins l) where
   stands-beat : (b : Beat) → AsksData l b → (v : Circuit) → Stands v → Stands (run.beaten l here there b v)
   stands-beat b data_alone v h = subst Stands (beaten-is b v) (stands-then (b ∷ []) (All-cons (AsksData l) b [] data_alone (All-nil (AsksData l))) v h)
 
-  none-done : (v : Circuit) → done [] v ≡ v
+  pub none-done : (v : Circuit) → done [] v ≡ v
   unfolding all_steps doing_all
   none-done v = refl
 

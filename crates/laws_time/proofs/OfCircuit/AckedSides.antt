@@ -50,7 +50,7 @@ use Rattle.laws_time.proofs.OfCircuit.Orders.{AreOurs}
 use Rattle.laws_wire.proofs.Run.{faces, faces-back}
 use Rattle.model_line.proofs.Ranges.{terms_in_range}
 
-none-moves : (x : Link) → Moves x x
+pub none-moves : (x : Link) → Moves x x
 none-moves x = record { low = omega arith; high = omega arith; sent = omega arith }
 
 module _ (l : Line) (fit : Begins l) where
@@ -89,7 +89,7 @@ module _ (l : Line) (fit : Begins l) where
   abbrev wire_of : (v : Circuit) → Now l fit v → Wire
   wire_of v h = as_wire h.there h.back v
 
-  abbrev OnWire : Wire → ℕ → Type 0
+  abbrev pub OnWire : Wire → ℕ → Type 0
   OnWire f weight = on.On l.service l.tei fit.call.terminal l.near l.far (face false) (face true) (terms_in_range l.near fit.call.near.0 l.service l.tei fit.call.terminal) (terms_in_range l.far fit.call.far.0 l.service l.tei fit.call.terminal) f weight
 
   near-station : (v : Circuit) (h : Now l fit v) → (n : LinkEndpoint) × StationStands l.near l.service l.tei 0 (as_endpoint h.there v.near) n

@@ -13,3 +13,4 @@ pub mod InCall
 pub mod WorkedInCall
 pub mod InBeats
 pub mod WorkedInBeats
+pub mod WorkedInTime

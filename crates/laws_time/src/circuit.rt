@@ -19,7 +19,7 @@
 ghost use Rattle.laws_time.specs.circuit.Answered.{AnEnquiryIsAnswered, CommandsAreAnswered, NoNoiseIsClear, OneEnquiryIsEnough};
 ghost use Rattle.laws_time.specs.circuit.Arriving.{CallsBearNoise};
 ghost use Rattle.laws_time.specs.circuit.Ends.{EndsAreTimedCards};
-ghost use Rattle.laws_time.specs.circuit.InBeats.{ACallTakesBeats, AShortCallTakesBeats, FramesComeInBeats, MessagesTakeBeats, NoneFallsDueBefore, ShortMessagesTakeBeats};
+ghost use Rattle.laws_time.specs.circuit.InBeats.{ACallComesInTime, ACallTakesBeats, AShortCallTakesBeats, FramesComeInBeats, MessagesTakeBeats, NoneFallsDueBefore, NoneFallsDueInACall, ShortMessagesTakeBeats};
 ghost use Rattle.laws_time.specs.circuit.InCall.{ACallOutlastsNoise, N200LastsInACall};
 ghost use Rattle.laws_time.specs.circuit.LongEnough.{AnswersComeInTime};
 ghost use Rattle.laws_time.specs.circuit.WorkedAnswered.{AnEnquiryIsMet};
@@ -133,4 +133,10 @@ pub fn a_call_takes_beats()
 /// in transit.
 pub fn frames_come_in_beats()
     ensures { FramesComeInBeats }
+{}
+
+/// A call comes in time.
+pub fn a_call_comes_in_time()
+    ensures undue { NoneFallsDueInACall }
+    ensures told { ACallComesInTime }
 {}

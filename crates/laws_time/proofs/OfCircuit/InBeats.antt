@@ -48,7 +48,7 @@ use Rattle.laws_time.proofs.OfCircuit.InBeatsShort.{short-at}
 use Rattle.laws_time.proofs.OfCircuit.InBeatsTold.{Comes, all-told, all-told-short}
 
 -- Ends of which the stations are the same.
-alike-of : (s u : Endpoint) → as_endpoint [] u ≡ as_endpoint [] s → Alike s u
+pub alike-of : (s u : Endpoint) → as_endpoint [] u ≡ as_endpoint [] s → Alike s u
 alike-of s u same = record {
   card = ap (λ (x : FrameEndpoint). x.card) same;
   line = ap (λ (x : FrameEndpoint). x.line) same;
@@ -65,16 +65,16 @@ Octets r = AsksOctets (port.request r)
 
 -- Requests leave the port, and what is in transit.
 module _ (c : Config) (ranged : IsInRange c) where
-  ran-asked : (rs : List Request) → All Octets rs → (s : Endpoint) → Ran c s → Ran c (fold ask s rs)
+  pub ran-asked : (rs : List Request) → All Octets rs → (s : Endpoint) → Ran c s → Ran c (fold ask s rs)
   ran-asked [] all s h = h
   ran-asked (r ∷ rs) all s h = ran-asked rs (All-tail Octets r rs all) (ask s r) (goes-on c s (port.request r) (All-head Octets r rs all) h)
 
-  port-asked : (rs : List Request) → All Octets rs → (s : Endpoint) → Ran c s → port_of (fold ask s rs) ≡ port_of s
+  pub port-asked : (rs : List Request) → All Octets rs → (s : Endpoint) → Ran c s → port_of (fold ask s rs) ≡ port_of s
   port-asked [] all s h = refl
   port-asked (r ∷ rs) all s h =
       port-asked rs (All-tail Octets r rs all) (ask s r) (goes-on c s (port.request r) (All-head Octets r rs all) h) ∙ port-after s (port.request r) (within-ports c ranged s h)
 
-way-asked : (rs : List Request) (s : Endpoint) → (fold ask s rs).way ≡ s.way
+pub way-asked : (rs : List Request) (s : Endpoint) → (fold ask s rs).way ≡ s.way
 way-asked [] s = refl
 way-asked (r ∷ rs) s = way-asked rs (ask s r) ∙ asked-way r s
 
@@ -179,10 +179,10 @@ module _ (l : Line) (b : Beat) (bs : List Beat) (n : ℕ) (can : CanCall l.near 
   abbrev near_rs : List Request
   near_rs = ring ∷ b.near_asks
 
-  near-octets : All Octets (ring ∷ b.near_asks)
+  pub near-octets : All Octets (ring ∷ b.near_asks)
   near-octets = All-cons Octets ring b.near_asks (All-nil (λ octet. octet < 256)) (octets-of b.near_asks now-data.0)
 
-  far-octets : All Octets b.far_asks
+  pub far-octets : All Octets b.far_asks
   far-octets = octets-of b.far_asks now-data.1
 
   undue-now : IsUndue ((begins l).beats / l.rate) (ring ∷ b.near_asks) (begins l).near × IsUndue ((begins l).beats / l.rate) b.far_asks (begins l).far × NoneFallsDue l.rate (bs ++ replicate n plain) (beat l.rate (begins l) (calls l b))
@@ -199,10 +199,10 @@ module _ (l : Line) (b : Beat) (bs : List Beat) (n : ℕ) (can : CanCall l.near 
   abbrev f0 : Endpoint
   f0 = pulled_first l l.far far l.far_line can.far.1 can.terminal b.far_asks far-octets
 
-  idle-near : idles.Idle l.service l.near near l.near_line l.tei can.near.1 can.terminal l.way n0
+  pub idle-near : idles.Idle l.service l.near near l.near_line l.tei can.near.1 can.terminal l.way n0
   idle-near = as_idle l l.near near l.near_line can.near.1 can.terminal (ring ∷ b.near_asks) near-octets
 
-  idle-far : idles.Idle l.service l.far far l.far_line l.tei can.far.1 can.terminal l.way f0
+  pub idle-far : idles.Idle l.service l.far far l.far_line l.tei can.far.1 can.terminal l.way f0
   idle-far = as_idle l l.far far l.far_line can.far.1 can.terminal b.far_asks far-octets
 
   abbrev v0 : Circuit
@@ -214,7 +214,7 @@ module _ (l : Line) (b : Beat) (bs : List Beat) (n : ℕ) (can : CanCall l.near 
   abbrev y : Endpoint
   y = fold ask f0 b.far_asks
 
-  follows : Follows l.near.n201 l.near l.far v0 [] []
+  pub follows : Follows l.near.n201 l.near l.far v0 [] []
   follows =
       let port_near = port-after n0 (port.request ring) (within-ports l.near near n0 idle-near.ran) ∙ idle-near.port in
       let way_near = asked-way ring n0 ∙ idle-near.way in
@@ -225,7 +225,7 @@ module _ (l : Line) (b : Beat) (bs : List Beat) (n : ℕ) (can : CanCall l.near 
         comes = carries-none l.near.n201 l.way (port_of f0) (port_of (ask n0 ring)) f0.way idle-far.port idle-far.way (ap (λ (p : Port). p.received) port_near);
       }
 
-  begins-so : as_wire [] [] v0 ≡ call.calling l.service l.tei l.near l.near_line l.far l.far_line
+  pub begins-so : as_wire [] [] v0 ≡ call.calling l.service l.tei l.near l.near_line l.far l.far_line
   begins-so =
       let first = asked-as ring n0 [] ∙ ap (wire.happens (line.request ring)) idle-near.same in
       λ i. record { near = first i; far = idle-far.same i }
@@ -233,14 +233,14 @@ module _ (l : Line) (b : Beat) (bs : List Beat) (n : ℕ) (can : CanCall l.near 
   abbrev w1 : Clocked
   w1 = beat l.rate (begins l) (calls l b)
 
-  first-sim : run.Sim l near far w1 (both_hear x y)
+  pub first-sim : run.Sim l near far w1 (both_hear x y)
   first-sim =
       let moment = (begins l).beats / l.rate in
       run.sim-heard l near far (calls l b) now-clean (gone l.rate (calls l b) (begins l)) x y
       (first-end l l.near near l.near_line can.near.1 can.terminal (ring ∷ b.near_asks) near-octets (comes_to moment (ring ∷ b.near_asks) (begins l).near) (comes-at moment (ring ∷ b.near_asks) (begins l).near undue-now.0))
       (first-end l l.far far l.far_line can.far.1 can.terminal b.far_asks far-octets (comes_to moment b.far_asks (begins l).far) (comes-at moment b.far_asks (begins l).far undue-now.1))
 
-  first-is-long : run.IsLong l near far (both_hear x y)
+  pub first-is-long : run.IsLong l near far (both_hear x y)
   first-is-long =
       long-both l near far x y (first-long l l.near near l.near_line can.near.1 can.terminal (ring ∷ b.near_asks) near-octets) (first-long l l.far far l.far_line can.far.1 can.terminal b.far_asks far-octets)
 

@@ -36,7 +36,7 @@ module _ (service : Service) (tei : ℕ) where
   one-call (wire.at_far wire.receives) is = tt
   one-call other is = absurd is
 
-  are-calls : (es : List wire.StepAt) → All Talks es → All (call.IsCall service tei) es
+  pub are-calls : (es : List wire.StepAt) → All Talks es → All (call.IsCall service tei) es
   are-calls [] all = All-nil (call.IsCall service tei)
   are-calls (e ∷ es) all = All-cons (call.IsCall service tei) e es (one-call e (All-head Talks e es all)) (are-calls es (All-tail Talks e es all))
 
@@ -47,7 +47,7 @@ module _ (service : Service) (tei : ℕ) where
   one-none (wire.at_far wire.receives) is w = refl
   one-none other is w = absurd is
 
-  none-call : (es : List wire.StepAt) → All Talks es → (w : wire.Wire) → call.both_call es w ≡ false
+  pub none-call : (es : List wire.StepAt) → All Talks es → (w : wire.Wire) → call.both_call es w ≡ false
   unfolding both_call
   none-call [] all w = refl
   none-call (e ∷ es) all w =

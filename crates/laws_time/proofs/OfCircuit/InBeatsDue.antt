@@ -138,7 +138,7 @@ module _ (rate : ℕ) (some : 1 ≤ rate) where
         record { near = record { running = x.running; lengths = x.lengths }; far = record { running = y.running; lengths = y.lengths } }
 
     -- So none is due before.
-    early : (n : ℕ) → n < t * rate → n / rate < t
+    pub early : (n : ℕ) → n < t * rate → n / rate < t
     early n low = grind (arith, div-lt_iff_lt-mul)
 
     not-now : (now moment : ℕ) → now < moment → nat_le moment now ≡ false

@@ -8,7 +8,7 @@ use Rattle.model_bits.specs.Stream as stream
 use Rattle.model_bits.specs.Stream.{heard_in}
 use Rattle.model_line.specs.declared.config.Config.{Config}
 use Rattle.model_card.specs.ports.Codec.{frames_among}
-use Rattle.model_card.specs.ports.Port.{Port}
+use Rattle.model_card.specs.ports.Port.{Port, left_of}
 use Rattle.model_card.specs.ports.Pulls.{longest_text}
 use Rattle.model_card.specs.ports.Sound.{IsSoundPort}
 use Rattle.laws_order.specs.circuit.Beats.{longest}
@@ -28,14 +28,14 @@ use Rattle.laws_time.proofs.OfCircuit.InBeatsShort.{all-small, left-few}
 
 -- ---- what so many beats make of a port
 
-record Grown (size n : ℕ) (p q : Port) : Type 0 where
-  more : List ℕ
-  given : q.given ≡ p.given ++ more
-  long : length more ≡ n
-  received : length q.received ≡ length p.received + n
-  on : (items : List Item) (most a : ℕ) → On size items most p a → On size items most q (a + n)
+pub record Grown (size n : ℕ) (p q : Port) : Type 0 where
+  pub more : List ℕ
+  pub given : q.given ≡ p.given ++ more
+  pub long : length more ≡ n
+  pub received : length q.received ≡ length p.received + n
+  pub on : (items : List Item) (most a : ℕ) → On size items most p a → On size items most q (a + n)
 
-grown-none : (size : ℕ) (p : Port) → Grown size 0 p p
+pub grown-none : (size : ℕ) (p : Port) → Grown size 0 p p
 grown-none size p = record {
   more = [];
   given = sym (append-nil p.given);
@@ -44,7 +44,7 @@ grown-none size p = record {
   on = λ items most a h. subst (On size items most p) (let e : a ≡ a + 0 = omega arith in e) h;
 }
 
-grown-one : (size n : ℕ) (p q r : Port) → Beaten size p q → Grown size n q r → Grown size (suc n) p r
+pub grown-one : (size n : ℕ) (p q r : Port) → Beaten size p q → Grown size n q r → Grown size (suc n) p r
 grown-one size n p q r h g =
     let first = h.received in let rest = g.received in let long = g.long in
     record {
@@ -57,7 +57,7 @@ grown-one size n p q r h g =
 
 -- ---- from one end to the other
 
-behind-then : (size m : ℕ) (items : List Item) (q : Port) → On size items (longest_text m) q (0 + longest m) → IsBehind size items (longest_text m) q.items
+pub behind-then : (size m : ℕ) (items : List Item) (q : Port) → On size items (longest_text m) q (0 + longest m) → IsBehind size items (longest_text m) q.items
 behind-then size m items q o = grind arith
 
 module _ (size m : ℕ) (c : Config) (fits : Fits size c) where
@@ -112,14 +112,13 @@ module _ (l : Line) (fit : Begins l) where
       }
 
   -- What was there in the beginning has been given in the middle, and received in the end.
-  one-way : (m : ℕ) (c : Config) (fits : Fits l.near.n201 c) (s0 s1 r0 r1 r2 s2 : Endpoint) → Ran c s0 → Ran c s1 → (n : ℕ) → Grown l.near.n201 (longest m) (port_of s0) (port_of s1) → Grown l.near.n201 n (port_of s1) (port_of s2)
+  pub one-way : (m : ℕ) (c : Config) (fits : Fits l.near.n201 c) (s0 s1 r0 r1 r2 s2 : Endpoint) → Ran c s0 → Ran c s1 → (n : ℕ) → Grown l.near.n201 (longest m) (port_of s0) (port_of s1) → Grown l.near.n201 n (port_of s1) (port_of s2)
       → Grown l.near.n201 (longest m) (port_of r0) (port_of r1) → Grown l.near.n201 n (port_of r1) (port_of r2) → (frames0 frames1 frames2 : List (List ℕ)) → Carries l.near.n201 (port_of s0) s0.way (port_of r0).received frames0
       → Carries l.near.n201 (port_of s1) s1.way (port_of r1).received frames1 → Carries l.near.n201 (port_of s2) s2.way (port_of r2).received frames2 → length s0.way ≡ l.way → l.way ≤ n
-      → All (λ (octets : List ℕ). length octets ≤ m + 4) (frames_among (port_of s0).items)
+      → length (left_of (port_of s0)) ≤ longest_text m
       → (more : List stream.Event) × (heard_in l.near.n201 (port_of r2).received ≡ framed (frames_among (port_of s0).items) ++ more)
-  one-way m c fits s0 s1 r0 r1 r2 s2 ran0 ran1 n g h k more_received frames0 frames1 frames2 first then last long enough small =
+  one-way m c fits s0 s1 r0 r1 r2 s2 ran0 ran1 n g h k more_received frames0 frames1 frames2 first then last long enough few =
       let items = (port_of s0).items in
-      let few = left-few m (port_of s0) (on-line c fits.ranged s0 ran0).cut (all-small m items small) in
       let on = g.on items (longest_text m) 0 (inr (refl, omega (arith, few))) in
       let behind = behind-then size m items (port_of s1) on in
       let x = given-heard size m c fits s1 ran1 (port_of r1).received frames1 then items behind in
@@ -147,6 +146,9 @@ module _ (l : Line) (fit : Begins l) where
     two : Ahead (length more) (after l.rate bs w) (after l.rate more (after l.rate bs w)) one.kept
     two = ahead more talk_more clean_more (after l.rate bs w) one.kept
 
+    bits : (c : Config) (fits : Fits l.near.n201 c) (s : Endpoint) → Ran c s → All (λ (octets : List ℕ). length octets ≤ m + 4) (frames_among (port_of s).items) → length (left_of (port_of s)) ≤ longest_text m
+    bits c fits s ran small = left-few m (port_of s) (on-line c fits.ranged s ran).cut (all-small m (port_of s).items small)
+
     received : AreShort m w.near → AreShort m w.far
         → HasReceived l w.near (after l.rate more (after l.rate bs w)).far × HasReceived l w.far (after l.rate more (after l.rate bs w)).near
     received small small_far =
@@ -154,8 +156,8 @@ module _ (l : Line) (fit : Begins l) where
         let a = h.follows in let b = one.kept.follows in let c = two.kept.follows in
         let near_one = subst (λ n. Grown size n (port_of v.near) (port_of u.near)) long one.near in
         let far_one = subst (λ n. Grown size n (port_of v.far) (port_of u.far)) long one.far in
-        let there = one-way m l.near (fits l fit) v.near u.near v.far u.far z.far z.near a.near b.near (length more) near_one two.near far_one two.far h.there one.kept.there two.kept.there a.goes b.goes c.goes h.long.near enough (subst (All (λ (octets : List ℕ). length octets ≤ m + 4)) (sym (as-frames (port_of w.near.at) (port_of v.near) h.sim.near.same.port)) small) in
-        let back = one-way m l.far (fits-far l fit) v.far u.far v.near u.near z.near z.far a.far b.far (length more) far_one two.far near_one two.near h.back one.kept.back two.kept.back a.comes b.comes c.comes h.long.far enough (subst (All (λ (octets : List ℕ). length octets ≤ m + 4)) (sym (as-frames (port_of w.far.at) (port_of v.far) h.sim.far.same.port)) small_far) in (
+        let there = one-way m l.near (fits l fit) v.near u.near v.far u.far z.far z.near a.near b.near (length more) near_one two.near far_one two.far h.there one.kept.there two.kept.there a.goes b.goes c.goes h.long.near enough (bits l.near (fits l fit) v.near a.near (subst (All (λ (octets : List ℕ). length octets ≤ m + 4)) (sym (as-frames (port_of w.near.at) (port_of v.near) h.sim.near.same.port)) small)) in
+        let back = one-way m l.far (fits-far l fit) v.far u.far v.near u.near z.near z.far a.far b.far (length more) far_one two.far near_one two.near h.back one.kept.back two.kept.back a.comes b.comes c.comes h.long.far enough (bits l.far (fits-far l fit) v.far a.far (subst (All (λ (octets : List ℕ). length octets ≤ m + 4)) (sym (as-frames (port_of w.far.at) (port_of v.far) h.sim.far.same.port)) small_far)) in (
           to-clocked (port_of v.near) (port_of z.far) (port_of w.near.at) (port_of (after l.rate more (after l.rate bs w)).far.at) h.sim.near.same.port two.kept.sim.far.same.port there,
           to-clocked (port_of v.far) (port_of z.near) (port_of w.far.at) (port_of (after l.rate more (after l.rate bs w)).near.at) h.sim.far.same.port two.kept.sim.near.same.port back,
         )

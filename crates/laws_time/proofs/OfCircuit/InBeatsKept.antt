@@ -154,7 +154,7 @@ hear-port : (c : Config) (ranged : IsInRange c) (way : List ℕ) (k : ℕ) → l
 hear-port c ranged [] k long x ran = absurd (omega (arith, long))
 hear-port c ranged (value ∷ more) k long x ran = (value, port-after x (port.octet value) (within-ports c ranged x ran))
 
-beaten-end : (size : ℕ) (c : Config) (fits : Fits size c) (p : Port) (s : Endpoint) → Ran c s → port_of s ≡ p → (way : List ℕ) (k : ℕ) → length way ≡ k + 1
+pub beaten-end : (size : ℕ) (c : Config) (fits : Fits size c) (p : Port) (s : Endpoint) → Ran c s → port_of s ≡ p → (way : List ℕ) (k : ℕ) → length way ≡ k + 1
     → (q : Port) → q ≡ port_of (with_first_of way (circuit.happens port.pull s)) → Beaten size p q
 beaten-end size c fits p s ran same way k long q is =
     let x = circuit.happens port.pull s in
@@ -170,11 +170,11 @@ beaten-end size c fits p s ran same way k long q is =
           subst (λ q. On size items most q (a + 1)) (sym whole) (on-pulled size items most c fits s ran a (subst (λ p. On size items most p a) (sym same) on_p));
     }
 
-late-port : (way : List ℕ) (y : Endpoint) → port_of (with_first_of way (without_first y)) ≡ port_of (with_first_of way y)
+pub late-port : (way : List ℕ) (y : Endpoint) → port_of (with_first_of way (without_first y)) ≡ port_of (with_first_of way y)
 late-port [] y = refl
 late-port (value ∷ more) y = refl
 
-pulled-longer : (s : Endpoint) → length (circuit.happens port.pull s).way ≡ length s.way + 1
+pub pulled-longer : (s : Endpoint) → length (circuit.happens port.pull s).way ≡ length s.way + 1
 unfolding answer
 pulled-longer s = length-append s.way (octet_pulled (answered port.pull s))
 

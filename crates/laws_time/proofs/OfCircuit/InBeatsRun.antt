@@ -65,7 +65,7 @@ pub asked-at : (rs : List Request) (a : TimedEndpoint) → (fold asks a rs).at �
 asked-at [] a = refl
 asked-at (r ∷ rs) a = asked-at rs (asks a r)
 
-undue-stays : (n : ℕ) (a : TimedEndpoint) → due a.clock ≡ None → fall_due n a ≡ a
+pub undue-stays : (n : ℕ) (a : TimedEndpoint) → due a.clock ≡ None → fall_due n a ≡ a
 unfolding fall_due
 undue-stays zero a none = refl
 undue-stays (suc n) a none = ap (λ o. fall_due n (option_map_or (falls a) o a)) none ∙ undue-stays n a none
@@ -165,7 +165,7 @@ module _ (l : Line) (here : IsInRange l.near) (there : IsInRange l.far) where
   unfolding doing_all many
   beaten-many b v = refl
 
-  one-long : (b : Beat) (v : Circuit) → IsLong v → IsLong (beaten b v)
+  pub one-long : (b : Beat) (v : Circuit) → IsLong v → IsLong (beaten b v)
   one-long b v h =
       let u : Circuit = record { near = fold ask v.near b.near_asks; far = fold ask v.far b.far_asks } in
       let x = many-stay 1 u in

@@ -81,7 +81,7 @@ module _ (service : Service) (tei : ℕ) where
   if-hears [] s = (All-nil IsWireTalk, All-nil IsWireTalk)
   if-hears (value ∷ more) s = if-receives (is_some (gained s.card.card.config.n201 (port_of s).received value))
 
-  one-meant : (x : StepAt) → IsDataAt x → (w : Circuit) → All IsWireTalk (option_to_list (doing_meant x w))
+  pub one-meant : (x : StepAt) → IsDataAt x → (w : Circuit) → All IsWireTalk (option_to_list (doing_meant x w))
   one-meant (at_near (requests (Data s t contents))) is w = All-cons IsWireTalk (wire.at_near (wire.requests (Data s t contents))) [] (is.0, is.1) (All-nil IsWireTalk)
   one-meant (at_far (requests (Data s t contents))) is w = All-cons IsWireTalk (wire.at_far (wire.requests (Data s t contents))) [] (is.0, is.1) (All-nil IsWireTalk)
   one-meant (at_near sends) is w = (if-sends (is_due (port_of w.near))).0

@@ -45,7 +45,7 @@ use Rattle.laws_time.specs.Silence.{news}
 use Rattle.laws_time.specs.Watched.{of_octets}
 
 -- Beats of a call are fewer than so many milliseconds.
-fewer : (n b rate X : ℕ) → 1 ≤ rate → b + rate ≤ X * rate → (n + b) / rate < n / rate + X
+pub fewer : (n b rate X : ℕ) → 1 ≤ rate → b + rate ≤ X * rate → (n + b) / rate < n / rate + X
 fewer n b rate X some short =
     let whole = lt-div-mul-add {a = n} {b = rate} some in
     let low = mul-div-le (n + b) rate in

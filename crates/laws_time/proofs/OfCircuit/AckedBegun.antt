@@ -1,0 +1,377 @@
+-- A call with clocks and without noise: its first beat. So no timer falls due in a call of which T200 runs long enough.
+use Rattle.std.proofs.Common.{arith, ◌≡◌, ℕ, zero, suc, ◌+◌, ◌*◌, ◌/◌, ◌<◌, ◌≤◌, not, Bool, true, false, List, [], ◌∷◌, ◌++◌, length, drop, replicate, refl, sym, ap, ◌∙◌, subst, All, inl, inr, length-append}
+use Rattle.std.specs.Prelude.{fold}
+use Rattle.std.specs.List.{AllByRecursion}
+use Rattle.std.proofs.lemmas.List.Elements.{All-nil, All-cons, All-head, All-tail, All-append}
+use Rattle.std.proofs.lemmas.List.{length-replicate}
+unfoldable use Rattle.model_bits.specs.Bits.{low_bits}
+use Rattle.lapd_clock.specs.Timer.{Lengths, AreInRange}
+use Rattle.lapd_clock.specs.Timers.{Expiry}
+use Rattle.lapd_frame.specs.declared.services.Service.{Service}
+use Rattle.model_link.specs.declared.states.State.TheVariants.{TeiAssigned, Established}
+use Rattle.model_link.specs.Link.{Link, fresh}
+use Rattle.model_line.specs.Line.{terms}
+use Rattle.model_line.specs.Request.{Request, Establish}
+use Rattle.model_line.specs.Sound.{IsInRange}
+use Rattle.model_line.specs.declared.config.Config.{Config}
+use Rattle.model_line.proofs.Ranges.{terms_in_range}
+use Rattle.model_card.specs.ports.Port as port
+use Rattle.model_card.specs.ports.Port.{left_of}
+use Rattle.model_timed.specs.Clock.{stopped, obeyed}
+use Rattle.model_timed.specs.Octets.{orders_in as octet_orders}
+use Rattle.laws_wire.specs.Call as call
+use Rattle.laws_wire.proofs.Beginning as beginning
+use Rattle.laws_wire.proofs.Calling.{end}
+use Rattle.laws_wire.proofs.Standing.{StationStands}
+use Rattle.laws_wire.proofs.Talking.{Face}
+use Rattle.laws_order.specs.circuit.Circuit as circuit
+use Rattle.laws_order.specs.circuit.Circuit.{Endpoint, Circuit, receives, at_near, at_far, doing, port_of, answered, with_first_of}
+use Rattle.laws_order.specs.circuit.Through.{assigned}
+use Rattle.laws_order.proofs.OfCircuit.AsFrames.{as_endpoint}
+use Rattle.laws_order.proofs.OfCircuit.Projected.{as_wire, port-after}
+use Rattle.laws_order.proofs.OfCircuit.Ran.{Ran, goes-on, within-ports}
+use Rattle.laws_time.specs.circuit.Answered.{IsClean}
+use Rattle.laws_time.specs.circuit.Arriving.{calls}
+use Rattle.laws_time.specs.circuit.Clocked.{TimedEndpoint, Clocked, Beat, plain, endpoint, happens, asks, hears, gone, beat, after, flags, without_first_octet}
+use Rattle.laws_time.specs.circuit.InBeats.{AsksData, IsUndue, Begins, RunsThrough, NoneFallsDueInACall, ACallComesInTime}
+unfoldable use Rattle.laws_time.specs.circuit.InBeats.{NoneFallsDue}
+use Rattle.laws_time.specs.circuit.LongEnough.{Line, begins}
+unfoldable use Rattle.laws_time.specs.circuit.LongEnough.{pulling}
+use Rattle.laws_time.proofs.OfCircuit.AckedBeats.{Now, done, none-done, Stands}
+use Rattle.laws_time.proofs.OfCircuit.AckedCall.{Moves}
+use Rattle.laws_time.proofs.OfCircuit.AckedEnds.{its_link, Facts, facts-as, same-link, Due, Timed, timed-then, Held, beat-begins}
+use Rattle.laws_time.proofs.OfCircuit.AckedOn.{Open}
+use Rattle.laws_time.proofs.OfCircuit.AckedOurs.{establish-ours, pull-ours}
+use Rattle.laws_time.proofs.OfCircuit.AckedRun.{EndHeld, beat-ends, OldAt, At, none-falls-due}
+use Rattle.laws_time.proofs.OfCircuit.AckedSides.{cfg, rng, lens, end_of, link_of_end, face, facts, now-one, EndTimed, OnWire, none-moves}
+use Rattle.laws_time.proofs.OfCircuit.AckedStep.{ask_all, all-own, all-other, Asked, asks-run, hear-run}
+use Rattle.laws_time.proofs.OfCircuit.AckedWire.{own-stands}
+use Rattle.laws_time.proofs.OfCircuit.Began.{none-ordered}
+use Rattle.laws_time.proofs.OfCircuit.Ends.{at_time}
+use Rattle.laws_time.proofs.OfCircuit.InBeats as first
+use Rattle.laws_time.proofs.OfCircuit.InBeats.{a-call-takes-beats, alike-of, first-end, port-asked, Octets}
+use Rattle.laws_time.proofs.OfCircuit.InBeatsAs.{Alike, alike-asked, Twin, left-plus, first-way}
+use Rattle.laws_time.proofs.OfCircuit.InBeatsDue.{none-at-first}
+use Rattle.laws_time.proofs.OfCircuit.InBeatsIdle as idles
+use Rattle.laws_time.proofs.OfCircuit.InBeatsIdle.{opened}
+use Rattle.laws_time.proofs.OfCircuit.InBeatsRun as run
+unfoldable use Rattle.laws_time.proofs.OfCircuit.InBeatsRun.{all_steps}
+use Rattle.laws_time.proofs.OfCircuit.InBeatsRun.{ask, both_hear, asked-at, undue-stays}
+use Rattle.laws_time.proofs.OfCircuit.Orders.{RunsOurs}
+use Rattle.laws_time.proofs.OfCircuit.Prompt.{long}
+unfoldable use Rattle.laws_order.specs.circuit.Circuit.{doing_all}
+
+-- So far T200 of neither end was started.
+abbrev Never : ℕ → ℕ → Type 0
+Never a m = ⊥
+
+module _ (service : Service) (tei : ℕ) (few : tei ≤ 126) (c : Config) (ranged : IsInRange c) (number : ℕ) (within : number < c.lines) (ls : Lengths) (in_range : AreInRange ls) (way rate : ℕ) where
+  abbrev at_first : TimedEndpoint
+  at_first = endpoint c number ls way tei
+
+  none-run : (endpoint c number ls way tei).clock ≡ stopped ls
+  none-run = ap (λ os. obeyed number os (stopped ls)) (none-ordered c service tei number way ranged within few ls in_range rate)
+
+  pub held-first : Held service tei c ranged ls Never (endpoint c number ls way tei)
+  held-first =
+      let none = ap (λ (k : Rattle.model_timed.specs.Clock.Clock). k.running) none-run in
+      record {
+        ran = idles.ran-begun service c ranged number tei within few (flags way);
+        lengths = ap (λ (k : Rattle.model_timed.specs.Clock.Clock). k.lengths) none-run;
+        late = subst (AllByRecursion _) (sym none) tt;
+        ours = subst (AllByRecursion (RunsOurs service tei)) (sym none) tt;
+        claim = λ m at_m. absurd (cc (ap (λ es. Rattle.lapd_clock.specs.Moments.moment_of number (Rattle.lapd_frame.specs.declared.timers.Timer.TheVariants.T200 service tei) es) (sym none) ∙ at_m));
+      }
+
+  same-first : (s : Endpoint) → as_endpoint [] s ≡ call.assigned c number tei → StationStands c service tei 0 (as_endpoint [] s) (end (terms c service tei) fresh [])
+  same-first s is = subst (λ s. StationStands c service tei 0 s (end (terms c service tei) fresh [])) (sym is) (beginning.answers service tei c ranged few number within).stands
+
+  pub facts-first : (s : Endpoint) → as_endpoint [] s ≡ call.assigned c number tei → Facts service tei c ranged ls s
+  facts-first s is =
+      let stands = same-first s is in record { way = []; n = end (terms c service tei) fresh []; stands = stands; fine = inl (ap (λ (l : Link). l.state) (own-stands service tei c 0 (as_endpoint [] s) (end (terms c service tei) fresh []) stands)) }
+
+  -- Layer 3 asks to establish.
+  pub rings : (d : Config) → Face c d → (Old : ℕ → ℕ → Type 0) (now : ℕ) (a : TimedEndpoint) → Timed service tei c ranged ls Old now a → as_endpoint [] a.at ≡ call.assigned c number tei → Facts service tei c ranged ls (ask a.at (Establish service tei))
+      → Timed service tei c ranged ls Old now (asks a (Establish service tei))
+  rings d its_face Old now a timed is then =
+      let before = facts-first a.at is in
+      let ev = port.request (Establish service tei) in
+      timed-then service tei c ranged ls Old now a ev timed (goes-on c a.at ev (All-nil (λ octet. octet < 256)) timed.ran) before then tt
+      (establish-ours service tei c d its_face a.at before.way before.n before.stands)
+      (λ open_now open_then. let e : TeiAssigned ≡ Established = sym (ap (λ (l : Link). l.state) (own-stands service tei c 0 (as_endpoint [] a.at) (end (terms c service tei) fresh []) (same-first a.at is))) ∙ open_now.state in absurd (cc e))
+
+-- The first octet to receive leaves what is to be pulled.
+left-heard : (c : Config) (ranged : IsInRange c) (way : List ℕ) (s : Endpoint) → Ran c s → left_of (port_of (with_first_of way s)) ≡ left_of (port_of s)
+left-heard c ranged [] s ran = refl
+left-heard c ranged (value ∷ more) s ran = ap left_of (port-after s (port.octet value) (within-ports c ranged s ran))
+
+none-left : length (left_of opened) ≡ 0
+unfolding low_bits
+none-left = refl
+
+module _ (l : Line) (fit : Begins l) (b : Beat) (data_alone : AsksData l b) (is_clean : IsClean b) where
+  abbrev ring : Request
+  ring = Establish l.service l.tei
+
+  one-data : All (AsksData l) (b ∷ [])
+  one-data = All-cons (AsksData l) b [] data_alone (All-nil (AsksData l))
+
+  one-clean : All IsClean (b ∷ [])
+  one-clean = All-cons IsClean b [] is_clean (All-nil IsClean)
+
+  undue : NoneFallsDue l.rate (calls l b ∷ []) (begins l)
+  undue = let some = fit.some in none-at-first l (calls l b ∷ []) 1 fit.some (long l.lengths fit.lengths.0) (long l.far_lengths fit.lengths.1) (omega (arith, some))
+
+  pub undue-both : IsUndue ((begins l).beats / l.rate) (Establish l.service l.tei ∷ b.near_asks) (begins l).near × IsUndue ((begins l).beats / l.rate) b.far_asks (begins l).far
+  unfolding NoneFallsDue
+  undue-both = (undue.0, undue.1)
+
+  abbrev n0 : Endpoint
+  n0 = pulling (suc l.way) (assigned l.near l.near_line l.tei)
+
+  abbrev f0 : Endpoint
+  f0 = pulling (suc l.way) (assigned l.far l.far_line l.tei)
+
+  abbrev v0 : Circuit
+  v0 = record { near = ask (pulling (suc l.way) (assigned l.near l.near_line l.tei)) ring; far = pulling (suc l.way) (assigned l.far l.far_line l.tei) }
+
+  idle-near : idles.Idle l.service l.near fit.call.near.0 l.near_line l.tei fit.call.near.1 fit.call.terminal l.way n0
+  idle-near = first.idle-near l b [] 0 fit.call one-data one-clean undue
+
+  idle-far : idles.Idle l.service l.far fit.call.far.0 l.far_line l.tei fit.call.far.1 fit.call.terminal l.way f0
+  idle-far = first.idle-far l b [] 0 fit.call one-data one-clean undue
+
+  on-wire : OnWire l fit (as_wire [] [] v0) 4
+  on-wire =
+      subst (λ w. OnWire l fit w 4) (sym (first.begins-so l b [] 0 fit.call one-data one-clean undue))
+      (inl (record {
+        both = record {
+          near = beginning.calls l.service l.tei l.near fit.call.near.0 fit.call.terminal l.near_line fit.call.near.1;
+          far = beginning.answers l.service l.tei l.far fit.call.far.0 fit.call.terminal l.far_line fit.call.far.1;
+        };
+        is = refl;
+      }))
+
+  now0 : Now l fit v0
+  now0 = record { there = []; back = []; follows = first.follows l b [] 0 fit.call one-data one-clean undue; weight = 4; on_wire = on-wire }
+
+  abbrev moment : ℕ
+  moment = (begins l).beats / l.rate
+
+  -- ---- what is asked for
+
+  abbrev a0 : TimedEndpoint
+  a0 = at_time ((begins l).beats / l.rate) (begins l).near
+
+  abbrev z0 : TimedEndpoint
+  z0 = at_time ((begins l).beats / l.rate) (begins l).far
+
+  a0-timed : EndTimed l fit false Never moment a0
+  a0-timed =
+      beat-begins l.service l.tei l.near (rng l fit false) l.lengths Never moment (begins l).near
+      (held-first l.service l.tei fit.call.terminal l.near (rng l fit false) l.near_line fit.call.near.1 l.lengths fit.lengths.0 l.way l.rate)
+
+  z0-timed : EndTimed l fit true Never moment z0
+  z0-timed =
+      beat-begins l.service l.tei l.far (rng l fit true) l.far_lengths Never moment (begins l).far
+      (held-first l.service l.tei fit.call.terminal l.far (rng l fit true) l.far_line fit.call.far.1 l.far_lengths fit.lengths.1 l.way l.rate)
+
+  a0-station : as_endpoint [] a0.at ≡ call.assigned l.near l.near_line l.tei
+  a0-station = idles.station-begun l.service l.near fit.call.near.0 l.near_line l.tei fit.call.near.1 fit.call.terminal (flags l.way)
+
+  z0-station : as_endpoint [] z0.at ≡ call.assigned l.far l.far_line l.tei
+  z0-station = idles.station-begun l.service l.far fit.call.far.0 l.far_line l.tei fit.call.far.1 fit.call.terminal (flags l.way)
+
+  abbrev a1 : TimedEndpoint
+  a1 = asks a0 ring
+
+  alike-ring : Alike a1.at v0.near
+  alike-ring = alike-asked ring a0.at n0 (alike-of a0.at n0 (idle-near.same ∙ sym a0-station))
+
+  a1-timed : EndTimed l fit false Never moment a1
+  a1-timed =
+      rings l.service l.tei fit.call.terminal l.near (rng l fit false) l.near_line fit.call.near.1 l.lengths fit.lengths.0 l.way l.rate l.far (face l fit false) Never moment a0 a0-timed a0-station
+      (facts-as l.service l.tei l.near (rng l fit false) l.lengths a1.at v0.near alike-ring (facts l fit false v0 now0))
+
+  abbrev IsAlike : Endpoint → Endpoint → Type 0
+  IsAlike s u = Alike s u
+
+  abbrev a2 : TimedEndpoint
+  a2 = fold asks a1 b.near_asks
+
+  abbrev v1 : Circuit
+  v1 = ask_all l fit false b.near_asks v0
+
+  near-asked : Asked l fit false Never moment IsAlike (λ s u x. x) (λ r octets s u x. alike-asked r s u x) a2 v1
+  near-asked = asks-run l fit false Never moment IsAlike (λ s u x. x) (λ r octets s u x. alike-asked r s u x) b.near_asks data_alone.0 a1 v0 (record { in_call = now0; timed = a1-timed; rel = alike-ring })
+
+  abbrev z2 : TimedEndpoint
+  z2 = fold asks z0 b.far_asks
+
+  abbrev v2 : Circuit
+  v2 = ask_all l fit true b.far_asks (ask_all l fit false b.near_asks v0)
+
+  far-asked : Asked l fit true Never moment IsAlike (λ s u x. x) (λ r octets s u x. alike-asked r s u x) z2 v2
+  far-asked =
+      asks-run l fit true Never moment IsAlike (λ s u x. x) (λ r octets s u x. alike-asked r s u x) b.far_asks data_alone.1 z0 v1
+      (record { in_call = near-asked.in_call; timed = z0-timed; rel = subst (Alike z0.at) (sym (all-other l fit false b.near_asks v0)) (alike-of z0.at f0 (idle-far.same ∙ sym z0-station)) })
+
+  near-same : v2.near ≡ v1.near
+  near-same = all-other l fit true b.far_asks v1
+
+  near-is : v2.near ≡ fold ask n0 (Establish l.service l.tei ∷ b.near_asks)
+  near-is = near-same ∙ all-own l fit false b.near_asks v0
+
+  far-is : v2.far ≡ fold ask f0 b.far_asks
+  far-is = all-own l fit true b.far_asks v1 ∙ ap (λ s. fold ask s b.far_asks) (all-other l fit false b.near_asks v0)
+
+  -- ---- the first pull
+
+  abbrev a3 : TimedEndpoint
+  a3 = happens port.pull a2
+
+  abbrev z3 : TimedEndpoint
+  z3 = happens port.pull z2
+
+  near-twin : Twin l.way l.near a3.at v2.near
+  near-twin =
+      subst (Twin l.way l.near a3.at) (sym near-is)
+      (first-end l l.near fit.call.near.0 l.near_line fit.call.near.1 fit.call.terminal (ring ∷ b.near_asks) (first.near-octets l b [] 0 fit.call one-data one-clean undue) a2 (asked-at b.near_asks a1))
+
+  far-twin : Twin l.way l.far z3.at v2.far
+  far-twin =
+      subst (Twin l.way l.far z3.at) (sym far-is)
+      (first-end l l.far fit.call.far.0 l.far_line fit.call.far.1 fit.call.terminal b.far_asks (first.far-octets l b [] 0 fit.call one-data one-clean undue) z2 (asked-at b.far_asks z0))
+
+  -- The link does not go on by it.
+  pulled : (side : Bool) (a : TimedEndpoint) → EndTimed l fit side Never moment a → Alike a.at (end_of l fit side v2) → Alike (circuit.happens port.pull a.at) (end_of l fit side v2) → EndTimed l fit side Never moment (happens port.pull a)
+  pulled side a timed here then =
+      let f = facts l fit side v2 far-asked.in_call in
+      let before = facts-as l.service l.tei (cfg l fit side) (rng l fit side) (lens l fit side) a.at (end_of l fit side v2) here f in
+      let link = same-link l.service l.tei (cfg l fit side) (rng l fit side) (lens l fit side) a.at (end_of l fit side v2) here in
+      let link_then = same-link l.service l.tei (cfg l fit side) (rng l fit side) (lens l fit side) (circuit.happens port.pull a.at) (end_of l fit side v2) then in
+      let its = its_link l.service l.tei (cfg l fit side) (rng l fit side) (lens l fit side) a.at in
+      timed-then l.service l.tei (cfg l fit side) (rng l fit side) (lens l fit side) Never moment a port.pull timed (goes-on (cfg l fit side) a.at port.pull tt timed.ran) before
+      (facts-as l.service l.tei (cfg l fit side) (rng l fit side) (lens l fit side) (circuit.happens port.pull a.at) (end_of l fit side v2) then f) tt
+      (pull-ours l.service l.tei (cfg l fit side) (cfg l fit (not side)) (face l fit side) a.at before.way before.n before.stands)
+      (λ open_now open_then. subst (Moves its) (sym link ∙ link_then) (none-moves its))
+
+  a3-timed : EndTimed l fit false Never moment a3
+  a3-timed = pulled false a2 near-asked.timed (subst (Alike a2.at) (sym near-same) near-asked.rel) near-twin.same.alike
+
+  z3-timed : EndTimed l fit true Never moment z3
+  z3-timed = pulled true z2 far-asked.timed far-asked.rel far-twin.same.alike
+
+  -- ---- each hears
+
+  abbrev a4 : TimedEndpoint
+  a4 = hears b.near_noise z3.at.way a3
+
+  abbrev z4 : TimedEndpoint
+  z4 = hears b.far_noise a3.at.way z3
+
+  abbrev v3 : Circuit
+  v3 = doing (at_near receives) v2
+
+  now3 : Now l fit v3
+  now3 = now-one l fit (at_near receives) tt v2 far-asked.in_call
+
+  a4-timed : EndTimed l fit false Never moment a4
+  a4-timed = hear-run l fit false Never moment b.near_noise is_clean.0 z3.at.way a3 v2.near v2 far-asked.in_call a3-timed near-twin v2.near.way refl far-twin.same.way
+
+  z4-timed : EndTimed l fit true Never moment z4
+  z4-timed = hear-run l fit true Never moment b.far_noise is_clean.1 a3.at.way z3 v2.far v3 now3 z3-timed far-twin (drop 1 v2.far.way) refl (first-way v2.far.way v2.near ∙ near-twin.same.way)
+
+  -- ---- so the beat ends
+
+  abbrev w1 : Clocked
+  w1 = beat l.rate (begins l) (calls l b)
+
+  abbrev pub heard_first : Circuit
+  heard_first = both_hear v2.near v2.far
+
+  both-same : both_hear v2.near v2.far ≡ both_hear (fold ask n0 (Establish l.service l.tei ∷ b.near_asks)) (fold ask f0 b.far_asks)
+  both-same = λ i. both_hear (near-is i) (far-is i)
+
+  pub stands-first : Stands l fit (both_hear v2.near v2.far)
+  stands-first = record {
+    now = now-one l fit (at_far receives) tt v3 now3;
+    long = subst (run.IsLong l fit.call.near.0 fit.call.far.0) (sym both-same) (first.first-is-long l b [] 0 fit.call one-data one-clean undue);
+  }
+
+  sim-first : run.Sim l fit.call.near.0 fit.call.far.0 w1 (both_hear v2.near v2.far)
+  sim-first = subst (run.Sim l fit.call.near.0 fit.call.far.0 w1) (sym both-same) (first.first-sim l b [] 0 fit.call one-data one-clean undue)
+
+  pub few-left : length (left_of (port_of (both_hear v2.near v2.far).near)) ≤ 7
+  few-left =
+      let ran = far-asked.in_call.follows.near in
+      let heard = left-heard l.near fit.call.near.0 v2.far.way v2.near ran in
+      let asked = ap (λ (s : Endpoint). left_of (port_of s)) near-is ∙ ap left_of (port-asked l.near fit.call.near.0 (ring ∷ b.near_asks) (first.near-octets l b [] 0 fit.call one-data one-clean undue) n0 idle-near.ran ∙ idle-near.port) ∙ left-plus l.way opened in
+      let none = ap length (heard ∙ asked) ∙ none-left in omega (arith, none)
+
+  near-gone : (gone l.rate (calls l b) (begins l)).near ≡ a3
+  near-gone = ap (happens port.pull) (undue-stays (length a2.clock.running) a2 undue-both.0)
+
+  far-gone : (gone l.rate (calls l b) (begins l)).far ≡ z3
+  far-gone = ap (happens port.pull) (undue-stays (length z2.clock.running) z2 undue-both.1)
+
+  near-ends : without_first_octet a4 ≡ w1.near
+  near-ends = λ i. without_first_octet (hears b.near_noise (sym far-gone i).at.way (sym near-gone i))
+
+  far-ends : without_first_octet z4 ≡ w1.far
+  far-ends = λ i. without_first_octet (hears b.far_noise (sym near-gone i).at.way (sym far-gone i))
+
+  abbrev link_in : Bool → TimedEndpoint → Link
+  link_in side a = link_of_end l fit side a.at
+
+  near-link : link_in false a4 ≡ link_of_end l fit false (both_hear v2.near v2.far).near
+  near-link =
+      ap (λ (a : TimedEndpoint). link_in false a) near-ends
+      ∙ sym (same-link l.service l.tei l.near (rng l fit false) l.lengths w1.near.at (both_hear v2.near v2.far).near sim-first.near.same.alike)
+
+  far-link : link_in true z4 ≡ link_of_end l fit true (both_hear v2.near v2.far).far
+  far-link =
+      ap (λ (a : TimedEndpoint). link_in true a) far-ends
+      ∙ sym (same-link l.service l.tei l.far (rng l fit true) l.far_lengths w1.far.at (both_hear v2.near v2.far).far sim-first.far.same.alike)
+
+  abbrev OldFirst : Bool → ℕ → ℕ → Type 0
+  OldFirst side a m = OldAt l fit w1 (both_hear v2.near v2.far) refl stands-first few-left side [] a m
+
+  old-first : (side : Bool) (a m s : ℕ) → s ≡ (link_of_end l fit side (end_of l fit side (both_hear v2.near v2.far))).s → Due l.service l.tei (cfg l fit side) (rng l fit side) (lens l fit side) Never moment a s m → OldFirst side a m
+  old-first side a m s is (inl never) = absurd never
+  old-first side a m s is (inr (less, late)) =
+      ([], [], refl, subst (λ (v : Circuit). a < (link_of_end l fit side (end_of l fit side v)).s) (sym (none-done l fit (both_hear v2.near v2.far))) (omega (arith, less, is)), late)
+
+  pub at-first : At l fit w1 (both_hear v2.near v2.far) refl stands-first few-left []
+  at-first = record {
+    all = All-nil (AsksData l);
+    sim = subst (run.Sim l fit.call.near.0 fit.call.far.0 w1) (sym (none-done l fit (both_hear v2.near v2.far))) sim-first;
+    near = subst (EndHeld l fit false (OldFirst false)) near-ends
+        (beat-ends l fit false Never (OldFirst false) moment a4 a4-timed (λ m x. old-first false (link_in false a4).a m (link_in false a4).s (ap (λ (k : Link). k.s) near-link) x));
+    far = subst (EndHeld l fit true (OldFirst true)) far-ends
+        (beat-ends l fit true Never (OldFirst true) moment z4 z4-timed (λ m x. old-first true (link_in true z4).a m (link_in true z4).s (ap (λ (k : Link). k.s) far-link) x));
+  }
+
+  -- The rest of the call.
+  pub begun-undue : (bs : List Beat) → All (AsksData l) bs → All IsClean bs → RunsThrough l (suc (length bs)) l.lengths → RunsThrough l (suc (length bs)) l.far_lengths → NoneFallsDue l.rate (calls l b ∷ bs) (begins l)
+  unfolding NoneFallsDue
+  begun-undue bs all clean_all h far = let here = h.t203 in let there = far.t203 in (
+    undue-both.0,
+    undue-both.1,
+    none-falls-due l fit w1 (both_hear v2.near v2.far) refl stands-first few-left h.t200 far.t200 bs [] all clean_all at-first (omega (arith, here)) (omega (arith, there)),
+  )
+
+pub none-falls-due-in-a-call : NoneFallsDueInACall
+none-falls-due-in-a-call l b bs fit all clean_all h far =
+    begun-undue l fit b (All-head (AsksData l) b bs all) (All-head IsClean b bs clean_all) bs (All-tail (AsksData l) b bs all) (All-tail IsClean b bs clean_all) h far
+
+pub a-call-comes-in-time : ACallComesInTime
+a-call-comes-in-time l b bs n fit all clean_all h far =
+    let plains = replicate n plain in
+    let data_alone = All-append (AsksData l) (b ∷ bs) plains all (run.plain-data l fit.call.near.0 fit.call.far.0 n) in
+    let are_clean = All-append IsClean (b ∷ bs) plains clean_all (run.plain-clean n) in
+    let long = length-append bs plains ∙ ap (λ k. length bs + k) (length-replicate {A = Beat} n plain) in
+    a-call-takes-beats l b bs n fit.call all clean_all (none-falls-due-in-a-call l b (bs ++ plains) fit data_alone are_clean (through l.lengths long h) (through l.far_lengths long far))
+  where
+    through : (ls : Lengths) → length (bs ++ replicate n plain) ≡ length bs + n → RunsThrough l (length (b ∷ bs) + n) ls → RunsThrough l (length (b ∷ (bs ++ replicate n plain))) ls
+    through ls long h = let t = h.t203 in record { t200 = h.t200; t203 = omega (arith, long, t) }

@@ -1,0 +1,239 @@
+-- A call on a wire: once SABME and UA are received both ends are up, and once so much more is received all that was sent is acknowledged.
+use Rattle.std.proofs.Common.{arith, ◌≡◌, ℕ, zero, suc, ◌+◌, ◌-◌, ◌≤◌, Bool, true, false, List, [], ◌∷◌, ◌++◌, length, map, take, None, Some, refl, sym, ap, ◌∙◌, subst, All, ◌⊎◌, inl, inr, length-append}
+use Rattle.std.proofs.Math.Seq.{take-length}
+use Rattle.std.proofs.lemmas.List.Elements.{All-nil, All-cons, All-head, All-tail}
+use Rattle.lapd_frame.specs.declared.services.Service.{Service}
+use Rattle.lapd_frame.specs.Grammar.{Parts}
+use Rattle.lapd_frame.specs.Senders.{spelling}
+use Rattle.model_link.specs.declared.states.State.{State}
+use Rattle.model_link.specs.declared.states.State.TheVariants.{TeiAssigned, AwaitingEstablishment, Established}
+use Rattle.model_link.specs.declared.terms.Terms.{Terms}
+use Rattle.model_link.specs.Events.{frame, received}
+use Rattle.model_link.specs.Link.{Link, fresh}
+use Rattle.model_link.specs.Sound.{IsInRange}
+use Rattle.model_link.specs.TwoEnds.{Endpoint as LinkEndpoint, with_link, with_sent}
+use Rattle.model_line.specs.Event.{next}
+use Rattle.model_line.specs.Line.{terms}
+use Rattle.model_line.specs.Taken.{own_side}
+use Rattle.model_line.specs.declared.config.Config.{Config}
+use Rattle.laws_link.proofs.OfTwo.AnyOrder.{Steady}
+use Rattle.laws_wire.specs.Call.{IsTalk, confirmed, indicated}
+use Rattle.laws_wire.specs.Facing.{own_link, read_as}
+use Rattle.laws_wire.specs.Wire.{Endpoint, Wire, Step, StepAt, requests, sends, receives, at_near, at_far, acting, turned, doing, happens, with_first_of, frame_comes, frames_by, answered}
+unfoldable use Rattle.laws_wire.specs.Wire.{doing_all}
+unfoldable use Rattle.laws_wire.specs.Call.{both_call}
+use Rattle.laws_wire.proofs.Answered.{asks-way, takes-way}
+use Rattle.laws_wire.proofs.BothHalf as half
+use Rattle.laws_wire.proofs.BothPhases.{Goes}
+use Rattle.laws_wire.proofs.Calling.{sabme, ua, asked, awaiting, caller, end, takes-sabme, with_ua_waiting, with_ua_first, sends-ua}
+use Rattle.laws_wire.proofs.Quiet.{Both, turned-both}
+use Rattle.laws_wire.proofs.Run.{runs}
+use Rattle.laws_wire.proofs.Standing.{IsCarried, StationStands, gives-stands}
+use Rattle.laws_wire.proofs.Talking.{Face, Past, unheard, after_note, Holds, takes}
+use Rattle.laws_wire.proofs.Up.{Talk, turned-pair, does}
+use Rattle.laws_time.proofs.OfCircuit.AckedLinks.{infos, infos-append, lane-counts, Covers, window}
+use Rattle.laws_time.proofs.OfCircuit.AckedWire.{own-stands, parts_in, parts-are, one_if_any, takes_of, near_takes, far_takes, Counted, Flows, flows, Comes, comes-on, Heeds, Acks, acks-on, counted-up, window-near, far-clears, acks-all, heeds-step}
+use Rattle.laws_time.proofs.OfCircuit.InBeatsCall.{are-calls, none-call}
+
+-- ---- so often in a list of steps
+
+unfoldable pub sum_all : (StepAt → Wire → ℕ) → List StepAt → Wire → ℕ
+sum_all f [] w = 0
+sum_all f (k ∷ ks) w = f k w + sum_all f ks (doing k w)
+
+abbrev pub sends_of : Step → ℕ
+sends_of sends = 1
+sends_of other = 0
+
+abbrev pub near_sends : StepAt → Wire → ℕ
+near_sends (at_near act) w = sends_of act
+near_sends (at_far act) w = 0
+
+abbrev pub far_sends : StepAt → Wire → ℕ
+far_sends (at_near act) w = 0
+far_sends (at_far act) w = sends_of act
+
+-- The same from the other end.
+abbrev pub turn : StepAt → StepAt
+turn (at_near act) = at_far act
+turn (at_far act) = at_near act
+
+doing-turned : (k : StepAt) (w : Wire) → doing (turn k) (turned w) ≡ turned (doing k w)
+doing-turned (at_near act) w = refl
+doing-turned (at_far act) w = refl
+
+pub turn-all : (es : List StepAt) (w : Wire) → doing_all (map turn es) (turned w) ≡ turned (doing_all es w)
+unfolding doing_all
+turn-all [] w = refl
+turn-all (k ∷ ks) w = ap (doing_all (map turn ks)) (doing-turned k w) ∙ turn-all ks (doing k w)
+
+pub takes-turned : (k : StepAt) (w : Wire) → near_takes (turn k) (turned w) ≡ far_takes k w
+takes-turned (at_near act) w = refl
+takes-turned (at_far act) w = refl
+
+pub sends-turned : (k : StepAt) (w : Wire) → far_sends (turn k) (turned w) ≡ near_sends k w
+sends-turned (at_near act) w = refl
+sends-turned (at_far act) w = refl
+
+pub sum-turned : (f g : StepAt → Wire → ℕ) → ((k : StepAt) (w : Wire) → f (turn k) (turned w) ≡ g k w) → (es : List StepAt) (w : Wire) → sum_all f (map turn es) (turned w) ≡ sum_all g es w
+unfolding sum_all
+sum-turned f g same [] w = refl
+sum-turned f g same (k ∷ ks) w =
+    let one = same k w in
+    let rest = ap (sum_all f (map turn ks)) (doing-turned k w) ∙ sum-turned f g same ks (doing k w) in
+    omega (arith, one, rest)
+
+pub record Moves (before now : Link) : Type 0 where
+  pub low : before.a ≤ now.a
+  pub high : now.a ≤ before.a + 127
+  pub sent : before.s ≤ now.s
+
+module _ (service : Service) (tei : ℕ) where
+  abbrev Talks : StepAt → Type 0
+  Talks k = IsTalk service tei k
+
+  talk-turned : (k : StepAt) → Talks k → Talks (turn k)
+  talk-turned (at_near act) is = is
+  talk-turned (at_far act) is = is
+
+  pub talks-turned : (es : List StepAt) → All Talks es → All Talks (map turn es)
+  talks-turned [] all = All-nil Talks
+  talks-turned (k ∷ ks) all = All-cons Talks (turn k) (map turn ks) (talk-turned k (All-head Talks k ks all)) (talks-turned ks (All-tail Talks k ks all))
+
+  parts-append : (c : Config) (xs ys : List (List ℕ)) → infos (parts_in service tei c (xs ++ ys)) ≡ infos (parts_in service tei c xs) + infos (parts_in service tei c ys)
+  parts-append c [] ys = omega arith
+  parts-append c (x ∷ xs) ys =
+      let rest = parts-append c xs ys in
+      let one = infos-append (read_as c x) (parts_in service tei c (xs ++ ys)) in
+      let two = infos-append (read_as c x) (parts_in service tei c xs) in omega (arith, rest, one, two)
+
+  pub grows : (c : Config) (t r r' s s' : ℕ) (way way' : List (List ℕ)) → Flows service tei c t r way r' way' → r + infos (parts_in service tei c way) ≡ s → r' + infos (parts_in service tei c way') ≡ s' → (r ≤ r') × (s ≤ s')
+  grows c t r r' s s' way way' (inl (none, same, (new, is))) h g =
+      let sum = ap (λ x. infos (parts_in service tei c x)) is ∙ parts-append c way new in (omega (arith, same), omega (arith, h, g, same, sum))
+  grows c t r r' s s' way way' (inr (one, (o, is, more))) h g =
+      let sum = ap (λ x. infos (parts_in service tei c x)) is ∙ infos-append (read_as c o) (parts_in service tei c way') in (omega (arith, more), omega (arith, h, g, more, sum))
+
+  -- ---- both ends are up
+
+  module _ (c d : Config) (p q : ℕ) (face : Face c d) (back : Face d c) (first second : Past) where
+    abbrev pub Up : Wire → Type 0
+    Up w = (n : LinkEndpoint) × (m : LinkEndpoint) × Talk service tei c d p q first second w n m
+
+    pub up-step : (k : StepAt) → Talks k → (w : Wire) → Up w → Up (doing k w)
+    up-step k is w (n, m, h) = let x = does service tei c d p q face back first second k is w n m h in (x.n', x.m', x.talk)
+
+    pub up-all : (es : List StepAt) → All Talks es → (w : Wire) → Up w → Up (doing_all es w)
+    unfolding doing_all
+    up-all [] all w h = h
+    up-all (k ∷ ks) all w h = up-all ks (All-tail Talks k ks all) (doing k w) (up-step k (All-head Talks k ks all) w h)
+
+    counts : (w : Wire) → Up w → Counted service tei c w
+    counts w (n, m, h) = counted-up service tei c d p q face back first second w n m h
+
+    abbrev A : Wire → ℕ
+    A w = (own_link service tei w.near).a
+
+    abbrev S : Wire → ℕ
+    S w = (own_link service tei w.near).s
+
+    abbrev R : Wire → ℕ
+    R w = (own_link service tei w.far).r
+
+    grown : (k : StepAt) → Talks k → (w : Wire) → Up w → (R w ≤ R (doing k w)) × (S w ≤ S (doing k w))
+    grown k is w h =
+        let now = counts w h in let then = counts (doing k w) (up-step k is w h) in
+        grows c (far_takes k w) (R w) (R (doing k w)) (S w) (S (doing k w)) w.near.way (doing k w).near.way (flows service tei c k is w now then) now then
+
+    -- V(A) goes on by no more than a window, and V(S) stays or goes on.
+    pub moves : (k : StepAt) → Talks k → (w : Wire) → Up w → Moves (own_link service tei w.near) (own_link service tei (doing k w).near)
+    moves k is w (n, m, h) =
+        let more = (grown k is w (n, m, h)).1 in let few = window-near service tei c d p q face back first second w n m h in
+        go few more (heeds-step service tei c d p q face back first second w n m h k is)
+      where
+        go : S w ≤ A w + 127 → S w ≤ S (doing k w) → Heeds service tei d (near_takes k w) (A w) (S w) w.far.way (A (doing k w)) (doing k w).far.way → Moves (own_link service tei w.near) (own_link service tei (doing k w).near)
+        go few more (inl (none, same, rest)) = record { low = omega (arith, same); high = omega (arith, same); sent = more }
+        go few more (inr (one, (o, f, v, is, read, low, up, says, same))) = record { low = omega (arith, same, low); high = omega (arith, same, up, few); sent = more }
+
+    -- what is in transit from the far end is received
+    acks-all-on : (few hi : ℕ) (es : List StepAt) → All Talks es → (w : Wire) → Up w → (j : ℕ) → hi ≤ S w → Acks service tei d few hi j (A w) w.far.way
+        → Acks service tei d few hi (j - sum_all near_takes es w) (A (doing_all es w)) (doing_all es w).far.way
+    unfolding doing_all sum_all
+    acks-all-on few hi [] all w h j high acks = subst (λ j. Acks service tei d few hi j (A w) w.far.way) (let e : j ≡ j - 0 = omega arith in e) acks
+    acks-all-on few hi (k ∷ ks) all w (n, m, h) j high acks =
+        let is = All-head Talks k ks all in
+        let w' = doing k w in
+        let more = (grown k is w (n, m, h)).1 in
+        let one = acks-on service tei d few hi (near_takes k w) j (A w) (S w) w.far.way (A w') w'.far.way (window-near service tei c d p q face back first second w n m h) high
+        (heeds-step service tei c d p q face back first second w n m h k is) acks in
+        let t = near_takes k w in let rest = sum_all near_takes ks w' in
+        subst (λ j. Acks service tei d few hi j (A (doing_all ks w')) (doing_all ks w').far.way) (let e : j - t - rest ≡ j - (t + rest) = omega arith in e)
+        (acks-all-on few hi ks (All-tail Talks k ks all) w' (up-step k is w (n, m, h)) (j - t) (omega (arith, high, more)) one)
+
+    record Owed (few : ℕ) (w : Wire) : Type 0 where
+      j : ℕ
+      hi : ℕ
+      high : hi ≤ S w
+      acks : Acks service tei d few hi j (A w) w.far.way
+
+    -- once the far end was asked for a frame, what it received is acknowledged by what is in transit
+    owed-now : (few : ℕ) (w : Wire) → Up w → few ≤ R w → Owed few (doing (at_far sends) w)
+    owed-now few w (n, m, h) enough = go (up-step (at_far sends) tt w (n, m, h))
+      where
+        w' : Wire
+        w' = doing (at_far sends) w
+
+        go : Up (doing (at_far sends) w) → Owed few (doing (at_far sends) w)
+        go (n', m', h') =
+            let more = (grown (at_far sends) tt w (n, m, h)).0 in
+            let all = counted-up service tei c d p q face back first second w' n' m' h' in
+            record {
+              j = length w'.far.way;
+              hi = R w';
+              high = omega (arith, all);
+              acks = acks-all service tei c d p q face back first second w' n' m' h' few (far-clears service tei c d p q face back first second w n m h) (omega (arith, enough, more));
+            }
+
+    sent-more : (es : List StepAt) → All Talks es → (w : Wire) → Up w → S w ≤ S (doing_all es w)
+    unfolding doing_all
+    sent-more [] all w h = omega arith
+    sent-more (k ∷ ks) all w h =
+        let is = All-head Talks k ks all in
+        let one = (grown k is w h).1 in let rest = sent-more ks (All-tail Talks k ks all) (doing k w) (up-step k is w h) in omega (arith, one, rest)
+
+    owed-on : (few : ℕ) (es : List StepAt) → All Talks es → (w : Wire) → Up w → Owed few w → Owed few (doing_all es w)
+    owed-on few es all w h x = record {
+      j = x.j - sum_all near_takes es w;
+      hi = x.hi;
+      high = let low = x.high in let more = sent-more es all w h in omega (arith, low, more);
+      acks = acks-all-on few x.hi es all w h x.j x.high x.acks;
+    }
+    later : (few : ℕ) (k : StepAt) (ks : List StepAt) → All Talks (k ∷ ks) → (w : Wire) → Up w → few ≤ R w → 1 ≤ far_sends k w + sum_all far_sends ks (doing k w) → far_sends k w ≡ 0
+        → (All Talks ks → Up (doing k w) → few ≤ R (doing k w) → 1 ≤ sum_all far_sends ks (doing k w) → Owed few (doing_all ks (doing k w))) → Owed few (doing_all ks (doing k w))
+    later few k ks all w h enough some none rest =
+        let is = All-head Talks k ks all in
+        let more = (grown k is w h).0 in
+        rest (All-tail Talks k ks all) (up-step k is w h) (omega (arith, enough, more)) (omega (arith, some, none))
+
+    owed-then : (few : ℕ) (es : List StepAt) → All Talks es → (w : Wire) → Up w → few ≤ R w → 1 ≤ sum_all far_sends es w → Owed few (doing_all es w)
+    unfolding doing_all sum_all
+    owed-then few [] all w h enough some = absurd (omega (arith, some))
+    owed-then few (at_far sends ∷ ks) all w h enough some = owed-on few ks (All-tail Talks (at_far sends) ks all) (doing (at_far sends) w) (up-step (at_far sends) tt w h) (owed-now few w h enough)
+    owed-then few (at_far receives ∷ ks) all w h enough some = later few (at_far receives) ks all w h enough some refl (λ talks up low more. owed-then few ks talks (doing (at_far receives) w) up low more)
+    owed-then few (at_far (requests r) ∷ ks) all w h enough some = later few (at_far (requests r)) ks all w h enough some refl (λ talks up low more. owed-then few ks talks (doing (at_far (requests r)) w) up low more)
+    owed-then few (at_far other ∷ ks) all w h enough some = absurd (All-head Talks (at_far other) ks all)
+    owed-then few (at_near act ∷ ks) all w h enough some = later few (at_near act) ks all w h enough some refl (λ talks up low more. owed-then few ks talks (doing (at_near act) w) up low more)
+
+    -- So what the far end has received is acknowledged once it was asked for a frame, and all that was in transit then is received.
+    pub acknowledged-then : (few : ℕ) (es fs : List StepAt) → All Talks es → All Talks fs → (w : Wire) → Up w → few ≤ R w → 1 ≤ sum_all far_sends es w
+        → length (doing_all es w).far.way ≤ sum_all near_takes fs (doing_all es w) → few ≤ A (doing_all fs (doing_all es w))
+    acknowledged-then few es fs talk more w h enough some all = go (owed-then few es talk w h enough some)
+      where
+        u : Wire
+        u = doing_all es w
+
+        go : Owed few (doing_all es w) → few ≤ A (doing_all fs (doing_all es w))
+        go x =
+            let last = acks-all-on few x.hi fs more u (up-all es talk w h) x.j x.high x.acks in
+            let long = x.acks.0 in
+            let none : x.j - sum_all near_takes fs u ≡ 0 = omega (arith, long, all) in
+            (subst (λ j. Acks service tei d few x.hi j (A (doing_all fs u)) (doing_all fs u).far.way) none last).1

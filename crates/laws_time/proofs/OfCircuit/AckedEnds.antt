@@ -1,0 +1,146 @@
+-- An end of a call with its clock: what is kept by an event, and by a beat.
+use Rattle.std.proofs.Common.{arith, ◌≡◌, ℕ, ◌+◌, ◌<◌, ◌≤◌, List, [], ◌∷◌, ◌++◌, length, Option, Some, None, refl, sym, ap, ◌∙◌, subst, ◌⊎◌, inl, inr}
+use Rattle.std.specs.List.{AllByRecursion}
+use Rattle.lapd_clock.specs.Moments.{moment_of}
+use Rattle.lapd_clock.specs.Timer.{Lengths, duration}
+use Rattle.lapd_clock.specs.Timers.{Expiry}
+use Rattle.lapd_frame.specs.declared.services.Service.{Service}
+use Rattle.lapd_frame.specs.declared.timers.Timer.TheVariants as timers
+use Rattle.model_link.specs.declared.states.State.{State}
+use Rattle.model_link.specs.declared.states.State.TheVariants.{AwaitingEstablishment, Established}
+use Rattle.model_link.specs.Link.{Link}
+use Rattle.model_link.specs.TwoEnds.{Endpoint as LinkEndpoint}
+use Rattle.model_line.specs.Event as line
+use Rattle.model_line.specs.Line.{link_of}
+use Rattle.model_line.specs.Sound.{IsInRange}
+use Rattle.model_line.specs.declared.config.Config.{Config}
+use Rattle.model_card.specs.Card.{Card, line_at}
+use Rattle.model_card.specs.ports.Event.{at as octet_at}
+use Rattle.model_card.specs.ports.Port as port
+use Rattle.model_timed.specs.Clock.{Clock, obeyed}
+use Rattle.model_timed.specs.Octets.{orders_in as octet_orders}
+use Rattle.laws_wire.proofs.Standing.{StationStands}
+use Rattle.laws_order.specs.circuit.Circuit.{Endpoint, answered}
+use Rattle.laws_order.proofs.OfCircuit.AsFrames.{as_endpoint}
+use Rattle.laws_order.proofs.OfCircuit.Ran.{Ran}
+use Rattle.laws_time.specs.circuit.Clocked.{TimedEndpoint, happens}
+use Rattle.laws_time.proofs.Moments.{now-stays, lengths-stay}
+use Rattle.laws_time.proofs.OctetsMean.{meant_at}
+use Rattle.laws_time.proofs.OfCircuit.AckedCall.{Moves}
+use Rattle.laws_time.proofs.OfCircuit.AckedEvents.{IsNoExpiry, link_now, t200_at, none-happens, Runs, runs-then}
+use Rattle.laws_time.proofs.OfCircuit.AckedOn.{Open}
+use Rattle.laws_time.proofs.OfCircuit.AckedTimers.{IsFine, Awaits}
+use Rattle.laws_time.proofs.OfCircuit.Ends.{at_time}
+use Rattle.laws_time.proofs.OfCircuit.InBeatsAs.{Alike}
+use Rattle.laws_time.proofs.OfCircuit.Orders.{AreOurs, RunsOurs, ours-obeyed}
+use Rattle.laws_time.proofs.OfCircuit.Prompt.{all-obeyed}
+
+abbrev pub IsOrdinary : port.Event → Type 0
+IsOrdinary (port.expiry timer) = ⊥
+IsOrdinary other = Unit {0}
+
+ordinary : (n201 : ℕ) (ev : port.Event) (p : port.Port) (what : line.Event) → IsOrdinary ev → port.meant n201 ev p ≡ Some what → IsNoExpiry what
+ordinary n201 ev p what none is = grind arith
+
+not-both : (l : Link) → Open l → l.state ≡ AwaitingEstablishment → {X : Type 0} → X
+not-both l h is = let e : Established ≡ AwaitingEstablishment = sym h.state ∙ is in absurd (cc e)
+
+module _ (service : Service) (tei : ℕ) (c : Config) (ranged : IsInRange c) (ls : Lengths) where
+  -- An end in a call.
+  abbrev pub its_link : Endpoint → Link
+  its_link s = link_of service tei (line_at s.line s.card.card)
+
+  pub record Facts (s : Endpoint) : Type 0 where
+    pub way : List (List ℕ)
+    pub n : LinkEndpoint
+    pub stands : StationStands c service tei 0 (as_endpoint way s) n
+    pub fine : IsFine (its_link s)
+
+  pub same-link : (s u : Endpoint) → Alike s u → its_link u ≡ its_link s
+  same-link s u h = λ i. link_of service tei (line_at (h.line i) (h.card i))
+
+  pub facts-as : (s u : Endpoint) → Alike s u → Facts u → Facts s
+  facts-as s u h x = record {
+    way = x.way;
+    n = x.n;
+    stands = subst (λ y. StationStands c service tei 0 y x.n) (λ i. record { card = h.card i; line = h.line i; way = x.way; granted = h.granted i; told = h.told i }) x.stands;
+    fine = subst IsFine (same-link s u h) x.fine;
+  }
+
+  abbrev its_late : ℕ → Expiry → Type 0
+  its_late number x = (x.line ≡ number) × (duration ls x.timer ≤ x.moment)
+
+  -- Old: until when T200 runs at least, if so much is acknowledged. It was started before, or in this millisecond while something was not
+  -- acknowledged.
+  module _ (Old : ℕ → ℕ → Type 0) where
+    abbrev pub Due : ℕ → ℕ → ℕ → ℕ → Type 0
+    Due now a s m = Old a m ⊎ ((a < s) × (now + ls.t200 ≤ m))
+
+    pub record Timed (now : ℕ) (a : TimedEndpoint) : Type 0 where
+      pub ran : Ran c a.at
+      pub now_is : a.clock.now ≡ now
+      pub lengths : a.clock.lengths ≡ ls
+      pub late : AllByRecursion (its_late a.at.line) a.clock.running
+      pub ours : AllByRecursion (RunsOurs service tei) a.clock.running
+      pub claim : (m : ℕ) → moment_of a.at.line (timers.T200 service tei) a.clock.running ≡ Some m → Awaits (its_link a.at) × (Open (its_link a.at) → Due now (its_link a.at).a (its_link a.at).s m)
+
+    module _ (now : ℕ) (a : TimedEndpoint) (ev : port.Event) (h : Timed now a) (ran : Ran c (happens ev a).at) (before : Facts a.at) (then : Facts (happens ev a).at) (none : IsOrdinary ev)
+        (own : AreOurs service tei (octet_orders (answered ev a.at))) (moves : Open (its_link a.at) → Open (its_link (happens ev a).at) → Moves (its_link a.at) (its_link (happens ev a).at)) where
+      abbrev ClaimOf : Card → Clock → Type 0
+      ClaimOf card clock =
+          (m : ℕ) → moment_of a.at.line (timers.T200 service tei) clock.running ≡ Some m
+          → Awaits (link_of service tei (line_at a.at.line card)) × (Open (link_of service tei (line_at a.at.line card)) → Due now (link_of service tei (line_at a.at.line card)).a (link_of service tei (line_at a.at.line card)).s m)
+
+      abbrev l : Link
+      l = its_link a.at
+
+      abbrev l' : Link
+      l' = its_link (happens ev a).at
+
+      less : Awaits l' → Open l' → l'.a < l'.s
+      less (inl is) open_then = not-both l' open_then is
+      less (inr (open_now, more)) open_then = more
+
+      goes-on : (m : ℕ) → Due now l.a l.s m → l'.a ≡ l.a → l.s ≤ l'.s → Due now l'.a l'.s m
+      goes-on m (inl old) same more = inl (subst (λ n. Old n m) (sym same) old)
+      goes-on m (inr (low, late)) same more = inr (omega (arith, low, same, more), late)
+
+      due : (m : ℕ) → Awaits l' → Open l' → (m ≡ a.clock.now + a.clock.lengths.t200) ⊎ ((t200_at c ranged service tei a ≡ Some m) × (Open l' → Open l × (l'.a ≡ l.a))) → Due now l'.a l'.s m
+      due m waits open_then (inl is) =
+          let n = h.now_is in let t = ap (λ (ls : Lengths). ls.t200) h.lengths in let more = less waits open_then in inr (more, omega (arith, is, n, t))
+      due m waits open_then (inr (was, kept)) = let k = kept open_then in let more = (moves k.0 open_then).sent in goes-on m ((h.claim m was).1 k.0) k.1 more
+
+      runs-claim : (what : line.Event) (is : meant_at (octet_at a.at.line ev) a.at.card ≡ Some what) (m : ℕ) → Runs c ranged service tei a h.ran ev what is m → Awaits l' × (Open l' → Due now l'.a l'.s m)
+      runs-claim what is m x = (x.waits, λ open_then. due m x.waits open_then x.since)
+
+      by-meaning : (o : Option line.Event) → meant_at (octet_at a.at.line ev) a.at.card ≡ o → ClaimOf (happens ev a).at.card.card (happens ev a).clock
+      by-meaning None is =
+          let same = none-happens c ranged service tei a h.ran ev is in
+          subst (λ clock. ClaimOf (happens ev a).at.card.card clock) (sym same.1) (subst (λ card. ClaimOf card a.clock) (sym same.0) h.claim)
+      by-meaning (Some what) is =
+          λ m at_m.
+          runs-claim what is m
+          (runs-then c ranged service tei a h.ran ev what is before.stands.speaks.placed then.stands.speaks.placed before.fine then.fine moves (ordinary a.at.card.card.config.n201 ev _ what none is) m (λ was. (h.claim m was).0) at_m)
+
+      pub timed-then : Timed now (happens ev a)
+      timed-then =
+          let orders = octet_orders (answered ev a.at) in
+          record {
+            ran = ran;
+            now_is = now-stays a.at.line a.clock orders ∙ h.now_is;
+            lengths = lengths-stay a.at.line a.clock orders ∙ h.lengths;
+            late = all-obeyed (its_late a.at.line) a.at.line a.clock orders (λ timer. (refl, let e = ap (λ (ls : Lengths). duration ls timer) h.lengths in omega (arith, e))) h.late;
+            ours = ours-obeyed service tei a.at.line a.clock orders own h.ours;
+            claim = by-meaning (meant_at (octet_at a.at.line ev) a.at.card) refl;
+          }
+
+    -- Between two beats.
+    pub record Held (a : TimedEndpoint) : Type 0 where
+      pub ran : Ran c a.at
+      pub lengths : a.clock.lengths ≡ ls
+      pub late : AllByRecursion (its_late a.at.line) a.clock.running
+      pub ours : AllByRecursion (RunsOurs service tei) a.clock.running
+      pub claim : (m : ℕ) → moment_of a.at.line (timers.T200 service tei) a.clock.running ≡ Some m → Awaits (its_link a.at) × (Open (its_link a.at) → Old (its_link a.at).a m)
+
+    pub beat-begins : (now : ℕ) (a : TimedEndpoint) → Held a → Timed now (at_time now a)
+    beat-begins now a h = record { ran = h.ran; now_is = refl; lengths = h.lengths; late = h.late; ours = h.ours; claim = λ m at_m. let x = h.claim m at_m in (x.0, λ open_now. inl (x.1 open_now)) }

@@ -1,0 +1,206 @@
+-- T200 of an end in a call, event by event: until when it runs at least, by what is not acknowledged yet.
+use Rattle.std.proofs.Common.{arith, ◌≡◌, ℕ, ◌+◌, ◌%◌, ◌<◌, ◌≤◌, ◌==◌, ◌&&◌, ◌||◌, not, Bool, true, false, cond, List, [], ◌∷◌, ◌++◌, length, Option, Some, None, is_some, option_map, refl, sym, ap, ◌∙◌, subst, ◌⊎◌, inl, inr, eqb-true}
+use Rattle.std.specs.Prelude.{fold, nat_lt}
+use Rattle.std.proofs.lemmas.List.Elements.{All-append, All-cons, All-nil}
+use Rattle.lapd_clock.specs.Moments.{moment_of}
+use Rattle.lapd_frame.specs.declared.services.Service.{Service}
+use Rattle.lapd_frame.specs.declared.timers.Timer.TheVariants as timers
+use Rattle.model_link.specs.declared.timers.LinkTimer.TheVariants.{T200}
+use Rattle.model_link.specs.Link.{Link, state_number, is_multiple_frame}
+use Rattle.model_line.specs.Event as line
+use Rattle.model_line.specs.Event.{Answer, hears, request, next, expiry}
+use Rattle.model_line.specs.Laws.{orders_in}
+use Rattle.model_line.specs.Line.{Line, link_of, place_in, state_in}
+use Rattle.model_line.specs.Sound.{IsInRange}
+use Rattle.model_line.specs.declared.config.Config.{Config}
+use Rattle.model_card.specs.Card as cards
+use Rattle.model_card.specs.Card.{Card, line_at}
+use Rattle.model_card.specs.Event as frame_event
+use Rattle.model_card.specs.Event.{at}
+use Rattle.model_card.specs.Machine as machine
+use Rattle.model_card.specs.Run as frame_runs
+use Rattle.model_card.specs.Run.{AreAtLines}
+unfoldable use Rattle.model_card.specs.Run.{after_all as frames_after_all}
+use Rattle.model_card.proofs.Runs.{after_all-append}
+use Rattle.model_card.proofs.OfPorts.Codec.{refined_card, meant_at_lines}
+use Rattle.model_card.specs.ports.Card.{OctetCard, fresh}
+use Rattle.model_card.specs.ports.Event.{at as octet_at}
+use Rattle.model_card.specs.ports.Port as port
+use Rattle.model_card.specs.ports.Run.{meant_all}
+use Rattle.model_timed.specs.Clock.{Clock, obeyed}
+use Rattle.model_timed.specs.Frames.{TimedCard}
+use Rattle.model_timed.specs.Octets.{orders_in as octet_orders}
+use Rattle.laws_trace.specs.Managing.{is_on}
+use Rattle.laws_trace.specs.News.{brings}
+use Rattle.laws_trace.specs.Observer.{Observed, View, view_of, view_behind, moment_of as moment_at, awaits, by_event, by_frame_begun}
+use Rattle.laws_trace.specs.TimersAreTimely.{is_anew, renews}
+use Rattle.laws_trace.specs.Trace.{frame_in}
+use Rattle.laws_trace.proofs.ObservedLaws.{on-line-now}
+use Rattle.laws_order.specs.circuit.Circuit.{answered}
+use Rattle.laws_order.proofs.OfCircuit.Ran.{Ran}
+use Rattle.laws_time.specs.circuit.Clocked.{TimedEndpoint, happens}
+use Rattle.laws_time.specs.circuit.Ends.{card_of}
+use Rattle.laws_time.proofs.Links.{stays-on, view-then}
+use Rattle.laws_time.proofs.OctetsMean.{meant_at, orders-are, event-inside}
+use Rattle.laws_time.proofs.OfCircuit.AckedCall.{Moves}
+use Rattle.laws_time.proofs.OfCircuit.AckedOn.{Open}
+use Rattle.laws_time.proofs.OfCircuit.AckedTimers.{t200-then, heard-same, IsSeen, seen-at, IsFine, Awaits, link-awaits, awaits-link}
+
+-- ---- an event that is no expiry
+
+abbrev pub IsNoExpiry : line.Event → Type 0
+IsNoExpiry (expiry timer) = ⊥
+IsNoExpiry other = Unit {0}
+
+one-same : (c : Config) (service : Service) (tei : ℕ) (o : Observed) (f : List ℕ) → (by_frame_begun c service tei o f).acknowledged ≡ o.acknowledged
+one-same c service tei o f = grind arith
+
+begun-same : (c : Config) (service : Service) (tei : ℕ) (fs : List (List ℕ)) (o : Observed) → (fold (by_frame_begun c service tei) o fs).acknowledged ≡ o.acknowledged
+begun-same c service tei [] o = refl
+begun-same c service tei (f ∷ fs) o = begun-same c service tei fs (by_frame_begun c service tei o f) ∙ one-same c service tei o f
+
+event-same : (c : Config) (service : Service) (tei : ℕ) (what : line.Event) (a : Answer) (o : Observed) → IsNoExpiry what → o.state ≡ 7 → o.busy ≡ false → (by_event c service tei what a o).state ≡ 7 → awaits (by_event c service tei what a o) ≡ true
+    → brings (renews T200 o.acknowledged o.busy) c service tei what ≡ false → (by_event c service tei what a o).acknowledged ≡ o.acknowledged
+event-same c service tei (hears e) a o is up free at_7 waits none = heard-same c o up free service tei e at_7 waits none
+event-same c service tei (request r) a o is up free at_7 waits none = grind arith
+event-same c service tei next a o is up free at_7 waits none = begun-same c service tei (frame_in a) o
+event-same c service tei (expiry timer) a o is up free at_7 waits none = absurd is
+
+not-anew : (x y z : Bool) → (not x || y) ≡ false → x ≡ true
+not-anew true y z e = refl
+not-anew false y z e = absurd (cc e)
+
+-- neither another state, nor a frame that renews it
+record NotAnew (o q : Observed) (renewed : Bool) : Type 0 where
+  state : o.state ≡ q.state
+  none : o.state ≡ 7 → renewed ≡ false
+
+kept-so : (c : Config) (service : Service) (tei : ℕ) (o q : Observed) (what : line.Event) → is_anew c service tei T200 o q what ≡ false → NotAnew o q (brings (renews T200 o.acknowledged o.busy) c service tei what)
+kept-so c service tei o q what e = go (o.state == q.state) refl (o.state == 7) refl e
+  where
+    renewed : Bool
+    renewed = brings (renews T200 o.acknowledged o.busy) c service tei what
+
+    go : (same : Bool) → (o.state == q.state) ≡ same → (up : Bool) → (o.state == 7) ≡ up → ((not same || nat_lt o.expiries q.expiries) || (up && renewed)) ≡ false → NotAnew o q renewed
+    go true same up is e = record { state = eqb-true o.state q.state same; none = λ at_7. grind (arith, is, at_7, e) }
+    go false same up is e = absurd (cc e)
+
+module _ (c : Config) (ranged : IsInRange c) (service : Service) (tei : ℕ) where
+  abbrev pub link_now : TimedEndpoint → Link
+  link_now a = link_of service tei (line_at a.at.line a.at.card.card)
+
+  abbrev pub t200_at : TimedEndpoint → Option ℕ
+  t200_at a = moment_of a.at.line (timers.T200 service tei) a.clock.running
+
+  abbrev pub IsPlaced : TimedEndpoint → Type 0
+  IsPlaced a = place_in (line_at a.at.line a.at.card.card) tei ≡ Some 0
+
+  on-at : (events : List frame_event.Event) (number : ℕ) (all : AreAtLines (cards.fresh c) events) (within : number < c.lines) (l : Line) → line_at number (frame_runs.after_all (cards.fresh c) events) ≡ l → place_in l tei ≡ Some 0
+      → is_on tei (view_of c service tei number events).teis ≡ true
+  on-at events number all within l is on =
+      on-line-now c events number ranged all within service tei ∙ ap (λ (l : Line). is_some (option_map (state_in l service) (place_in l tei))) is ∙ ap (λ o. is_some (option_map (state_in l service) o)) on
+
+  module _ (a : TimedEndpoint) (ran : Ran c a.at) (ev : port.Event) where
+    abbrev number : ℕ
+    number = a.at.line
+
+    abbrev past : List frame_event.Event
+    past = meant_all (fresh c) ran.events
+
+    all-past : AreAtLines (cards.fresh c) (meant_all (fresh c) ran.events)
+    all-past = meant_at_lines (fresh c) ran.events ran.at_lines
+
+    here-is : frame_runs.after_all (cards.fresh c) (meant_all (fresh c) ran.events) ≡ a.at.card.card
+    here-is = sym (ap (λ (m : OctetCard). m.card) ran.is ∙ refined_card (fresh c) ran.events)
+
+    -- It means nothing.
+    pub none-happens : meant_at (octet_at a.at.line ev) a.at.card ≡ None → ((happens ev a).at.card.card ≡ a.at.card.card) × ((happens ev a).clock ≡ a.clock)
+    none-happens none =
+        let x = event-inside (octet_at a.at.line ev) (card_of a) None none in (ap (λ (t : TimedCard). t.card) x, ap (λ (t : TimedCard). t.clock) x)
+
+    -- It means this.
+    module _ (what : line.Event) (is : meant_at (octet_at a.at.line ev) a.at.card ≡ Some what) where
+      abbrev more : List frame_event.Event
+      more = past ++ at number what ∷ []
+
+      then-is : frame_runs.after_all (cards.fresh c) (meant_all (fresh c) ran.events ++ at a.at.line what ∷ []) ≡ (happens ev a).at.card.card
+      unfolding frames_after_all
+      then-is =
+          after_all-append (cards.fresh c) past (at number what ∷ []) ∙ ap (machine.after (at number what)) here-is
+          ∙ sym (ap (λ (t : TimedCard). t.card) (event-inside (octet_at a.at.line ev) (card_of a) (Some what) is))
+
+      all-then : AreAtLines (cards.fresh c) (meant_all (fresh c) ran.events ++ at a.at.line what ∷ [])
+      all-then =
+          All-append (frame_runs.IsAtLine (cards.fresh c)) past (at number what ∷ []) all-past
+          (All-cons (frame_runs.IsAtLine (cards.fresh c)) (at number what) [] ran.within (All-nil (frame_runs.IsAtLine (cards.fresh c))))
+
+      clock-is : (happens ev a).clock ≡ obeyed a.at.line (orders_in (moment_at c (meant_all (fresh c) ran.events) a.at.line what).answer) a.clock
+      clock-is =
+          ap (λ os. obeyed number os a.clock) (orders-are (octet_at number ev) a.at.card (Some what) is)
+          ∙ ap (λ card. obeyed number (orders_in (machine.answer (at number what) card)) a.clock) (sym here-is)
+
+      abbrev o : Observed
+      o = (view_of c service tei a.at.line (meant_all (fresh c) ran.events)).link
+
+      abbrev q : Observed
+      q = (view_behind c service tei a.at.line (meant_all (fresh c) ran.events) what).link
+
+      seen : IsPlaced a → IsSeen (view_of c service tei a.at.line (meant_all (fresh c) ran.events)).link (link_now a)
+      seen on = seen-at c past number ranged all-past ran.within service tei (line_at number a.at.card.card) (ap (line_at number) here-is) 0 on
+
+      seen-then : IsPlaced (happens ev a) → IsSeen (view_behind c service tei a.at.line (meant_all (fresh c) ran.events) what).link (link_now (happens ev a))
+      seen-then on =
+          subst (λ (v : View). IsSeen v.link (link_now (happens ev a))) (view-then c service tei number past (at number what))
+          (seen-at c more number ranged all-then ran.within service tei (line_at number (happens ev a).at.card.card) (ap (line_at number) then-is) 0 on)
+
+      by : IsPlaced a → IsPlaced (happens ev a) → (view_behind c service tei a.at.line (meant_all (fresh c) ran.events) what).link ≡ by_event c service tei what (moment_at c (meant_all (fresh c) ran.events) a.at.line what).answer (view_of c service tei a.at.line (meant_all (fresh c) ran.events)).link
+      by on on_then =
+          stays-on c past number ranged all-past ran.within service tei what
+          (on-at past number all-past ran.within (line_at number a.at.card.card) (ap (line_at number) here-is) on)
+          (ap (λ (v : View). is_on tei v.teis) (sym (view-then c service tei number past (at number what)))
+          ∙ on-at more number all-then ran.within (line_at number (happens ev a).at.card.card) (ap (line_at number) then-is) on_then)
+
+      -- T200 runs until then, since it was started anew, or as before.
+      pub record Runs (m : ℕ) : Type 0 where
+        pub waits : Awaits (link_now (happens ev a))
+        pub since : (m ≡ a.clock.now + a.clock.lengths.t200) ⊎ ((t200_at a ≡ Some m) × (Open (link_now (happens ev a)) → Open (link_now a) × ((link_now (happens ev a)).a ≡ (link_now a).a)))
+
+      module _ (on : IsPlaced a) (on_then : IsPlaced (happens ev a)) (fine : IsFine (link_now a)) (fine_then : IsFine (link_now (happens ev a))) (moves : Open (link_now a) → Open (link_now (happens ev a)) → Moves (link_now a) (link_now (happens ev a)))
+          (none : IsNoExpiry what) where
+        is-open : Open (link_now (happens ev a)) → state_number (link_now a).state ≡ state_number (link_now (happens ev a)).state → Open (link_now a)
+        is-open h same = go fine
+          where
+            at-7 : state_number (link_now a).state ≡ 7
+            at-7 = same ∙ ap state_number h.state
+
+            go : IsFine (link_now a) → Open (link_now a)
+            go (inl is) = let e = sym (ap state_number is) ∙ at-7 in absurd (omega (arith, e))
+            go (inr (inl is)) = let e = sym (ap state_number is) ∙ at-7 in absurd (omega (arith, e))
+            go (inr (inr open_now)) = open_now
+
+        same-a : is_anew c service tei T200 o q what ≡ false → Open (link_now (happens ev a)) → awaits q ≡ true → Open (link_now a) × ((link_now (happens ev a)).a ≡ (link_now a).a)
+        same-a kept h waits =
+            let k = kept-so c service tei o q what kept in
+            let before = seen on in let then = seen-then on_then in
+            let same : state_number (link_now a).state ≡ state_number (link_now (happens ev a)).state = sym before.state ∙ k.state ∙ then.state in
+            let was = is-open h same in
+            let known = before.numbers (ap is_multiple_frame was.state) in
+            let known_then = then.numbers (ap is_multiple_frame h.state) in
+            let up : o.state ≡ 7 = before.state ∙ ap state_number was.state in
+            let b = by on on_then in
+            let acknowledged = ap (λ (x : Observed). x.acknowledged) b
+            ∙ event-same c service tei what (moment_at c past number what).answer o none up (known.busy_is ∙ was.free) (ap (λ (x : Observed). x.state) (sym b) ∙ then.state ∙ ap state_number h.state) (ap awaits (sym b) ∙ waits) (k.none up) in
+            let number_same : (link_now (happens ev a)).a % 128 ≡ (link_now a).a % 128 = sym known_then.acknowledged ∙ acknowledged ∙ known.acknowledged in
+            let m = moves was h in
+            let low = m.low in let high = m.high in
+            (was, omega (arith, number_same, low, high))
+
+        pub runs-then : (m : ℕ) → (t200_at a ≡ Some m → Awaits (link_now a)) → t200_at (happens ev a) ≡ Some m → Runs m
+        runs-then m awaited at_m =
+            let x = t200-then c past number ranged all-past ran.within service tei what a.clock m (λ before. link-awaits o (link_now a) (seen on) (awaited before)) (ap (λ (k : Clock). moment_of number (timers.T200 service tei) k.running) (sym clock-is) ∙ at_m) in
+            record { waits = awaits-link q (link_now (happens ev a)) (seen-then on_then) fine_then x.0; since = go x.0 x.1 }
+          where
+            go : awaits q ≡ true → (m ≡ a.clock.now + a.clock.lengths.t200) ⊎ ((t200_at a ≡ Some m) × (is_anew c service tei T200 o q what ≡ false))
+                → (m ≡ a.clock.now + a.clock.lengths.t200) ⊎ ((t200_at a ≡ Some m) × (Open (link_now (happens ev a)) → Open (link_now a) × ((link_now (happens ev a)).a ≡ (link_now a).a)))
+            go waits (inl is) = inl is
+            go waits (inr (before, kept)) = inr (before, λ h. same-a kept h waits)

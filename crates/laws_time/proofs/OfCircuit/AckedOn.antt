@@ -1,0 +1,377 @@
+-- A call on a wire: after SABME and UA both ends are up; and what each has sent is acknowledged in so many frames.
+use Rattle.std.proofs.Common.{arith, ◌≡◌, ℕ, zero, suc, ◌+◌, ◌-◌, ◌≤◌, Bool, true, false, List, [], ◌∷◌, ◌++◌, length, map, take, None, Some, refl, sym, ap, ◌∙◌, subst, All, ◌⊎◌, inl, inr, length-append}
+use Rattle.std.proofs.Math.Seq.{take-length}
+use Rattle.std.proofs.lemmas.List.Elements.{All-nil, All-cons, All-head, All-tail}
+use Rattle.lapd_frame.specs.declared.services.Service.{Service}
+use Rattle.lapd_frame.specs.Grammar.{Parts}
+use Rattle.lapd_frame.specs.Senders.{spelling}
+use Rattle.model_link.specs.declared.states.State.{State}
+use Rattle.model_link.specs.declared.states.State.TheVariants.{TeiAssigned, AwaitingEstablishment, Established}
+use Rattle.model_link.specs.declared.terms.Terms.{Terms}
+use Rattle.model_link.specs.Events.{frame, received}
+use Rattle.model_link.specs.Link.{Link, fresh}
+use Rattle.model_link.specs.Sound.{IsInRange}
+use Rattle.model_link.specs.TwoEnds.{Endpoint as LinkEndpoint, with_link, with_sent}
+use Rattle.model_line.specs.Event.{next}
+use Rattle.model_line.specs.Line.{terms}
+use Rattle.model_line.specs.Taken.{own_side}
+use Rattle.model_line.specs.declared.config.Config.{Config}
+use Rattle.laws_link.proofs.OfTwo.AnyOrder.{Steady}
+use Rattle.laws_link.proofs.OfTwo.AnyOrderRuns.{Pair}
+use Rattle.laws_wire.specs.Call.{IsTalk, confirmed, indicated}
+use Rattle.laws_wire.specs.Facing.{own_link}
+use Rattle.laws_wire.specs.Wire.{Endpoint, Wire, Step, StepAt, requests, sends, receives, at_near, at_far, acting, turned, doing, happens, with_first_of, frame_comes, frames_by, answered}
+unfoldable use Rattle.laws_wire.specs.Wire.{doing_all}
+use Rattle.laws_wire.proofs.Answered.{asks-way, takes-way}
+use Rattle.laws_wire.proofs.BothHalf as half
+use Rattle.laws_wire.proofs.BothPhases.{Goes}
+use Rattle.laws_wire.proofs.Calling.{sabme, ua, asked, awaiting, answering, caller, end, takes-sabme, with_ua_waiting, with_ua_first, sends-ua}
+use Rattle.laws_wire.proofs.Quiet.{Both, turned-both}
+use Rattle.laws_wire.proofs.Run.{runs}
+use Rattle.laws_wire.proofs.Standing.{IsCarried, StationStands, gives-stands}
+use Rattle.laws_wire.proofs.Talking.{Face, Past, unheard, after_note, Holds, takes}
+use Rattle.laws_wire.proofs.Up.{Talk, pair_of, turned-pair}
+use Rattle.laws_time.proofs.OfCircuit.AckedLinks.{infos, infos-append, lane-counts, window}
+use Rattle.laws_time.proofs.OfCircuit.AckedWire.{own-stands, parts_in, parts-are, one_if_any, takes_of, near_takes, far_takes, Counted, Flows, flows, Comes, comes-on, counted-up}
+unfoldable use Rattle.laws_time.proofs.OfCircuit.AckedCall.{sum_all}
+use Rattle.laws_time.proofs.OfCircuit.AckedCall.{near_sends, far_sends, turn, turn-all, takes-turned, sends-turned, sum-turned, talks-turned, grows, Moves, moves, Up, up-step, up-all, acknowledged-then}
+use Rattle.laws_time.proofs.OfCircuit.InBeatsCall.{are-calls, none-call}
+
+-- A link in state 7.
+pub record Open (l : Link) : Type 0 where
+  pub state : l.state ≡ Established
+  pub free : l.peer_busy ≡ false
+  pub ordered : l.a ≤ l.s
+  pub few : l.s ≤ l.a + 127
+
+open-steady : (n : LinkEndpoint) → Steady n → Open n.link
+open-steady n h = record { state = h.state; free = h.peer_busy; ordered = h.sound.ordered; few = window n h }
+
+pub takes-few : (k : StepAt) (w : Wire) → near_takes k w ≤ 1
+takes-few (at_near receives) w = go w.far.way
+  where
+    go : (way : List (List ℕ)) → one_if_any way ≤ 1
+    go [] = omega arith
+    go (o ∷ os) = omega arith
+takes-few (at_near sends) w = omega arith
+takes-few (at_near (requests r)) w = omega arith
+takes-few (at_near other) w = omega arith
+takes-few (at_far act) w = omega arith
+
+pub far-takes-few : (k : StepAt) (w : Wire) → far_takes k w ≤ 1
+far-takes-few (at_near act) w = omega arith
+far-takes-few (at_far act) w = takes-few (at_near act) (turned w)
+
+-- a step with which the far end receives
+pub by-receipt : (k : StepAt) (w : Wire) (P : StepAt → Type 0) → far_takes k w ≡ 1 → (1 ≤ length w.near.way → P (at_far receives)) → P k
+by-receipt (at_near act) w P one h = absurd (omega (arith, one))
+by-receipt (at_far receives) w P one h = h (go w.near.way one)
+  where
+    go : (way : List (List ℕ)) → one_if_any way ≡ 1 → 1 ≤ length way
+    go [] one = absurd (omega (arith, one))
+    go (o ∷ os) one = omega arith
+by-receipt (at_far sends) w P one h = absurd (omega (arith, one))
+by-receipt (at_far (requests r)) w P one h = absurd (omega (arith, one))
+by-receipt (at_far other) w P one h = absurd (omega (arith, one))
+
+pub by-near-receipt : (k : StepAt) (w : Wire) (P : StepAt → Type 0) → near_takes k w ≡ 1 → (1 ≤ length w.far.way → P (at_near receives)) → P k
+by-near-receipt (at_near act) w P one h = by-receipt (at_far act) (turned w) (λ k. P (turn k)) one h
+by-near-receipt (at_far act) w P one h = absurd (omega (arith, one))
+
+module _ (service : Service) (tei : ℕ) (few : tei ≤ 126) (c d : Config) (face : Face c d) (back : Face d c) (rt : IsInRange (terms c service tei)) (ru : IsInRange (terms d service tei)) where
+  abbrev t : Terms
+  t = terms c service tei
+
+  abbrev u : Terms
+  u = terms d service tei
+
+  abbrev first : Past
+  first = after_note (confirmed service tei)
+
+  abbrev second : Past
+  second = after_note (indicated service tei)
+
+  abbrev Talks : StepAt → Type 0
+  Talks k = IsTalk service tei k
+
+  abbrev pub On : Wire → ℕ → Type 0
+  On w weight = Goes service tei few c d 0 0 face back rt ru false w weight
+
+  abbrev pub UpNow : Wire → Type 0
+  UpNow w = Up service tei c d 0 0 face back first second w
+
+  abbrev HalfNow : Wire → Type 0
+  HalfNow w = (weight : ℕ) × half.Half service tei (indicated service tei) c d 0 0 face back rt w weight
+
+  abbrev pub near_link : Wire → Link
+  near_link w = own_link service tei w.near
+
+  abbrev pub far_link : Wire → Link
+  far_link w = own_link service tei w.far
+
+  -- ---- a call goes on
+
+  pub all-on : (es : List StepAt) → All Talks es → (w : Wire) (weight : ℕ) → On w weight → (weight' : ℕ) × On (doing_all es w) weight'
+  all-on es all w weight h =
+      let x = runs service tei few c d 0 0 face back rt ru es (are-calls service tei es all) false w weight h in
+      (x.weight, subst (λ b. Goes service tei few c d 0 0 face back rt ru b (doing_all es w) x.weight) (none-call service tei es all w) x.goes)
+
+  pub on-step : (k : StepAt) → Talks k → (w : Wire) (weight : ℕ) → On w weight → (weight' : ℕ) × On (doing k w) weight'
+  unfolding doing_all
+  on-step k is w weight h = all-on (k ∷ []) (All-cons Talks k [] is (All-nil Talks)) w weight h
+
+  -- ---- what was sent
+
+  counted-by : (c d : Config) (first second : Past) (w : Wire) (n m : LinkEndpoint) → Both service tei c d 0 0 first second w n m → m.link.r + infos n.way ≡ n.link.s → Counted service tei c w
+  counted-by c d first second w n m h e =
+      let there = own-stands service tei d 0 w.far m h.far.stands in
+      let here = own-stands service tei c 0 w.near n h.near.stands in
+      let ways = ap (parts_in service tei c) h.near.stands.way ∙ parts-are service tei c n.way h.near.stands.carried in
+      (λ i. (there i).r + infos (ways i)) ∙ e ∙ sym (ap (λ (l : Link). l.s) here)
+
+  none-received : (m : LinkEndpoint) → Pair (pair_of (end t caller []) m) → m.link.r ≡ 0
+  none-received m h = h.there.lane.0
+
+  none-acked : (m : LinkEndpoint) → Pair (pair_of (end t caller []) m) → m.link.a ≤ 0
+  none-acked m h = h.there.lane.1
+
+  sent-by : (m : LinkEndpoint) → Pair (pair_of (end t caller []) m) → 0 + infos m.way ≡ m.link.s
+  sent-by m h = lane-counts m.terms m.link.contents 0 m.link.s 0 m.link.r m.link.pending m.way h.back.lane
+
+  up-turned : (w : Wire) → UpNow w → Up service tei d c 0 0 back face second first (turned w)
+  up-turned w (n, m, h) = (m, n, record { near = h.far; far = h.near; pair = turned-pair n m h.pair })
+
+  pub counted : (w : Wire) (weight : ℕ) → On w weight → Counted service tei c w × Counted service tei d (turned w)
+  counted w weight (inl h) = (
+    counted-by c d unheard unheard w (end t asked []) (end u fresh []) h.both refl,
+    counted-by d c unheard unheard (turned w) (end u fresh []) (end t asked []) (turned-both service tei c d 0 0 unheard unheard w _ _ h.both) refl,
+  )
+  counted w weight (inr (inl h)) = (
+    counted-by c d unheard unheard w (end t awaiting (sabme t ∷ [])) (end u fresh []) h.both refl,
+    counted-by d c unheard unheard (turned w) (end u fresh []) (end t awaiting (sabme t ∷ [])) (turned-both service tei c d 0 0 unheard unheard w _ _ h.both) refl,
+  )
+  counted w weight (inr (inr (inl h))) = (
+    counted-by c d unheard second w (end t awaiting []) (with_ua_waiting h.m) h.both (let none = none-received h.m h.pair in omega (arith, none)),
+    counted-by d c second unheard (turned w) (with_ua_waiting h.m) (end t awaiting []) (turned-both service tei c d 0 0 unheard second w _ _ h.both) (sent-by h.m h.pair),
+  )
+  counted w weight (inr (inr (inr (inl h)))) = (
+    counted-by c d unheard second w (end t awaiting []) (with_ua_first h.m) h.both (let none = none-received h.m h.pair in omega (arith, none)),
+    counted-by d c second unheard (turned w) (with_ua_first h.m) (end t awaiting []) (turned-both service tei c d 0 0 unheard second w _ _ h.both) (let sent = sent-by h.m h.pair in omega (arith, sent)),
+  )
+  counted w weight (inr (inr (inr (inr h)))) =
+      (counted-up service tei c d 0 0 face back first second w h.n h.m h.talk, by-turned (up-turned w (h.n, h.m, h.talk)))
+    where
+      by-turned : Up service tei d c 0 0 back face second first (turned w) → Counted service tei d (turned w)
+      by-turned (n, m, talk) = counted-up service tei d c 0 0 back face second first (turned w) n m talk
+
+  -- ---- the links
+
+  pub near-is : (first : Past) (w : Wire) (n : LinkEndpoint) → Holds c service tei 0 first w.near n → own_link service tei w.near ≡ n.link
+  near-is first w n h = own-stands service tei c 0 w.near n h.stands
+
+  pub far-is : (first : Past) (w : Wire) (m : LinkEndpoint) → Holds d service tei 0 first w.far m → own_link service tei w.far ≡ m.link
+  far-is first w m h = own-stands service tei d 0 w.far m h.stands
+
+  abbrev Rings : Link → Type 0
+  Rings l = (l.state ≡ AwaitingEstablishment) × (l.r ≡ 0) × (l.a ≡ 0)
+
+  pub near-place : (w : Wire) (weight : ℕ) → On w weight → Rings (own_link service tei w.near) ⊎ (UpNow w × Open (own_link service tei w.near))
+  near-place w weight (inl h) = inl (subst Rings (sym (near-is unheard w (end t asked []) h.both.near)) (refl, refl, refl))
+  near-place w weight (inr (inl h)) = inl (subst Rings (sym (near-is unheard w (end t awaiting (sabme t ∷ [])) h.both.near)) (refl, refl, refl))
+  near-place w weight (inr (inr (inl h))) = inl (subst Rings (sym (near-is unheard w (end t awaiting []) h.both.near)) (refl, refl, refl))
+  near-place w weight (inr (inr (inr (inl h)))) = inl (subst Rings (sym (near-is unheard w (end t awaiting []) h.both.near)) (refl, refl, refl))
+  near-place w weight (inr (inr (inr (inr h)))) = inr ((h.n, h.m, h.talk), subst Open (sym (near-is first w h.n h.talk.near)) (open-steady h.n h.talk.pair.near))
+
+  pub far-place : (w : Wire) (weight : ℕ) → On w weight → ((own_link service tei w.far).state ≡ TeiAssigned) ⊎ Open (own_link service tei w.far)
+  far-place w weight (inl h) = inl (ap (λ (l : Link). l.state) (far-is unheard w (end u fresh []) h.both.far))
+  far-place w weight (inr (inl h)) = inl (ap (λ (l : Link). l.state) (far-is unheard w (end u fresh []) h.both.far))
+  far-place w weight (inr (inr (inl h))) = inr (subst Open (sym (far-is second w (with_ua_waiting h.m) h.both.far)) (record { state = h.pair.far.state; free = h.pair.far.peer_busy; ordered = h.pair.far.sound.ordered; few = window h.m h.pair.far }))
+  far-place w weight (inr (inr (inr (inl h)))) = inr (subst Open (sym (far-is second w (with_ua_first h.m) h.both.far)) (open-steady h.m h.pair.far))
+  far-place w weight (inr (inr (inr (inr h)))) = inr (subst Open (sym (far-is second w h.m h.talk.far)) (open-steady h.m h.talk.pair.far))
+
+  -- the station at either end
+  pub near-stands : (w : Wire) (weight : ℕ) → On w weight → (n : LinkEndpoint) × StationStands c service tei 0 w.near n
+  near-stands w weight (inl h) = (end t asked [], h.both.near.stands)
+  near-stands w weight (inr (inl h)) = (end t awaiting (sabme t ∷ []), h.both.near.stands)
+  near-stands w weight (inr (inr (inl h))) = (end t awaiting [], h.both.near.stands)
+  near-stands w weight (inr (inr (inr (inl h)))) = (end t awaiting [], h.both.near.stands)
+  near-stands w weight (inr (inr (inr (inr h)))) = (h.n, h.talk.near.stands)
+
+  pub far-stands : (w : Wire) (weight : ℕ) → On w weight → (m : LinkEndpoint) × StationStands d service tei 0 w.far m
+  far-stands w weight (inl h) = (end u fresh [], h.both.far.stands)
+  far-stands w weight (inr (inl h)) = (end u fresh [], h.both.far.stands)
+  far-stands w weight (inr (inr (inl h))) = (with_ua_waiting h.m, h.both.far.stands)
+  far-stands w weight (inr (inr (inr (inl h)))) = (with_ua_first h.m, h.both.far.stands)
+  far-stands w weight (inr (inr (inr (inr h)))) = (h.m, h.talk.far.stands)
+
+  -- an end that received an I-frame
+  up-by-near : (w : Wire) (weight : ℕ) → On w weight → 1 ≤ (own_link service tei w.near).r → UpNow w
+  up-by-near w weight h some = go (near-place w weight h)
+    where
+      go : Rings (own_link service tei w.near) ⊎ (UpNow w × Open (own_link service tei w.near)) → UpNow w
+      go (inl (state, none, unacked)) = absurd (omega (arith, some, none))
+      go (inr (up, open_now)) = up
+
+  up-by-far : (w : Wire) (weight : ℕ) → On w weight → 1 ≤ (own_link service tei w.far).r → UpNow w
+  up-by-far w weight (inl h) some = let is = ap (λ (l : Link). l.r) (far-is unheard w (end u fresh []) h.both.far) in absurd (omega (arith, some, is))
+  up-by-far w weight (inr (inl h)) some = let is = ap (λ (l : Link). l.r) (far-is unheard w (end u fresh []) h.both.far) in absurd (omega (arith, some, is))
+  up-by-far w weight (inr (inr (inl h))) some =
+      let is = ap (λ (l : Link). l.r) (far-is second w (with_ua_waiting h.m) h.both.far) in let none = none-received h.m h.pair in absurd (omega (arith, some, is, none))
+  up-by-far w weight (inr (inr (inr (inl h)))) some =
+      let is = ap (λ (l : Link). l.r) (far-is second w (with_ua_first h.m) h.both.far) in let none = none-received h.m h.pair in absurd (omega (arith, some, is, none))
+  up-by-far w weight (inr (inr (inr (inr h)))) some = (h.n, h.m, h.talk)
+
+  -- ---- how far an end goes on with a step
+
+  flows-turned : (k : StepAt) → Talks k → (w : Wire) → Counted service tei d (turned w) → Counted service tei d (turned (doing k w))
+      → Flows service tei d (near_takes k w) (own_link service tei w.near).r w.far.way (own_link service tei (doing k w).near).r (doing k w).far.way
+  flows-turned (at_near act) is w h g = flows service tei d (at_far act) is (turned w) h g
+  flows-turned (at_far act) is w h g = flows service tei d (at_near act) is (turned w) h g
+
+  far-none : (w : Wire) (weight : ℕ) → On w weight → Rings (own_link service tei w.near) → (own_link service tei w.far).a ≡ 0
+  far-none w weight (inl h) rings = ap (λ (l : Link). l.a) (far-is unheard w (end u fresh []) h.both.far)
+  far-none w weight (inr (inl h)) rings = ap (λ (l : Link). l.a) (far-is unheard w (end u fresh []) h.both.far)
+  far-none w weight (inr (inr (inl h))) rings = let low = none-acked h.m h.pair in let is = ap (λ (l : Link). l.a) (far-is second w (with_ua_waiting h.m) h.both.far) in omega (arith, low, is)
+  far-none w weight (inr (inr (inr (inl h)))) rings = let low = none-acked h.m h.pair in let is = ap (λ (l : Link). l.a) (far-is second w (with_ua_first h.m) h.both.far) in omega (arith, low, is)
+  far-none w weight (inr (inr (inr (inr h)))) rings = let e : Established ≡ AwaitingEstablishment = sym h.talk.pair.near.state ∙ sym (ap (λ (l : Link). l.state) (near-is first w h.n h.talk.near)) ∙ rings.0 in absurd (cc e)
+
+  pub near-moves : (k : StepAt) → Talks k → (w : Wire) (weight : ℕ) → On w weight → Open (own_link service tei w.near) → Moves (own_link service tei w.near) (own_link service tei (doing k w).near)
+  near-moves k is w weight h is_open = go (near-place w weight h)
+    where
+      go : Rings (own_link service tei w.near) ⊎ (UpNow w × Open (own_link service tei w.near)) → Moves (own_link service tei w.near) (own_link service tei (doing k w).near)
+      go (inl rings) = let e : Established ≡ AwaitingEstablishment = sym is_open.state ∙ rings.0 in absurd (cc e)
+      go (inr (up, open_now)) = moves service tei c d 0 0 face back first second k is w up
+
+  pub far-moves : (act : Step) → Talks (at_far act) → (w : Wire) (weight : ℕ) → On w weight → Moves (own_link service tei w.far) (own_link service tei (doing (at_far act) w).far)
+  far-moves act is w weight h = go (near-place w weight h)
+    where
+      w' : Wire
+      w' = doing (at_far act) w
+
+      on : (weight' : ℕ) × On (doing (at_far act) w) weight'
+      on = on-step (at_far act) is w weight h
+
+      near-same : (act : Step) → Talks (at_far act) → own_link service tei (doing (at_far act) w).near ≡ own_link service tei w.near
+      near-same (requests r) is = refl
+      near-same sends is = refl
+      near-same receives is = refl
+      near-same other is = absurd is
+
+      go : Rings (own_link service tei w.near) ⊎ (UpNow w × Open (own_link service tei w.near)) → Moves (own_link service tei w.far) (own_link service tei (doing (at_far act) w).far)
+      go (inr (up, open_now)) = moves service tei d c 0 0 back face second first (at_near act) is (turned w) (up-turned w up)
+      go (inl rings) =
+          let none = far-none w weight h rings in
+          let none_then = far-none w' on.0 on.1 (subst Rings (sym (near-same act is)) rings) in
+          let now = (counted w weight h).1 in let then = (counted w' on.0 on.1).1 in
+          let more = (grows service tei d (near_takes (at_far act) w) (own_link service tei w.near).r (own_link service tei w'.near).r (own_link service tei w.far).s (own_link service tei w'.far).s w.far.way w'.far.way
+          (flows-turned (at_far act) is w now then) now then).1 in
+          record { low = omega (arith, none); high = omega (arith, none_then); sent = more }
+
+  pub near-low : (k : StepAt) → Talks k → (w : Wire) (weight : ℕ) → On w weight → (own_link service tei w.near).a ≤ (own_link service tei (doing k w).near).a
+  near-low k is w weight h = go (near-place w weight h)
+    where
+      go : Rings (own_link service tei w.near) ⊎ (UpNow w × Open (own_link service tei w.near)) → (own_link service tei w.near).a ≤ (own_link service tei (doing k w).near).a
+      go (inl (state, none, unacked)) = omega (arith, unacked)
+      go (inr (up, open_now)) = (moves service tei c d 0 0 face back first second k is w up).low
+
+  pub by-up : (w : Wire) → UpNow w → (own_link service tei w.near).state ≡ Established
+  by-up w (n, m, h) = ap (λ (l : Link). l.state) (near-is first w n h.near) ∙ h.pair.near.state
+
+  -- Once the near end is in state 7, it stays so.
+  pub up-stays : (es : List StepAt) → All Talks es → (w : Wire) (weight : ℕ) → On w weight → (own_link service tei w.near).state ≡ Established → (own_link service tei (doing_all es w).near).state ≡ Established
+  up-stays es all w weight h is = by-up (doing_all es w) (up-all service tei c d 0 0 face back first second es all w (go (near-place w weight h)))
+    where
+      go : Rings (own_link service tei w.near) ⊎ (UpNow w × Open (own_link service tei w.near)) → UpNow w
+      go (inl rings) = let e : Established ≡ AwaitingEstablishment = sym is ∙ rings.0 in absurd (cc e)
+      go (inr (up, open_now)) = up
+
+  -- ---- what was sent comes
+
+  comes-far : (n : ℕ) (es : List StepAt) → All Talks es → (w : Wire) (weight : ℕ) → On w weight → (j : ℕ) → Comes service tei c n j (own_link service tei w.far).r w.near.way
+      → Comes service tei c n (j - sum_all far_takes es w) (own_link service tei (doing_all es w).far).r (doing_all es w).near.way
+  unfolding doing_all sum_all
+  comes-far n [] all w weight h j x = subst (λ j. Comes service tei c n j (own_link service tei w.far).r w.near.way) (let e : j ≡ j - 0 = omega arith in e) x
+  comes-far n (k ∷ ks) all w weight h j x =
+      let is = All-head Talks k ks all in
+      let w' = doing k w in
+      let on = on-step k is w weight h in
+      let t = far_takes k w in let rest = sum_all far_takes ks w' in
+      let one = comes-on service tei c n t j (own_link service tei w.far).r w.near.way (own_link service tei w'.far).r w'.near.way
+      (flows service tei c k is w (counted w weight h).0 (counted w' on.0 on.1).0) x in
+      subst (λ j. Comes service tei c n j (own_link service tei (doing_all ks w').far).r (doing_all ks w').near.way) (let e : j - t - rest ≡ j - (t + rest) = omega arith in e)
+      (comes-far n ks (All-tail Talks k ks all) w' on.0 on.1 (j - t) one)
+
+  comes-near : (n : ℕ) (es : List StepAt) → All Talks es → (w : Wire) (weight : ℕ) → On w weight → (j : ℕ) → Comes service tei d n j (own_link service tei w.near).r w.far.way
+      → Comes service tei d n (j - sum_all near_takes es w) (own_link service tei (doing_all es w).near).r (doing_all es w).far.way
+  unfolding doing_all sum_all
+  comes-near n [] all w weight h j x = subst (λ j. Comes service tei d n j (own_link service tei w.near).r w.far.way) (let e : j ≡ j - 0 = omega arith in e) x
+  comes-near n (k ∷ ks) all w weight h j x =
+      let is = All-head Talks k ks all in
+      let w' = doing k w in
+      let on = on-step k is w weight h in
+      let t = near_takes k w in let rest = sum_all near_takes ks w' in
+      let one = comes-on service tei d n t j (own_link service tei w.near).r w.far.way (own_link service tei w'.near).r w'.far.way
+      (flows-turned k is w (counted w weight h).1 (counted w' on.0 on.1).1) x in
+      subst (λ j. Comes service tei d n j (own_link service tei (doing_all ks w').near).r (doing_all ks w').far.way) (let e : j - t - rest ≡ j - (t + rest) = omega arith in e)
+      (comes-near n ks (All-tail Talks k ks all) w' on.0 on.1 (j - t) one)
+
+  module _ (es fs gs : List StepAt) (one : All Talks es) (two : All Talks fs) (three : All Talks gs) (w : Wire) (weight : ℕ) (h : On w weight) where
+    abbrev w1 : Wire
+    w1 = doing_all es w
+
+    abbrev w2 : Wire
+    w2 = doing_all fs (doing_all es w)
+
+    abbrev w3 : Wire
+    w3 = doing_all gs (doing_all fs (doing_all es w))
+
+    on1 : (weight' : ℕ) × On (doing_all es w) weight'
+    on1 = all-on es one w weight h
+
+    far-received : length w.near.way ≤ sum_all far_takes es w → (own_link service tei w.near).s ≤ (own_link service tei w1.far).r
+    far-received all =
+        let all-sent = (counted w weight h).0 in
+        let whole = ap (λ x. infos (parts_in service tei c x)) (take-length w.near.way) in
+        let x = comes-far (own_link service tei w.near).s es one w weight h (length w.near.way) (omega arith, omega (arith, all-sent, whole)) in
+        let none : length w.near.way - sum_all far_takes es w ≡ 0 = omega (arith, all) in
+        let last = (subst (λ j. Comes service tei c (own_link service tei w.near).s j (own_link service tei w1.far).r w1.near.way) none x).1 in
+        omega (arith, last)
+
+    near-received : length w.far.way ≤ sum_all near_takes es w → (own_link service tei w.far).s ≤ (own_link service tei w1.near).r
+    near-received all =
+        let all-sent = (counted w weight h).1 in
+        let whole = ap (λ x. infos (parts_in service tei d x)) (take-length w.far.way) in
+        let x = comes-near (own_link service tei w.far).s es one w weight h (length w.far.way) (omega arith, omega (arith, all-sent, whole)) in
+        let none : length w.far.way - sum_all near_takes es w ≡ 0 = omega (arith, all) in
+        let last = (subst (λ j. Comes service tei d (own_link service tei w.far).s j (own_link service tei w1.near).r w1.far.way) none x).1 in
+        omega (arith, last)
+
+    -- What the near end has sent is received; then the far end is asked for a frame; and what is in transit from it then is received.
+    pub near-acked : length w.near.way ≤ sum_all far_takes es w → 1 ≤ sum_all far_sends fs w1 → length w2.far.way ≤ sum_all near_takes gs w2 → (own_link service tei w.near).s ≤ (own_link service tei w3.near).a
+    near-acked all some then = go (own_link service tei w.near).s (far-received all)
+      where
+        go : (n : ℕ) → n ≤ (own_link service tei w1.far).r → n ≤ (own_link service tei w3.near).a
+        go zero low = omega arith
+        go (suc n) low = acknowledged-then service tei c d 0 0 face back first second (suc n) fs gs two three w1 (up-by-far w1 on1.0 on1.1 (omega (arith, low))) low some then
+
+    pub far-acked : length w.far.way ≤ sum_all near_takes es w → 1 ≤ sum_all near_sends fs w1 → length w2.near.way ≤ sum_all far_takes gs w2 → (own_link service tei w.far).s ≤ (own_link service tei w3.far).a
+    far-acked all some then = go (own_link service tei w.far).s (near-received all)
+      where
+        led : doing_all (map turn fs) (turned w1) ≡ turned w2
+        led = turn-all fs w1
+
+        last : doing_all (map turn gs) (doing_all (map turn fs) (turned w1)) ≡ turned w3
+        last = ap (doing_all (map turn gs)) led ∙ turn-all gs w2
+
+        asks_one : 1 ≤ sum_all far_sends (map turn fs) (turned w1)
+        asks_one = subst (λ k. 1 ≤ k) (sym (sum-turned far_sends near_sends sends-turned fs w1)) some
+
+        all_taken : length (doing_all (map turn fs) (turned w1)).far.way ≤ sum_all near_takes (map turn gs) (doing_all (map turn fs) (turned w1))
+        all_taken = subst (λ (v : Wire). length v.far.way ≤ sum_all near_takes (map turn gs) v) (sym led) (subst (λ k. length w2.near.way ≤ k) (sym (sum-turned near_takes far_takes takes-turned gs w2)) then)
+
+        go : (n : ℕ) → n ≤ (own_link service tei w1.near).r → n ≤ (own_link service tei w3.far).a
+        go zero low = omega arith
+        go (suc n) low =
+            subst (λ (v : Wire). suc n ≤ (own_link service tei v.near).a) last
+            (acknowledged-then service tei d c 0 0 back face second first (suc n) (map turn fs) (map turn gs) (talks-turned service tei fs two) (talks-turned service tei gs three) (turned w1)
+            (up-turned w1 (up-by-near w1 on1.0 on1.1 (omega (arith, low)))) low asks_one all_taken)

@@ -1,0 +1,367 @@
+-- A call with clocks and without noise, beat by beat: no timer falls due.
+use Rattle.std.proofs.Common.{arith, ◌≡◌, ℕ, zero, suc, ◌+◌, ◌*◌, ◌/◌, ◌<◌, ◌≤◌, Bool, true, false, List, [], ◌∷◌, ◌++◌, length, drop, None, refl, sym, ap, ◌∙◌, subst, All, ◌⊎◌, inl, inr, append-nil, append_assoc, length-append}
+use Rattle.std.specs.Prelude.{fold}
+use Rattle.std.proofs.Math.Nat.{mul-div-le}
+use Rattle.std.proofs.lemmas.Bool.{cases_lt}
+use Rattle.std.proofs.lemmas.List.Elements.{All-nil, All-cons, All-head, All-tail, All-append}
+use Rattle.std.proofs.lemmas.List.Sums.{fold-append}
+use Rattle.model_link.specs.declared.states.State.TheVariants.{AwaitingEstablishment, Established}
+use Rattle.model_link.specs.Link.{Link}
+use Rattle.model_line.specs.Sound.{IsInRange}
+use Rattle.model_card.specs.ports.Port as port
+use Rattle.model_card.specs.ports.Port.{left_of}
+use Rattle.model_timed.specs.Clock.{due}
+use Rattle.laws_line.proofs.OfCard.Meanwhile.{all-left, all-right}
+use Rattle.laws_order.specs.circuit.Beats.{longest}
+use Rattle.laws_order.specs.circuit.Circuit as circuit
+use Rattle.laws_order.specs.circuit.Circuit.{Endpoint, Circuit, sends, receives, at_near, at_far, doing, port_of, with_first_of}
+use Rattle.laws_time.specs.circuit.Answered.{IsClean}
+use Rattle.laws_time.specs.circuit.Clocked.{TimedEndpoint, Clocked, Beat, happens, asks, hears, comes_to, gone, beat, after, without_first_octet}
+use Rattle.laws_time.specs.circuit.InBeats.{AsksData, IsUndue, Begins}
+unfoldable use Rattle.laws_time.specs.circuit.InBeats.{NoneFallsDue}
+use Rattle.laws_time.specs.circuit.LongEnough.{Line}
+use Rattle.laws_time.proofs.OfCircuit.AckedBeats.{Now, done, done-append, beaten-is, Stands, stands-then, acked-then}
+use Rattle.laws_time.proofs.OfCircuit.AckedEnds.{its_link, same-link, Due, Timed, Held, beat-begins}
+use Rattle.laws_time.proofs.OfCircuit.AckedOn.{Open}
+use Rattle.laws_time.proofs.OfCircuit.AckedRings.{up-by}
+use Rattle.laws_time.proofs.OfCircuit.AckedSides.{cfg, rng, lens, end_of, link_of_end, now-one, EndTimed, IsUpAt, far-not-ringing}
+use Rattle.laws_time.proofs.OfCircuit.AckedStep.{ask_all, all-other, low-all, up-all, Asked, asks-run, pull-run, hear-run}
+use Rattle.laws_time.proofs.OfCircuit.AckedUndue.{none-due}
+use Rattle.laws_time.proofs.OfCircuit.Answered.{beats-then}
+use Rattle.laws_time.proofs.OfCircuit.Ends.{at_time}
+use Rattle.laws_time.proofs.OfCircuit.InBeatsAs.{Alike, Twin, twin-event, ran-way, first-way}
+use Rattle.laws_time.proofs.OfCircuit.InBeatsDue.{early}
+use Rattle.laws_time.proofs.OfCircuit.InBeatsRun as run
+use Rattle.laws_time.proofs.OfCircuit.InBeatsRun.{undue-stays}
+use Rattle.laws_time.proofs.OfCircuit.InCallFair.{fewer}
+
+module _ (l : Line) (fit : Begins l) where
+  abbrev here : IsInRange l.near
+  here = fit.call.near.0
+
+  abbrev there : IsInRange l.far
+  there = fit.call.far.0
+
+  abbrev pub EndHeld : Bool → (ℕ → ℕ → Type 0) → TimedEndpoint → Type 0
+  EndHeld b Old a = Held l.service l.tei (cfg l fit b) (rng l fit b) (lens l fit b) Old a
+
+  abbrev link_of : Bool → TimedEndpoint → Link
+  link_of b a = link_of_end l fit b a.at
+
+  abbrev IsDue : Bool → (ℕ → ℕ → Type 0) → ℕ → ℕ → ℕ → ℕ → Type 0
+  IsDue b Old now a s m = Due l.service l.tei (cfg l fit b) (rng l fit b) (lens l fit b) Old now a s m
+
+  -- A beat ends.
+  pub beat-ends : (b : Bool) (Old New : ℕ → ℕ → Type 0) (now : ℕ) (a : TimedEndpoint) → EndTimed l fit b Old now a → ((m : ℕ) → IsDue b Old now (link_of b a).a (link_of b a).s m → New (link_of b a).a m) → EndHeld b New (without_first_octet a)
+  beat-ends b Old New now a h more = record {
+    ran = ran-way (cfg l fit b) a.at (drop 1 a.at.way) h.ran;
+    lengths = h.lengths;
+    late = h.late;
+    ours = h.ours;
+    claim = λ m at_m. let x = h.claim m at_m in (x.0, λ open_now. more m (x.1 open_now));
+  }
+
+  -- ---- one beat
+
+  module _ (w : Clocked) (v : Circuit) (h : Stands l fit v) (sim : run.Sim l fit.call.near.0 fit.call.far.0 w v) (OldN OldF : ℕ → ℕ → Type 0) (near : EndHeld false OldN w.near) (far : EndHeld true OldF w.far)
+      (b : Beat) (data_alone : AsksData l b) (is_clean : IsClean b) where
+    abbrev pub now : ℕ
+    now = w.beats / l.rate
+
+    abbrev NearTwin : Endpoint → Endpoint → Type 0
+    NearTwin s u = Twin l.way l.near s u
+
+    abbrev FarTwin : Endpoint → Endpoint → Type 0
+    FarTwin s u = Twin l.way l.far s u
+
+    abbrev pub a1 : TimedEndpoint
+    a1 = fold asks (at_time (w.beats / l.rate) w.near) b.near_asks
+
+    abbrev pub z1 : TimedEndpoint
+    z1 = fold asks (at_time (w.beats / l.rate) w.far) b.far_asks
+
+    abbrev pub v1 : Circuit
+    v1 = ask_all l fit false b.near_asks v
+
+    abbrev v2 : Circuit
+    v2 = ask_all l fit true b.far_asks (ask_all l fit false b.near_asks v)
+
+    pub near-asked : Asked l fit false OldN (w.beats / l.rate) NearTwin (λ s u x. x.same.alike) (λ r octets s u x. twin-event l.way l.near fit.call.near.0 (port.request r) octets s u x) (fold asks (at_time (w.beats / l.rate) w.near) b.near_asks) v1
+    near-asked =
+        asks-run l fit false OldN now NearTwin (λ s u x. x.same.alike) (λ r octets s u x. twin-event l.way l.near here (port.request r) octets s u x) b.near_asks data_alone.0 (at_time now w.near) v
+        (record { in_call = h.now; timed = beat-begins l.service l.tei (cfg l fit false) (rng l fit false) (lens l fit false) OldN now w.near near; rel = sim.near })
+
+    pub far-asked : Asked l fit true OldF (w.beats / l.rate) FarTwin (λ s u x. x.same.alike) (λ r octets s u x. twin-event l.way l.far fit.call.far.0 (port.request r) octets s u x) (fold asks (at_time (w.beats / l.rate) w.far) b.far_asks) v2
+    far-asked =
+        asks-run l fit true OldF now FarTwin (λ s u x. x.same.alike) (λ r octets s u x. twin-event l.way l.far there (port.request r) octets s u x) b.far_asks data_alone.1 (at_time now w.far) v1
+        (record {
+          in_call = near-asked.in_call;
+          timed = beat-begins l.service l.tei (cfg l fit true) (rng l fit true) (lens l fit true) OldF now w.far far;
+          rel = subst (FarTwin w.far.at) (sym (all-other l fit false b.near_asks v)) sim.far;
+        })
+
+    near-twin : NearTwin a1.at v2.near
+    near-twin = subst (NearTwin a1.at) (sym (all-other l fit true b.far_asks v1)) near-asked.rel
+
+    -- both are pulled
+    abbrev a2 : TimedEndpoint
+    a2 = happens port.pull a1
+
+    abbrev z2 : TimedEndpoint
+    z2 = happens port.pull z1
+
+    abbrev v3 : Circuit
+    v3 = doing (at_near sends) v2
+
+    abbrev v4 : Circuit
+    v4 = doing (at_far sends) (doing (at_near sends) v2)
+
+    now3 : Now l fit v3
+    now3 = now-one l fit (at_near sends) tt v2 far-asked.in_call
+
+    now4 : Now l fit v4
+    now4 = now-one l fit (at_far sends) tt v3 now3
+
+    a2-timed : EndTimed l fit false OldN (w.beats / l.rate) a2
+    a2-timed = pull-run l fit false OldN now a1 v2 far-asked.in_call near-asked.timed near-twin
+
+    z2-timed : EndTimed l fit true OldF (w.beats / l.rate) z2
+    z2-timed = pull-run l fit true OldF now z1 v3 now3 far-asked.timed far-asked.rel
+
+    a2-twin : NearTwin a2.at v4.near
+    a2-twin = twin-event l.way l.near here port.pull tt a1.at v2.near near-twin
+
+    z2-twin : FarTwin z2.at v4.far
+    z2-twin = twin-event l.way l.far there port.pull tt z1.at v2.far far-asked.rel
+
+    -- and each hears
+    abbrev a3 : TimedEndpoint
+    a3 = hears b.near_noise z2.at.way a2
+
+    abbrev z3 : TimedEndpoint
+    z3 = hears b.far_noise a2.at.way z2
+
+    a3-timed : EndTimed l fit false OldN (w.beats / l.rate) a3
+    a3-timed = hear-run l fit false OldN now b.near_noise is_clean.0 z2.at.way a2 v4.near v4 now4 a2-timed a2-twin v4.near.way refl z2-twin.same.way
+
+    abbrev v5 : Circuit
+    v5 = doing (at_near receives) v4
+
+    z3-timed : EndTimed l fit true OldF (w.beats / l.rate) z3
+    z3-timed =
+        hear-run l fit true OldF now b.far_noise is_clean.1 a2.at.way z2 v4.far v5 (now-one l fit (at_near receives) tt v4 now4) z2-timed z2-twin (drop 1 v4.far.way) refl (first-way v4.far.way v4.near ∙ a2-twin.same.way)
+
+    module _ (undue : IsUndue (w.beats / l.rate) b.near_asks w.near) (undue_far : IsUndue (w.beats / l.rate) b.far_asks w.far) where
+      near-gone : (gone l.rate b w).near ≡ a2
+      near-gone = ap (happens port.pull) (undue-stays (length a1.clock.running) a1 undue)
+
+      far-gone : (gone l.rate b w).far ≡ z2
+      far-gone = ap (happens port.pull) (undue-stays (length z1.clock.running) z1 undue_far)
+
+      pub near-is : without_first_octet a3 ≡ (beat l.rate w b).near
+      near-is = λ i. without_first_octet (hears b.near_noise (sym far-gone i).at.way (sym near-gone i))
+
+      pub far-is : without_first_octet z3 ≡ (beat l.rate w b).far
+      far-is = λ i. without_first_octet (hears b.far_noise (sym near-gone i).at.way (sym far-gone i))
+
+      pub sim-then : run.Sim l fit.call.near.0 fit.call.far.0 (beat l.rate w b) (done l fit (b ∷ []) v)
+      sim-then = subst (run.Sim l here there (beat l.rate w b)) (sym (beaten-is l fit b v)) (run.one-beat l here there b data_alone is_clean w undue undue_far v sim)
+
+      near-link : (link_of_end l fit false (done l fit (b ∷ []) v).near) ≡ link_of false a3
+      near-link =
+          same-link l.service l.tei (cfg l fit false) (rng l fit false) (lens l fit false) (beat l.rate w b).near.at (done l fit (b ∷ []) v).near sim-then.near.same.alike
+          ∙ sym (ap (λ (a : TimedEndpoint). link_of false a) near-is)
+
+      far-link : (link_of_end l fit true (done l fit (b ∷ []) v).far) ≡ link_of true z3
+      far-link =
+          same-link l.service l.tei (cfg l fit true) (rng l fit true) (lens l fit true) (beat l.rate w b).far.at (done l fit (b ∷ []) v).far sim-then.far.same.alike
+          ∙ sym (ap (λ (a : TimedEndpoint). link_of true a) far-is)
+
+      pub near-then : (New : ℕ → ℕ → Type 0) → ((a m : ℕ) → IsDue false OldN (w.beats / l.rate) a (link_of_end l fit false (done l fit (b ∷ []) v).near).s m → New a m) → EndHeld false New (beat l.rate w b).near
+      near-then New more =
+          subst (EndHeld false New) near-is (beat-ends false OldN New now a3 a3-timed (λ m x. more (link_of false a3).a m (subst (λ (y : Link). IsDue false OldN now (link_of false a3).a y.s m) (sym near-link) x)))
+
+      pub far-then : (New : ℕ → ℕ → Type 0) → ((a m : ℕ) → IsDue true OldF (w.beats / l.rate) a (link_of_end l fit true (done l fit (b ∷ []) v).far).s m → New a m) → EndHeld true New (beat l.rate w b).far
+      far-then New more =
+          subst (EndHeld true New) far-is (beat-ends true OldF New now z3 z3-timed (λ m x. more (link_of true z3).a m (subst (λ (y : Link). IsDue true OldF now (link_of true z3).a y.s m) (sym far-link) x)))
+
+  -- ---- many
+
+  abbrev most : ℕ
+  most = 3 * longest l.near.n201 + 2 * l.way
+
+  module _ (w1 : Clocked) (v1 : Circuit) (one_beat : w1.beats ≡ 1) (stands : Stands l fit v1) (few : length (left_of (port_of v1.near)) ≤ 7) where
+    abbrev v_at : List Beat → Circuit
+    v_at xs = done l fit xs v1
+
+    -- T200 was started in a beat, after which so much was sent.
+    abbrev pub OldAt : Bool → List Beat → ℕ → ℕ → Type 0
+    OldAt b xs a m =
+        (ps : List Beat) × (qs : List Beat) × (xs ≡ ps ++ qs) × (a < (link_of_end l fit b (end_of l fit b (done l fit ps v1))).s) × (length ps / l.rate + (lens l fit b).t200 ≤ m)
+
+    pub record At (xs : List Beat) : Type 0 where
+      pub all : All (AsksData l) xs
+      pub sim : run.Sim l fit.call.near.0 fit.call.far.0 (after l.rate xs w1) (done l fit xs v1)
+      pub near : EndHeld false (OldAt false xs) (after l.rate xs w1).near
+      pub far : EndHeld true (OldAt true xs) (after l.rate xs w1).far
+
+    module _ (xs : List Beat) (h : At xs) where
+      abbrev w : Clocked
+      w = after l.rate xs w1
+
+      abbrev v : Circuit
+      v = done l fit xs v1
+
+      stands-now : Stands l fit v
+      stands-now = stands-then l fit xs h.all v1 stands
+
+      beats-are : w.beats ≡ suc (length xs)
+      beats-are = let sum = beats-then l.rate xs w1 in omega (arith, sum, one_beat)
+
+      -- what was sent so long ago is acknowledged
+      too-old : (b : Bool) (a m : ℕ) → (link_of_end l fit b (end_of l fit b v)).a ≤ a → most + l.rate < (lens l fit b).t200 * l.rate → 1 ≤ l.rate → OldAt b xs a m → m ≤ w.beats / l.rate → ⊥
+      too-old b a m low long some (ps, qs, is, less, later) soon = go b (cases_lt (length qs) most) low long less later
+        where
+          sum : length xs ≡ length ps + length qs
+          sum = ap length is ∙ length-append ps qs
+
+          parts : All (AsksData l) (ps ++ qs)
+          parts = subst (All (AsksData l)) is h.all
+
+          led : done l fit qs (done l fit ps v1) ≡ v
+          led = sym (done-append l fit ps qs v1) ∙ ap (λ es. done l fit es v1) (sym is)
+
+          go : (b : Bool) → (length qs < most) ⊎ (most ≤ length qs) → (link_of_end l fit b (end_of l fit b v)).a ≤ a → most + l.rate < (lens l fit b).t200 * l.rate
+              → a < (link_of_end l fit b (end_of l fit b (done l fit ps v1))).s → length ps / l.rate + (lens l fit b).t200 ≤ m → ⊥
+          go false (inr enough) low long less later =
+              let x = acked-then l fit qs (all-right (AsksData l) ps qs parts) enough (done l fit ps v1) (stands-then l fit ps (all-left (AsksData l) ps qs parts) v1 stands) in
+              let acked = subst (λ (u : Circuit). (link_of_end l fit false (done l fit ps v1).near).s ≤ (link_of_end l fit false u.near).a) led x.near in
+              absurd (omega (arith, acked, low, less))
+          go true (inr enough) low long less later =
+              let x = acked-then l fit qs (all-right (AsksData l) ps qs parts) enough (done l fit ps v1) (stands-then l fit ps (all-left (AsksData l) ps qs parts) v1 stands) in
+              let acked = subst (λ (u : Circuit). (link_of_end l fit true (done l fit ps v1).far).s ≤ (link_of_end l fit true u.far).a) led x.far in
+              absurd (omega (arith, acked, low, less))
+          go b (inl few) low long less later =
+              let early = fewer (length ps) (length qs + 1) l.rate (lens l fit b).t200 some (omega (arith, few, long)) in
+              let same : w.beats ≡ length ps + (length qs + 1) = (let a = beats-are in omega (arith, a, sum)) in
+              let then = subst (λ n. n / l.rate < length ps / l.rate + (lens l fit b).t200) (sym same) early in
+              absurd (omega (arith, then, later, soon))
+
+      module _ (b : Beat) (data_alone : AsksData l b) (is_clean : IsClean b) (long : most + l.rate < l.lengths.t200 * l.rate) (long_far : most + l.rate < l.far_lengths.t200 * l.rate)
+          (t203 : suc (length xs) < l.lengths.t203 * l.rate) (t203_far : suc (length xs) < l.far_lengths.t203 * l.rate) where
+        abbrev moment : ℕ
+        moment = w.beats / l.rate
+
+        asked-near : Asked l fit false (OldAt false xs) (w.beats / l.rate) (λ s u. Twin l.way l.near s u) (λ s u x. x.same.alike) (λ r octets s u x. twin-event l.way l.near fit.call.near.0 (port.request r) octets s u x) (fold asks (at_time (w.beats / l.rate) w.near) b.near_asks) (ask_all l fit false b.near_asks v)
+        asked-near = near-asked w v stands-now h.sim (OldAt false xs) (OldAt true xs) h.near h.far b data_alone is_clean
+
+        asked-far : Asked l fit true (OldAt true xs) (w.beats / l.rate) (λ s u. Twin l.way l.far s u) (λ s u x. x.same.alike) (λ r octets s u x. twin-event l.way l.far fit.call.far.0 (port.request r) octets s u x) (fold asks (at_time (w.beats / l.rate) w.far) b.far_asks) (ask_all l fit true b.far_asks (ask_all l fit false b.near_asks v))
+        asked-far = far-asked w v stands-now h.sim (OldAt false xs) (OldAt true xs) h.near h.far b data_alone is_clean
+
+        abbrev n1 : TimedEndpoint
+        n1 = fold asks (at_time (w.beats / l.rate) w.near) b.near_asks
+
+        abbrev f1 : TimedEndpoint
+        f1 = fold asks (at_time (w.beats / l.rate) w.far) b.far_asks
+
+        abbrev u : Circuit
+        u = ask_all l fit false b.near_asks v
+
+        abbrev u2 : Circuit
+        u2 = ask_all l fit true b.far_asks (ask_all l fit false b.near_asks v)
+
+        near-same : link_of_end l fit false u.near ≡ link_of false n1
+        near-same = same-link l.service l.tei (cfg l fit false) (rng l fit false) (lens l fit false) n1.at u.near asked-near.rel.same.alike
+
+        far-same : link_of_end l fit true u2.far ≡ link_of true f1
+        far-same = same-link l.service l.tei (cfg l fit true) (rng l fit true) (lens l fit true) f1.at u2.far asked-far.rel.same.alike
+
+        near-low : (link_of_end l fit false v.near).a ≤ (link_of false n1).a
+        near-low = subst (λ (x : Link). (link_of_end l fit false v.near).a ≤ x.a) near-same (low-all l fit false b.near_asks data_alone.0 v stands-now.now)
+
+        far-low : (link_of_end l fit true v.far).a ≤ (link_of true f1).a
+        far-low =
+            let one = low-all l fit true b.far_asks data_alone.1 u asked-near.in_call in
+            subst (λ (x : Link). (link_of_end l fit true v.far).a ≤ x.a) far-same (subst (λ (s : Endpoint). (link_of_end l fit true s).a ≤ (link_of_end l fit true u2.far).a) (all-other l fit false b.near_asks v) one)
+
+        -- SABME is answered by then
+        not-ringing : (link_of false n1).state ≡ AwaitingEstablishment → l.lengths.t200 ≤ w.beats / l.rate → ⊥
+        not-ringing rings late = go (cases_lt (length xs) (1 + most))
+          where
+            go : (length xs < 1 + most) ⊎ (1 + most ≤ length xs) → ⊥
+            go (inr enough) =
+                let up : IsUpAt l fit v = up-by l fit v1 stands few xs h.all enough in
+                let then = up-all l fit false b.near_asks data_alone.0 v stands-now.now up in
+                let e : Established ≡ AwaitingEstablishment = sym then ∙ ap (λ (x : Link). x.state) near-same ∙ rings in cc e
+            go (inl few_beats) =
+                let whole = mul-div-le w.beats l.rate in
+                let is = beats-are in
+                let up : l.lengths.t200 * l.rate ≤ l.rate * (w.beats / l.rate) = more l.lengths.t200 (w.beats / l.rate) l.rate late in
+                let some = fit.some in
+                absurd (omega (arith, whole, is, up, few_beats, long, some))
+              where
+                more : (n m rate : ℕ) → n ≤ m → n * rate ≤ rate * m
+                more n m rate less = grind arith
+
+        not-ringing-far : (link_of true f1).state ≡ AwaitingEstablishment → l.far_lengths.t200 ≤ w.beats / l.rate → ⊥
+        not-ringing-far rings late = far-not-ringing l fit u2 asked-far.in_call (ap (λ (x : Link). x.state) far-same ∙ rings)
+
+        before : (t : ℕ) → suc (length xs) < t * l.rate → w.beats / l.rate < t
+        before t low = early l.rate fit.some t w.beats (let is = beats-are in omega (arith, is, low))
+
+        pub near-undue : IsUndue (w.beats / l.rate) b.near_asks w.near
+        near-undue =
+            none-due l.service l.tei (cfg l fit false) (rng l fit false) (lens l fit false) (OldAt false xs) moment n1 asked-near.timed (λ m open_now old soon. too-old false (link_of false n1).a m near-low long fit.some old soon) not-ringing (before l.lengths.t203 t203) fit.lengths.0.t200
+
+        pub far-undue : IsUndue (w.beats / l.rate) b.far_asks w.far
+        far-undue =
+            none-due l.service l.tei (cfg l fit true) (rng l fit true) (lens l fit true) (OldAt true xs) moment f1 asked-far.timed (λ m open_now old soon. too-old true (link_of true f1).a m far-low long_far fit.some old soon) not-ringing-far (before l.far_lengths.t203 t203_far) fit.lengths.1.t200
+
+        abbrev ys : List Beat
+        ys = xs ++ b ∷ []
+
+        led : done l fit (b ∷ []) v ≡ done l fit (xs ++ b ∷ []) v1
+        led = sym (done-append l fit xs (b ∷ []) v1)
+
+        after-so : beat l.rate w b ≡ after l.rate (xs ++ b ∷ []) w1
+        after-so = sym (fold-append (beat l.rate) w1 xs (b ∷ []))
+
+        grown : (side : Bool) (a m : ℕ) → IsDue side (OldAt side xs) (w.beats / l.rate) a (link_of_end l fit side (end_of l fit side (done l fit (b ∷ []) v))).s m → OldAt side (xs ++ b ∷ []) a m
+        grown side a m (inl (ps, qs, is, less, later)) = (ps, qs ++ b ∷ [], ap (λ zs. zs ++ b ∷ []) is ∙ append_assoc ps qs (b ∷ []), less, later)
+        grown side a m (inr (less, later)) =
+            let long = length-append xs (b ∷ []) in
+            let is = beats-are in
+            let same : length (xs ++ b ∷ []) ≡ w.beats = omega (arith, long, is) in (
+              xs ++ b ∷ [],
+              [],
+              sym (append-nil (xs ++ b ∷ [])),
+              subst (λ (x : Circuit). a < (link_of_end l fit side (end_of l fit side x)).s) led less,
+              subst (λ n. n / l.rate + (lens l fit side).t200 ≤ m) (sym same) later,
+            )
+
+        pub at-then : At (xs ++ b ∷ [])
+        at-then = record {
+          all = All-append (AsksData l) xs (b ∷ []) h.all (All-cons (AsksData l) b [] data_alone (All-nil (AsksData l)));
+          sim = subst (λ (x : Clocked). run.Sim l here there x (done l fit (xs ++ b ∷ []) v1)) after-so
+              (subst (run.Sim l here there (beat l.rate w b)) led (sim-then w v stands-now h.sim (OldAt false xs) (OldAt true xs) h.near h.far b data_alone is_clean near-undue far-undue));
+          near = subst (λ (x : Clocked). EndHeld false (OldAt false ys) x.near) after-so
+              (near-then w v stands-now h.sim (OldAt false xs) (OldAt true xs) h.near h.far b data_alone is_clean near-undue far-undue (OldAt false ys) (λ a m x. grown false a m x));
+          far = subst (λ (x : Clocked). EndHeld true (OldAt true ys) x.far) after-so
+              (far-then w v stands-now h.sim (OldAt false xs) (OldAt true xs) h.near h.far b data_alone is_clean near-undue far-undue (OldAt true ys) (λ a m x. grown true a m x));
+        }
+
+    module _ (long : most + l.rate < l.lengths.t200 * l.rate) (long_far : most + l.rate < l.far_lengths.t200 * l.rate) where
+      -- So none falls due.
+      pub none-falls-due : (bs xs : List Beat) → All (AsksData l) bs → All IsClean bs → At xs → suc (length xs + length bs) ≤ l.lengths.t203 * l.rate → suc (length xs + length bs) ≤ l.far_lengths.t203 * l.rate → NoneFallsDue l.rate bs (after l.rate xs w1)
+      unfolding NoneFallsDue
+      none-falls-due [] xs data_alone is_clean h t203 t203_far = tt
+      none-falls-due (b ∷ bs) xs data_alone is_clean h t203 t203_far =
+          let d = All-head (AsksData l) b bs data_alone in let c = All-head IsClean b bs is_clean in
+          let first : suc (length xs) < l.lengths.t203 * l.rate = omega (arith, t203) in
+          let first_far : suc (length xs) < l.far_lengths.t203 * l.rate = omega (arith, t203_far) in
+          let long_one = length-append xs (b ∷ []) in
+          let rest = none-falls-due bs (xs ++ b ∷ []) (All-tail (AsksData l) b bs data_alone) (All-tail IsClean b bs is_clean) (at-then xs h b d c long long_far first first_far) (omega (arith, t203, long_one)) (omega (arith, t203_far, long_one)) in (
+            near-undue xs h b d c long long_far first first_far,
+            far-undue xs h b d c long long_far first first_far,
+            subst (NoneFallsDue l.rate bs) (sym (after-so xs h b d c long long_far first first_far)) rest,
+          )

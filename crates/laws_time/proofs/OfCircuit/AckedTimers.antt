@@ -1,0 +1,150 @@
+-- T200 of an end after an event: it was started anew, or it awaits the same answer as before.
+use Rattle.std.proofs.Common.{arith, ◌≡◌, ℕ, ◌+◌, ◌%◌, ◌<◌, ◌≤◌, ◌==◌, ◌&&◌, ◌||◌, not, Bool, true, false, cond, List, [], ◌∷◌, ◌++◌, length, Option, Some, None, is_some, refl, sym, ap, ◌∙◌, subst, ◌⊎◌, inl, inr, eqb-true, eq-eqb}
+use Rattle.std.specs.Prelude.{nat_lt, if◌then◌else◌}
+use Rattle.std.specs.Option.{option_map_or}
+use Rattle.std.proofs.lemmas.Bool.{true≢false, ltb-true, ltb-false}
+use Rattle.lapd_clock.specs.Moments.{moment_of}
+use Rattle.lapd_frame.specs.declared.controls.Control.{Control}
+use Rattle.lapd_frame.specs.declared.controls.Control.TheVariants.{Information, ReceiveReady, ReceiveNotReady, Reject, Sabme, Disc, Ua, Dm, Frmr, Ui, Xid}
+use Rattle.lapd_frame.specs.declared.services.Service.{Service}
+use Rattle.lapd_frame.specs.declared.timers.Timer.{Timer}
+use Rattle.lapd_frame.specs.declared.timers.Timer.TheVariants as timers
+use Rattle.lapd_frame.specs.Grammar.{Parts}
+use Rattle.model_bits.specs.Stream as stream
+use Rattle.model_link.specs.declared.states.State.TheVariants.{TeiAssigned, AwaitingEstablishment, Established}
+use Rattle.model_link.specs.declared.timers.LinkTimer.TheVariants.{T200}
+use Rattle.model_link.specs.Link.{Link, state_number, is_multiple_frame}
+use Rattle.model_line.specs.Event as line
+use Rattle.model_line.specs.Event.{Answer, hears}
+use Rattle.model_line.specs.Laws.{orders_in}
+use Rattle.model_line.specs.Line.{Line, link_of, place_in}
+use Rattle.model_line.specs.Sound.{IsInRange}
+use Rattle.model_line.specs.declared.config.Config.{Config}
+use Rattle.model_card.specs.Card as cards
+use Rattle.model_card.specs.Card.{Card, line_at}
+use Rattle.model_card.specs.Event as frame_event
+use Rattle.model_card.specs.Event.{at}
+use Rattle.model_card.specs.Run as frame_runs
+use Rattle.model_card.specs.Run.{AreAtLines}
+use Rattle.model_timed.specs.Clock.{Clock, obeyed}
+use Rattle.laws_trace.specs.LinkFrames.{frame_of, its_frame, malformed}
+use Rattle.laws_trace.specs.News.{brings}
+use Rattle.laws_trace.specs.Observer.{Observed, View, view_of, view_behind, moment_of as moment_at, awaits, anew, in_state, by_heard, by_frame}
+use Rattle.laws_trace.specs.TimersAreTimely.{is_anew, runs, renews}
+use Rattle.laws_trace.specs.Trace.{is_up}
+use Rattle.laws_trace.proofs.ObservedLaws.{holds, numbers-now}
+use Rattle.laws_trace.proofs.ObservedShape.{known_of}
+use Rattle.laws_trace.proofs.SeenAs.{IsSeenAs, seen-before, known-up}
+use Rattle.laws_trace.proofs.TimerClaims.{IsKnown}
+use Rattle.laws_trace.proofs.TimersWatched.{Known}
+use Rattle.laws_time.proofs.Ordered.{moment-left}
+use Rattle.laws_time.proofs.OfCircuit.AckedOn.{Open}
+
+-- ---- orders
+
+by-orders : (now was renewed : Bool) (due : ℕ) (before : Option ℕ) (m : ℕ) → (before ≡ Some m → was ≡ true) → cond (now && (not was || renewed)) (Some due) (cond (was && not now) None before) ≡ Some m
+    → (now ≡ true) × ((m ≡ due) ⊎ ((before ≡ Some m) × (renewed ≡ false)))
+by-orders true true true due before m h is = (refl, inl (sym (cc is)))
+by-orders true true false due before m h is = (refl, inr (is, refl))
+by-orders true false renewed due before m h is = (refl, inl (sym (cc is)))
+by-orders false true renewed due before m h is = absurd (cc is)
+by-orders false false renewed due before m h is = absurd (true≢false (sym (h is)))
+
+-- An event of the line, of a card that began, after these events.
+module _ (c : Config) (events : List frame_event.Event) (number : ℕ) (ranged : IsInRange c) (all : AreAtLines (cards.fresh c) events) (within : number < c.lines) (service : Service) (tei : ℕ) (what : line.Event) (k : Clock) where
+  abbrev o : Observed
+  o = (view_of c service tei number events).link
+
+  abbrev q : Observed
+  q = (view_behind c service tei number events what).link
+
+  abbrev its : Timer
+  its = timers.T200 service tei
+
+  abbrev ordered : Clock
+  ordered = obeyed number (orders_in (moment_at c events number what).answer) k
+
+  pub t200-then : (m : ℕ) → (moment_of number its k.running ≡ Some m → awaits o ≡ true) → moment_of number its ordered.running ≡ Some m
+      → (awaits q ≡ true) × ((m ≡ k.now + k.lengths.t200) ⊎ ((moment_of number its k.running ≡ Some m) × (is_anew c service tei T200 o q what ≡ false)))
+  t200-then m h is =
+      by-orders (runs T200 q) (runs T200 o) (is_anew c service tei T200 o q what) (k.now + k.lengths.t200) (moment_of number its k.running) m h
+      (sym (moment-left c events number ranged all within service tei what k T200) ∙ is)
+
+-- ---- what is heard acknowledges something, or starts no timer anew
+
+module _ (c : Config) (o : Observed) (up : o.state ≡ 7) (free : o.busy ≡ false) where
+  abbrev Same : Observed → Bool → Type 0
+  Same q renewed = q.state ≡ 7 → awaits q ≡ true → renewed ≡ false → q.acknowledged ≡ o.acknowledged
+
+  by-control : (f : Parts) → Same (by_frame c o f) (renews T200 o.acknowledged o.busy f.control)
+  by-control f = grind (arith, eqb-true)
+
+  pub heard-same : (service : Service) (tei : ℕ) (e : stream.Event) → Same (by_heard c service tei e o) (brings (renews T200 o.acknowledged o.busy) c service tei (hears e))
+  heard-same service tei e = go (is_some (malformed c service tei e)) (its_frame service tei (frame_of c e))
+    where
+      go : (wrong : Bool) (f : Option Parts) → Same (if is_up o.state && wrong then anew o else option_map_or (by_frame c o) f o) (option_map_or (λ (f : Parts). renews T200 o.acknowledged o.busy f.control) f false)
+      go true f at_7 waits none = grind arith
+      go false None at_7 waits none = grind arith
+      go false (Some f) at_7 waits none = grind (arith, by-control)
+
+-- ---- what an observer knows of a link
+
+pub record IsSeen (o : Observed) (l : Link) : Type 0 where
+  pub state : o.state ≡ state_number l.state
+  pub numbers : is_multiple_frame l.state ≡ true → IsKnown (known_of o) l.a l.s l.peer_busy
+
+pub seen-at : (c : Config) (events : List frame_event.Event) (number : ℕ) (ranged : IsInRange c) (all : AreAtLines (cards.fresh c) events) (within : number < c.lines) (service : Service) (tei : ℕ) (l : Line)
+    → line_at number (frame_runs.after_all (cards.fresh c) events) ≡ l → (place : ℕ) → place_in l tei ≡ Some place → IsSeen (view_of c service tei number events).link (link_of service tei l)
+seen-at c events number ranged all within service tei l is place on =
+    let its = line_at number (frame_runs.after_all (cards.fresh c) events) in
+    let x = seen-before c events number ranged all within service tei place (ap (λ l. place_in l tei) is ∙ on) in
+    let known = (holds c events number ranged all within service tei).true_of in
+    let k = link_of service tei its in
+    subst (IsSeen (view_of c service tei number events).link) (ap (link_of service tei) is) (record {
+      state = x.state_is;
+      numbers = λ up. subst (λ (n : Known). IsKnown n k.a k.s k.peer_busy) (sym (numbers-now c events number ranged all within service tei)) (known-up k.state _ k.a k.s k.peer_busy up known);
+    })
+
+-- The states of a link in a call; and those in which it awaits an answer.
+abbrev pub IsFine : Link → Type 0
+IsFine l = (l.state ≡ TeiAssigned) ⊎ ((l.state ≡ AwaitingEstablishment) ⊎ Open l)
+
+abbrev pub Awaits : Link → Type 0
+Awaits l = (l.state ≡ AwaitingEstablishment) ⊎ (Open l × (l.a < l.s))
+
+differ : (a s : ℕ) → a < s → s ≤ a + 127 → (s % 128 == a % 128) ≡ false
+differ a s more few = go (s % 128 == a % 128) refl
+  where
+    go : (b : Bool) → (s % 128 == a % 128) ≡ b → b ≡ false
+    go false e = refl
+    go true e = let same = eqb-true (s % 128) (a % 128) e in absurd (omega (arith, same, more, few))
+
+module _ (o : Observed) (l : Link) (x : IsSeen o l) where
+  open-known : Open l → (o.state ≡ 7) × (o.acknowledged ≡ l.a % 128) × (o.next ≡ l.s % 128) × (o.busy ≡ false)
+  open-known h =
+      let k = x.numbers (ap is_multiple_frame h.state) in (x.state ∙ ap state_number h.state, k.acknowledged, k.next, k.busy_is ∙ h.free)
+
+  pub link-awaits : Awaits l → awaits o ≡ true
+  link-awaits (inl is) = let state = x.state ∙ ap state_number is in grind (arith, state)
+  link-awaits (inr (h, more)) =
+      let k = open-known h in
+      let apart : (o.next == o.acknowledged) ≡ false = (λ i. k.2 i == k.1 i) ∙ differ l.a l.s more h.few in
+      let state = k.0 in grind (arith, state, apart)
+
+  same-numbers : (n m : ℕ) → n ≡ m → (n == m) ≡ true
+  same-numbers n m e = eq-eqb n m e
+
+  pub awaits-link : IsFine l → awaits o ≡ true → Awaits l
+  awaits-link (inl is) waits = let state = x.state ∙ ap state_number is in absurd (true≢false (sym waits ∙ (grind (arith, state))))
+  awaits-link (inr (inl is)) waits = inl is
+  awaits-link (inr (inr h)) waits = go (nat_lt l.a l.s) refl
+    where
+      none : l.s ≤ l.a → awaits o ≡ false
+      none few =
+          let k = open-known h in let low = h.ordered in
+          let same : (o.next == o.acknowledged) ≡ true = same-numbers o.next o.acknowledged (k.2 ∙ ap (λ n. n % 128) (let e : l.s ≡ l.a = omega (arith, few, low) in e) ∙ sym k.1) in
+          let state = k.0 in let free = k.3 in grind (arith, state, same, free)
+
+      go : (b : Bool) → nat_lt l.a l.s ≡ b → Awaits l
+      go true e = inr (h, ltb-true l.a l.s e)
+      go false e = absurd (true≢false (sym waits ∙ none (ltb-false l.a l.s e)))

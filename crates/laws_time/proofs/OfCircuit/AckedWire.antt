@@ -1,0 +1,257 @@
+-- Two cards on a wire: how many I-frames were received, and what the frames in transit acknowledge, step by step.
+use Rattle.std.proofs.Common.{arith, ◌≡◌, ℕ, zero, suc, ◌+◌, ◌-◌, ◌≤◌, Bool, false, List, [], ◌∷◌, ◌++◌, length, map, take, drop, None, Some, refl, sym, ap, ◌∙◌, subst, All, ◌⊎◌, inl, inr, append-nil, length-append}
+use Rattle.std.specs.Prelude.{flat_map}
+use Rattle.std.specs.Option.{option_map_or}
+use Rattle.std.proofs.Math.Seq.{take-length}
+use Rattle.std.proofs.lemmas.List.Elements.{All-head, All-tail}
+use Rattle.lapd_frame.specs.declared.services.Service.{Service}
+use Rattle.lapd_frame.specs.Grammar.{Parts}
+use Rattle.lapd_frame.specs.Senders.{spelling}
+use Rattle.model_link.specs.declared.states.State.TheVariants.{Established}
+use Rattle.model_link.specs.Events.{frame, received}
+use Rattle.model_link.specs.Link.{Link, fresh}
+use Rattle.model_link.specs.TwoEnds.{Endpoint as LinkEndpoint, with_link, with_sent}
+use Rattle.model_line.specs.Event.{request, next}
+use Rattle.model_line.specs.Line.{link_in}
+use Rattle.model_line.specs.Request.{Request, Data}
+use Rattle.model_line.specs.Taken.{own_side}
+use Rattle.model_line.specs.declared.config.Config.{Config}
+use Rattle.laws_link.proofs.OfTwo.AnyOrder.{Lane, Steady}
+use Rattle.laws_wire.specs.Call.{IsTalkOf, IsTalk}
+use Rattle.laws_wire.specs.Facing.{line_of, parts_of, own_link, read_as}
+use Rattle.laws_wire.specs.Wire.{Endpoint, Wire, Step, StepAt, requests, sends, receives, at_near, at_far, acting, turned, doing, happens, answered, frames_by, with_first_of, without_first, frame_comes}
+use Rattle.laws_wire.proofs.Answered.{asks-way, takes-way}
+use Rattle.laws_wire.proofs.Asking.{with_more, take-front}
+use Rattle.laws_wire.proofs.Standing.{IsCarried, StationStands, gives-stands}
+use Rattle.laws_wire.proofs.Talking.{Face, Past, Holds, More, holds-asked, takes}
+use Rattle.laws_wire.proofs.Up.{Talk}
+use Rattle.laws_time.proofs.OfCircuit.AckedLinks.{infos, infos-append, lane-counts, Says, Covers, lane-covers, same-number, window, Heeded, heeds, sent-stays}
+
+-- ---- how many frames are received with a step
+
+abbrev pub one_if_any : List (List ℕ) → ℕ
+one_if_any [] = 0
+one_if_any (o ∷ os) = 1
+
+abbrev pub takes_of : Step → Wire → ℕ
+takes_of receives w = one_if_any w.far.way
+takes_of other w = 0
+
+abbrev pub near_takes : StepAt → Wire → ℕ
+near_takes (at_near act) w = takes_of act w
+near_takes (at_far act) w = 0
+
+abbrev pub far_takes : StepAt → Wire → ℕ
+far_takes (at_near act) w = 0
+far_takes (at_far act) w = takes_of act (turned w)
+
+module _ (service : Service) (tei : ℕ) where
+  abbrev pub own : Endpoint → Link
+  own s = own_link service tei s
+
+  -- What is in transit, as it is read.
+  abbrev pub parts_in : Config → List (List ℕ) → List Parts
+  parts_in c fs = flat_map (read_as c) fs
+
+  read-one : (c : Config) (f : Parts) → IsCarried c service tei f → read_as c (spelling (own_side c) f) ≡ f ∷ []
+  read-one c f h = ap parts_of h.carried.read
+
+  pub parts-are : (c : Config) (fs : List Parts) → All (IsCarried c service tei) fs → parts_in c (map (spelling (own_side c)) fs) ≡ fs
+  parts-are c [] all = refl
+  parts-are c (f ∷ fs) all =
+      ap (λ xs. xs ++ parts_in c (map (spelling (own_side c)) fs)) (read-one c f (All-head (IsCarried c service tei) f fs all))
+      ∙ ap (λ xs. f ∷ xs) (parts-are c fs (All-tail (IsCarried c service tei) f fs all))
+
+  pub own-stands : (k : Config) (place : ℕ) (s : Endpoint) (n : LinkEndpoint) → StationStands k service tei place s n → own_link service tei s ≡ n.link
+  own-stands k place s n h = ap (λ o. option_map_or (link_in (line_of s) service) o fresh) h.speaks.placed ∙ h.speaks.link
+
+  first-way : (way : List (List ℕ)) (s : Endpoint) → (with_first_of way s).way ≡ s.way
+  first-way [] s = refl
+  first-way (o ∷ os) s = takes-way o s
+
+  -- ---- I-frames from the near end
+
+  -- What the near end has sent is what the far end has received, and what is in transit.
+  abbrev pub Counted : Config → Wire → Type 0
+  Counted c w = (own_link service tei w.far).r + infos (parts_in c w.near.way) ≡ (own_link service tei w.near).s
+
+  abbrev pub Flows : Config → ℕ → ℕ → List (List ℕ) → ℕ → List (List ℕ) → Type 0
+  Flows c t r way r' way' =
+      ((t ≡ 0) × (r' ≡ r) × ((new : List (List ℕ)) × (way' ≡ way ++ new)))
+      ⊎ ((t ≡ 1) × ((o : List ℕ) × (way ≡ o ∷ way') × (r' ≡ r + infos (read_as c o))))
+
+  flow-first : (c : Config) (r r' s : ℕ) (way : List (List ℕ)) → r + infos (parts_in c way) ≡ s → r' + infos (parts_in c (drop 1 way)) ≡ s → Flows c (one_if_any way) r way r' (drop 1 way)
+  flow-first c r r' s [] h g = inl (refl, omega (arith, h, g), ([], refl))
+  flow-first c r r' s (o ∷ os) h g = let sum = infos-append (read_as c o) (parts_in c os) in inr (refl, (o, refl, omega (arith, h, g, sum)))
+
+  pub flows : (c : Config) (k : StepAt) → IsTalk service tei k → (w : Wire) → Counted c w → Counted c (doing k w)
+      → Flows c (far_takes k w) (own_link service tei w.far).r w.near.way (own_link service tei (doing k w).far).r (doing k w).near.way
+  flows c (at_near (requests r)) is w h g = inl (refl, refl, ([], asks-way r w.near ∙ sym (append-nil w.near.way)))
+  flows c (at_near sends) is w h g = inl (refl, refl, (frames_by (answered next w.near), refl))
+  flows c (at_near receives) is w h g = inl (refl, refl, ([], first-way w.far.way w.near ∙ sym (append-nil w.near.way)))
+  flows c (at_far (requests r)) is w h g = inl (refl, omega (arith, h, g), ([], sym (append-nil w.near.way)))
+  flows c (at_far sends) is w h g = inl (refl, omega (arith, h, g), ([], sym (append-nil w.near.way)))
+  flows c (at_far receives) is w h g = flow-first c (own_link service tei w.far).r (own_link service tei (with_first_of w.near.way w.far)).r (own_link service tei w.near).s w.near.way h g
+  flows c other is w h g = absurd is
+
+  -- Once the first j frames in transit are received, so many I-frames are.
+  abbrev pub Comes : Config → ℕ → ℕ → ℕ → List (List ℕ) → Type 0
+  Comes c n j r way = (j ≤ length way) × (n ≤ r + infos (parts_in c (take j way)))
+
+  comes-same : (c : Config) (n j r r' : ℕ) (way new : List (List ℕ)) → r' ≡ r → Comes c n j r way → Comes c n j r' (way ++ new)
+  comes-same c n j r r' way new same (few, enough) =
+      let long = length-append way new in
+      let front = ap (λ x. infos (parts_in c x)) (take-front way new j few) in
+      (omega (arith, few, long), omega (arith, enough, front, same))
+
+  comes-first : (c : Config) (n j r : ℕ) (o : List ℕ) (way : List (List ℕ)) → Comes c n j r (o ∷ way) → Comes c n (j - 1) (r + infos (read_as c o)) way
+  comes-first c n zero r o way (few, enough) = (omega arith, omega (arith, enough))
+  comes-first c n (suc i) r o way (few, enough) =
+      let sum = infos-append (read_as c o) (parts_in c (take i way)) in
+      subst (λ j. Comes c n j (r + infos (read_as c o)) way) (let e : i ≡ suc i - 1 = omega arith in e) (omega (arith, few), omega (arith, enough, sum))
+
+  pub comes-on : (c : Config) (n t j r : ℕ) (way : List (List ℕ)) (r' : ℕ) (way' : List (List ℕ)) → Flows c t r way r' way' → Comes c n j r way → Comes c n (j - t) r' way'
+  comes-on c n t j r way r' way' (inl (none, same, (new, is))) h =
+      subst (λ x. Comes c n (j - t) r' x) (sym is) (subst (λ k. Comes c n k r' (way ++ new)) (let e : j ≡ j - t = omega (arith, none) in e) (comes-same c n j r r' way new same h))
+  comes-on c n t j r way r' way' (inr (one, (o, is, more))) h =
+      subst (λ k. Comes c n (j - k) r' way') (sym one) (subst (λ x. Comes c n (j - 1) x way') (sym more) (comes-first c n j r o way' (subst (Comes c n j r) is h)))
+
+  -- ---- acknowledgements from the far end
+
+  abbrev pub Heeds : Config → ℕ → ℕ → ℕ → List (List ℕ) → ℕ → List (List ℕ) → Type 0
+  Heeds d t a s back a' back' =
+      ((t ≡ 0) × (a' ≡ a) × ((new : List (List ℕ)) × (back' ≡ back ++ new)))
+      ⊎ ((t ≡ 1) × ((o : List ℕ) × (f : Parts) × (v : ℕ) × (back ≡ o ∷ back') × (read_as d o ≡ f ∷ []) × (a ≤ v) × (v ≤ s) × Says v f × (a' ≡ v)))
+
+  -- Once the first j frames in transit are received, so many I-frames are acknowledged.
+  abbrev pub Acks : Config → ℕ → ℕ → ℕ → ℕ → List (List ℕ) → Type 0
+  Acks d n hi j a back = (j ≤ length back) × Covers n hi a (parts_in d (take j back))
+
+  acks-same : (d : Config) (n hi j a a' : ℕ) (back new : List (List ℕ)) → a' ≡ a → Acks d n hi j a back → Acks d n hi j a' (back ++ new)
+  acks-same d n hi j a a' back new same (few, covers) =
+      let long = length-append back new in
+      (omega (arith, few, long), subst (λ x. Covers n hi x (parts_in d (take j (back ++ new)))) (sym same) (subst (λ x. Covers n hi a (parts_in d x)) (sym (take-front back new j few)) covers))
+
+  acks-first : (d : Config) (n hi j a s : ℕ) (o : List ℕ) (back : List (List ℕ)) (f : Parts) (v : ℕ) → s ≤ a + 127 → hi ≤ s → read_as d o ≡ f ∷ [] → a ≤ v → v ≤ s → Says v f
+      → Acks d n hi j a (o ∷ back) → Acks d n hi (j - 1) v back
+  acks-first d n hi zero a s o back f v near high read low up says (few, covers) = (omega arith, omega (arith, covers, low))
+  acks-first d n hi (suc i) a s o back f v near high read low up says (few, covers) =
+      subst (λ j. Acks d n hi j v back) (let e : i ≡ suc i - 1 = omega arith in e) (omega (arith, few), go (subst (λ xs. Covers n hi a (xs ++ parts_in d (take i back))) read covers))
+    where
+      go : Covers n hi a (f ∷ parts_in d (take i back)) → Covers n hi v (parts_in d (take i back))
+      go (w, lo, most, said, rest) =
+          subst (λ x. Covers n hi x (parts_in d (take i back))) (same-number a s w v lo (omega (arith, most, high)) low up near (sym said ∙ says)) rest
+
+  pub acks-on : (d : Config) (n hi t j a s : ℕ) (back : List (List ℕ)) (a' : ℕ) (back' : List (List ℕ)) → s ≤ a + 127 → hi ≤ s → Heeds d t a s back a' back' → Acks d n hi j a back → Acks d n hi (j - t) a' back'
+  acks-on d n hi t j a s back a' back' near high (inl (none, same, (new, is))) h =
+      subst (λ x. Acks d n hi (j - t) a' x) (sym is) (subst (λ k. Acks d n hi k a' (back ++ new)) (let e : j ≡ j - t = omega (arith, none) in e) (acks-same d n hi j a a' back new same h))
+  acks-on d n hi t j a s back a' back' near high (inr (one, (o, f, v, is, read, low, up, says, same))) h =
+      subst (λ k. Acks d n hi (j - k) a' back') (sym one)
+      (subst (λ x. Acks d n hi (j - 1) x back') (sym same) (acks-first d n hi j a s o back' f v near high read low up says (subst (Acks d n hi j a) is h)))
+
+  -- ---- two ends that are up
+
+  module _ (c d : Config) (p q : ℕ) (face : Face c d) (back : Face d c) (first second : Past) (w : Wire) (n m : LinkEndpoint) (h : Talk service tei c d p q first second w n m) where
+    pub own-near : own_link service tei w.near ≡ n.link
+    own-near = own-stands c p w.near n h.near.stands
+
+    pub own-far : own_link service tei w.far ≡ m.link
+    own-far = own-stands d q w.far m h.far.stands
+
+    pub counted-up : Counted c w
+    counted-up =
+        let there = own-far in let ways = ap (parts_in c) h.near.stands.way ∙ parts-are c n.way h.near.stands.carried in
+        (λ i. (there i).r + infos (ways i)) ∙ lane-counts n.terms n.link.contents m.link.r n.link.s m.link.a n.link.r n.link.pending n.way h.pair.there.lane
+        ∙ sym (ap (λ (l : Link). l.s) own-near)
+
+    pub window-near : (own_link service tei w.near).s ≤ (own_link service tei w.near).a + 127
+    window-near = subst (λ (l : Link). l.s ≤ l.a + 127) (sym own-near) (window n h.pair.near)
+
+    near-config : StationStands w.near.card.config service tei p w.near n
+    near-config = subst (λ k. StationStands k service tei p w.near n) (sym h.near.stands.config) h.near.stands
+
+    far-config : StationStands w.far.card.config service tei q w.far m
+    far-config = subst (λ k. StationStands k service tei q w.far m) (sym h.far.stands.config) h.far.stands
+
+    near-sent : (own_link service tei (happens next w.near)).a ≡ (own_link service tei w.near).a
+    near-sent =
+        ap (λ (l : Link). l.a) (own-stands w.near.card.config p (happens next w.near) (with_sent n) (gives-stands service tei p w.near n near-config))
+        ∙ (sent-stays n h.pair.near).0 ∙ sym (ap (λ (l : Link). l.a) own-near)
+
+    -- an end that was asked for a frame owes nothing
+    pub far-clears : (own_link service tei (happens next w.far)).pending ≡ false
+    far-clears =
+        ap (λ (l : Link). l.pending) (own-stands w.far.card.config q (happens next w.far) (with_sent m) (gives-stands service tei q w.far m far-config)) ∙ (sent-stays m h.pair.far).1
+
+    -- so all that it received is acknowledged by what is in transit
+    pub acks-all : (few : ℕ) → (own_link service tei w.far).pending ≡ false → few ≤ (own_link service tei w.far).r
+        → Acks d few (own_link service tei w.far).r (length w.far.way) (own_link service tei w.near).a w.far.way
+    acks-all few none enough =
+        let owed : m.link.pending ≡ false = sym (ap (λ (l : Link). l.pending) own-far) ∙ none in
+        let r = ap (λ (l : Link). l.r) own-far in
+        let ways = ap (parts_in d) (take-length w.far.way ∙ h.far.stands.way) ∙ parts-are d m.way h.far.stands.carried in
+        let covers = lane-covers few m.terms m.link.contents n.link.r m.link.s n.link.a m.link.r m.way (omega (arith, enough, r))
+        (subst (λ b. Laned b) owed h.pair.back.lane) in (
+          omega arith,
+          subst (Covers few (own_link service tei w.far).r (own_link service tei w.near).a) (sym ways)
+              (subst (λ x. Covers few x (own_link service tei w.near).a m.way) (sym r) (subst (λ (l : Link). Covers few m.link.r l.a m.way) (sym own-near) covers)),
+        )
+      where
+        Laned : Bool → Type 0
+        Laned b = Lane m.terms m.link.contents n.link.r m.link.s n.link.a m.link.r b m.way
+
+    asked-data : (octets : List ℕ) → (own_link service tei (happens (request (Data service tei octets)) w.near)).a ≡ (own_link service tei w.near).a
+    asked-data octets = go (holds-asked service tei p first c w.near n octets h.near)
+      where
+        s' : Endpoint
+        s' = happens (request (Data service tei octets)) w.near
+
+        go : (s' ≡ w.near) ⊎ More service tei p first c w.near s' n octets → (own_link service tei s').a ≡ (own_link service tei w.near).a
+        go (inl same) = ap (λ (s : Endpoint). (own_link service tei s).a) same
+        go (inr x) = ap (λ (l : Link). l.a) (own-stands c p s' (with_more octets n) x.holds.stands) ∙ sym (ap (λ (l : Link). l.a) own-near)
+
+    asked-a : (r : Request) → IsTalkOf service tei (requests r) → (own_link service tei (happens (request r) w.near)).a ≡ (own_link service tei w.near).a
+    asked-a (Data s t octets) is =
+        subst (λ s. (own_link service tei (happens (request (Data s t octets)) w.near)).a ≡ (own_link service tei w.near).a) (sym is.0)
+        (subst (λ t. (own_link service tei (happens (request (Data service t octets)) w.near)).a ≡ (own_link service tei w.near).a) (sym is.1) (asked-data octets))
+    asked-a other is = absurd is
+
+    -- the near end receives
+    abbrev Received : List (List ℕ) → Type 0
+    Received way =
+        Heeds d (one_if_any way) (own_link service tei w.near).a (own_link service tei w.near).s way (own_link service tei (with_first_of way w.near)).a (drop 1 way)
+
+    received-one : (f : Parts) (fs : List Parts) → m.way ≡ f ∷ fs → Received (spelling (own_side d) f ∷ map (spelling (own_side d)) fs)
+    received-one f fs e =
+        let carried = All-head (IsCarried d service tei) f fs (subst (All (IsCarried d service tei)) e h.far.stands.carried) in
+        let x = takes service tei p first c d face w.near n f h.near.stands carried in
+        let y = heeds m n h.pair.far h.pair.near h.pair.back h.pair.there f fs e in
+        let low = y.low in let up = y.up in let a = ap (λ (l : Link). l.a) own-near in let s = ap (λ (l : Link). l.s) own-near in
+        inr (refl, (
+          spelling (own_side d) f,
+          f,
+          y.v,
+          refl,
+          read-one d f carried,
+          omega (arith, low, a),
+          omega (arith, up, s),
+          y.says,
+          ap (λ (l : Link). l.a) (own-stands c p (frame_comes (spelling (own_side d) f) w.near) (with_link (received (frame f)) n) x.stands) ∙ y.is,
+        ))
+
+    receives-so : Received w.far.way
+    receives-so = subst Received (sym h.far.stands.way) (go m.way refl)
+      where
+        go : (way : List Parts) → m.way ≡ way → Received (map (spelling (own_side d)) m.way)
+        go [] e = subst (λ way. Received (map (spelling (own_side d)) way)) (sym e) (inl (refl, refl, ([], refl)))
+        go (f ∷ fs) e = subst (λ way. Received (map (spelling (own_side d)) way)) (sym e) (received-one f fs e)
+
+    pub heeds-step : (k : StepAt) → IsTalk service tei k
+        → Heeds d (near_takes k w) (own_link service tei w.near).a (own_link service tei w.near).s w.far.way (own_link service tei (doing k w).near).a (doing k w).far.way
+    heeds-step (at_near (requests r)) is = inl (refl, asked-a r is, ([], sym (append-nil w.far.way)))
+    heeds-step (at_near sends) is = inl (refl, near-sent, ([], sym (append-nil w.far.way)))
+    heeds-step (at_near receives) is = receives-so
+    heeds-step (at_far (requests r)) is = inl (refl, refl, ([], asks-way r w.far ∙ sym (append-nil w.far.way)))
+    heeds-step (at_far sends) is = inl (refl, refl, (frames_by (answered next w.far), refl))
+    heeds-step (at_far receives) is = inl (refl, refl, ([], first-way w.near.way w.far ∙ sym (append-nil w.far.way)))
+    heeds-step other is = absurd is

@@ -19,6 +19,8 @@ SHARED = {
     "Step": "laws_order",
     "Losses": "laws_wire",
     "Circuit": "laws_order",
+    "Beats": "laws_time",
+    "Rested": "laws_time",
     "Links": "model_link",
     "Both": "model_link",
     "Given": "laws_link",

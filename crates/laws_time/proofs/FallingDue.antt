@@ -12,7 +12,7 @@ unfoldable use Rattle.model_timed.specs.Timed.{after_all, events_of}
 use Rattle.model_timed.specs.TimersAreTrue.{length_of}
 use Rattle.model_timed.proofs.Orders.{now-stays, lengths-stay}
 use Rattle.laws_time.proofs.DueFirst.{all-steps}
-use Rattle.laws_time.specs.FallingDue.{count_due, EachRuns, FallingDueEnds}
+use Rattle.laws_time.specs.FallingDue.{count_due, EachRuns, EndsIn, FallingDueEnds}
 
 abbrev come_by : ℕ → Expiry → Bool
 come_by now x = nat_le x.moment now
@@ -132,7 +132,7 @@ module _ {Card Event : Type 0} (k : Kind Card Event) where
         | Some x ↦ λ is. none-due n (with_expiry k t x) (still-runs t x runs) (omega (arith, few, expired-fewer t x runs is))
       ]) refl
 
-  -- The moment stays where it was, and the lengths through all steps.
+  -- The moment stays where it was.
   fallen-now : (t : Timed Card) (d : Option Expiry) → (option_map_or (with_expiry k t) d t).clock.now ≡ t.clock.now
   fallen-now t None = refl
   fallen-now t (Some x) = expired-now t x
@@ -142,20 +142,6 @@ module _ {Card Event : Type 0} (k : Kind Card Event) where
   same-now zero t = refl
   same-now (suc n) t = same-now n (after k falls_due t) ∙ fallen-now t (due t.clock)
 
-  fallen-runs : (t : Timed Card) (d : Option Expiry) → EachRuns t.clock.lengths → EachRuns (option_map_or (with_expiry k t) d t).clock.lengths
-  fallen-runs t None runs = runs
-  fallen-runs t (Some x) runs = still-runs t x runs
-
-  step-runs : (t : Timed Card) (s : Step Event) → EachRuns t.clock.lengths → EachRuns (after k s t).clock.lengths
-  step-runs t (happens e) runs = subst EachRuns (sym (lengths-stay (k.line e) t.clock (k.orders e t.card))) runs
-  step-runs t (time moment) runs = runs
-  step-runs t falls_due runs = fallen-runs t (due t.clock) runs
-
-  all-run : (steps : List (Step Event)) (t : Timed Card) → EachRuns t.clock.lengths → EachRuns (after_all k steps t).clock.lengths
-  unfolding after_all
-  all-run [] t runs = runs
-  all-run (s ∷ steps) t runs = all-run steps (after k s t) (step-runs t s runs)
-
   later : (u : Timed Card) (n : ℕ) → IsInOrder is_before u.clock.running → EachRuns u.clock.lengths → count_due u.clock ≤ n
       → AllByRecursion (λ (x : Expiry). u.clock.now < x.moment) (after_all k (replicate n falls_due) u).clock.running
   later u n sorted runs few =
@@ -164,13 +150,11 @@ module _ {Card Event : Type 0} (k : Kind Card Event) where
       (none-come v.clock.running v.clock.now (all-steps k (replicate n falls_due) u sorted) (none-due n u runs few))
 
 pub falling-due-ends : {Card Event : Type 0} (k : Kind Card Event) → FallingDueEnds k
-falling-due-ends {Card} k = record {
-  fewer = fewer k;
-  bounded = λ t n. bounded k n t;
-  none_due = λ t n. none-due k n t;
-  later = λ card lengths steps n runs few.
-      let t : Timed Card = record { card = card; clock = stopped lengths } in
-      let u = after_all k steps t in
-      All-from_recursion (λ x. u.clock.now < x.moment) (after_all k (replicate n falls_due) u).clock.running
-      (later k u n (all-steps k steps t tt) (all-run k steps t runs) few);
+falling-due-ends k n t runs = record {
+  fewer = fewer k t runs;
+  bounded = bounded k n t runs;
+  none_due = none-due k n t runs;
+  later = λ card lengths steps from few.
+      All-from_recursion (λ x. t.clock.now < x.moment) (after_all k (replicate n falls_due) t).clock.running
+      (later k t n (subst (λ u. IsInOrder is_before u.clock.running) (sym from) (all-steps k steps (record { card = card; clock = stopped lengths }) tt)) runs few);
 }

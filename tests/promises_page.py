@@ -44,6 +44,7 @@ RUNS = {
     'frames_come_in_beats': 'laws_time circuit/WorkedInBeats',
     'no_answer_is_awaited_longer': 'laws_time ArrivalsWorked',
     'n200_takes_its_time': 'laws_time ArrivalsWorked',
+    'falling_due_ends': 'laws_time WorkedFallingDue',
     'timers_are_true': 'model_timed Worked', 'timers_run_the_same': 'model_timed WorkedOctets',
     'frames_are_heard': 'model_card ports/WorkedText', 'given_frames_are_heard': 'laws_trace octets/Worked',
     'frames_go_at_once': 'model_card ports/WorkedText', 'answers_are_heard': 'laws_trace octets/WorkedAnswers',

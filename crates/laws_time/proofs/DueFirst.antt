@@ -53,7 +53,7 @@ module _ {Card Event : Type 0} (k : Kind Card Event) where
   one-step t (time moment) h = h
   one-step t falls_due h = fallen t (due t.clock) h
 
-  all-steps : (steps : List (Step Event)) (t : Timed Card) → IsInOrder is_before t.clock.running → IsInOrder is_before (after_all k steps t).clock.running
+  pub all-steps : (steps : List (Step Event)) (t : Timed Card) → IsInOrder is_before t.clock.running → IsInOrder is_before (after_all k steps t).clock.running
   unfolding after_all
   all-steps [] t h = h
   all-steps (s ∷ steps) t h = all-steps steps (after k s t) (one-step t s h)

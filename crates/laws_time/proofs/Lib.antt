@@ -2,6 +2,7 @@
 pub mod TimedCards
 pub mod DueFirst
 pub mod CallersClocks
+pub mod FallingDue
 pub mod TimedFrames
 pub mod Moments
 pub mod Links

@@ -2,10 +2,12 @@
 pub mod Cards
 pub mod DueFirst
 pub mod CallersClocks
+pub mod FallingDue
 pub mod Watched
 pub mod Silence
 pub mod ArrivalsAwaited
 pub mod WorkedSilence
+pub mod WorkedFallingDue
 pub mod ArrivalsWorked
 pub mod ArrivalsUsedUp
 pub mod WorkedPremises

@@ -10,8 +10,8 @@ ghost use Rattle.model_timed.specs.Octets.{octets};
 /// still. It holds at any clock, so after new lengths, too. And from the start of a card on, each timer that runs then
 /// falls due later than this moment (`later`).
 ///
-/// So a caller's loop that lets timers fall due until none is due ends at each moment (`lapd_fall_due` of `lapd.h`). A
-/// timer that runs for no time would fall due for ever (`specs/WorkedFallingDue`).
+/// So a caller's loop that lets timers fall due at one moment until none is due ends (`lapd_fall_due` of `lapd.h`). If
+/// T200 ran for no time, an expiry could leave as many timers due as there were (`specs/WorkedFallingDue`).
 pub fn falling_due_ends()
     ensures frames { FallingDueEnds frames }
     ensures octets { FallingDueEnds octets }

@@ -1,5 +1,5 @@
 -- A call with clocks and without noise, beat by beat: no timer falls due.
-use Rattle.std.proofs.Common.{arith, ◌≡◌, ℕ, zero, suc, ◌+◌, ◌*◌, ◌/◌, ◌<◌, ◌≤◌, Bool, true, false, List, [], ◌∷◌, ◌++◌, length, drop, None, refl, sym, ap, ◌∙◌, subst, All, ◌⊎◌, inl, inr, append-nil, append_assoc, length-append}
+use Rattle.std.proofs.Common.{arith, ◌≡◌, ℕ, suc, ◌+◌, ◌*◌, ◌/◌, ◌<◌, ◌≤◌, Bool, true, false, List, [], ◌∷◌, ◌++◌, length, drop, refl, sym, ap, ◌∙◌, subst, All, ◌⊎◌, inl, inr, append-nil, append_assoc, length-append}
 use Rattle.std.specs.Prelude.{fold}
 use Rattle.std.proofs.Math.Nat.{mul-div-le}
 use Rattle.std.proofs.lemmas.Bool.{cases_lt}
@@ -10,26 +10,23 @@ use Rattle.model_link.specs.Link.{Link}
 use Rattle.model_line.specs.Sound.{IsInRange}
 use Rattle.model_card.specs.ports.Port as port
 use Rattle.model_card.specs.ports.Port.{left_of}
-use Rattle.model_timed.specs.Clock.{due}
 use Rattle.laws_line.proofs.OfCard.Meanwhile.{all-left, all-right}
 use Rattle.laws_order.specs.circuit.Beats.{longest}
-use Rattle.laws_order.specs.circuit.Circuit as circuit
-use Rattle.laws_order.specs.circuit.Circuit.{Endpoint, Circuit, sends, receives, at_near, at_far, doing, port_of, with_first_of}
+use Rattle.laws_order.specs.circuit.Circuit.{Endpoint, Circuit, sends, receives, at_near, at_far, doing, port_of}
 use Rattle.laws_time.specs.circuit.Answered.{IsClean}
-use Rattle.laws_time.specs.circuit.Clocked.{TimedEndpoint, Clocked, Beat, happens, asks, hears, comes_to, gone, beat, after, without_first_octet}
+use Rattle.laws_time.specs.circuit.Clocked.{TimedEndpoint, Clocked, Beat, happens, asks, hears, gone, beat, after, without_first_octet}
 use Rattle.laws_time.specs.circuit.InBeats.{AsksData, IsUndue, Begins}
 unfoldable use Rattle.laws_time.specs.circuit.InBeats.{NoneFallsDue}
 use Rattle.laws_time.specs.circuit.LongEnough.{Line}
 use Rattle.laws_time.proofs.OfCircuit.AckedBeats.{Now, done, done-append, beaten-is, Stands, stands-then, acked-then}
-use Rattle.laws_time.proofs.OfCircuit.AckedEnds.{its_link, same-link, Due, Timed, Held, beat-begins}
-use Rattle.laws_time.proofs.OfCircuit.AckedOn.{Open}
+use Rattle.laws_time.proofs.OfCircuit.AckedEnds.{same-link, Due, Held, beat-begins}
 use Rattle.laws_time.proofs.OfCircuit.AckedRings.{up-by}
 use Rattle.laws_time.proofs.OfCircuit.AckedSides.{cfg, rng, lens, end_of, link_of_end, now-one, EndTimed, IsUpAt, far-not-ringing}
 use Rattle.laws_time.proofs.OfCircuit.AckedStep.{ask_all, all-other, low-all, up-all, Asked, asks-run, pull-run, hear-run}
 use Rattle.laws_time.proofs.OfCircuit.AckedUndue.{none-due}
 use Rattle.laws_time.proofs.OfCircuit.Answered.{beats-then}
 use Rattle.laws_time.proofs.OfCircuit.Ends.{at_time}
-use Rattle.laws_time.proofs.OfCircuit.InBeatsAs.{Alike, Twin, twin-event, ran-way, first-way}
+use Rattle.laws_time.proofs.OfCircuit.InBeatsAs.{Twin, twin-event, ran-way, first-way}
 use Rattle.laws_time.proofs.OfCircuit.InBeatsDue.{early}
 use Rattle.laws_time.proofs.OfCircuit.InBeatsRun as run
 use Rattle.laws_time.proofs.OfCircuit.InBeatsRun.{undue-stays}

@@ -19,7 +19,7 @@
 ghost use Rattle.laws_time.specs.circuit.Answered.{AnEnquiryIsAnswered, CommandsAreAnswered, NoNoiseIsClear, OneEnquiryIsEnough};
 ghost use Rattle.laws_time.specs.circuit.Arriving.{CallsBearNoise};
 ghost use Rattle.laws_time.specs.circuit.Ends.{EndsAreTimedCards};
-ghost use Rattle.laws_time.specs.circuit.InBeats.{ACallComesInTime, ACallTakesBeats, AShortCallTakesBeats, FramesComeInBeats, MessagesTakeBeats, NoneFallsDueBefore, ShortMessagesTakeBeats};
+ghost use Rattle.laws_time.specs.circuit.InBeats.{ACallComesInTime, ACallTakesBeats, AShortCallTakesBeats, FramesComeInBeats, MessagesTakeBeats, NoneFallsDueBefore, ShortMessagesTakeBeats, T203FallsDueFirst};
 ghost use Rattle.laws_time.specs.circuit.InCall.{ACallOutlastsNoise, N200LastsInACall};
 ghost use Rattle.laws_time.specs.circuit.LongEnough.{AnswersComeInTime};
 ghost use Rattle.laws_time.specs.circuit.WorkedAnswered.{AnEnquiryIsMet};
@@ -136,13 +136,15 @@ pub fn frames_come_in_beats()
 
 /// A call comes in time. Two cards begin, one end calls, layer 3 of either end asks to send octets, and there is no noise,
 /// as [`a_call_takes_beats`] has it. T200 of each end runs for more than 3 L + 2 D octet times, and a millisecond more, as
-/// moments are whole. T203 of each end runs for as many octet times as the call takes at least.
+/// moments are whole.
 ///
-/// Then no timer falls due in the call, and (2 + 2 u) (2 L + D) octet times after the last request all is told, as that law
-/// has it. For whatever an end has sent is received L + D octet times later. In the next L a frame of the other end begins
-/// that acknowledges it, and L + D later that is received. At 16 kbit/s with 4 octets in transit T200 of 487 ms is long
-/// enough, and at 64 kbit/s with 16 one of 126 ms. (A T200 that is too short brings error C. A short T203 falls due, and
-/// so does T200 if noise takes SABME: `specs/circuit/WorkedInTime`.)
+/// If T203 of each end runs as long as the call, no timer falls due in it. So (2 + 2 u) (2 L + D) octet times after the last
+/// request all is told, as that law has it (`told`). However long T203 runs, it is the first that falls due (`first`), so
+/// until then that law holds. For whatever an end has sent is received L + D octet times later. In the next L a frame of
+/// the other end begins that acknowledges it, and L + D later that is received. At 16 kbit/s with 4 octets in transit
+/// T200 of 487 ms is long enough, and at 64 kbit/s with 16 one of 126 ms. (A T200 that is too short brings error C. A short
+/// T203 falls due, and so does T200 if noise takes SABME: `specs/circuit/WorkedInTime`.)
 pub fn a_call_comes_in_time()
-    ensures { ACallComesInTime }
+    ensures told { ACallComesInTime }
+    ensures first { T203FallsDueFirst }
 {}

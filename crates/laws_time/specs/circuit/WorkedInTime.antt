@@ -41,18 +41,18 @@ longest_of = refl
 basic_rate : RunsThrough (real_line 2 4 487) plain [] 19999
 basic_rate =
     let is = longest_of in let f = fit 2 4 487 (omega arith) (omega arith) (omega arith) (omega arith) in let l = real_line 2 4 487 in
-    record { begins = record { call = f.call; some = f.some; lengths = f.lengths }; data_alone = once (AsksData l) (nothing l); are_clean = once IsClean (refl, refl); t200 = (omega (arith, is), omega (arith, is)); t203 = (omega arith, omega arith) }
+    record { calm = record { begins = record { call = f.call; some = f.some; lengths = f.lengths }; data_alone = once (AsksData l) (nothing l); are_clean = once IsClean (refl, refl); t200 = (omega (arith, is), omega (arith, is)) }; t203 = (omega arith, omega arith) }
 
 basic_not : RunsThrough (real_line 2 4 486) plain [] 19999 → ⊥
-basic_not h = let is = longest_of in let t = h.t200.0 in omega (arith, is, t)
+basic_not h = let is = longest_of in let t = h.calm.t200.0 in omega (arith, is, t)
 
 primary_rate : RunsThrough (real_line 8 16 126) plain [] 79999
 primary_rate =
     let is = longest_of in let f = fit 8 16 126 (omega arith) (omega arith) (omega arith) (omega arith) in let l = real_line 8 16 126 in
-    record { begins = record { call = f.call; some = f.some; lengths = f.lengths }; data_alone = once (AsksData l) (nothing l); are_clean = once IsClean (refl, refl); t200 = (omega (arith, is), omega (arith, is)); t203 = (omega arith, omega arith) }
+    record { calm = record { begins = record { call = f.call; some = f.some; lengths = f.lengths }; data_alone = once (AsksData l) (nothing l); are_clean = once IsClean (refl, refl); t200 = (omega (arith, is), omega (arith, is)) }; t203 = (omega arith, omega arith) }
 
 primary_not : RunsThrough (real_line 8 16 125) plain [] 79999 → ⊥
-primary_not h = let is = longest_of in let t = h.t200.0 in omega (arith, is, t)
+primary_not h = let is = longest_of in let t = h.calm.t200.0 in omega (arith, is, t)
 
 -- On the line of an octet a millisecond, and of short frames, it is 56 ms. The call of `WorkedInBeats` meets all premises.
 abbrev line_with : ℕ → ℕ → Line
@@ -84,7 +84,7 @@ meets =
     let is : longest 8 ≡ 18 = refl in
     let last = All-cons (AsksData short_line) sends [] data_sent (All-nil (AsksData short_line)) in
     let clean_last = All-cons IsClean sends [] (refl, refl) (All-nil IsClean) in
-    record { begins = begins_so; data_alone = plain_all (AsksData short_line) (nothing short_line) 16 (sends ∷ []) last; are_clean = plain_all IsClean (refl, refl) 16 (sends ∷ []) clean_last; t200 = (omega (arith, is), omega (arith, is)); t203 = (omega arith, omega arith) }
+    record { calm = record { begins = begins_so; data_alone = plain_all (AsksData short_line) (nothing short_line) 16 (sends ∷ []) last; are_clean = plain_all IsClean (refl, refl) 16 (sends ∷ []) clean_last; t200 = (omega (arith, is), omega (arith, is)) }; t203 = (omega arith, omega arith) }
 
 -- T200 of 10 ms falls due before UA has come, and error C is told.
 abbrev impatient : Clocked

@@ -9,7 +9,7 @@
 //! `LongEnough`, and worked out in `WorkedLongEnough`. Answers that come are in `Answered` and `WorkedAnswered`. What a
 //! call through noise tells is in `Arriving`, and a run that meets its premises in `WorkedArriving`. How soon it comes
 //! through is in `InCall` and `WorkedInCall`. How many beats a call without noise takes is in `InBeats` and
-//! `WorkedInBeats`. Random and chosen runs broke nothing of what is open, if layer 3 asks for no unit data and is not
+//! `WorkedInBeats`, and with which T200 no timer falls due in it in `WorkedInTime`. Random and chosen runs broke nothing of what is open, if layer 3 asks for no unit data and is not
 //! busy, T200 is at least as long as an answer takes, and noise makes no frame.
 //!
 //! # Open
@@ -19,7 +19,7 @@
 ghost use Rattle.laws_time.specs.circuit.Answered.{AnEnquiryIsAnswered, CommandsAreAnswered, NoNoiseIsClear, OneEnquiryIsEnough};
 ghost use Rattle.laws_time.specs.circuit.Arriving.{CallsBearNoise};
 ghost use Rattle.laws_time.specs.circuit.Ends.{EndsAreTimedCards};
-ghost use Rattle.laws_time.specs.circuit.InBeats.{ACallComesInTime, ACallTakesBeats, AShortCallTakesBeats, FramesComeInBeats, MessagesTakeBeats, NoneFallsDueBefore, NoneFallsDueInACall, ShortMessagesTakeBeats};
+ghost use Rattle.laws_time.specs.circuit.InBeats.{ACallComesInTime, ACallTakesBeats, AShortCallTakesBeats, FramesComeInBeats, MessagesTakeBeats, NoneFallsDueBefore, ShortMessagesTakeBeats, T203FallsDueFirst};
 ghost use Rattle.laws_time.specs.circuit.InCall.{ACallOutlastsNoise, N200LastsInACall};
 ghost use Rattle.laws_time.specs.circuit.LongEnough.{AnswersComeInTime};
 ghost use Rattle.laws_time.specs.circuit.WorkedAnswered.{AnEnquiryIsMet};
@@ -114,11 +114,10 @@ pub fn no_noise_makes_no_frame()
 /// octet times after the last each end was told all that the other was granted since, and nothing else. After (1 + 2 u)
 /// (2 L + D) it is so if L is the longest frame that went by then (`short_since`).
 ///
-/// When no timer falls due is a matter of numbers (`undue`). Let none that runs at either end fall due before a moment,
-/// as `lapd_next_moment` says, and let each that is started run until then at least. Then none falls due before, whatever
-/// is asked for, and whatever noise there is. So the bounds hold of a call that is over within its first T200, and of a
-/// link at rest within T200, if T203 does not fall due. (A T200 that is too short brings error C,
-/// `specs/circuit/WorkedArriving`. Noise delays a call, `WorkedInBeats`.)
+/// When no timer falls due is a matter of numbers: of a call see [`a_call_comes_in_time`]. Let none that runs at either end
+/// fall due before a moment, as `lapd_next_moment` says, and let each that is started run until then at least. Then none
+/// falls due before, whatever is asked for, and whatever noise there is (`undue`). So the bounds hold of a link at rest
+/// within T200, if T203 does not fall due. (Noise delays a call, `specs/circuit/WorkedInBeats`.)
 pub fn a_call_takes_beats()
     ensures told { ACallTakesBeats }
     ensures short { AShortCallTakesBeats }
@@ -135,8 +134,17 @@ pub fn frames_come_in_beats()
     ensures { FramesComeInBeats }
 {}
 
-/// A call comes in time.
+/// A call comes in time. Two cards begin, one end calls, layer 3 of either end asks to send octets, and there is no noise,
+/// as [`a_call_takes_beats`] has it. T200 of each end runs for more than 3 L + 2 D octet times, and a millisecond more, as
+/// moments are whole.
+///
+/// If T203 of each end runs as long as the call, no timer falls due in it. So (2 + 2 u) (2 L + D) octet times after the last
+/// request all is told, as that law has it (`told`). However long T203 runs, it is the first that falls due (`first`), so
+/// until then that law holds. For whatever an end has sent is received L + D octet times later. In the next L a frame of
+/// the other end begins that acknowledges it, and L + D later that is received. At 16 kbit/s with 4 octets in transit
+/// T200 of 487 ms is long enough, and at 64 kbit/s with 16 one of 126 ms. (A T200 that is too short brings error C. A short
+/// T203 falls due, and so does T200 if noise takes SABME: `specs/circuit/WorkedInTime`.)
 pub fn a_call_comes_in_time()
-    ensures undue { NoneFallsDueInACall }
     ensures told { ACallComesInTime }
+    ensures first { T203FallsDueFirst }
 {}

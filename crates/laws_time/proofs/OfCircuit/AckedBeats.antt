@@ -1,9 +1,8 @@
 -- Beats of a call on the circuit without clocks: so many beats later all that an end has sent is acknowledged.
-use Rattle.std.proofs.Common.{arith, ◌≡◌, ℕ, zero, suc, ◌+◌, ◌*◌, ◌-◌, ◌<◌, ◌≤◌, List, [], ◌∷◌, ◌++◌, length, map, take, drop, refl, sym, ap, ◌∙◌, subst, All, ◌⊎◌, inl, inr, append-nil, append_assoc, length-append}
+use Rattle.std.proofs.Common.{arith, ◌≡◌, ℕ, suc, ◌+◌, ◌*◌, ◌<◌, ◌≤◌, List, [], ◌∷◌, ◌++◌, length, take, drop, refl, sym, ap, ◌∙◌, subst, All, inl, inr, length-append}
 use Rattle.std.specs.Prelude.{fold}
 use Rattle.std.proofs.lemmas.List.{length-drop, length-map, take-append-drop, length-take-le}
 use Rattle.std.proofs.lemmas.List.Elements.{All-nil, All-cons, All-head, All-tail, All-take, All-drop}
-use Rattle.model_bits.specs.Sent.{Item}
 use Rattle.model_bits.specs.Stream as stream
 use Rattle.model_bits.specs.Stream.{heard_in}
 use Rattle.model_line.specs.Request.{Request}
@@ -28,7 +27,6 @@ use Rattle.laws_order.specs.circuit.Circuit as circuit
 use Rattle.laws_order.specs.circuit.Circuit.{Endpoint, Circuit, StepAt, port_of, with_first_of}
 unfoldable use Rattle.laws_order.specs.circuit.Circuit.{doing_all}
 use Rattle.laws_order.proofs.OfCircuit.AsFrames.{as_endpoint}
-use Rattle.laws_order.proofs.OfCircuit.Coming.{IsBehind}
 use Rattle.laws_order.proofs.OfCircuit.OneWay.{Carries, framed}
 use Rattle.laws_order.proofs.OfCircuit.Projected.{as_wire, doings_meant, Fits, Follows, all-done}
 use Rattle.laws_order.proofs.OfCircuit.Ran.{Ran, few-left}

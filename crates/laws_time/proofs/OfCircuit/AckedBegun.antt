@@ -1,11 +1,11 @@
 -- A call with clocks and without noise: its first beat. So no timer falls due in a call of which T200 runs long enough.
-use Rattle.std.proofs.Common.{arith, ◌≡◌, ℕ, zero, suc, ◌+◌, ◌*◌, ◌/◌, ◌<◌, ◌≤◌, not, Bool, true, false, List, [], ◌∷◌, ◌++◌, length, drop, replicate, refl, sym, ap, ◌∙◌, subst, All, inl, inr, length-append}
+use Rattle.std.proofs.Common.{arith, ◌≡◌, ℕ, suc, ◌+◌, ◌*◌, ◌/◌, ◌<◌, ◌≤◌, not, Bool, true, false, List, [], ◌∷◌, ◌++◌, length, drop, replicate, refl, sym, ap, ◌∙◌, subst, All, Some, ◌⊎◌, inl, inr, length-append}
 use Rattle.std.specs.Prelude.{fold}
 use Rattle.std.specs.List.{AllByRecursion}
 use Rattle.std.proofs.lemmas.List.Elements.{All-nil, All-cons, All-head, All-tail, All-append}
 use Rattle.std.proofs.lemmas.List.{length-replicate}
 unfoldable use Rattle.model_bits.specs.Bits.{low_bits}
-use Rattle.lapd_clock.specs.Timer.{Lengths, AreInRange}
+use Rattle.lapd_clock.specs.Timer.{Lengths, AreInRange, T203}
 use Rattle.lapd_clock.specs.Timers.{Expiry}
 use Rattle.lapd_frame.specs.declared.services.Service.{Service}
 use Rattle.model_link.specs.declared.states.State.TheVariants.{TeiAssigned, Established}
@@ -14,16 +14,16 @@ use Rattle.model_line.specs.Line.{terms}
 use Rattle.model_line.specs.Request.{Request, Establish}
 use Rattle.model_line.specs.Sound.{IsInRange}
 use Rattle.model_line.specs.declared.config.Config.{Config}
-use Rattle.model_line.proofs.Ranges.{terms_in_range}
 use Rattle.model_card.specs.ports.Port as port
 use Rattle.model_card.specs.ports.Port.{left_of}
-use Rattle.model_timed.specs.Clock.{stopped, obeyed}
-use Rattle.model_timed.specs.Octets.{orders_in as octet_orders}
+use Rattle.model_timed.specs.Clock.{stopped, obeyed, due}
 use Rattle.laws_wire.specs.Call as call
 use Rattle.laws_wire.proofs.Beginning as beginning
 use Rattle.laws_wire.proofs.Calling.{end}
 use Rattle.laws_wire.proofs.Standing.{StationStands}
 use Rattle.laws_wire.proofs.Talking.{Face}
+use Rattle.laws_line.proofs.OfCard.Meanwhile.{all-left, all-right}
+use Rattle.laws_order.specs.circuit.Beats.{longest}
 use Rattle.laws_order.specs.circuit.Circuit as circuit
 use Rattle.laws_order.specs.circuit.Circuit.{Endpoint, Circuit, receives, at_near, at_far, doing, port_of, answered, with_first_of}
 use Rattle.laws_order.specs.circuit.Through.{assigned}
@@ -32,17 +32,16 @@ use Rattle.laws_order.proofs.OfCircuit.Projected.{as_wire, port-after}
 use Rattle.laws_order.proofs.OfCircuit.Ran.{Ran, goes-on, within-ports}
 use Rattle.laws_time.specs.circuit.Answered.{IsClean}
 use Rattle.laws_time.specs.circuit.Arriving.{calls}
-use Rattle.laws_time.specs.circuit.Clocked.{TimedEndpoint, Clocked, Beat, plain, endpoint, happens, asks, hears, gone, beat, after, flags, without_first_octet}
-use Rattle.laws_time.specs.circuit.InBeats.{AsksData, IsUndue, Begins, RunsThrough, NoneFallsDueInACall, ACallComesInTime}
+use Rattle.laws_time.specs.circuit.Clocked.{TimedEndpoint, Clocked, Beat, plain, after, endpoint, happens, asks, hears, gone, beat, flags, without_first_octet}
+use Rattle.laws_time.specs.circuit.InBeats.{AsksData, IsUndue, Begins, ACallComesInTime, T203FallsDueFirst}
 unfoldable use Rattle.laws_time.specs.circuit.InBeats.{NoneFallsDue}
-use Rattle.laws_time.specs.circuit.LongEnough.{Line, begins}
+use Rattle.laws_time.specs.circuit.LongEnough.{Line, asked, begins}
 unfoldable use Rattle.laws_time.specs.circuit.LongEnough.{pulling}
-use Rattle.laws_time.proofs.OfCircuit.AckedBeats.{Now, done, none-done, Stands}
+use Rattle.laws_time.proofs.OfCircuit.AckedBeats.{Now, none-done, Stands}
 use Rattle.laws_time.proofs.OfCircuit.AckedCall.{Moves}
 use Rattle.laws_time.proofs.OfCircuit.AckedEnds.{its_link, Facts, facts-as, same-link, Due, Timed, timed-then, Held, beat-begins}
-use Rattle.laws_time.proofs.OfCircuit.AckedOn.{Open}
 use Rattle.laws_time.proofs.OfCircuit.AckedOurs.{establish-ours, pull-ours}
-use Rattle.laws_time.proofs.OfCircuit.AckedRun.{EndHeld, beat-ends, OldAt, At, none-falls-due}
+use Rattle.laws_time.proofs.OfCircuit.AckedRun.{EndHeld, beat-ends, OldAt, At, near-first, far-first, none-falls-due, at-all}
 use Rattle.laws_time.proofs.OfCircuit.AckedSides.{cfg, rng, lens, end_of, link_of_end, face, facts, now-one, EndTimed, OnWire, none-moves}
 use Rattle.laws_time.proofs.OfCircuit.AckedStep.{ask_all, all-own, all-other, Asked, asks-run, hear-run}
 use Rattle.laws_time.proofs.OfCircuit.AckedWire.{own-stands}
@@ -353,25 +352,46 @@ module _ (l : Line) (fit : Begins l) (b : Beat) (data_alone : AsksData l b) (is_
   }
 
   -- The rest of the call.
-  pub begun-undue : (bs : List Beat) → All (AsksData l) bs → All IsClean bs → RunsThrough l (suc (length bs)) l.lengths → RunsThrough l (suc (length bs)) l.far_lengths → NoneFallsDue l.rate (calls l b ∷ bs) (begins l)
-  unfolding NoneFallsDue
-  begun-undue bs all clean_all h far = let here = h.t203 in let there = far.t203 in (
-    undue-both.0,
-    undue-both.1,
-    none-falls-due l fit w1 (both_hear v2.near v2.far) refl stands-first few-left h.t200 far.t200 bs [] all clean_all at-first (omega (arith, here)) (omega (arith, there)),
-  )
+  module _ (bs : List Beat) (all : All (AsksData l) bs) (clean_all : All IsClean bs) (long : 3 * longest l.near.n201 + 2 * l.way + l.rate < l.lengths.t200 * l.rate) (long_far : 3 * longest l.near.n201 + 2 * l.way + l.rate < l.far_lengths.t200 * l.rate) where
+    pub begun-undue : suc (length bs) ≤ l.lengths.t203 * l.rate → suc (length bs) ≤ l.far_lengths.t203 * l.rate → NoneFallsDue l.rate (calls l b ∷ bs) (begins l)
+    unfolding NoneFallsDue
+    begun-undue here there = (
+      undue-both.0,
+      undue-both.1,
+      none-falls-due l fit w1 (both_hear v2.near v2.far) refl stands-first few-left long long_far bs [] all clean_all at-first (omega (arith, here)) (omega (arith, there)),
+    )
 
-pub none-falls-due-in-a-call : NoneFallsDueInACall
-none-falls-due-in-a-call l b bs fit all clean_all h far =
-    begun-undue l fit b (All-head (AsksData l) b bs all) (All-head IsClean b bs clean_all) bs (All-tail (AsksData l) b bs all) (All-tail IsClean b bs clean_all) h far
+    rest-of : NoneFallsDue l.rate (calls l b ∷ bs) (begins l) → NoneFallsDue l.rate bs (beat l.rate (begins l) (calls l b))
+    unfolding NoneFallsDue
+    rest-of none = none.2
+
+    pub at-end : NoneFallsDue l.rate (calls l b ∷ bs) (begins l) → At l fit w1 (both_hear v2.near v2.far) refl stands-first few-left bs
+    at-end none = at-all l fit w1 (both_hear v2.near v2.far) refl stands-first few-left long long_far bs [] all clean_all at-first (rest-of none)
+
+    pub first-is : (c : Beat) → AsksData l c → IsClean c → NoneFallsDue l.rate (calls l b ∷ bs) (begins l) → (x : Expiry) → let w = after l.rate (calls l b ∷ bs) (begins l) in
+        (due (asked (w.beats / l.rate) c.near_asks w.near).clock ≡ Some x) ⊎ (due (asked (w.beats / l.rate) c.far_asks w.far).clock ≡ Some x) → x.timer ≡ T203 l.service l.tei
+    first-is c data_c clean_c none x = λ either. go either
+      where
+        go : (due (asked ((after l.rate (calls l b ∷ bs) (begins l)).beats / l.rate) c.near_asks (after l.rate (calls l b ∷ bs) (begins l)).near).clock ≡ Some x) ⊎ (due (asked ((after l.rate (calls l b ∷ bs) (begins l)).beats / l.rate) c.far_asks (after l.rate (calls l b ∷ bs) (begins l)).far).clock ≡ Some x) → x.timer ≡ T203 l.service l.tei
+        go (inl near) = near-first l fit w1 (both_hear v2.near v2.far) refl stands-first few-left bs (at-end none) c data_c clean_c long long_far x near
+        go (inr far) = far-first l fit w1 (both_hear v2.near v2.far) refl stands-first few-left bs (at-end none) c data_c clean_c long long_far x far
 
 pub a-call-comes-in-time : ACallComesInTime
-a-call-comes-in-time l b bs n fit all clean_all h far =
-    let plains = replicate n plain in
-    let data_alone = All-append (AsksData l) (b ∷ bs) plains all (run.plain-data l fit.call.near.0 fit.call.far.0 n) in
-    let are_clean = All-append IsClean (b ∷ bs) plains clean_all (run.plain-clean n) in
-    let long = length-append bs plains ∙ ap (λ k. length bs + k) (length-replicate {A = Beat} n plain) in
-    a-call-takes-beats l b bs n fit.call all clean_all (none-falls-due-in-a-call l b (bs ++ plains) fit data_alone are_clean (through l.lengths long h) (through l.far_lengths long far))
+a-call-comes-in-time l b bs n h = (none-due-in, a-call-takes-beats l b bs n h.calm.begins.call h.calm.data_alone h.calm.are_clean none-due-in)
   where
-    through : (ls : Lengths) → length (bs ++ replicate n plain) ≡ length bs + n → RunsThrough l (length (b ∷ bs) + n) ls → RunsThrough l (length (b ∷ (bs ++ replicate n plain))) ls
-    through ls long h = let t = h.t203 in record { t200 = h.t200; t203 = omega (arith, long, t) }
+    long : length (bs ++ replicate n plain) ≡ length bs + n
+    long = length-append bs (replicate n plain) ∙ ap (λ k. length bs + k) (length-replicate {A = Beat} n plain)
+
+    none-due-in : NoneFallsDue l.rate (calls l b ∷ bs ++ replicate n plain) (begins l)
+    none-due-in =
+        let is = long in let here = h.t203.0 in let there = h.t203.1 in
+        begun-undue l h.calm.begins b (All-head (AsksData l) b bs h.calm.data_alone) (All-head IsClean b bs h.calm.are_clean) (bs ++ replicate n plain)
+        (All-append (AsksData l) bs (replicate n plain) (All-tail (AsksData l) b bs h.calm.data_alone) (run.plain-data l h.calm.begins.call.near.0 h.calm.begins.call.far.0 n))
+        (All-append IsClean bs (replicate n plain) (All-tail IsClean b bs h.calm.are_clean) (run.plain-clean n)) h.calm.t200.0 h.calm.t200.1 (omega (arith, is, here)) (omega (arith, is, there))
+
+pub t203-falls-due-first : T203FallsDueFirst
+t203-falls-due-first l b c bs x h first =
+    let data_all = All-tail (AsksData l) b (bs ++ c ∷ []) h.data_alone in let clean_all = All-tail IsClean b (bs ++ c ∷ []) h.are_clean in
+    let last = All-head (AsksData l) c [] (all-right (AsksData l) bs (c ∷ []) data_all) in let last_clean = All-head IsClean c [] (all-right IsClean bs (c ∷ []) clean_all) in
+    first-is l h.begins b (All-head (AsksData l) b (bs ++ c ∷ []) h.data_alone) (All-head IsClean b (bs ++ c ∷ []) h.are_clean) bs (all-left (AsksData l) bs (c ∷ []) data_all) (all-left IsClean bs (c ∷ []) clean_all)
+    h.t200.0 h.t200.1 c last last_clean first.before x first.now

@@ -1,12 +1,11 @@
 -- An end of a call with its clock: what is kept by an event, and by a beat.
-use Rattle.std.proofs.Common.{arith, ◌≡◌, ℕ, ◌+◌, ◌<◌, ◌≤◌, List, [], ◌∷◌, ◌++◌, length, Option, Some, None, refl, sym, ap, ◌∙◌, subst, ◌⊎◌, inl, inr}
+use Rattle.std.proofs.Common.{arith, ◌≡◌, ℕ, ◌+◌, ◌<◌, ◌≤◌, List, Option, Some, None, refl, sym, ap, ◌∙◌, subst, ◌⊎◌, inl, inr}
 use Rattle.std.specs.List.{AllByRecursion}
 use Rattle.lapd_clock.specs.Moments.{moment_of}
 use Rattle.lapd_clock.specs.Timer.{Lengths, duration}
 use Rattle.lapd_clock.specs.Timers.{Expiry}
 use Rattle.lapd_frame.specs.declared.services.Service.{Service}
 use Rattle.lapd_frame.specs.declared.timers.Timer.TheVariants as timers
-use Rattle.model_link.specs.declared.states.State.{State}
 use Rattle.model_link.specs.declared.states.State.TheVariants.{AwaitingEstablishment, Established}
 use Rattle.model_link.specs.Link.{Link}
 use Rattle.model_link.specs.TwoEnds.{Endpoint as LinkEndpoint}
@@ -17,7 +16,7 @@ use Rattle.model_line.specs.declared.config.Config.{Config}
 use Rattle.model_card.specs.Card.{Card, line_at}
 use Rattle.model_card.specs.ports.Event.{at as octet_at}
 use Rattle.model_card.specs.ports.Port as port
-use Rattle.model_timed.specs.Clock.{Clock, obeyed}
+use Rattle.model_timed.specs.Clock.{Clock}
 use Rattle.model_timed.specs.Octets.{orders_in as octet_orders}
 use Rattle.laws_wire.proofs.Standing.{StationStands}
 use Rattle.laws_order.specs.circuit.Circuit.{Endpoint, answered}
@@ -27,7 +26,7 @@ use Rattle.laws_time.specs.circuit.Clocked.{TimedEndpoint, happens}
 use Rattle.laws_time.proofs.Moments.{now-stays, lengths-stay}
 use Rattle.laws_time.proofs.OctetsMean.{meant_at}
 use Rattle.laws_time.proofs.OfCircuit.AckedCall.{Moves}
-use Rattle.laws_time.proofs.OfCircuit.AckedEvents.{IsNoExpiry, link_now, t200_at, none-happens, Runs, runs-then}
+use Rattle.laws_time.proofs.OfCircuit.AckedEvents.{IsNoExpiry, t200_at, none-happens, Runs, runs-then}
 use Rattle.laws_time.proofs.OfCircuit.AckedOn.{Open}
 use Rattle.laws_time.proofs.OfCircuit.AckedTimers.{IsFine, Awaits}
 use Rattle.laws_time.proofs.OfCircuit.Ends.{at_time}

@@ -1,5 +1,5 @@
 -- T200 of an end in a call, event by event: until when it runs at least, by what is not acknowledged yet.
-use Rattle.std.proofs.Common.{arith, ◌≡◌, ℕ, ◌+◌, ◌%◌, ◌<◌, ◌≤◌, ◌==◌, ◌&&◌, ◌||◌, not, Bool, true, false, cond, List, [], ◌∷◌, ◌++◌, length, Option, Some, None, is_some, option_map, refl, sym, ap, ◌∙◌, subst, ◌⊎◌, inl, inr, eqb-true}
+use Rattle.std.proofs.Common.{arith, ◌≡◌, ℕ, ◌+◌, ◌%◌, ◌<◌, ◌==◌, ◌&&◌, ◌||◌, not, Bool, true, false, List, [], ◌∷◌, ◌++◌, Option, Some, None, is_some, option_map, refl, sym, ap, ◌∙◌, subst, ◌⊎◌, inl, inr, eqb-true}
 use Rattle.std.specs.Prelude.{fold, nat_lt}
 use Rattle.std.proofs.lemmas.List.Elements.{All-append, All-cons, All-nil}
 use Rattle.lapd_clock.specs.Moments.{moment_of}
@@ -29,14 +29,12 @@ use Rattle.model_card.specs.ports.Port as port
 use Rattle.model_card.specs.ports.Run.{meant_all}
 use Rattle.model_timed.specs.Clock.{Clock, obeyed}
 use Rattle.model_timed.specs.Frames.{TimedCard}
-use Rattle.model_timed.specs.Octets.{orders_in as octet_orders}
 use Rattle.laws_trace.specs.Managing.{is_on}
 use Rattle.laws_trace.specs.News.{brings}
 use Rattle.laws_trace.specs.Observer.{Observed, View, view_of, view_behind, moment_of as moment_at, awaits, by_event, by_frame_begun}
 use Rattle.laws_trace.specs.TimersAreTimely.{is_anew, renews}
 use Rattle.laws_trace.specs.Trace.{frame_in}
 use Rattle.laws_trace.proofs.ObservedLaws.{on-line-now}
-use Rattle.laws_order.specs.circuit.Circuit.{answered}
 use Rattle.laws_order.proofs.OfCircuit.Ran.{Ran}
 use Rattle.laws_time.specs.circuit.Clocked.{TimedEndpoint, happens}
 use Rattle.laws_time.specs.circuit.Ends.{card_of}

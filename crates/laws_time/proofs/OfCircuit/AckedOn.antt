@@ -1,40 +1,33 @@
 -- A call on a wire: after SABME and UA both ends are up; and what each has sent is acknowledged in so many frames.
-use Rattle.std.proofs.Common.{arith, ◌≡◌, ℕ, zero, suc, ◌+◌, ◌-◌, ◌≤◌, Bool, true, false, List, [], ◌∷◌, ◌++◌, length, map, take, None, Some, refl, sym, ap, ◌∙◌, subst, All, ◌⊎◌, inl, inr, length-append}
+use Rattle.std.proofs.Common.{arith, ◌≡◌, ℕ, zero, suc, ◌+◌, ◌-◌, ◌≤◌, false, List, [], ◌∷◌, length, map, refl, sym, ap, ◌∙◌, subst, All, ◌⊎◌, inl, inr}
 use Rattle.std.proofs.Math.Seq.{take-length}
 use Rattle.std.proofs.lemmas.List.Elements.{All-nil, All-cons, All-head, All-tail}
 use Rattle.lapd_frame.specs.declared.services.Service.{Service}
-use Rattle.lapd_frame.specs.Grammar.{Parts}
-use Rattle.lapd_frame.specs.Senders.{spelling}
-use Rattle.model_link.specs.declared.states.State.{State}
 use Rattle.model_link.specs.declared.states.State.TheVariants.{TeiAssigned, AwaitingEstablishment, Established}
 use Rattle.model_link.specs.declared.terms.Terms.{Terms}
-use Rattle.model_link.specs.Events.{frame, received}
 use Rattle.model_link.specs.Link.{Link, fresh}
 use Rattle.model_link.specs.Sound.{IsInRange}
-use Rattle.model_link.specs.TwoEnds.{Endpoint as LinkEndpoint, with_link, with_sent}
-use Rattle.model_line.specs.Event.{next}
+use Rattle.model_link.specs.TwoEnds.{Endpoint as LinkEndpoint}
 use Rattle.model_line.specs.Line.{terms}
-use Rattle.model_line.specs.Taken.{own_side}
 use Rattle.model_line.specs.declared.config.Config.{Config}
 use Rattle.laws_link.proofs.OfTwo.AnyOrder.{Steady}
 use Rattle.laws_link.proofs.OfTwo.AnyOrderRuns.{Pair}
 use Rattle.laws_wire.specs.Call.{IsTalk, confirmed, indicated}
 use Rattle.laws_wire.specs.Facing.{own_link}
-use Rattle.laws_wire.specs.Wire.{Endpoint, Wire, Step, StepAt, requests, sends, receives, at_near, at_far, acting, turned, doing, happens, with_first_of, frame_comes, frames_by, answered}
+use Rattle.laws_wire.specs.Wire.{Wire, Step, StepAt, requests, sends, receives, at_near, at_far, turned, doing}
 unfoldable use Rattle.laws_wire.specs.Wire.{doing_all}
-use Rattle.laws_wire.proofs.Answered.{asks-way, takes-way}
 use Rattle.laws_wire.proofs.BothHalf as half
 use Rattle.laws_wire.proofs.BothPhases.{Goes}
-use Rattle.laws_wire.proofs.Calling.{sabme, ua, asked, awaiting, answering, caller, end, takes-sabme, with_ua_waiting, with_ua_first, sends-ua}
+use Rattle.laws_wire.proofs.Calling.{sabme, asked, awaiting, caller, end, with_ua_waiting, with_ua_first}
 use Rattle.laws_wire.proofs.Quiet.{Both, turned-both}
 use Rattle.laws_wire.proofs.Run.{runs}
-use Rattle.laws_wire.proofs.Standing.{IsCarried, StationStands, gives-stands}
-use Rattle.laws_wire.proofs.Talking.{Face, Past, unheard, after_note, Holds, takes}
-use Rattle.laws_wire.proofs.Up.{Talk, pair_of, turned-pair}
-use Rattle.laws_time.proofs.OfCircuit.AckedLinks.{infos, infos-append, lane-counts, window}
-use Rattle.laws_time.proofs.OfCircuit.AckedWire.{own-stands, parts_in, parts-are, one_if_any, takes_of, near_takes, far_takes, Counted, Flows, flows, Comes, comes-on, counted-up}
+use Rattle.laws_wire.proofs.Standing.{StationStands}
+use Rattle.laws_wire.proofs.Talking.{Face, Past, unheard, after_note, Holds}
+use Rattle.laws_wire.proofs.Up.{pair_of, turned-pair}
+use Rattle.laws_time.proofs.OfCircuit.AckedLinks.{infos, lane-counts, window}
+use Rattle.laws_time.proofs.OfCircuit.AckedWire.{own-stands, parts_in, parts-are, one_if_any, near_takes, far_takes, Counted, Flows, flows, Comes, comes-on, counted-up}
 unfoldable use Rattle.laws_time.proofs.OfCircuit.AckedCall.{sum_all}
-use Rattle.laws_time.proofs.OfCircuit.AckedCall.{near_sends, far_sends, turn, turn-all, takes-turned, sends-turned, sum-turned, talks-turned, grows, Moves, moves, Up, up-step, up-all, acknowledged-then}
+use Rattle.laws_time.proofs.OfCircuit.AckedCall.{near_sends, far_sends, turn, turn-all, takes-turned, sends-turned, sum-turned, talks-turned, grows, Moves, moves, Up, up-all, acknowledged-then}
 use Rattle.laws_time.proofs.OfCircuit.InBeatsCall.{are-calls, none-call}
 
 -- A link in state 7.

@@ -1,12 +1,10 @@
 -- Beats of a call on the circuit without clocks: so many beats after SABME was put both ends are up.
-use Rattle.std.proofs.Common.{arith, ◌≡◌, ℕ, true, false, zero, suc, ◌+◌, ◌*◌, ◌-◌, ◌<◌, ◌≤◌, List, [], ◌∷◌, ◌++◌, length, take, drop, refl, sym, ap, ◌∙◌, subst, All, ◌⊎◌, inl, inr, length-append}
-use Rattle.std.proofs.lemmas.List.{length-drop, length-map, take-append-drop, length-take-le}
+use Rattle.std.proofs.Common.{arith, ◌≡◌, true, false, ◌+◌, ◌*◌, ◌<◌, ◌≤◌, List, ◌∷◌, length, take, drop, refl, sym, ap, ◌∙◌, subst, All, inl, inr, length-append}
+use Rattle.std.proofs.lemmas.List.{length-drop, take-append-drop, length-take-le}
 use Rattle.std.proofs.lemmas.List.Elements.{All-take, All-drop}
-use Rattle.model_bits.specs.Stream as stream
 use Rattle.model_link.specs.declared.states.State.TheVariants.{Established}
 use Rattle.model_line.proofs.Ranges.{terms_in_range}
 use Rattle.model_card.specs.ports.Port.{left_of}
-use Rattle.laws_wire.specs.Call.{IsTalk}
 use Rattle.laws_wire.specs.Facing.{own_link}
 use Rattle.laws_wire.specs.Wire as wire
 use Rattle.laws_wire.specs.Wire.{Wire}
@@ -18,7 +16,7 @@ use Rattle.laws_time.specs.circuit.Clocked.{Beat}
 use Rattle.laws_time.specs.circuit.InBeats.{AsksData, Begins}
 use Rattle.laws_time.specs.circuit.LongEnough.{Line}
 use Rattle.laws_time.proofs.OfCircuit.AckedBeats.{Now, Went, goes, tally, HasHeard, heard-all, done, done-append, data-steps, Stands, stands-then, ahead, asked-far, heard-far, heard-near}
-use Rattle.laws_time.proofs.OfCircuit.AckedCall.{sum_all, far_sends, near_sends}
+use Rattle.laws_time.proofs.OfCircuit.AckedCall.{sum_all, far_sends}
 use Rattle.laws_time.proofs.OfCircuit.AckedOn as on
 use Rattle.laws_time.proofs.OfCircuit.AckedSides.{face, IsUpAt}
 use Rattle.laws_time.proofs.OfCircuit.AckedTally.{put_at}

@@ -1,10 +1,12 @@
 -- A call with clocks and without noise, beat by beat: no timer falls due.
-use Rattle.std.proofs.Common.{arith, ◌≡◌, ℕ, zero, suc, ◌+◌, ◌*◌, ◌/◌, ◌<◌, ◌≤◌, Bool, true, false, List, [], ◌∷◌, ◌++◌, length, drop, None, refl, sym, ap, ◌∙◌, subst, All, ◌⊎◌, inl, inr, append-nil, append_assoc, length-append}
+use Rattle.std.proofs.Common.{arith, ◌≡◌, ℕ, suc, ◌+◌, ◌*◌, ◌/◌, ◌<◌, ◌≤◌, Bool, true, false, List, [], ◌∷◌, ◌++◌, length, drop, refl, sym, ap, ◌∙◌, subst, All, Some, ◌⊎◌, inl, inr, append-nil, append_assoc, length-append}
 use Rattle.std.specs.Prelude.{fold}
 use Rattle.std.proofs.Math.Nat.{mul-div-le}
 use Rattle.std.proofs.lemmas.Bool.{cases_lt}
 use Rattle.std.proofs.lemmas.List.Elements.{All-nil, All-cons, All-head, All-tail, All-append}
 use Rattle.std.proofs.lemmas.List.Sums.{fold-append}
+use Rattle.lapd_clock.specs.Timers.{Expiry}
+use Rattle.lapd_frame.specs.declared.timers.Timer.TheVariants as timers
 use Rattle.model_link.specs.declared.states.State.TheVariants.{AwaitingEstablishment, Established}
 use Rattle.model_link.specs.Link.{Link}
 use Rattle.model_line.specs.Sound.{IsInRange}
@@ -13,23 +15,22 @@ use Rattle.model_card.specs.ports.Port.{left_of}
 use Rattle.model_timed.specs.Clock.{due}
 use Rattle.laws_line.proofs.OfCard.Meanwhile.{all-left, all-right}
 use Rattle.laws_order.specs.circuit.Beats.{longest}
-use Rattle.laws_order.specs.circuit.Circuit as circuit
-use Rattle.laws_order.specs.circuit.Circuit.{Endpoint, Circuit, sends, receives, at_near, at_far, doing, port_of, with_first_of}
+use Rattle.laws_order.specs.circuit.Circuit.{Endpoint, Circuit, sends, receives, at_near, at_far, doing, port_of}
 use Rattle.laws_time.specs.circuit.Answered.{IsClean}
-use Rattle.laws_time.specs.circuit.Clocked.{TimedEndpoint, Clocked, Beat, happens, asks, hears, comes_to, gone, beat, after, without_first_octet}
+use Rattle.laws_time.specs.circuit.Clocked.{TimedEndpoint, Clocked, Beat, happens, asks, hears, gone, beat, after, without_first_octet}
 use Rattle.laws_time.specs.circuit.InBeats.{AsksData, IsUndue, Begins}
 unfoldable use Rattle.laws_time.specs.circuit.InBeats.{NoneFallsDue}
 use Rattle.laws_time.specs.circuit.LongEnough.{Line}
 use Rattle.laws_time.proofs.OfCircuit.AckedBeats.{Now, done, done-append, beaten-is, Stands, stands-then, acked-then}
-use Rattle.laws_time.proofs.OfCircuit.AckedEnds.{its_link, same-link, Due, Timed, Held, beat-begins}
+use Rattle.laws_time.proofs.OfCircuit.AckedEnds.{same-link, Due, Held, beat-begins}
 use Rattle.laws_time.proofs.OfCircuit.AckedOn.{Open}
 use Rattle.laws_time.proofs.OfCircuit.AckedRings.{up-by}
 use Rattle.laws_time.proofs.OfCircuit.AckedSides.{cfg, rng, lens, end_of, link_of_end, now-one, EndTimed, IsUpAt, far-not-ringing}
 use Rattle.laws_time.proofs.OfCircuit.AckedStep.{ask_all, all-other, low-all, up-all, Asked, asks-run, pull-run, hear-run}
-use Rattle.laws_time.proofs.OfCircuit.AckedUndue.{none-due}
+use Rattle.laws_time.proofs.OfCircuit.AckedUndue.{is-t203, none-due}
 use Rattle.laws_time.proofs.OfCircuit.Answered.{beats-then}
 use Rattle.laws_time.proofs.OfCircuit.Ends.{at_time}
-use Rattle.laws_time.proofs.OfCircuit.InBeatsAs.{Alike, Twin, twin-event, ran-way, first-way}
+use Rattle.laws_time.proofs.OfCircuit.InBeatsAs.{Twin, twin-event, ran-way, first-way}
 use Rattle.laws_time.proofs.OfCircuit.InBeatsDue.{early}
 use Rattle.laws_time.proofs.OfCircuit.InBeatsRun as run
 use Rattle.laws_time.proofs.OfCircuit.InBeatsRun.{undue-stays}
@@ -247,8 +248,7 @@ module _ (l : Line) (fit : Begins l) where
               let then = subst (λ n. n / l.rate < length ps / l.rate + (lens l fit b).t200) (sym same) early in
               absurd (omega (arith, then, later, soon))
 
-      module _ (b : Beat) (data_alone : AsksData l b) (is_clean : IsClean b) (long : most + l.rate < l.lengths.t200 * l.rate) (long_far : most + l.rate < l.far_lengths.t200 * l.rate)
-          (t203 : suc (length xs) < l.lengths.t203 * l.rate) (t203_far : suc (length xs) < l.far_lengths.t203 * l.rate) where
+      module _ (b : Beat) (data_alone : AsksData l b) (is_clean : IsClean b) (long : most + l.rate < l.lengths.t200 * l.rate) (long_far : most + l.rate < l.far_lengths.t200 * l.rate) where
         abbrev moment : ℕ
         moment = w.beats / l.rate
 
@@ -309,13 +309,27 @@ module _ (l : Line) (fit : Begins l) where
         before : (t : ℕ) → suc (length xs) < t * l.rate → w.beats / l.rate < t
         before t low = early l.rate fit.some t w.beats (let is = beats-are in omega (arith, is, low))
 
-        pub near-undue : IsUndue (w.beats / l.rate) b.near_asks w.near
-        near-undue =
-            none-due l.service l.tei (cfg l fit false) (rng l fit false) (lens l fit false) (OldAt false xs) moment n1 asked-near.timed (λ m open_now old soon. too-old false (link_of false n1).a m near-low long fit.some old soon) not-ringing (before l.lengths.t203 t203) fit.lengths.0.t200
+        old-near : (m : ℕ) → Open (link_of false n1) → OldAt false xs (link_of false n1).a m → m ≤ w.beats / l.rate → ⊥
+        old-near m open_now old soon = too-old false (link_of false n1).a m near-low long fit.some old soon
 
-        pub far-undue : IsUndue (w.beats / l.rate) b.far_asks w.far
-        far-undue =
-            none-due l.service l.tei (cfg l fit true) (rng l fit true) (lens l fit true) (OldAt true xs) moment f1 asked-far.timed (λ m open_now old soon. too-old true (link_of true f1).a m far-low long_far fit.some old soon) not-ringing-far (before l.far_lengths.t203 t203_far) fit.lengths.1.t200
+        old-far : (m : ℕ) → Open (link_of true f1) → OldAt true xs (link_of true f1).a m → m ≤ w.beats / l.rate → ⊥
+        old-far m open_now old soon = too-old true (link_of true f1).a m far-low long_far fit.some old soon
+
+        pub near-first : (x : Expiry) → due n1.clock ≡ Some x → x.timer ≡ timers.T203 l.service l.tei
+        near-first x is =
+            is-t203 l.service l.tei (cfg l fit false) (rng l fit false) (lens l fit false) (OldAt false xs) moment n1 asked-near.timed old-near not-ringing fit.lengths.0.t200 x is
+
+        pub far-first : (x : Expiry) → due f1.clock ≡ Some x → x.timer ≡ timers.T203 l.service l.tei
+        far-first x is =
+            is-t203 l.service l.tei (cfg l fit true) (rng l fit true) (lens l fit true) (OldAt true xs) moment f1 asked-far.timed old-far not-ringing-far fit.lengths.1.t200 x is
+
+        pub near-undue : suc (length xs) < l.lengths.t203 * l.rate → IsUndue (w.beats / l.rate) b.near_asks w.near
+        near-undue t203 =
+            none-due l.service l.tei (cfg l fit false) (rng l fit false) (lens l fit false) (OldAt false xs) moment n1 asked-near.timed old-near not-ringing fit.lengths.0.t200 (before l.lengths.t203 t203)
+
+        pub far-undue : suc (length xs) < l.far_lengths.t203 * l.rate → IsUndue (w.beats / l.rate) b.far_asks w.far
+        far-undue t203 =
+            none-due l.service l.tei (cfg l fit true) (rng l fit true) (lens l fit true) (OldAt true xs) moment f1 asked-far.timed old-far not-ringing-far fit.lengths.1.t200 (before l.far_lengths.t203 t203)
 
         abbrev ys : List Beat
         ys = xs ++ b ∷ []
@@ -339,15 +353,15 @@ module _ (l : Line) (fit : Begins l) where
               subst (λ n. n / l.rate + (lens l fit side).t200 ≤ m) (sym same) later,
             )
 
-        pub at-then : At (xs ++ b ∷ [])
-        at-then = record {
+        pub at-then : IsUndue (w.beats / l.rate) b.near_asks w.near → IsUndue (w.beats / l.rate) b.far_asks w.far → At (xs ++ b ∷ [])
+        at-then undue undue_far = record {
           all = All-append (AsksData l) xs (b ∷ []) h.all (All-cons (AsksData l) b [] data_alone (All-nil (AsksData l)));
           sim = subst (λ (x : Clocked). run.Sim l here there x (done l fit (xs ++ b ∷ []) v1)) after-so
-              (subst (run.Sim l here there (beat l.rate w b)) led (sim-then w v stands-now h.sim (OldAt false xs) (OldAt true xs) h.near h.far b data_alone is_clean near-undue far-undue));
+              (subst (run.Sim l here there (beat l.rate w b)) led (sim-then w v stands-now h.sim (OldAt false xs) (OldAt true xs) h.near h.far b data_alone is_clean undue undue_far));
           near = subst (λ (x : Clocked). EndHeld false (OldAt false ys) x.near) after-so
-              (near-then w v stands-now h.sim (OldAt false xs) (OldAt true xs) h.near h.far b data_alone is_clean near-undue far-undue (OldAt false ys) (λ a m x. grown false a m x));
+              (near-then w v stands-now h.sim (OldAt false xs) (OldAt true xs) h.near h.far b data_alone is_clean undue undue_far (OldAt false ys) (λ a m x. grown false a m x));
           far = subst (λ (x : Clocked). EndHeld true (OldAt true ys) x.far) after-so
-              (far-then w v stands-now h.sim (OldAt false xs) (OldAt true xs) h.near h.far b data_alone is_clean near-undue far-undue (OldAt true ys) (λ a m x. grown true a m x));
+              (far-then w v stands-now h.sim (OldAt false xs) (OldAt true xs) h.near h.far b data_alone is_clean undue undue_far (OldAt true ys) (λ a m x. grown true a m x));
         }
 
     module _ (long : most + l.rate < l.lengths.t200 * l.rate) (long_far : most + l.rate < l.far_lengths.t200 * l.rate) where
@@ -357,11 +371,20 @@ module _ (l : Line) (fit : Begins l) where
       none-falls-due [] xs data_alone is_clean h t203 t203_far = tt
       none-falls-due (b ∷ bs) xs data_alone is_clean h t203 t203_far =
           let d = All-head (AsksData l) b bs data_alone in let c = All-head IsClean b bs is_clean in
-          let first : suc (length xs) < l.lengths.t203 * l.rate = omega (arith, t203) in
-          let first_far : suc (length xs) < l.far_lengths.t203 * l.rate = omega (arith, t203_far) in
+          let first = near-undue xs h b d c long long_far (omega (arith, t203)) in
+          let first_far = far-undue xs h b d c long long_far (omega (arith, t203_far)) in
           let long_one = length-append xs (b ∷ []) in
           let rest = none-falls-due bs (xs ++ b ∷ []) (All-tail (AsksData l) b bs data_alone) (All-tail IsClean b bs is_clean) (at-then xs h b d c long long_far first first_far) (omega (arith, t203, long_one)) (omega (arith, t203_far, long_one)) in (
-            near-undue xs h b d c long long_far first first_far,
-            far-undue xs h b d c long long_far first first_far,
-            subst (NoneFallsDue l.rate bs) (sym (after-so xs h b d c long long_far first first_far)) rest,
+            first,
+            first_far,
+            subst (NoneFallsDue l.rate bs) (sym (after-so xs h b d c long long_far)) rest,
           )
+
+      -- As long as none does, it goes on.
+      pub at-all : (bs xs : List Beat) → All (AsksData l) bs → All IsClean bs → At xs → NoneFallsDue l.rate bs (after l.rate xs w1) → At (xs ++ bs)
+      unfolding NoneFallsDue
+      at-all [] xs data_alone is_clean h none = subst At (sym (append-nil xs)) h
+      at-all (b ∷ bs) xs data_alone is_clean h (first, first_far, rest) =
+          let d = All-head (AsksData l) b bs data_alone in let c = All-head IsClean b bs is_clean in
+          subst At (append_assoc xs (b ∷ []) bs)
+          (at-all bs (xs ++ b ∷ []) (All-tail (AsksData l) b bs data_alone) (All-tail IsClean b bs is_clean) (at-then xs h b d c long long_far first first_far) (subst (NoneFallsDue l.rate bs) (after-so xs h b d c long long_far) rest))

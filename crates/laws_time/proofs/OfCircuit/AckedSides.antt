@@ -1,7 +1,7 @@
 -- Either end of a call with its clock, and the circuit without clocks: one step of both.
-use Rattle.std.proofs.Common.{arith, ◌≡◌, ℕ, ◌<◌, ◌≤◌, not, Bool, true, false, List, [], ◌∷◌, ◌++◌, length, map, Option, Some, None, option_map, refl, sym, ap, ◌∙◌, subst, All, ◌⊎◌, inl, inr}
-use Rattle.std.specs.Prelude.{fold, option_to_list}
-use Rattle.std.proofs.lemmas.List.Elements.{All-nil, All-cons, All-head, All-tail}
+use Rattle.std.proofs.Common.{arith, ◌≡◌, ℕ, ◌≤◌, not, Bool, true, false, List, [], ◌∷◌, map, Option, Some, None, option_map, sym, ap, ◌∙◌, subst, All, ◌⊎◌, inl, inr}
+use Rattle.std.specs.Prelude.{option_to_list}
+use Rattle.std.proofs.lemmas.List.Elements.{All-nil, All-cons, All-head}
 use Rattle.lapd_clock.specs.Timer.{Lengths}
 use Rattle.lapd_frame.specs.Grammar.{Parts}
 use Rattle.lapd_frame.specs.Senders.{spelling}
@@ -9,7 +9,6 @@ use Rattle.model_bits.specs.Stream as stream
 use Rattle.model_link.specs.declared.states.State.TheVariants.{TeiAssigned, AwaitingEstablishment, Established}
 use Rattle.model_link.specs.Link.{Link}
 use Rattle.model_link.specs.TwoEnds.{Endpoint as LinkEndpoint}
-use Rattle.model_line.specs.Request.{Request, Data}
 use Rattle.model_line.specs.Sound.{IsInRange}
 use Rattle.model_line.specs.Taken.{own_side}
 use Rattle.model_line.specs.declared.config.Config.{Config}
@@ -24,27 +23,24 @@ use Rattle.laws_wire.specs.Wire.{Wire}
 unfoldable use Rattle.laws_wire.specs.Wire.{doing_all as wire_doing_all}
 use Rattle.laws_wire.proofs.Standing.{IsCarried, StationStands}
 use Rattle.laws_wire.proofs.Talking.{Face}
-use Rattle.laws_order.specs.circuit.Circuit as circuit
-use Rattle.laws_order.specs.circuit.Circuit.{Endpoint, Circuit, Step, requests, sends, receives, StepAt, at_near, at_far, doing, turned, port_of, answered}
+use Rattle.laws_order.specs.circuit.Circuit.{Endpoint, Circuit, Step, StepAt, at_near, at_far, doing, turned, port_of, answered}
 unfoldable use Rattle.laws_order.specs.circuit.Circuit.{doing_all}
 use Rattle.laws_order.proofs.OfCircuit.AsFrames.{as_endpoint}
 use Rattle.laws_order.proofs.OfCircuit.OneWay.{one-heard}
 use Rattle.laws_order.proofs.OfCircuit.Projected.{as_wire, act_meant, doing_meant, doings_meant, one-done}
-use Rattle.laws_order.proofs.OfCircuit.Ran.{Ran, AsksOctets, goes-on, sound-port, on-line}
+use Rattle.laws_order.proofs.OfCircuit.Ran.{Ran, sound-port, on-line}
 use Rattle.laws_order.specs.circuit.Through as through
-use Rattle.laws_time.specs.circuit.Clocked.{TimedEndpoint, happens, asks}
-use Rattle.laws_time.specs.circuit.InBeats.{IsDataOf, Begins}
+use Rattle.laws_time.specs.circuit.Clocked.{TimedEndpoint, happens}
+use Rattle.laws_time.specs.circuit.InBeats.{Begins}
 use Rattle.laws_time.specs.circuit.LongEnough.{Line}
 use Rattle.laws_time.proofs.OfCircuit.AckedBeats.{Now, goes}
 use Rattle.laws_time.proofs.OfCircuit.AckedCall.{Moves}
 use Rattle.laws_time.proofs.OfCircuit.AckedEnds.{IsOrdinary, its_link, Facts, facts-as, same-link, Timed, timed-then}
 use Rattle.laws_time.proofs.OfCircuit.AckedOn as on
 use Rattle.laws_time.proofs.OfCircuit.AckedOn.{Open}
-use Rattle.laws_time.proofs.OfCircuit.AckedOurs.{data-ours}
 use Rattle.laws_time.proofs.OfCircuit.AckedTimers.{IsFine}
 use Rattle.laws_time.proofs.OfCircuit.InBeatsAs.{Alike}
 use Rattle.laws_time.proofs.OfCircuit.InBeatsKept.{fits, fits-far}
-use Rattle.laws_time.proofs.OfCircuit.InBeatsRun.{ask}
 use Rattle.laws_time.proofs.OfCircuit.InBeatsTold.{IsDataStep, IsDataAt, one-meant, all-meant, are-talk}
 use Rattle.laws_time.proofs.OfCircuit.Orders.{AreOurs}
 use Rattle.laws_wire.proofs.Run.{faces, faces-back}

@@ -1,26 +1,24 @@
 -- Requests, a pull and an octet at either end of a call with its clock.
-use Rattle.std.proofs.Common.{arith, ◌≡◌, ℕ, ◌+◌, ◌≤◌, not, Bool, true, false, List, [], ◌∷◌, Option, Some, None, refl, sym, ap, ◌∙◌, subst, All}
+use Rattle.std.proofs.Common.{arith, ◌≡◌, ℕ, ◌≤◌, not, Bool, true, false, List, [], ◌∷◌, Option, Some, None, refl, sym, ap, ◌∙◌, subst, All}
 use Rattle.std.specs.Prelude.{fold}
 use Rattle.std.specs.Option.{unwrap_or}
 use Rattle.std.proofs.lemmas.List.Elements.{All-nil, All-cons, All-head, All-tail}
 use Rattle.model_bits.specs.Stream as stream
-use Rattle.model_link.specs.Link.{Link}
 use Rattle.model_line.specs.Request.{Request, Data}
 use Rattle.model_line.specs.declared.config.Config.{Config}
 use Rattle.model_card.specs.ports.Port as port
 use Rattle.model_card.specs.ports.Port.{Port, gained}
 use Rattle.laws_order.specs.circuit.Circuit as circuit
 use Rattle.laws_order.specs.circuit.Circuit.{Endpoint, Circuit, requests, sends, receives, doing, port_of, with_first_of}
-use Rattle.laws_order.proofs.OfCircuit.Ran.{Ran, AsksOctets, goes-on}
+use Rattle.laws_order.proofs.OfCircuit.Ran.{AsksOctets, goes-on}
 use Rattle.laws_time.specs.circuit.Clocked.{TimedEndpoint, happens, asks, hears}
 use Rattle.laws_time.specs.circuit.InBeats.{IsDataOf, Begins}
 use Rattle.laws_time.specs.circuit.LongEnough.{Line}
 use Rattle.laws_time.proofs.OfCircuit.AckedBeats.{Now}
-use Rattle.laws_time.proofs.OfCircuit.AckedEnds.{its_link, Facts, facts-as, Timed}
+use Rattle.laws_time.proofs.OfCircuit.AckedEnds.{Facts, facts-as}
 use Rattle.laws_time.proofs.OfCircuit.AckedOurs.{data-ours, pull-ours, octet-ours}
 use Rattle.laws_time.proofs.OfCircuit.AckedSides.{cfg, rng, lens, end_of, at_end, face, link_of_end, facts, now-one, EndTimed, step-timed, IsOfOther, theirs, low, IsUpAt, up-stays}
-use Rattle.laws_time.proofs.OfCircuit.InBeatsAs.{Alike, Twin, twin-event, plus}
-use Rattle.laws_time.proofs.OfCircuit.InBeatsKept.{fits, fits-far}
+use Rattle.laws_time.proofs.OfCircuit.InBeatsAs.{Alike, Twin, twin-event}
 use Rattle.laws_time.proofs.OfCircuit.InBeatsRun.{ask}
 use Rattle.laws_time.proofs.OfCircuit.InBeatsTold.{IsDataAt}
 unfoldable use Rattle.laws_order.specs.circuit.Circuit.{doing_all}

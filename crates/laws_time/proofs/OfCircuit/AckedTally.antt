@@ -1,5 +1,5 @@
 -- What is done on a circuit of octets: how many frames are heard at either end, and how often each is asked for a frame.
-use Rattle.std.proofs.Common.{arith, ◌≡◌, ℕ, zero, suc, ◌+◌, ◌≤◌, ◌<◌, Bool, true, false, cond, List, [], ◌∷◌, ◌++◌, length, drop, Option, None, Some, is_some, option_map, refl, sym, ap, ◌∙◌, subst, All, append-nil, length-append}
+use Rattle.std.proofs.Common.{arith, ◌≡◌, ℕ, ◌+◌, Bool, true, false, cond, List, [], ◌∷◌, ◌++◌, length, Option, None, Some, is_some, option_map, refl, sym, ap, ◌∙◌, subst, All, length-append}
 use Rattle.std.specs.Prelude.{option_to_list}
 use Rattle.std.proofs.lemmas.List.Elements.{All-head, All-tail}
 use Rattle.lapd_frame.specs.declared.services.Service.{Service}
@@ -21,7 +21,7 @@ use Rattle.laws_order.proofs.OfCircuit.AtPort.{next_of_card, pull-between, pull-
 use Rattle.laws_order.proofs.OfCircuit.OneWay.{one-heard}
 use Rattle.laws_order.proofs.OfCircuit.Projected.{as_wire, hearing_means, act_meant, doing_meant, Fits, Follows, other-way, one-done, port-after}
 unfoldable use Rattle.laws_order.proofs.OfCircuit.Projected.{doings_meant}
-use Rattle.laws_order.proofs.OfCircuit.Ran.{Ran, config, within-ports, sound-port, on-line}
+use Rattle.laws_order.proofs.OfCircuit.Ran.{config, within-ports, sound-port, on-line}
 use Rattle.laws_time.proofs.OfCircuit.AckedWire.{one_if_any, near_takes, far_takes}
 unfoldable use Rattle.laws_time.proofs.OfCircuit.AckedCall.{sum_all}
 use Rattle.laws_time.proofs.OfCircuit.AckedCall.{near_sends, far_sends}

@@ -1,17 +1,15 @@
 -- T200 of an end after an event: it was started anew, or it awaits the same answer as before.
-use Rattle.std.proofs.Common.{arith, ◌≡◌, ℕ, ◌+◌, ◌%◌, ◌<◌, ◌≤◌, ◌==◌, ◌&&◌, ◌||◌, not, Bool, true, false, cond, List, [], ◌∷◌, ◌++◌, length, Option, Some, None, is_some, refl, sym, ap, ◌∙◌, subst, ◌⊎◌, inl, inr, eqb-true, eq-eqb}
+use Rattle.std.proofs.Common.{arith, ◌≡◌, ℕ, ◌+◌, ◌%◌, ◌<◌, ◌≤◌, ◌==◌, ◌&&◌, ◌||◌, not, Bool, true, false, cond, List, Option, Some, None, is_some, refl, sym, ap, ◌∙◌, subst, ◌⊎◌, inl, inr, eqb-true, eq-eqb}
 use Rattle.std.specs.Prelude.{nat_lt, if◌then◌else◌}
 use Rattle.std.specs.Option.{option_map_or}
 use Rattle.std.proofs.lemmas.Bool.{true≢false, ltb-true, ltb-false}
 use Rattle.lapd_clock.specs.Moments.{moment_of}
-use Rattle.lapd_frame.specs.declared.controls.Control.{Control}
-use Rattle.lapd_frame.specs.declared.controls.Control.TheVariants.{Information, ReceiveReady, ReceiveNotReady, Reject, Sabme, Disc, Ua, Dm, Frmr, Ui, Xid}
 use Rattle.lapd_frame.specs.declared.services.Service.{Service}
 use Rattle.lapd_frame.specs.declared.timers.Timer.{Timer}
 use Rattle.lapd_frame.specs.declared.timers.Timer.TheVariants as timers
 use Rattle.lapd_frame.specs.Grammar.{Parts}
 use Rattle.model_bits.specs.Stream as stream
-use Rattle.model_link.specs.declared.states.State.TheVariants.{TeiAssigned, AwaitingEstablishment, Established}
+use Rattle.model_link.specs.declared.states.State.TheVariants.{TeiAssigned, AwaitingEstablishment}
 use Rattle.model_link.specs.declared.timers.LinkTimer.TheVariants.{T200}
 use Rattle.model_link.specs.Link.{Link, state_number, is_multiple_frame}
 use Rattle.model_line.specs.Event as line
@@ -29,12 +27,12 @@ use Rattle.model_card.specs.Run.{AreAtLines}
 use Rattle.model_timed.specs.Clock.{Clock, obeyed}
 use Rattle.laws_trace.specs.LinkFrames.{frame_of, its_frame, malformed}
 use Rattle.laws_trace.specs.News.{brings}
-use Rattle.laws_trace.specs.Observer.{Observed, View, view_of, view_behind, moment_of as moment_at, awaits, anew, in_state, by_heard, by_frame}
+use Rattle.laws_trace.specs.Observer.{Observed, view_of, view_behind, moment_of as moment_at, awaits, anew, by_heard, by_frame}
 use Rattle.laws_trace.specs.TimersAreTimely.{is_anew, runs, renews}
 use Rattle.laws_trace.specs.Trace.{is_up}
 use Rattle.laws_trace.proofs.ObservedLaws.{holds, numbers-now}
 use Rattle.laws_trace.proofs.ObservedShape.{known_of}
-use Rattle.laws_trace.proofs.SeenAs.{IsSeenAs, seen-before, known-up}
+use Rattle.laws_trace.proofs.SeenAs.{seen-before, known-up}
 use Rattle.laws_trace.proofs.TimerClaims.{IsKnown}
 use Rattle.laws_trace.proofs.TimersWatched.{Known}
 use Rattle.laws_time.proofs.Ordered.{moment-left}

@@ -1,5 +1,5 @@
--- No timer is due at an end of a call, if what T200 awaits comes in time.
-use Rattle.std.proofs.Common.{arith, ◌≡◌, ℕ, ◌+◌, ◌<◌, ◌≤◌, Bool, true, false, List, [], ◌∷◌, Option, Some, None, refl, sym, ap, ◌∙◌, subst, ◌⊎◌, inl, inr}
+-- At an end of a call T203 alone is due, if what T200 awaits comes in time.
+use Rattle.std.proofs.Common.{arith, ◌≡◌, ℕ, ◌<◌, ◌≤◌, true, List, [], ◌∷◌, Option, Some, None, refl, sym, ◌∙◌, subst, inl, inr}
 use Rattle.std.specs.List.{AllByRecursion}
 use Rattle.std.proofs.lemmas.Bool.{true≢false}
 use Rattle.lapd_clock.specs.Moments.{moment_of}
@@ -24,7 +24,7 @@ use Rattle.laws_time.proofs.OfCircuit.Orders.{RunsOurs}
 
 module _ (service : Service) (tei : ℕ) (c : Config) (ranged : IsInRange c) (ls : Lengths) (Old : ℕ → ℕ → Type 0) (now : ℕ) (a : TimedEndpoint) (h : Timed service tei c ranged ls Old now a)
     (not_old : (m : ℕ) → Open (its_link service tei c ranged ls a.at) → Old (its_link service tei c ranged ls a.at).a m → m ≤ now → ⊥)
-    (not_ringing : (its_link service tei c ranged ls a.at).state ≡ AwaitingEstablishment → ls.t200 ≤ now → ⊥) (t203 : now < ls.t203) (t200 : 1 ≤ ls.t200) where
+    (not_ringing : (its_link service tei c ranged ls a.at).state ≡ AwaitingEstablishment → ls.t200 ≤ now → ⊥) (t200 : 1 ≤ ls.t200) where
   abbrev Late : Expiry → Type 0
   Late x = (x.line ≡ a.at.line) × (duration ls x.timer ≤ x.moment)
 
@@ -59,18 +59,21 @@ module _ (service : Service) (tei : ℕ) (c : Config) (ranged : IsInRange c) (ls
         go (inl ringing, due_so) = let low = soon in let most = long in not_ringing ringing (omega (arith, low, most))
         go (inr (open_now, less), due_so) = by-due open_now (due_so open_now)
 
-    by-timer : (timer : Timer) → x.timer ≡ timer → is_timer_of service tei timer ≡ true → ⊥
-    by-timer (timers.T200 of by) same own = let e = own-same service tei of by own in t200-not (same ∙ (λ i. timers.T200 (e.0 i) (e.1 i)))
-    by-timer (timers.T203 of by) same own = let most = subst (λ t. duration ls t ≤ x.moment) same late.1 in let low = soon in absurd (omega (arith, most, low, t203))
-    by-timer timers.T201 same own = true≢false (sym own)
-    by-timer timers.T202 same own = true≢false (sym own)
+    by-timer : (timer : Timer) → x.timer ≡ timer → is_timer_of service tei timer ≡ true → x.timer ≡ timers.T203 service tei
+    by-timer (timers.T200 of by) same own = let e = own-same service tei of by own in absurd (t200-not (same ∙ (λ i. timers.T200 (e.0 i) (e.1 i))))
+    by-timer (timers.T203 of by) same own = let e = own-same service tei of by own in same ∙ (λ i. timers.T203 (e.0 i) (e.1 i))
+    by-timer timers.T201 same own = absurd (true≢false (sym own))
+    by-timer timers.T202 same own = absurd (true≢false (sym own))
 
-    never : ⊥
-    never = by-timer x.timer refl ours
+    pub is-t203 : x.timer ≡ timers.T203 service tei
+    is-t203 = by-timer x.timer refl ours
 
-  pub none-due : due a.clock ≡ None
-  none-due = go (due a.clock) refl
+    never : now < ls.t203 → ⊥
+    never t203 = let most = subst (λ t. duration ls t ≤ x.moment) is-t203 late.1 in let low = soon in omega (arith, most, low, t203)
+
+  pub none-due : now < ls.t203 → due a.clock ≡ None
+  none-due t203 = go (due a.clock) refl
     where
       go : (o : Option Expiry) → due a.clock ≡ o → due a.clock ≡ None
       go None is = is
-      go (Some x) is = absurd (never x is)
+      go (Some x) is = absurd (never x is t203)

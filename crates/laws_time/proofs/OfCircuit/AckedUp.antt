@@ -1,16 +1,15 @@
 -- A call on a wire: once SABME is received, the far end is asked for a frame, and UA is received, both ends are up.
-use Rattle.std.proofs.Common.{arith, ◌≡◌, ℕ, zero, suc, ◌+◌, ◌≤◌, List, [], ◌∷◌, ◌++◌, length, map, refl, sym, ap, ◌∙◌, subst, All, ◌⊎◌, inl, inr, length-append}
+use Rattle.std.proofs.Common.{arith, ◌≡◌, ℕ, zero, suc, ◌+◌, ◌≤◌, List, [], ◌∷◌, length, map, refl, sym, ap, ◌∙◌, subst, All, ◌⊎◌, inl, inr, length-append}
 use Rattle.std.proofs.lemmas.List.Elements.{All-head, All-tail}
 use Rattle.lapd_frame.specs.declared.services.Service.{Service}
 use Rattle.lapd_frame.specs.Grammar.{Parts}
 use Rattle.lapd_frame.specs.Senders.{spelling}
-use Rattle.model_link.specs.declared.states.State.{State}
 use Rattle.model_link.specs.declared.states.State.TheVariants.{TeiAssigned, AwaitingEstablishment, Established}
 use Rattle.model_link.specs.declared.terms.Terms.{Terms}
 use Rattle.model_link.specs.Events.{frame, received}
 use Rattle.model_link.specs.Link.{Link, fresh}
 use Rattle.model_link.specs.Sound.{IsInRange}
-use Rattle.model_link.specs.TwoEnds.{Endpoint as LinkEndpoint, with_link, with_sent}
+use Rattle.model_link.specs.TwoEnds.{Endpoint as LinkEndpoint, with_link}
 use Rattle.model_line.specs.Event.{next}
 use Rattle.model_line.specs.Line.{terms}
 use Rattle.model_line.specs.Taken.{own_side}
@@ -23,13 +22,13 @@ unfoldable use Rattle.laws_wire.specs.Wire.{doing_all}
 use Rattle.laws_wire.proofs.Answered.{asks-way, takes-way}
 use Rattle.laws_wire.proofs.BothHalf as half
 use Rattle.laws_wire.proofs.BothPhases.{IsCalled}
-use Rattle.laws_wire.proofs.Calling.{sabme, ua, asked, awaiting, answering, caller, end, takes-sabme, with_ua_waiting, with_ua_first, sends-ua}
+use Rattle.laws_wire.proofs.Calling.{sabme, ua, asked, awaiting, end, takes-sabme, with_ua_waiting, with_ua_first, sends-ua}
 use Rattle.laws_wire.proofs.Quiet.{first-way}
-use Rattle.laws_wire.proofs.Standing.{IsCarried, StationStands, gives-stands}
-use Rattle.laws_wire.proofs.Talking.{Face, Past, unheard, after_note, Holds, takes}
+use Rattle.laws_wire.proofs.Standing.{StationStands, gives-stands}
+use Rattle.laws_wire.proofs.Talking.{Face, Past, unheard, after_note, takes}
 use Rattle.laws_time.proofs.OfCircuit.AckedWire.{own-stands, one_if_any, near_takes, far_takes}
 unfoldable use Rattle.laws_time.proofs.OfCircuit.AckedCall.{sum_all}
-use Rattle.laws_time.proofs.OfCircuit.AckedCall.{near_sends, far_sends, Up, up-step, up-all}
+use Rattle.laws_time.proofs.OfCircuit.AckedCall.{near_sends, far_sends, up-step, up-all}
 use Rattle.laws_time.proofs.OfCircuit.AckedOn.{On, UpNow, on-step, all-on, takes-few, far-takes-few, by-receipt, by-near-receipt, near-is, far-is}
 
 any : (way : List (List ℕ)) → 1 ≤ length way → one_if_any way ≡ 1

@@ -1,5 +1,5 @@
 -- Two cards on a wire: how many I-frames were received, and what the frames in transit acknowledge, step by step.
-use Rattle.std.proofs.Common.{arith, ◌≡◌, ℕ, zero, suc, ◌+◌, ◌-◌, ◌≤◌, Bool, false, List, [], ◌∷◌, ◌++◌, length, map, take, drop, None, Some, refl, sym, ap, ◌∙◌, subst, All, ◌⊎◌, inl, inr, append-nil, length-append}
+use Rattle.std.proofs.Common.{arith, ◌≡◌, ℕ, zero, suc, ◌+◌, ◌-◌, ◌≤◌, Bool, false, List, [], ◌∷◌, ◌++◌, length, map, take, drop, refl, sym, ap, ◌∙◌, subst, All, ◌⊎◌, inl, inr, append-nil, length-append}
 use Rattle.std.specs.Prelude.{flat_map}
 use Rattle.std.specs.Option.{option_map_or}
 use Rattle.std.proofs.Math.Seq.{take-length}
@@ -7,7 +7,6 @@ use Rattle.std.proofs.lemmas.List.Elements.{All-head, All-tail}
 use Rattle.lapd_frame.specs.declared.services.Service.{Service}
 use Rattle.lapd_frame.specs.Grammar.{Parts}
 use Rattle.lapd_frame.specs.Senders.{spelling}
-use Rattle.model_link.specs.declared.states.State.TheVariants.{Established}
 use Rattle.model_link.specs.Events.{frame, received}
 use Rattle.model_link.specs.Link.{Link, fresh}
 use Rattle.model_link.specs.TwoEnds.{Endpoint as LinkEndpoint, with_link, with_sent}
@@ -16,16 +15,16 @@ use Rattle.model_line.specs.Line.{link_in}
 use Rattle.model_line.specs.Request.{Request, Data}
 use Rattle.model_line.specs.Taken.{own_side}
 use Rattle.model_line.specs.declared.config.Config.{Config}
-use Rattle.laws_link.proofs.OfTwo.AnyOrder.{Lane, Steady}
+use Rattle.laws_link.proofs.OfTwo.AnyOrder.{Lane}
 use Rattle.laws_wire.specs.Call.{IsTalkOf, IsTalk}
 use Rattle.laws_wire.specs.Facing.{line_of, parts_of, own_link, read_as}
-use Rattle.laws_wire.specs.Wire.{Endpoint, Wire, Step, StepAt, requests, sends, receives, at_near, at_far, acting, turned, doing, happens, answered, frames_by, with_first_of, without_first, frame_comes}
+use Rattle.laws_wire.specs.Wire.{Endpoint, Wire, Step, StepAt, requests, sends, receives, at_near, at_far, turned, doing, happens, answered, frames_by, with_first_of, frame_comes}
 use Rattle.laws_wire.proofs.Answered.{asks-way, takes-way}
 use Rattle.laws_wire.proofs.Asking.{with_more, take-front}
 use Rattle.laws_wire.proofs.Standing.{IsCarried, StationStands, gives-stands}
-use Rattle.laws_wire.proofs.Talking.{Face, Past, Holds, More, holds-asked, takes}
+use Rattle.laws_wire.proofs.Talking.{Face, Past, More, holds-asked, takes}
 use Rattle.laws_wire.proofs.Up.{Talk}
-use Rattle.laws_time.proofs.OfCircuit.AckedLinks.{infos, infos-append, lane-counts, Says, Covers, lane-covers, same-number, window, Heeded, heeds, sent-stays}
+use Rattle.laws_time.proofs.OfCircuit.AckedLinks.{infos, infos-append, lane-counts, Says, Covers, lane-covers, same-number, window, heeds, sent-stays}
 
 -- ---- how many frames are received with a step
 

@@ -11,9 +11,7 @@ use Rattle.lapd_clock.specs.Timers.{Expiry, is_of as timer_is_of}
 use Rattle.lapd_frame.specs.declared.controls.Control.{Control}
 use Rattle.lapd_frame.specs.declared.services.Service.{Service}
 use Rattle.lapd_frame.specs.declared.timers.Timer.TheVariants as timers
-use Rattle.lapd_frame.specs.declared.addresses.Side.{Side}
-use Rattle.lapd_frame.specs.declared.addresses.Side.TheVariants.{Network, User}
-use Rattle.lapd_frame.specs.Grammar.{Parts, other_side}
+use Rattle.lapd_frame.specs.Grammar.{Parts}
 use Rattle.model_bits.specs.Stream as stream
 use Rattle.model_link.specs.Link.{state_number}
 use Rattle.model_line.specs.Sound.{IsInRange}

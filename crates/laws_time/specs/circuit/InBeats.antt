@@ -1,6 +1,7 @@
 -- How many beats a call without noise takes, as long as no timer falls due in it.
-use Rattle.std.specs.Prelude.{◌≡◌, ◌≤◌, ◌<◌, ℕ, ◌+◌, ◌-◌, ◌*◌, ◌/◌, false, List, [], ◌∷◌, ◌++◌, length, map, replicate, drop, All, None}
-use Rattle.lapd_clock.specs.Timer.{Lengths, AreInRange}
+use Rattle.std.specs.Prelude.{◌≡◌, ◌≤◌, ◌<◌, ℕ, ◌+◌, ◌-◌, ◌*◌, ◌/◌, false, List, [], ◌∷◌, ◌++◌, length, map, replicate, drop, All, ◌⊎◌, None, Some}
+use Rattle.lapd_clock.specs.Timer.{AreInRange, T203}
+use Rattle.lapd_clock.specs.Timers.{Expiry}
 use Rattle.model_bits.specs.Stream as stream
 use Rattle.model_bits.specs.StuffingLaws.{AreOctets}
 use Rattle.model_line.specs.Request.{Request, Data}
@@ -129,20 +130,31 @@ NoneFallsDueBefore =
     (l : Line) (before bs : List Beat) (t : ℕ) → 1 ≤ l.rate → let w = after l.rate before (begins l) in FallsDueFrom t w.near → FallsDueFrom t w.far →
     w.beats + length bs ≤ t * l.rate → NoneFallsDue l.rate bs w
 
--- T200 of an end runs for more than 3 L + 2 D octet times and a millisecond, as moments are whole; and T203 for so many octet times.
-pub record RunsThrough (l : Line) (n : ℕ) (lengths : Lengths) : Type 0 where
-  pub t200 : 3 * longest l.near.n201 + 2 * l.way + l.rate < lengths.t200 * l.rate
-  pub t203 : n ≤ lengths.t203 * l.rate
+-- A call without noise, in which layer 3 asks to send octets alone. T200 of each end runs for more than 3 L + 2 D octet times and a
+-- millisecond, as moments are whole.
+pub record IsCalm (l : Line) (bs : List Beat) : Type 0 where
+  pub begins : Begins l
+  pub data_alone : All (AsksData l) bs
+  pub are_clean : All IsClean bs
+  pub t200 : (3 * longest l.near.n201 + 2 * l.way + l.rate < l.lengths.t200 * l.rate) × (3 * longest l.near.n201 + 2 * l.way + l.rate < l.far_lengths.t200 * l.rate)
 
--- Then no timer falls due in a call without noise that takes so many octet times.
-abbrev pub NoneFallsDueInACall : Type 0
-NoneFallsDueInACall =
-    (l : Line) (b : Beat) (bs : List Beat) → Begins l → All (AsksData l) (b ∷ bs) → All IsClean (b ∷ bs) →
-    RunsThrough l (length (b ∷ bs)) l.lengths → RunsThrough l (length (b ∷ bs)) l.far_lengths → NoneFallsDue l.rate (calls l b ∷ bs) (begins l)
+-- T203 of each end runs as long as such a call, and so many octet times more.
+pub record RunsThrough (l : Line) (b : Beat) (bs : List Beat) (n : ℕ) : Type 0 where
+  pub calm : IsCalm l (b ∷ bs)
+  pub t203 : (length (b ∷ bs) + n ≤ l.lengths.t203 * l.rate) × (length (b ∷ bs) + n ≤ l.far_lengths.t203 * l.rate)
 
--- So all is told in so many beats.
+-- Then no timer falls due until then, and all is told in so many beats.
 abbrev pub ACallComesInTime : Type 0
 ACallComesInTime =
-    (l : Line) (b : Beat) (bs : List Beat) (n : ℕ) → Begins l → All (AsksData l) (b ∷ bs) → All IsClean (b ∷ bs) →
-    RunsThrough l (length (b ∷ bs) + n) l.lengths → RunsThrough l (length (b ∷ bs) + n) l.far_lengths →
-    let w = after l.rate (calls l b ∷ bs) (begins l) in enough_beats l.near.n201 l.way false (granted_in w) ≤ n → IsToldAll l (clean l.rate n w)
+    (l : Line) (b : Beat) (bs : List Beat) (n : ℕ) → RunsThrough l b bs n → let w = after l.rate (calls l b ∷ bs) (begins l) in
+    NoneFallsDue l.rate (calls l b ∷ bs ++ replicate n plain) (begins l) × (enough_beats l.near.n201 l.way false (granted_in w) ≤ n → IsToldAll l (clean l.rate n w))
+
+-- What is the first that falls due at an end in a call: it does so in the beat behind these.
+pub record FallsDueFirst (l : Line) (b : Beat) (bs : List Beat) (c : Beat) (x : Expiry) : Type 0 where
+  pub before : NoneFallsDue l.rate (calls l b ∷ bs) (begins l)
+  pub now : let w = after l.rate (calls l b ∷ bs) (begins l) in let moment = w.beats / l.rate in
+    (due (asked moment c.near_asks w.near).clock ≡ Some x) ⊎ (due (asked moment c.far_asks w.far).clock ≡ Some x)
+
+-- However long T203 runs, that is T203.
+abbrev pub T203FallsDueFirst : Type 0
+T203FallsDueFirst = (l : Line) (b c : Beat) (bs : List Beat) (x : Expiry) → IsCalm l (b ∷ bs ++ c ∷ []) → FallsDueFirst l b bs c x → x.timer ≡ T203 l.service l.tei

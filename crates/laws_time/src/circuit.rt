@@ -142,8 +142,8 @@ pub fn frames_come_in_beats()
 /// request all is told, as that law has it (`told`). However long T203 runs, it is the first that falls due (`first`), so
 /// until then that law holds. For whatever an end has sent is received L + D octet times later. In the next L a frame of
 /// the other end begins that acknowledges it, and L + D later that is received. At 16 kbit/s with 4 octets in transit
-/// T200 of 487 ms is long enough, and at 64 kbit/s with 16 one of 126 ms. (A T200 that is too short brings error C. A short
-/// T203 falls due, and so does T200 if noise takes SABME: `specs/circuit/WorkedInTime`.)
+/// T200 of 487 ms is long enough, and at 64 kbit/s with 16 one of 126 ms. (A shorter T200 falls due though nothing is lost,
+/// and may bring error C. A short T203 falls due, and so does T200 if noise takes SABME: `specs/circuit/WorkedInTime`.)
 pub fn a_call_comes_in_time()
     ensures told { ACallComesInTime }
     ensures first { T203FallsDueFirst }

@@ -187,6 +187,7 @@ module _ (service : Service) (tei : ℕ) where
       high = let low = x.high in let more = sent-more es all w h in omega (arith, low, more);
       acks = acks-all-on few x.hi es all w h x.j x.high x.acks;
     }
+
     later : (few : ℕ) (k : StepAt) (ks : List StepAt) → All Talks (k ∷ ks) → (w : Wire) → Up w → few ≤ R w → 1 ≤ far_sends k w + sum_all far_sends ks (doing k w) → far_sends k w ≡ 0
         → (All Talks ks → Up (doing k w) → few ≤ R (doing k w) → 1 ≤ sum_all far_sends ks (doing k w) → Owed few (doing_all ks (doing k w))) → Owed few (doing_all ks (doing k w))
     later few k ks all w h enough some none rest =

@@ -226,17 +226,20 @@ module _ (service : Service) (tei : ℕ) where
         let x = takes service tei p first c d face w.near n f h.near.stands carried in
         let y = heeds m n h.pair.far h.pair.near h.pair.back h.pair.there f fs e in
         let low = y.low in let up = y.up in let a = ap (λ (l : Link). l.a) own-near in let s = ap (λ (l : Link). l.s) own-near in
-        inr (refl, (
-          spelling (own_side d) f,
-          f,
-          y.v,
+        inr (
           refl,
-          read-one d f carried,
-          omega (arith, low, a),
-          omega (arith, up, s),
-          y.says,
-          ap (λ (l : Link). l.a) (own-stands c p (frame_comes (spelling (own_side d) f) w.near) (with_link (received (frame f)) n) x.stands) ∙ y.is,
-        ))
+          (
+            spelling (own_side d) f,
+            f,
+            y.v,
+            refl,
+            read-one d f carried,
+            omega (arith, low, a),
+            omega (arith, up, s),
+            y.says,
+            ap (λ (l : Link). l.a) (own-stands c p (frame_comes (spelling (own_side d) f) w.near) (with_link (received (frame f)) n) x.stands) ∙ y.is,
+          ),
+        )
 
     receives-so : Received w.far.way
     receives-so = subst Received (sym h.far.stands.way) (go m.way refl)

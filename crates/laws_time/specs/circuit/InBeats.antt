@@ -153,7 +153,7 @@ ACallComesInTime =
 pub record FallsDueFirst (l : Line) (b : Beat) (bs : List Beat) (c : Beat) (x : Expiry) : Type 0 where
   pub before : NoneFallsDue l.rate (calls l b ∷ bs) (begins l)
   pub now : let w = after l.rate (calls l b ∷ bs) (begins l) in let moment = w.beats / l.rate in
-    (due (asked moment c.near_asks w.near).clock ≡ Some x) ⊎ (due (asked moment c.far_asks w.far).clock ≡ Some x)
+      (due (asked moment c.near_asks w.near).clock ≡ Some x) ⊎ (due (asked moment c.far_asks w.far).clock ≡ Some x)
 
 -- However long T203 runs, that is T203.
 abbrev pub T203FallsDueFirst : Type 0

@@ -14,8 +14,9 @@ use Rattle.lapd_seq.specs.Numbers.{seq}
 use Rattle.lapd_tei.specs.Events as teis
 use Rattle.model_bits.specs.Bits.{low_bits}
 use Rattle.model_line.specs.Config.{sapi_fault}
+use Rattle.model_line.specs.declared.config.Config.{Config}
 use Rattle.model_line.specs.Machine as lines
-use Rattle.model_line.specs.Request.{Release, Data}
+use Rattle.model_line.specs.Request.{Request, Release, Data}
 use Rattle.model_card.specs.ports.Card as ports
 use Rattle.model_timed.specs.Clock.{due}
 use Rattle.laws_order.specs.circuit.Beats.{longest}
@@ -25,7 +26,7 @@ use Rattle.laws_time.specs.circuit.Clocked.{TimedEndpoint, Clocked, Beat, plain,
 use Rattle.laws_time.specs.circuit.InBeats.{IsDataOf, AsksData, Begins, RunsThrough}
 use Rattle.laws_time.specs.circuit.LongEnough.{Line, begins}
 use Rattle.laws_time.specs.circuit.WorkedLongEnough.{line_with as real_line, fit}
-use Rattle.laws_time.specs.circuit.WorkedInBeats.{its_line, talks}
+use Rattle.laws_time.specs.circuit.WorkedInBeats.{its_line, user, network, talks}
 
 -- At 16 kbit/s with 4 octets in transit it is 487 ms, and at 64 kbit/s with 16 it is 126 ms. T203 of 10 seconds goes through 20000 octet
 -- times, or 80000.
@@ -124,3 +125,21 @@ released = after 1 (calls (line_with 56 10000) plain ∷ replicate 19 plain ++ (
 more_told : length released.far.at.told ≡ 2
 unfolding lines.after lines.answer lines.takes_slot exchanged read_by reading header_of control_of unnumbered_of supervisory_of teis.course teis.refusal seq distance_of named low_bits ports.after ports.answer ports.meant fall_due
 more_told = refl
+
+-- Nothing is lost, and T200 of 49 ms falls due: just before an I-frame is received whole, the other end begins two of its own. The second
+-- is the first to acknowledge it, after three frames of the longest.
+abbrev wide : Config → Config
+wide c = record c { k = 2; k16 = 2; queue = 2; slots = 8 }
+
+abbrev busy_line : ℕ → Line
+busy_line t200 = record (line_with t200 10000) { near = wide user; far = wide network }
+
+abbrev full : Request
+full = Data Call 0 (replicate 8 0xFF)
+
+abbrev crossed : ℕ → Clocked
+crossed t200 = after 1 (calls (busy_line t200) plain ∷ replicate 19 plain ++ (record plain { near_asks = full ∷ [] } ∷ replicate 15 plain ++ (record plain { far_asks = full ∷ full ∷ [] } ∷ replicate 32 plain))) (begins (busy_line t200))
+
+late_due : due_at 69 (crossed 49).near ≡ Some (record { moment = 69; line = 0; timer = T200 Call 0 })
+unfolding lines.after lines.answer lines.takes_slot exchanged read_by reading header_of control_of unnumbered_of supervisory_of teis.course teis.refusal seq distance_of named low_bits ports.after ports.answer ports.meant fall_due
+late_due = refl

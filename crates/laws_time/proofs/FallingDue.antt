@@ -7,12 +7,12 @@ use Rattle.lapd_clock.specs.Timer.{T200, T203, T201, T202}
 use Rattle.lapd_clock.proofs.First.{no_earlier}
 use Rattle.lapd_clock.proofs.Ordered.{count_by-put_in_order}
 use Rattle.model_timed.specs.Clock.{Clock, expiry_of, obey, obeyed, stopped, due, first_due, without_first}
-use Rattle.model_timed.specs.Timed.{Kind, Timed, Step, happens, time, falls_due, after, with_expiry, expiry_at}
+use Rattle.model_timed.specs.Timed.{Kind, Timed, falls_due, after, with_expiry, expiry_at}
 unfoldable use Rattle.model_timed.specs.Timed.{after_all, events_of}
 use Rattle.model_timed.specs.TimersAreTrue.{length_of}
 use Rattle.model_timed.proofs.Orders.{now-stays, lengths-stay}
 use Rattle.laws_time.proofs.DueFirst.{all-steps}
-use Rattle.laws_time.specs.FallingDue.{count_due, EachRuns, EndsIn, FallingDueEnds}
+use Rattle.laws_time.specs.FallingDue.{count_due, EachRuns, FallingDueEnds}
 
 abbrev come_by : ℕ → Expiry → Bool
 come_by now x = nat_le x.moment now

@@ -1,7 +1,7 @@
 -- Worked values: timers that are due at one moment, and how this comes to an end. Each computes.
-use Rattle.std.specs.Prelude.{◌≡◌, ℕ, ◌<◌, List, [], ◌∷◌, ◌++◌, length, replicate, None, Some, refl}
+use Rattle.std.specs.Prelude.{◌≡◌, List, [], ◌∷◌, length, replicate, refl}
 use Rattle.std.proofs.Common.{arith}
-use Rattle.lapd_clock.specs.Timer.{Lengths, Timer, T200, T203, T201, T202}
+use Rattle.lapd_clock.specs.Timer.{Lengths, T200, T203, T201, T202}
 use Rattle.lapd_frame.specs.Reading.{reading, header_of, control_of, unnumbered_of, supervisory_of}
 use Rattle.lapd_frame.specs.Senders.{exchanged, reading as read_by}
 use Rattle.lapd_frame.specs.declared.services.Service.TheVariants.{Call}
@@ -14,7 +14,6 @@ use Rattle.model_card.specs.Event.{Event}
 use Rattle.model_card.specs.ports.Card as ports
 use Rattle.model_card.specs.ports.Event as octet
 use Rattle.model_card.specs.ports.Port.{request}
-use Rattle.model_timed.specs.Clock.{due}
 use Rattle.model_timed.specs.Frames.{TimedCard, fresh, frames}
 use Rattle.model_timed.specs.Octets as of_octets
 use Rattle.model_timed.specs.Octets.{TimedOctetCard, octets}

@@ -69,10 +69,10 @@ pub fn commands_are_answered()
 /// calls tells no error at all, and the other none except F, of a UA that was lost (clause 5.7). Whatever is lost,
 /// timers and noise bring no other.
 ///
-/// As long as there is no such F, each end was told one establishment, and then data that the other was granted to
-/// send. That is a prefix of it, in order, each once, and nothing else is told except what was dropped. Once each place
-/// of the queue at one end is free (`Card::room`), the other was told all data that was granted there. That holds at
-/// any time, in the midst of noise and traffic, too.
+/// As long as there is no such F, each end was told one establishment, and then data that the other was granted to send.
+/// That is a prefix of it, in order, each once, and nothing else is told except what was dropped, or lost for want of a
+/// place. Once each place of the queue at one end is free (`Card::room`), the other was told all data that was granted
+/// there. That holds at any time, in the midst of noise and traffic, too.
 pub fn calls_bear_noise()
     ensures { CallsBearNoise }
 {}
@@ -84,8 +84,8 @@ pub fn calls_bear_noise()
 /// [`calls_bear_noise`] says holds in that time.
 ///
 /// Let noise end in that time, and then let no frame find no place at either end (`lost` of a report). Once T200 of the end
-/// that calls has run, and 2 (L + D) + 9 (c + c') octet times more, both ends are up, in state 7 or 8 (`through`). They stay
-/// so in that time, even if noise comes again. Layer 3 of the end that calls was told the confirm of the establishment
+/// that calls has run, and 2 (L + D) + 9 (c + c') octet times more, both ends are up, in state 7 or 8 (`through`). They
+/// stay so in that time, even if noise comes again. Layer 3 of the end that calls was told the confirm of the establishment
 /// first of all, and that of the other the indication. (SABME goes again as T200 falls due, and then it is answered in
 /// time: Q.921 clauses 5.5.1.2 and 5.5.1.3. Busy requests may take all places.)
 pub fn a_call_outlasts_noise()
@@ -108,11 +108,11 @@ pub fn no_noise_makes_no_frame()
 /// in order, each once, and nothing else (`told`). So no error was told. L is the longest frame in octets, and D octets
 /// are in transit. After (3 + 2 u) (2 L + D) octet times it is so if L is the longest frame that went by then (`short`).
 ///
-/// The same holds of a link at rest (`since`). Without noise anything of the link was asked for, and timers fell due.
-/// Then both ends are in state 7, neither side is busy, all that was sent is acknowledged, and no frame is in transit.
-/// From there on only data is asked for, and no timer falls due. Let u requests be granted since. Then 2 u (2 L + D)
-/// octet times after the last each end was told all that the other was granted since, and nothing else. After (1 + 2 u)
-/// (2 L + D) it is so if L is the longest frame that went by then (`short_since`).
+/// The same holds of a link at rest (`since`). Without noise anything of the link was asked for except unit data and
+/// deactivation, and timers fell due. Then both ends are in state 7, neither side is busy, all that was sent is
+/// acknowledged, and no frame is in transit. From there on only data is asked for, and no timer falls due. Let u requests
+/// be granted since. Then 2 u (2 L + D) octet times after the last each end was told all that the other was granted since,
+/// and nothing else. After (1 + 2 u) (2 L + D) it is so if L is the longest frame that went by then (`short_since`).
 ///
 /// When no timer falls due is a matter of numbers: of a call see [`a_call_comes_in_time`]. Let none that runs at either end
 /// fall due before a moment, as `lapd_next_moment` says, and let each that is started run until then at least. Then none
@@ -127,9 +127,9 @@ pub fn a_call_takes_beats()
 {}
 
 /// Frames come in so many beats. On a line without noise each frame that an end has put on its line is received whole
-/// L + D octet times later, in order. It holds from any beat on, whatever layer 3 of either end asks for of the link, and
-/// whichever timers fall due. L is the longest of the frames that were put there up to then, in octets, and D octets are
-/// in transit.
+/// L + D octet times later, in order. It holds from any beat on, whatever layer 3 of either end asks for of the link except
+/// unit data and deactivation, and whichever timers fall due. L is the longest of the frames that were put there up to
+/// then, in octets with flag, check and stuffed 0s, and D octets are in transit.
 pub fn frames_come_in_beats()
     ensures { FramesComeInBeats }
 {}
@@ -138,12 +138,12 @@ pub fn frames_come_in_beats()
 /// as [`a_call_takes_beats`] has it. T200 of each end runs for more than 3 L + 2 D octet times, and a millisecond more, as
 /// moments are whole.
 ///
-/// If T203 of each end runs as long as the call, no timer falls due in it. So (2 + 2 u) (2 L + D) octet times after the last
-/// request all is told, as that law has it (`told`). However long T203 runs, it is the first that falls due (`first`), so
-/// until then that law holds. For whatever an end has sent is received L + D octet times later. In the next L a frame of
-/// the other end begins that acknowledges it, and L + D later that is received. At 16 kbit/s with 4 octets in transit
-/// T200 of 487 ms is long enough, and at 64 kbit/s with 16 one of 126 ms. (A shorter T200 falls due though nothing is lost,
-/// and may bring error C. A short T203 falls due, and so does T200 if noise takes SABME: `specs/circuit/WorkedInTime`.)
+/// If T203 of each end runs as long as the call, no timer falls due in it. So (2 + 2 u) (2 L + D) octet times after the
+/// last request all is told, as that law has it (`told`). However long T203 runs, it is the first that falls due (`first`),
+/// so until then that law holds. For whatever an end has sent is received L + D octet times later. In the next L a frame of
+/// the other end begins that acknowledges it, and L + D later that is received. At 16 kbit/s with 4 octets in transit T200
+/// of 487 ms is long enough, and at 64 kbit/s with 16 one of 126 ms. (A shorter T200 falls due though nothing is lost, and
+/// may bring error C. A short T203 falls due, and so does T200 if noise takes SABME: `specs/circuit/WorkedInTime`.)
 pub fn a_call_comes_in_time()
     ensures told { ACallComesInTime }
     ensures first { T203FallsDueFirst }

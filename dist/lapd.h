@@ -161,7 +161,7 @@ enum {
     LAPD_WRONG_CAUSE = 27, /* none of LAPD_ABORT, LAPD_RAGGED, LAPD_SHORT and LAPD_FCS */
     LAPD_NO_FRAME = 28,    /* no frame of the line waits to be sent */
 
-    /* A field of the configuration is out of range: the first, in their order. */
+    /* A field of the configuration is out of range: the first, in their order; the side is looked at last, after sapi. */
     LAPD_BAD_LINES = 33,
     LAPD_BAD_TERMINALS = 34,
     LAPD_BAD_K = 35,
@@ -282,7 +282,7 @@ enum {
     LAPD_SHORT = 3,     /* too short for a frame (clause 2.9) */
     LAPD_FCS = 4,       /* the frame check tells of an error (clause 2.7) */
     LAPD_EXTENSION = 5, /* the address is not one of two octets (clauses 2.9 and 3.3.1) */
-    LAPD_SAPI = 6,      /* the SAPI is none of 0, 16 and 63 */
+    LAPD_SAPI = 6,      /* the SAPI is none of 0, that of the second service, and 63 */
     LAPD_TEI = 7,       /* the TEI is not on the line; for SAPI 63: is not 127 */
     LAPD_UNSERVED = 8   /* a good frame for a known address that is not served */
 };

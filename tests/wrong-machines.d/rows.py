@@ -188,7 +188,7 @@ def imports_for(proof, shared):
     """Returns the imports that proofs share, of those parts of which the proof has a word that is not its own."""
     there = shared_imports()
     imported = words_in("\n".join(re.findall(r"^use .*", proof, re.MULTILINE)))
-    own, used = {*imported, *re.findall(r"^(?:abbrev )?(?:pub )?(\S+) :", proof, re.MULTILINE)}, ""
+    own, used = {*imported, *re.findall(r"^(?:abbrev |unfoldable )?(?:pub )?(\S+) :", proof, re.MULTILINE)}, ""
 
     def is_used(text):
         return any(re.search(rf"(?<![\w-]){re.escape(it)}(?![\w-])", proof) for it in words_in(text))

@@ -14,7 +14,8 @@
 //!
 //! # Open
 //!
-//! That commands and answers find a place. How soon what was granted arrives after noise, or as timers fall due.
+//! That each command and each answer finds a place in its queue of control frames (these laws suppose that none is told
+//! as lost). How soon what was granted arrives after noise, or as timers fall due.
 
 ghost use Rattle.laws_time.specs.circuit.Answered.{AnEnquiryIsAnswered, CommandsAreAnswered, NoNoiseIsClear, OneEnquiryIsEnough};
 ghost use Rattle.laws_time.specs.circuit.Arriving.{CallsBearNoise};

@@ -1,27 +1,25 @@
--- Each event gets an answer of its kind: the law.
-use Rattle.laws_trace.proofs.Vocabulary.{◌≡◌, ◌&&◌, Bool, true, false, cond, Option, Some, None, refl, Config, Line, refused, hears, expiry, request, next, Request, fresh, after_all, line_at, Always}
-use Rattle.lapd_frame.specs.declared.refusals.Refusal.{Refusal}
-use Rattle.lapd_frame.specs.declared.refusals.Refusal.TheVariants.{PoolFull}
-use Rattle.model_line.specs.Effect.{Effect}
-use Rattle.model_line.specs.Event as line_event
-use Rattle.model_line.specs.Machine.{of_request, unless_refused_told}
+-- Each event is answered as it is due: the law.
+use Rattle.laws_trace.proofs.Vocabulary.{◌≡◌, Bool, false, Option, Some, None, Result, Ok, Err, ap, ◌∙◌, refl, Config, Card, Line, hears, expiry, request, next, Refusal, fresh, after_all, line_at, is_full, refusal, of_request, unless_refused_told, answer_is, config-stays, Always, Effect}
+use Rattle.std.specs.Option.{option_map_or}
 use Rattle.model_line.specs.Machine as lines
-use Rattle.model_line.specs.Refusal.{refusal}
-use Rattle.model_card.specs.Card.{is_full}
-use Rattle.laws_trace.specs.AnswersSuit.{suits, AnswersSuit}
+use Rattle.laws_trace.specs.AnswersSuit.{kind_of, AnswersSuit}
+use Rattle.laws_trace.proofs.Reasons.{refusal-same}
 
-of-request : (r : Request) (full : Bool) (o : Option Refusal) (x : Effect) → suits (request r) (cond full (refused PoolFull) (unless_refused_told o x)) ≡ true
-of-request r true o x = refl
-of-request r false None x = refl
-of-request r false (Some why) x = refl
+abbrev kind_by : Bool → Option Refusal → Result Bool Refusal
+kind_by taken why = option_map_or (λ why. Err why) why (Ok taken)
 
-of-event : (c : Config) (what : line_event.Event) (l : Line) (full : Bool) → suits what (cond (lines.takes_slot c what l && full) (refused PoolFull) (lines.answer c what l)) ≡ true
-unfolding lines.answer lines.takes_slot
-of-event c (hears e) l full = refl
-of-event c (expiry timer) l full = refl
-of-event c (request r) l full = of-request r (lines.takes_slot c (request r) l && full) (refusal c false r l) (of_request c r l)
-of-event c next l full = refl
+of-request : (o : Option Refusal) (x : Effect) → kind_of (unless_refused_told o x) ≡ kind_by false o
+of-request None x = refl
+of-request (Some why) x = refl
 
 pub answers-suit : Always AnswersSuit
-answers-suit c events number ranged all within what =
-    let card = after_all (fresh c) events in of-event card.config what (line_at number card) (is_full card)
+unfolding lines.answer lines.takes_slot
+answers-suit c events number ranged all within (hears e) = refl
+answers-suit c events number ranged all within (expiry timer) = refl
+answers-suit c events number ranged all within next = refl
+answers-suit c events number ranged all within (request r) =
+    let card : Card = after_all (fresh c) events in
+    let l : Line = line_at number card in
+    ap kind_of (answer_is card number r) ∙ of-request (refusal card.config (is_full card) r l) (of_request card.config r l)
+    ∙ ap (λ (d : Config). kind_by false (refusal d (is_full card) r l)) (config-stays (fresh c) events)
+    ∙ ap (kind_by false) (refusal-same c events number ranged all within r)

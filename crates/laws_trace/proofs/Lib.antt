@@ -113,11 +113,10 @@ pub mod UnitsAreTold
 pub mod SlotsSummed
 pub mod SlotsTaken
 pub mod NoSlotIsLost
-pub mod UnitsAreGranted
 pub mod RequestsRefused
 pub mod RequestsOfLink
 pub mod RequestsTakeEffect
-pub mod RefusalsAreTold
+pub mod Reasons
 pub mod AnswersAreGiven
 pub mod AnswersSuit
 pub mod Known

@@ -1,7 +1,8 @@
 -- What layer 3 is told of what is heard, by what the observer knows of the link.
 use Rattle.laws_trace.proofs.Vocabulary.{arith, List, nat_le, ◌≡◌, ℕ, ◌<◌, ◌||◌, Bool, true, false, Option, Some, None, option_map, refl, sym, ap, ◌∙◌, subst, true≢false, inl, inr, fold, count_by, length, option_to_list, list_any, option_map_or, and_parts, none-some, PoolFull, Service, Parts, state_number, Config, Answer, refused, Line, link_of, place_in, state_of, IsInRange, notes_of}
-use Rattle.laws_trace.proofs.Vocabulary.{contents_in, is_data_of, is_unit_of, tells_contents, line_at, is_full, at, has_lines, by_room, line_sound, IsSound, fresh, card_answer as answer, after_all, AreAtLines, is_unit_for, is_unit_taken, WhatIsToldWasHeard, brought, is_for, Observed, in_state, view_of, is_up, trace_of, Always, is_ui, Managed, Event}
+use Rattle.laws_trace.proofs.Vocabulary.{contents_in, is_data_of, is_unit_of, tells_contents, line_at, is_full, at, has_lines, by_room, line_sound, IsSound, fresh, card_answer as answer, after_all, AreAtLines, is_unit_taken, WhatIsToldWasHeard, brought, is_for, Observed, in_state, view_of, is_up, trace_of, Always, is_ui, Managed, Note, Event}
 use Rattle.model_line.specs.Machine as lines
+use Rattle.laws_trace.specs.Deliveries.{is_of_contents}
 use Rattle.laws_trace.proofs.Deliveries.{frame_by}
 use Rattle.laws_trace.proofs.DeliveriesKept.{run-stands}
 use Rattle.laws_trace.proofs.DeliveriesRun.{IsCount, IsSmall, no-data, event-small, event-told}
@@ -17,7 +18,7 @@ use Rattle.laws_trace.proofs.StandingOfLink.{IsStanding}
 use Rattle.laws_trace.proofs.TimersAreTimely.{sound-now, config-now, front-at}
 use Rattle.laws_trace.proofs.TimersOfEvent.{state-on, off-state}
 use Rattle.laws_trace.proofs.TimersWatched.{Known}
-use Rattle.laws_trace.proofs.UnitsAreFor.{unit-is, units-are}
+use Rattle.laws_trace.proofs.UnitsAreFor.{is_unit_for, unit-is, units-are}
 use Rattle.laws_trace.proofs.Facts.{number-up}
 
 -- All but to whom unit data is told.
@@ -98,6 +99,10 @@ taken-so : (c : Config) (tei : ℕ) (w : Managed) (frame : Option Parts) (conten
     → contents ≡ option_map (λ (f : Parts). f.info) frame → IsSmall c.n201 contents → option_map_or (is_unit_taken c tei w) frame false ≡ true
 taken-so c tei w frame contents comes is small = grind (arith, nat_le, IsSmall)
 
+-- Contents are noted by notes of data and of unit data.
+same-note : (n : Note) → tells_contents n ≡ is_of_contents n
+same-note n = grind arith
+
 -- Two truths that follow from each other are equal.
 same-truth : (a b : Bool) → (a ≡ true → b ≡ true) → (b ≡ true → a ≡ true) → a ≡ b
 same-truth true b there back = sym (there refl)
@@ -129,5 +134,5 @@ deliveries-so c events number ranged all within service tei before what behind i
           (told.contents_are (grind arith)) (told.small some))
           (units-are c events number ranged all within service tei before what behind is);
       contents = told.contents_are;
-      once = told.once;
+      once = sym (λ i. count_by (λ n. same-note n i) (notes_of (answer (at number what) card))) ∙ told.once;
     }

@@ -1,6 +1,6 @@
 -- Unit data is told of TEIs on the line, or of the group.
 use Rattle.laws_trace.proofs.Vocabulary.{arith, ◌≡◌, ℕ, ◌<◌, ◌==◌, ◌&&◌, ◌||◌, not, Bool, true, false, cond, length, List, ◌∷◌, ◌++◌, Option, Some, None, is_some, refl, sym, ap, ◌∙◌, subst, eq-eqb, true≢false, ◌⊎◌, inl, inr, nat_le, Result, Ok, Err, list_any, option_map_or, and_parts, leb-true, User, ReadFault, Service, Parts, reading, same_service, Config, Answer, hears, group_tei, heard_side}
-use Rattle.laws_trace.proofs.Vocabulary.{Line, has_tei, state_of, manages, IsInRange, line_at, at, has_lines, by_room, line_sound, notes_of, is_unit_of, eqb-true, IsSound, fresh, CardEvent as Event, card_answer as answer, after_all, AreAtLines, is_unit_for, result_ok, brought, its_frame, is_for, managing_is_on as is_on, view_of, is_ui, or-true, stream_frame}
+use Rattle.laws_trace.proofs.Vocabulary.{Managed, Line, has_tei, state_of, manages, IsInRange, line_at, at, has_lines, by_room, line_sound, notes_of, is_unit_of, eqb-true, IsSound, fresh, CardEvent as Event, card_answer as answer, after_all, AreAtLines, result_ok, brought, its_frame, is_for, managing_is_on as is_on, view_of, is_ui, or-true, stream_frame}
 use Rattle.model_line.specs.Event as line_event
 use Rattle.model_line.specs.Machine as lines
 use Rattle.laws_trace.proofs.Deliveries.{unit-tells, unit-own, none-noted, group-notes}
@@ -11,6 +11,10 @@ use Rattle.laws_trace.proofs.SeenAs.{tei-seen}
 use Rattle.laws_trace.proofs.TimersAreTimely.{config-now, sound-now, front-at}
 use Rattle.laws_trace.proofs.UnitsAreTold.{units-are-told}
 use Rattle.laws_trace.proofs.Facts.{only}
+
+-- A UI for a TEI on the line, or, on the user's side, for the group.
+abbrev pub is_unit_for : Config → ℕ → Managed → Parts → Bool
+is_unit_for c tei w f = is_ui f.control && (is_on tei w || (not (manages c.side) && tei == 127))
 
 abbrev IsForOne : Config → ℕ → Line → Type 0
 IsForOne c tei l = (has_tei tei l ≡ true) ⊎ ((c.side ≡ User) × (tei ≡ 127))

@@ -125,7 +125,7 @@ pub use Rattle.model_link.specs.Timed.{obey, obeyed}
 pub use Rattle.laws_link.specs.Waiting.{answers, answers_up, as_command, as_response, command_in, commands, is_time, put, receipt_as, room, to_sabme, waiting_left}
 pub use Rattle.laws_link.specs.two.Needed.{HasItsTimer, needed_in}
 pub use Rattle.laws_trace.specs.ControlFrames.{put_in, changed, command_of}
-pub use Rattle.laws_trace.specs.Deliveries.{WhatIsToldWasHeard, brings_next, is_unit_for, is_unit_taken}
+pub use Rattle.laws_trace.specs.Deliveries.{WhatIsToldWasHeard, brings_next, is_unit_taken}
 pub use Rattle.laws_trace.specs.FramesAreDue.{DueIsGiven, GivenIsDue, may_go, offers, text}
 pub use Rattle.laws_trace.specs.FramesAreRead.{FramesAreOctets, FramesAreRead, GivesOctets, IsSpelled, contents_given}
 pub use Rattle.laws_trace.specs.LinkFrames.{brought, fault_of, faulty_long, frame_of, is_for, is_frame_of, its_frame, malformed, reads}

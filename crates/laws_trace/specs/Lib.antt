@@ -23,9 +23,8 @@ pub mod LinksMove
 pub mod News
 pub mod Outgoing
 pub mod NoSlotIsLost
-pub mod UnitsAreGranted
+pub mod Reasons
 pub mod RequestsTakeEffect
-pub mod RefusalsAreTold
 pub mod FramesAreDue
 pub mod WorkedDue
 pub mod WorkedUnits
@@ -45,7 +44,6 @@ pub mod WorkedOtherSide
 pub mod WorkedSapis
 pub mod RoomsAreTold
 pub mod WorkedRooms
-pub mod WorkedGranted
 pub mod WorkedRequests
 pub mod WorkedUnitsTold
 pub mod CausesAreTold

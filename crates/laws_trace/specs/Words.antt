@@ -25,13 +25,6 @@ use Rattle.model_card.specs.ports.Port as port
 use Rattle.model_card.specs.ports.Run as octets
 use Rattle.laws_trace.specs.Managing.{manages}
 
--- The events name lines that the card has.
-abbrev pub NameLines : Card → List frame.Event → Type 0
-NameLines card events = All (λ (e : frame.Event). e.line < card.config.lines) events
-
-abbrev pub OctetsNameLines : OctetCard → List octet.Event → Type 0
-OctetsNameLines m events = All (λ (e : octet.Event). e.line < m.card.config.lines) events
-
 -- The octet that an event brings, and what it hears.
 abbrev pub octet_in : port.Event → List ℕ
 octet_in (port.octet value) = value ∷ []
@@ -41,10 +34,7 @@ abbrev pub heard_in : line.Event → List stream.Event
 heard_in (line.hears e) = e ∷ []
 heard_in other = []
 
-abbrev pub HasNoOtherLine : Card → Type 0
-HasNoOtherLine card = (number : ℕ) (service : Service) (tei : ℕ) → card.config.lines ≤ number → state number service tei card ≡ None
-
--- They are the machine's, so that a change of both would not be seen in another law.
+-- The words are the machine's, so that a change of both would not be seen in another law.
 pub record WordsMeanThis : Type 0 where
   -- The orders and the cause that laws find in an answer are all that stand in it.
   pub orders : (t : LineTold) → orders_in (told t) ≡ t.orders
@@ -56,10 +46,10 @@ pub record WordsMeanThis : Type 0 where
   pub call : sapi_of Call ≡ 0
   pub packet : sapi_of Packet ≡ 16
   -- `Card::state` tells none for a line that the card has not.
-  pub no_line : (card : Card) → HasNoOtherLine card
+  pub no_line : (card : Card) (number : ℕ) (service : Service) (tei : ℕ) → card.config.lines ≤ number → state number service tei card ≡ None
   -- Laws of a whole card speak of each list of events at lines that the card has.
-  pub frames_at_lines : (card : Card) (events : List frame.Event) → NameLines card events → frames.AreAtLines card events
-  pub octets_at_lines : (m : OctetCard) (events : List octet.Event) → OctetsNameLines m events → octets.AreAtLines m events
+  pub frames_at_lines : (card : Card) (events : List frame.Event) → All (λ (e : frame.Event). e.line < card.config.lines) events → frames.AreAtLines card events
+  pub octets_at_lines : (m : OctetCard) (events : List octet.Event) → All (λ (e : octet.Event). e.line < m.card.config.lines) events → octets.AreAtLines m events
 
 -- What is said to what is meant, or to what means nothing, is the answer.
 pub record SaysWhatIsMeant : Type 0 where
@@ -69,9 +59,6 @@ pub record SaysWhatIsMeant : Type 0 where
   pub none : (what : port.Event) (a : port.Answer) → SaysSo what a (Some (gave None)) → (value : ℕ) × (a ≡ port.pulled value false [])
   pub nothing_ends : (value : ℕ) (a : port.Answer) → SaysSo (port.octet value) a None → a ≡ port.told nothing
   pub nothing_pulled : (a : port.Answer) → SaysSo port.pull a None → (value : ℕ) × (a ≡ port.pulled value false [])
-
-abbrev pub MeansIts : octets.Moment → Type 0
-MeansIts m = IsAnswered m → SaysSo m.event.what m.answer (option_map (λ f. machine.answer f m.card.card) (ports.meant m.event m.card))
 
 -- So do the words by which a run of octets is a run of frames, and what comes and goes in it.
 pub record WordsOfOctetsMeanThis : Type 0 where
@@ -88,5 +75,5 @@ pub record WordsOfOctetsMeanThis : Type 0 where
   pub expires : (timer : Timer) → (asked_of (port.expiry timer) ≡ line.expiry timer ∷ []) × (asked_in (line.expiry timer) ≡ line.expiry timer ∷ [])
   pub requests : (r : Request) → (asked_of (port.request r) ≡ line.request r ∷ []) × (asked_in (line.request r) ≡ line.request r ∷ [])
   -- An answer is what the card of frames says to what is meant.
-  pub is_answered : (m : octets.Moment) → MeansIts m
+  pub is_answered : (m : octets.Moment) → IsAnswered m → SaysSo m.event.what m.answer (option_map (λ f. machine.answer f m.card.card) (ports.meant m.event m.card))
   pub says : SaysWhatIsMeant

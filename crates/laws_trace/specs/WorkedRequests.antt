@@ -19,12 +19,10 @@ use Rattle.model_card.specs.Event.{Event, at}
 use Rattle.model_card.specs.Run.{moments, after_all}
 use Rattle.laws_link.specs.Waiting.{as_response, as_command}
 use Rattle.laws_line.specs.card.Worked.{usual, on_0, up}
-use Rattle.laws_trace.specs.Configurations.{first_of}
-use Rattle.laws_trace.specs.Managing.{managed_after}
 use Rattle.laws_trace.specs.NoSlotIsLost.{slots_taken}
 use Rattle.laws_trace.specs.Observer.{in_state, moment_of}
 use Rattle.laws_trace.specs.Outgoing.{outgoing_of}
-use Rattle.laws_trace.specs.RefusalsAreTold.{reasons}
+use Rattle.laws_trace.specs.Reasons.{refusal_due}
 use Rattle.laws_trace.specs.RequestsTakeEffect.{Effect, effect, deactivated, of_tei}
 
 -- What the table has for a request of a link behind events, while a slot is free; and what the card answers.
@@ -154,15 +152,33 @@ ended : deactivated Call 64 (outgoing_of usual Call 64 0 leaving).view.link ≡ 
 unfolding moments lines.after lines.answer lines.takes_slot teis.course teis.refusal seq exchanged read_by reading header_of control_of unnumbered_of supervisory_of
 ended = refl
 
--- Of other requests: a check is refused while one goes on, and not while none does; and unit data of a TEI that is not on the line.
-abbrev refused_for : List Event → Request → Option Refusal
-refused_for events r = first_of (reasons usual events 0 (managed_after usual 0 events) r)
+-- The reasons of an observer are the same: of what layer 3 asks,
+abbrev refused_for : Config → List Event → Request → Option Refusal
+refused_for c events r = refusal_due c events 0 (request r)
 
-goes_on : refused_for (on ++ on_0 (Check 64) ∷ []) (Check 64) ≡ Some CheckRunning
+may_establish : refused_for usual on (Establish Call 64) ≡ None
+unfolding moments lines.after lines.answer lines.takes_slot teis.course teis.refusal
+may_establish = refl
+
+may_not_release : refused_for usual asked (Release Call 64) ≡ Some WrongState
+unfolding moments lines.after lines.answer lines.takes_slot teis.course teis.refusal
+may_not_release = refl
+
+has_no_place : refused_for (record usual { queue = 1 }) one_kept (Data Call 64 (8 ∷ [])) ≡ Some QueueFull
+unfolding moments lines.after lines.answer lines.takes_slot teis.course teis.refusal seq exchanged read_by reading header_of control_of unnumbered_of supervisory_of
+has_no_place = refl
+
+-- of unit data, for a TEI that is not on the line, and where one place is there, and taken;
+no_unit : refused_for usual on (Unit Call 65 (1 ∷ [])) ≡ Some NoLink
+no_unit = refl
+
+no_unit_place : refused_for (record usual { unit_queue = 1 }) (on ++ on_0 (Unit Call 64 (6 ∷ [])) ∷ []) (Unit Call 64 (7 ∷ [])) ≡ Some QueueFull
+unfolding moments lines.after lines.answer lines.takes_slot teis.course teis.refusal
+no_unit_place = refl
+
+-- and of a check, while one goes on, and while none does.
+goes_on : refused_for usual (on ++ on_0 (Check 64) ∷ []) (Check 64) ≡ Some CheckRunning
 goes_on = refl
 
-none_goes_on : refused_for on (Check 64) ≡ None
+none_goes_on : refused_for usual on (Check 64) ≡ None
 none_goes_on = refl
-
-no_unit : refused_for on (Unit Call 65 (1 ∷ [])) ≡ Some NoLink
-no_unit = refl

@@ -19,10 +19,9 @@ use Rattle.model_card.specs.Event.{Event}
 use Rattle.model_card.specs.Run.{after_all}
 use Rattle.laws_line.specs.card.Worked.{usual, on_0}
 use Rattle.laws_trace.specs.CausesAreTold.{cause_due}
-use Rattle.laws_trace.specs.Configurations.{first_of}
 use Rattle.laws_trace.specs.Managing.{managed_after}
 use Rattle.laws_trace.specs.Observer.{moment_of}
-use Rattle.laws_trace.specs.RefusalsAreTold.{reasons}
+use Rattle.laws_trace.specs.Reasons.{refusal_due}
 use Rattle.laws_trace.specs.WorkedManaging.{terminal}
 
 -- A message of the network, by the C/R octet of its frame, a type, the low octet of its Ri, and its last octet.
@@ -86,7 +85,7 @@ at_a_trunk = refl
 
 -- Why a request is refused at line 0, and what the card answers to it.
 abbrev why : Config → List Event → Request → Option Refusal
-why c events r = first_of (reasons c events 0 (managed_after c 0 events) r)
+why c events r = refusal_due c events 0 (request r)
 
 abbrev answers : List Event → Request → Answer
 answers events r = (moment_of terminal events 0 (request r)).answer

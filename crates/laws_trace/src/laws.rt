@@ -4,7 +4,6 @@ ghost use Rattle.laws_trace.specs.Sapis.{ServicesHaveTheirSapis};
 ghost use Rattle.laws_trace.specs.Trace.{Always};
 ghost use Rattle.laws_trace.specs.AskingEnds.{AskingEnds};
 ghost use Rattle.laws_trace.specs.AnswersAreGiven.{AnswersAreSent, QueueIsSent};
-ghost use Rattle.laws_trace.specs.AnswersSuit.{AnswersSuit};
 ghost use Rattle.laws_trace.specs.Configurations.{FirstFaultsAreNamed, RangesAreServed};
 ghost use Rattle.laws_trace.specs.CausesAreTold.{CausesAreTold};
 ghost use Rattle.laws_trace.specs.CountersCount.{CountersCount};
@@ -15,14 +14,9 @@ ghost use Rattle.laws_trace.specs.Deliveries.{WhatIsToldWasHeard};
 ghost use Rattle.laws_trace.specs.LinksMove.{LinksMove};
 ghost use Rattle.laws_trace.specs.News.{NewsIsTold};
 ghost use Rattle.laws_trace.specs.NoLossInVain.{NoLossInVain};
-ghost use Rattle.laws_trace.specs.NoSlotIsLost.{NoSlotIsLost};
-ghost use Rattle.laws_trace.specs.RefusalsAreTold.{RefusalsAreTold};
-ghost use Rattle.laws_trace.specs.RequestsTakeEffect.{RequestsTakeEffect};
-ghost use Rattle.laws_trace.specs.RoomsAreTold.{NoRoomIsTold, RoomsAreTold};
 ghost use Rattle.laws_trace.specs.TeisAreManaged.{TeisAreManaged};
 ghost use Rattle.laws_trace.specs.TimersAreTimely.{TimersAreTimely, TimersRun};
 ghost use Rattle.laws_trace.specs.TurnsMeanwhile.{LinksTakeTurnsMeanwhile};
-ghost use Rattle.laws_trace.specs.UnitsAreGranted.{UnitsAreGranted};
 ghost use Rattle.laws_trace.specs.UnitsGoOut.{UnitsGoOut, AllUnitsGoOut};
 
 /// The check of a configuration names the first of its fields that is out of range, and finds no fault exactly if none is.
@@ -59,17 +53,10 @@ pub fn services_have_their_sapis()
 /// A call gives none, or a frame of a link, only if no unit data waits. So unit data goes before frames of links, and as
 /// calls come to an end (`calls_come_to_an_end` of the promises), all of it goes (`all`).
 ///
-/// Unit data is granted exactly if all of this holds (`granted`):
-///
-/// - its TEI is on the line, or from the network's side it is the group's;
-/// - it has at most N201 octets;
-/// - fewer wait there than the configuration says;
-/// - a slot of the pool is free, as [`no_slot_is_lost`] has them (Q.921 clauses 3.6.5, 5.2.2 and 5.9.3, annex B, and
-///   profile).
+/// [`answers_suit_events`] says when unit data is granted (Q.921 clauses 3.6.5 and 5.2.2, annex B, and profile).
 pub fn units_go_out()
     ensures front { Always UnitsGoOut }
     ensures all { Always AllUnitsGoOut }
-    ensures granted { Always UnitsAreGranted }
 {}
 
 /// What begins on a line are frames. Each is one that the grammar has, as that of the card's side, with the SAPI of a
@@ -171,12 +158,6 @@ pub fn answers_are_given()
 /// This is of the observer's words alone, and so of every card.
 pub fn what_is_due_joins_the_queue()
     ensures { Always AnswersAreSent }
-{}
-
-/// Answers suit events. A call for the next frame is answered by a frame or by none. A request is granted, so that what
-/// is told answers it, or refused. What is heard, and an expiry, are answered by what is told alone.
-pub fn answers_suit_events()
-    ensures { Always AnswersSuit }
 {}
 
 /// Nothing is lost without need. Let control frames of a link become due by an event, as [`what_is_given_is_due`] has
@@ -310,57 +291,6 @@ pub fn links_move()
 ///   5.8 and appendix II).
 pub fn news_is_told()
     ensures { Always NewsIsTold }
-{}
-
-/// Granted requests take effect. Each request of a link, by layer 3 or to deactivate it, is answered by how the link
-/// stands, as an observer of it has this (`effect` of specs/ has the rows). It is refused for the first of these reasons
-/// that holds:
-///
-/// - the TEI is over 126, or it is not on the line;
-/// - the state does not serve the request. State 4 serves the establishment, and 4, 7 and 8 the release. States 7 and 8
-///   serve data, and that layer 3 is busy, or is so no more;
-/// - the data has more than N201 octets;
-/// - the link keeps as many contents as it may;
-/// - no slot of the pool is free, as [`no_slot_is_lost`] has these.
-///
-/// Otherwise it is granted, and takes effect at once:
-///
-/// - `Card::state` tells 5 of a link that is to be established, and 6 of one that is to be released. SABME or DISC waits
-///   then, and layer 3 is told of the answer, or that none comes, as [`news_is_told`] has it. The release of a link in
-///   state 4 is confirmed in the answer.
-/// - Data comes after what the link keeps.
-/// - RNR or RR waits as layer 3 comes to be busy, or is so no more.
-/// - A link that is deactivated is in state 4, has nothing to send, and its end is told in the answer.
-///
-/// What waits, and what is kept, goes as [`what_is_given_is_due`] has it. A frame comes after those that wait, and is
-/// lost if these are as many as may wait. [`teis_are_managed`] and [`units_go_out`] say which of the other requests are
-/// granted, and what they come to. Those are refused, too, for the first reason that holds (`others`; Q.921 clauses
-/// 5.5.1.1, 5.5.3.1, 5.5.3.2, 5.6.1 and 5.6.6, annex B and profile).
-pub fn granted_requests_take_effect()
-    ensures links { Always RequestsTakeEffect }
-    ensures others { Always RefusalsAreTold }
-{}
-
-/// Rooms are told as they are. Let a link's TEI be on the line. Some places of its queue `FrameCard::room` tells as
-/// left; all others have the contents that the link keeps, as [`what_is_given_is_due`] has them. So contents take a
-/// place until they are acknowledged, or layer 3 learns that they are lost. The slots of the pool are those left and
-/// those taken, as [`no_slot_is_lost`] has them. If the TEI is not on the line, it tells that there is no link (`off`).
-///
-/// Of a link in state 7 or 8 V(A) is told, which is the N(R) that was heard of it last, and 0 if none was since its
-/// numbers began. By what is left, of the queue and of the pool, the next request for data is refused, as
-/// [`granted_requests_take_effect`] has it; in the other states for the state (Q.921 clauses 3.5.2.3, 5.5.1.1, 5.5.1.2,
-/// 5.5.3.1, 5.5.3.2 and 5.7, and profile).
-pub fn rooms_are_told()
-    ensures rooms { Always RoomsAreTold }
-    ensures off { Always NoRoomIsTold }
-{}
-
-/// No slot of the pool is lost. The lines of a card together take no more slots than it has. A request finds the pool
-/// full only if they take all of them, to an observer of the lines. These are one for each unit data that waits, as
-/// [`units_go_out`] has it, and one for each contents that a link keeps, as [`what_is_given_is_due`] has it. So a slot
-/// is free again as soon as its unit data begins, or its contents are acknowledged, or either is given up (profile).
-pub fn no_slot_is_lost()
-    ensures { Always NoSlotIsLost }
 {}
 
 /// The cause of each drop is told. The answer to an event of a line names a cause exactly if one is due by that event.

@@ -7,28 +7,32 @@
 //! and what goes next (`FramesAreDue`). There is a file for each law, with worked values of it. Each law is the contract of a
 //! call that does nothing.
 //!
-//! - `laws`: the laws.
+//! - `laws`: the laws of what is heard, told and sent.
+//! - `requests`: when a request is refused, what a granted one does, and how much is kept.
 //! - `octets`: what they come to in the octets of a line.
 //! - `words`: what the words mean that laws share with the machine.
 //!
 //! # Open
 //!
-//! Turns, where the TEI of the first link does not stay on the line.
+//! That links take turns if the TEI of the link whose frames begin leaves the line meanwhile.
 #![tactic(auto)]
 
 mod laws;
 mod octets;
+mod requests;
 mod words;
 
 pub use laws::{
-    answers_are_given, answers_suit_events, asking_ends, causes_are_told, counters_count,
-    frames_are_octets, frames_are_read, granted_requests_take_effect, links_move,
-    links_take_turns_meanwhile, news_is_told, no_slot_is_lost, nothing_is_lost_in_vain,
-    ranges_are_served, rooms_are_told, services_have_their_sapis, teis_are_managed,
-    the_other_side_is_heard, timers_are_timely, timers_run, units_go_out, values_are_in_range,
-    what_is_due_joins_the_queue, what_is_given_is_due, what_is_told_was_heard,
+    answers_are_given, asking_ends, causes_are_told, counters_count, frames_are_octets,
+    frames_are_read, links_move, links_take_turns_meanwhile, news_is_told, nothing_is_lost_in_vain,
+    ranges_are_served, services_have_their_sapis, teis_are_managed, the_other_side_is_heard,
+    timers_are_timely, timers_run, units_go_out, values_are_in_range, what_is_due_joins_the_queue,
+    what_is_given_is_due, what_is_told_was_heard,
 };
 pub use octets::{
     all_frames_go_out, answers_are_heard, frames_go_out, latest_is_begun, units_are_heard,
+};
+pub use requests::{
+    answers_suit_events, granted_requests_take_effect, no_slot_is_lost, rooms_are_told,
 };
 pub use words::words_mean_this;

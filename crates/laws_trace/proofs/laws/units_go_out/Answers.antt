@@ -1,5 +1,4 @@
 -- Hand-written answers for `units_go_out`.
-use Rattle.laws_trace.proofs.UnitsAreGranted.{units-are-granted}
 use Rattle.laws_trace.proofs.UnitsGoOut.{units-go-out, all-units-go-out}
 use Rattle.laws_trace.proofs.laws.units_go_out.Goals as goal
 
@@ -8,6 +7,3 @@ returns-clause-front c = λ config events number ranged all within. units-go-out
 
 pub returns-clause-all : goal.returns-clause-all
 returns-clause-all c = λ config events number ranged all within. all-units-go-out config events number ranged all within
-
-pub returns-clause-granted : goal.returns-clause-granted
-returns-clause-granted c = λ config events number ranged all within. units-are-granted config events number ranged all within

@@ -1,29 +1,28 @@
--- Why unit data, and what management asks for, is refused: the law.
-use Rattle.laws_trace.proofs.Vocabulary.{◌≡◌, ℕ, ◌==◌, ◌&&◌, ◌||◌, ◌<◌, Bool, true, false, true≢false, lt-ltb, le-ltb, arith, not, cond, nat_le, nat_lt, List, length, Option, Some, None, IfSome, is_some, option_map, refl, sym, ap, ◌∙◌, subst, Config, Effect, Line, has_tei, unless_refused_told, Card, line_at}
-use Rattle.laws_trace.proofs.Vocabulary.{is_full, answer_is, refusal, fresh, after_all, AreAtLines, IsInRange, units_of, of_request, config-stays, length-map, unit_frame, Side, User, Network, Refusal}
-use Rattle.laws_trace.proofs.Vocabulary.{Service, Answer, IsSound, last_unit_tei, used, manages, has_management, refused, Managed, managed_after, managing_is_on as is_on, CardEvent as Event, card_answer as answer, at, free_place}
-use Rattle.lapd_frame.specs.declared.refusals.Refusal.TheVariants.{BadTei, NoLink, TooLong, QueueFull, PoolFull, WrongSide, TeiTaken, TableFull, CheckRunning, ControlFull}
+-- Why a request is refused: the first row of the table that holds is the first reason to an observer.
+use Rattle.laws_trace.proofs.Vocabulary.{◌≡◌, ℕ, ◌==◌, ◌&&◌, ◌||◌, ◌<◌, Bool, true, false, true≢false, lt-ltb, le-ltb, arith, not, cond, nat_le, nat_lt, List, length, Option, Some, None, is_some, option_map, refl, sym, ap, ◌∙◌, subst, Config, Line, has_tei, link_of, queue_of, Card, line_at}
+use Rattle.laws_trace.proofs.Vocabulary.{is_full, refusal, fresh, after_all, AreAtLines, IsInRange, units_of, config-stays, length-map, unit_frame, Side, User, Network, Refusal, Link, state_number, is_multiple_frame, is_up, view_of, outgoing_of}
+use Rattle.laws_trace.proofs.Vocabulary.{Service, IsSound, last_unit_tei, used, manages, has_management, Managed, managed_after, managing_is_on as is_on, CardEvent as Event, free_place, Request, request}
+use Rattle.lapd_frame.specs.declared.refusals.Refusal.TheVariants.{BadTei, NoLink, WrongState, TooLong, QueueFull, PoolFull, WrongSide, TeiTaken, TableFull, CheckRunning, ControlFull}
 use Rattle.lapd_tei.specs.declared.check.Check as check
 use Rattle.model_line.specs.Line.{is_at, is_terminal}
 use Rattle.model_line.specs.Sides.{is_network}
 use Rattle.model_line.specs.Sound.{IsOfSide}
-use Rattle.model_line.specs.Event as line_event
-use Rattle.model_line.specs.Request.{Request, Establish, Release, Data, Unit, Assign, Remove, Check, Disown, AskTei, VerifyTei, SetBusy, ClearBusy, Deactivate, Down}
-use Rattle.laws_trace.specs.Configurations.{first_of}
+use Rattle.model_line.specs.Request.{Establish, Release, Data, Unit, Assign, Remove, Check, Disown, AskTei, VerifyTei, SetBusy, ClearBusy, Deactivate, Down}
 use Rattle.laws_trace.specs.NoSlotIsLost.{slots_taken}
-use Rattle.laws_trace.specs.RefusalsAreTold.{reasons, RefusalsAreTold}
 use Rattle.laws_trace.specs.Managing.{own_of}
 use Rattle.laws_trace.specs.ManagingTerminal.{OfTerminal}
+use Rattle.laws_trace.specs.Reasons.{refusal_due}
+use Rattle.laws_trace.proofs.Addressed.{at-some-place}
+use Rattle.laws_trace.proofs.Facts.{number-up}
 use Rattle.laws_trace.proofs.Follows.{seen_check}
 use Rattle.laws_trace.proofs.Known.{Knows, knows-now}
 use Rattle.laws_trace.proofs.LineAtEnd.{line-at-end}
 use Rattle.laws_trace.proofs.ManagingTables.{free-fewer, none-free, used-same}
+use Rattle.laws_trace.proofs.Outgoing.{kept-now}
+use Rattle.laws_trace.proofs.RequestsRefused.{serves-establish, serves-release}
+use Rattle.laws_trace.proofs.SeenAs.{seen-before}
 use Rattle.laws_trace.proofs.SlotsTaken.{taken-is}
 use Rattle.laws_trace.proofs.UnitsGoOut.{waiting-is}
-
-told-so : (o : Option Refusal) (outcome : Effect) → IfSome o (λ why. unless_refused_told o outcome ≡ refused why)
-told-so None outcome = tt
-told-so (Some why) outcome = refl
 
 last-is : (side : Side) → last_unit_tei side ≡ cond (manages side) 127 126
 last-is Network = refl
@@ -116,15 +115,6 @@ module _ (c : Config) (events : List Event) (number : ℕ) (ranged : IsInRange c
       go None free = sym (le-ltb (length w.on) c.terminals (let whole = none-free l.management.places free in omega (arith, knows.on.size, whole, sound.places)))
       go (Some place) free = sym (lt-ltb (length w.on) c.terminals (let few = free-fewer l.management.places place free in omega (arith, knows.on.size, few, sound.places)))
 
-  abbrev Told : Request → Option Refusal → Type 0
-  Told r o = IfSome o (λ why. answer (at number (line_event.request r)) card ≡ refused why)
-
-  told : (r : Request) → Told r (refusal c (is_full card) r l)
-  told r =
-      let o = refusal card.config (is_full card) r l in
-      subst (λ (d : Config). Told r (refusal d (is_full card) r l)) same
-      (subst (λ (a : Answer). IfSome o (λ why. a ≡ refused why)) (sym (answer_is card number r)) (told-so o (of_request card.config r l)))
-
   wrong-side : not (has_management c) ≡ not (manages c.side || is_terminal c)
   wrong-side = ap (λ b. not (b || is_terminal c)) (network-is c.side)
 
@@ -136,7 +126,7 @@ module _ (c : Config) (events : List Event) (number : ℕ) (ranged : IsInRange c
   at-network managed = network-alone c.side c.seed (is-so (manages c.side) managed)
 
   abbrev Same : Request → Type 0
-  Same r = refusal c (is_full card) r l ≡ first_of (reasons c events number w r)
+  Same r = refusal c (is_full card) r l ≡ refusal_due c events number (request r)
 
   unit-same : (service : Service) (tei : ℕ) (contents : List ℕ) → Same (Unit service tei contents)
   unit-same service tei contents =
@@ -176,18 +166,63 @@ module _ (c : Config) (events : List Event) (number : ℕ) (ranged : IsInRange c
       if-same _ _ BadTei _ _ refl
       (if-same _ _ NoLink _ _ (ap not (on-line tei)) (if-same _ _ CheckRunning _ _ (procedure-is (is-so (is_terminal c) is)) refl)))
 
-  pub refusals-are-told : RefusalsAreTold c events number
-  refusals-are-told (Unit service tei contents) = subst (Told (Unit service tei contents)) (unit-same service tei contents) (told (Unit service tei contents))
-  refusals-are-told (Assign tei) = subst (Told (Assign tei)) (assign-same tei) (told (Assign tei))
-  refusals-are-told (Remove tei) = subst (Told (Remove tei)) (remove-same tei) (told (Remove tei))
-  refusals-are-told (Check tei) = subst (Told (Check tei)) (check-same tei) (told (Check tei))
-  refusals-are-told (Disown tei) = subst (Told (Disown tei)) (disown-same tei) (told (Disown tei))
-  refusals-are-told AskTei = subst (Told AskTei) ask-same (told AskTei)
-  refusals-are-told (VerifyTei tei) = subst (Told (VerifyTei tei)) (verify-same tei) (told (VerifyTei tei))
-  refusals-are-told (Establish service tei) = tt
-  refusals-are-told (Release service tei) = tt
-  refusals-are-told (Data service tei contents) = tt
-  refusals-are-told (SetBusy service tei) = tt
-  refusals-are-told (ClearBusy service tei) = tt
-  refusals-are-told (Deactivate service tei) = tt
-  refusals-are-told Down = tt
+  -- What is asked of a link by its state, if its TEI is on the line.
+  of-link : (tei : ℕ) (x y : Option Refusal) → (has_tei tei l ≡ true → x ≡ y)
+      → if_so (nat_lt 126 tei) BadTei (if_so (not (has_tei tei l)) NoLink x) ≡ if_so (nat_lt 126 tei) BadTei (if_so (not (is_on tei w)) NoLink y)
+  of-link tei x y others = if-same _ _ BadTei _ _ refl (unless-same _ _ NoLink _ _ (ap not (on-line tei)) (λ on. others (on-line tei ∙ is-so (is_on tei w) on)))
+
+  module _ (service : Service) (tei : ℕ) where
+    abbrev own : Link
+    own = link_of service tei l
+
+    abbrev its : ℕ
+    its = (view_of c service tei number events).link.state
+
+    state-seen : has_tei tei l ≡ true → its ≡ state_number own.state
+    state-seen on = let p = at-some-place l tei on in (seen-before c events number ranged all within service tei p.0 p.1).state_is
+
+    kept-seen : has_tei tei l ≡ true → queue_of own ≡ (outgoing_of c service tei number events).kept
+    kept-seen on = let p = at-some-place l tei on in sym (kept-now c number ranged within service tei events all p.0 p.1)
+
+    not-up : has_tei tei l ≡ true → not (is_multiple_frame own.state) ≡ not (is_up its)
+    not-up on = ap not (sym (ap is_up (state-seen on) ∙ number-up own.state))
+
+    establish-same : Same (Establish service tei)
+    establish-same =
+        of-link tei _ _ (λ on. if-same _ _ WrongState _ _ (ap not (sym (ap (λ n. n == 4) (state-seen on) ∙ serves-establish own.state))) refl)
+
+    release-same : Same (Release service tei)
+    release-same =
+        of-link tei _ _ (λ on. if-same _ _ WrongState _ _ (ap not (sym (ap (λ n. is_up n || n == 4) (state-seen on) ∙ serves-release own.state))) refl)
+
+    data-same : (contents : List ℕ) → Same (Data service tei contents)
+    data-same contents =
+        of-link tei _ _ (λ on.
+        if-same _ _ WrongState _ _ (not-up on)
+        (if-same _ _ TooLong _ _ refl
+        (if-same _ _ QueueFull _ _ (ap (λ kept. nat_le c.queue (length kept)) (kept-seen on)) (if-same _ _ PoolFull _ _ slots-are refl))))
+
+    busy-same : Same (SetBusy service tei)
+    busy-same = of-link tei _ _ (λ on. if-same _ _ WrongState _ _ (not-up on) refl)
+
+    ready-same : Same (ClearBusy service tei)
+    ready-same = of-link tei _ _ (λ on. if-same _ _ WrongState _ _ (not-up on) refl)
+
+    ended-same : Same (Deactivate service tei)
+    ended-same = of-link tei None None (λ on. refl)
+
+  pub refusal-same : (r : Request) → Same r
+  refusal-same (Establish service tei) = establish-same service tei
+  refusal-same (Release service tei) = release-same service tei
+  refusal-same (Data service tei contents) = data-same service tei contents
+  refusal-same (SetBusy service tei) = busy-same service tei
+  refusal-same (ClearBusy service tei) = ready-same service tei
+  refusal-same (Deactivate service tei) = ended-same service tei
+  refusal-same (Unit service tei contents) = unit-same service tei contents
+  refusal-same (Assign tei) = assign-same tei
+  refusal-same (Remove tei) = remove-same tei
+  refusal-same (Check tei) = check-same tei
+  refusal-same (Disown tei) = disown-same tei
+  refusal-same AskTei = ask-same
+  refusal-same (VerifyTei tei) = verify-same tei
+  refusal-same Down = refl

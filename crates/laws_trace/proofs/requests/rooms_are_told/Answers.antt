@@ -1,6 +1,6 @@
 -- Hand-written answers for `rooms_are_told`.
 use Rattle.laws_trace.proofs.RoomsAreTold.{no-room-is-told, rooms-are-told}
-use Rattle.laws_trace.proofs.laws.rooms_are_told.Goals as goal
+use Rattle.laws_trace.proofs.requests.rooms_are_told.Goals as goal
 
 pub returns-clause-rooms : goal.returns-clause-rooms
 returns-clause-rooms c = λ config events number ranged all within. rooms-are-told config events number ranged all within

@@ -63,9 +63,9 @@ pub mod InBeatsMet
 pub mod InBeatsKept
 pub mod InBeatsRest
 pub mod InBeatsFrames
-pub mod InBeatsRestMet
 pub mod AckedLinks
 pub mod AckedWire
+pub mod AckedLogs
 pub mod AckedCall
 pub mod AckedOn
 pub mod AckedUp
@@ -81,3 +81,8 @@ pub mod AckedStep
 pub mod AckedUndue
 pub mod AckedRun
 pub mod AckedBegun
+pub mod AckedTime
+pub mod RestedOwn
+pub mod RestedClock
+pub mod Rested
+pub mod InBeatsRestMet

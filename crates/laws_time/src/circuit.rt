@@ -20,7 +20,7 @@
 ghost use Rattle.laws_time.specs.circuit.Answered.{AnEnquiryIsAnswered, CommandsAreAnswered, NoNoiseIsClear, OneEnquiryIsEnough};
 ghost use Rattle.laws_time.specs.circuit.Arriving.{CallsBearNoise};
 ghost use Rattle.laws_time.specs.circuit.Ends.{EndsAreTimedCards};
-ghost use Rattle.laws_time.specs.circuit.InBeats.{ACallComesInTime, ACallTakesBeats, AShortCallTakesBeats, FramesComeInBeats, MessagesTakeBeats, NoneFallsDueBefore, ShortMessagesTakeBeats, T203FallsDueFirst};
+ghost use Rattle.laws_time.specs.circuit.InBeats.{ACallComesInTime, ACallTakesBeats, AShortCallTakesBeats, FramesComeInBeats, MessagesComeInTime, MessagesTakeBeats, ShortMessagesTakeBeats, T203FallsDueFirst, T203FallsDueFirstSince};
 ghost use Rattle.laws_time.specs.circuit.InCall.{ACallOutlastsNoise, N200LastsInACall};
 ghost use Rattle.laws_time.specs.circuit.LongEnough.{AnswersComeInTime};
 ghost use Rattle.laws_time.specs.circuit.WorkedAnswered.{AnEnquiryIsMet};
@@ -115,16 +115,13 @@ pub fn no_noise_makes_no_frame()
 /// be granted since. Then 2 u (2 L + D) octet times after the last each end was told all that the other was granted since,
 /// and nothing else. After (1 + 2 u) (2 L + D) it is so if L is the longest frame that went by then (`short_since`).
 ///
-/// When no timer falls due is a matter of numbers: of a call see [`a_call_comes_in_time`]. Let none that runs at either end
-/// fall due before a moment, as `lapd_next_moment` says, and let each that is started run until then at least. Then none
-/// falls due before, whatever is asked for, and whatever noise there is (`undue`). So the bounds hold of a link at rest
-/// within T200, if T203 does not fall due. (Noise delays a call, `specs/circuit/WorkedInBeats`.)
+/// When no timer falls due is a matter of numbers, see [`a_call_comes_in_time`]. (Noise delays a call,
+/// `specs/circuit/WorkedInBeats`.)
 pub fn a_call_takes_beats()
     ensures told { ACallTakesBeats }
     ensures short { AShortCallTakesBeats }
     ensures since { MessagesTakeBeats }
     ensures short_since { ShortMessagesTakeBeats }
-    ensures undue { NoneFallsDueBefore }
 {}
 
 /// Frames come in so many beats. On a line without noise each frame that an end has put on its line is received whole
@@ -145,7 +142,13 @@ pub fn frames_come_in_beats()
 /// the other end begins that acknowledges it, and L + D later that is received. At 16 kbit/s with 4 octets in transit T200
 /// of 487 ms is long enough, and at 64 kbit/s with 16 one of 126 ms. (A shorter T200 falls due though nothing is lost, and
 /// may bring error C. A short T203 falls due, and so does T200 if noise takes SABME: `specs/circuit/WorkedInTime`.)
+///
+/// The same holds of a link at rest, as [`a_call_takes_beats`] has it, with that T200. Only data is asked for since, without
+/// noise. T203 runs at each end then: if no timer that runs there falls due in so many octet times, none does. So 2 u (2 L
+/// + D) octet times after the last request all is told (`since`). And T203 is the first that falls due (`since_first`).
 pub fn a_call_comes_in_time()
     ensures told { ACallComesInTime }
     ensures first { T203FallsDueFirst }
+    ensures since { MessagesComeInTime }
+    ensures since_first { T203FallsDueFirstSince }
 {}

@@ -302,6 +302,23 @@ module _ (service : Service) (tei : ℕ) where
         as-kept-still : IsStill (as_is last) → IsStill (as_kept last)
         as-kept-still e = record { near = e.near; far = e.far; near_way = e.near_way; far_way = e.far_way }
 
+-- The ends for which cards stand that face each other, as if what their links keep were what they were granted.
+module _ (service : Service) (tei : ℕ) (w : Wire) (h : Face service tei w) where
+  abbrev kept : Endpoint → Endpoint
+  kept s = record s { granted = (own_link service tei s).contents ++ []; told = [] }
+
+  pub kept-up : (p : ℕ) × (q : ℕ) × (first : Past) × (second : Past) × (n : LinkEndpoint) × (m : LinkEndpoint)
+      × Talk service tei w.near.card.config w.far.card.config p q first second (record { near = kept w.near; far = kept w.far }) n m
+  kept-up = (
+    (up service tei w.near w.far h.0).place,
+    (up service tei w.far w.near h.1).place,
+    past_at service tei w.near w.far,
+    past_at service tei w.far w.near,
+    end_at service tei w.near w.far,
+    end_at service tei w.far w.near,
+    now service tei [] w h (All-nil (IsTalk service tei)),
+  )
+
 pub cards-deliver : CardsDeliver
 cards-deliver service tei ds w h talk = delivers service tei ds w h talk
 

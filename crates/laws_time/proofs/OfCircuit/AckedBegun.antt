@@ -4,8 +4,11 @@ use Rattle.std.specs.Prelude.{fold}
 use Rattle.std.specs.List.{AllByRecursion}
 use Rattle.std.proofs.lemmas.List.Elements.{All-nil, All-cons, All-head, All-tail, All-append}
 use Rattle.std.proofs.lemmas.List.{length-replicate}
+use Rattle.std.proofs.lemmas.Bool.{cases_lt}
+use Rattle.std.proofs.Math.Nat.{mul-div-le}
+use Rattle.std.proofs.lemmas.Nat.{mul-le}
 unfoldable use Rattle.model_bits.specs.Bits.{low_bits}
-use Rattle.lapd_clock.specs.Timer.{Lengths, AreInRange, T203}
+use Rattle.lapd_clock.specs.Timer.{Lengths, AreInRange, T203, duration}
 use Rattle.lapd_clock.specs.Timers.{Expiry}
 use Rattle.lapd_frame.specs.declared.services.Service.{Service}
 use Rattle.model_link.specs.declared.states.State.TheVariants.{TeiAssigned, Established}
@@ -37,20 +40,22 @@ use Rattle.laws_time.specs.circuit.InBeats.{AsksData, IsUndue, Begins, ACallCome
 unfoldable use Rattle.laws_time.specs.circuit.InBeats.{NoneFallsDue}
 use Rattle.laws_time.specs.circuit.LongEnough.{Line, asked, begins}
 unfoldable use Rattle.laws_time.specs.circuit.LongEnough.{pulling}
-use Rattle.laws_time.proofs.OfCircuit.AckedBeats.{Now, none-done, Stands}
+use Rattle.laws_time.proofs.OfCircuit.AckedBeats.{Now, done, none-done, Stands}
 use Rattle.laws_time.proofs.OfCircuit.AckedCall.{Moves}
 use Rattle.laws_time.proofs.OfCircuit.AckedEnds.{its_link, Facts, facts-as, same-link, Due, Timed, timed-then, Held, beat-begins}
-use Rattle.laws_time.proofs.OfCircuit.AckedOurs.{establish-ours, pull-ours}
+use Rattle.laws_time.proofs.OfCircuit.AckedOurs.{link-ours, pull-ours}
+use Rattle.laws_time.proofs.OfCircuit.AckedRings.{up-by}
 use Rattle.laws_time.proofs.OfCircuit.AckedRun.{EndHeld, beat-ends, OldAt, At, near-first, far-first, none-falls-due, at-all}
-use Rattle.laws_time.proofs.OfCircuit.AckedSides.{cfg, rng, lens, end_of, link_of_end, face, facts, now-one, EndTimed, OnWire, none-moves}
+use Rattle.laws_time.proofs.OfCircuit.AckedSides.{cfg, rng, lens, end_of, link_of_end, face, facts, now-one, EndTimed, OnWire, none-moves, IsUpAt}
 use Rattle.laws_time.proofs.OfCircuit.AckedStep.{ask_all, all-own, all-other, Asked, asks-run, hear-run}
 use Rattle.laws_time.proofs.OfCircuit.AckedWire.{own-stands}
+use Rattle.laws_time.proofs.OfCircuit.Answered.{beats-then}
 use Rattle.laws_time.proofs.OfCircuit.Began.{none-ordered}
 use Rattle.laws_time.proofs.OfCircuit.Ends.{at_time}
 use Rattle.laws_time.proofs.OfCircuit.InBeats as first
 use Rattle.laws_time.proofs.OfCircuit.InBeats.{a-call-takes-beats, alike-of, first-end, port-asked, Octets}
 use Rattle.laws_time.proofs.OfCircuit.InBeatsAs.{Alike, alike-asked, Twin, left-plus, first-way}
-use Rattle.laws_time.proofs.OfCircuit.InBeatsDue.{none-at-first}
+use Rattle.laws_time.proofs.OfCircuit.InBeatsDue.{Rule, none-at-first, begins-on-time, begins-kept, on-time, kept-beat}
 use Rattle.laws_time.proofs.OfCircuit.InBeatsIdle as idles
 use Rattle.laws_time.proofs.OfCircuit.InBeatsIdle.{opened}
 use Rattle.laws_time.proofs.OfCircuit.InBeatsRun as run
@@ -77,7 +82,7 @@ module _ (service : Service) (tei : ℕ) (few : tei ≤ 126) (c : Config) (range
       record {
         ran = idles.ran-begun service c ranged number tei within few (flags way);
         lengths = ap (λ (k : Rattle.model_timed.specs.Clock.Clock). k.lengths) none-run;
-        late = subst (AllByRecursion _) (sym none) tt;
+        here = subst (AllByRecursion _) (sym none) tt;
         ours = subst (AllByRecursion (RunsOurs service tei)) (sym none) tt;
         claim = λ m at_m. absurd (cc (ap (λ es. Rattle.lapd_clock.specs.Moments.moment_of number (Rattle.lapd_frame.specs.declared.timers.Timer.TheVariants.T200 service tei) es) (sym none) ∙ at_m));
       }
@@ -87,7 +92,7 @@ module _ (service : Service) (tei : ℕ) (few : tei ≤ 126) (c : Config) (range
 
   pub facts-first : (s : Endpoint) → as_endpoint [] s ≡ call.assigned c number tei → Facts service tei c ranged ls s
   facts-first s is =
-      let stands = same-first s is in record { way = []; n = end (terms c service tei) fresh []; stands = stands; fine = inl (ap (λ (l : Link). l.state) (own-stands service tei c 0 (as_endpoint [] s) (end (terms c service tei) fresh []) stands)) }
+      let stands = same-first s is in record { way = []; place = 0; n = end (terms c service tei) fresh []; stands = stands; fine = inl (ap (λ (l : Link). l.state) (own-stands service tei c 0 (as_endpoint [] s) (end (terms c service tei) fresh []) stands)) }
 
   -- Layer 3 asks to establish.
   pub rings : (d : Config) → Face c d → (Old : ℕ → ℕ → Type 0) (now : ℕ) (a : TimedEndpoint) → Timed service tei c ranged ls Old now a → as_endpoint [] a.at ≡ call.assigned c number tei → Facts service tei c ranged ls (ask a.at (Establish service tei))
@@ -96,7 +101,7 @@ module _ (service : Service) (tei : ℕ) (few : tei ≤ 126) (c : Config) (range
       let before = facts-first a.at is in
       let ev = port.request (Establish service tei) in
       timed-then service tei c ranged ls Old now a ev timed (goes-on c a.at ev (All-nil (λ octet. octet < 256)) timed.ran) before then tt
-      (establish-ours service tei c d its_face a.at before.way before.n before.stands)
+      (link-ours service tei c d its_face a.at before.way before.place before.n before.stands (Establish service tei) (refl, refl))
       (λ open_now open_then. let e : TeiAssigned ≡ Established = sym (ap (λ (l : Link). l.state) (own-stands service tei c 0 (as_endpoint [] a.at) (end (terms c service tei) fresh []) (same-first a.at is))) ∙ open_now.state in absurd (cc e))
 
 -- The first octet to receive leaves what is to be pulled.
@@ -143,13 +148,13 @@ module _ (l : Line) (fit : Begins l) (b : Beat) (data_alone : AsksData l b) (is_
   on-wire : OnWire l fit (as_wire [] [] v0) 4
   on-wire =
       subst (λ w. OnWire l fit w 4) (sym (first.begins-so l b [] 0 fit.call one-data one-clean undue))
-      (inl (record {
+      (inl (inl (record {
         both = record {
           near = beginning.calls l.service l.tei l.near fit.call.near.0 fit.call.terminal l.near_line fit.call.near.1;
           far = beginning.answers l.service l.tei l.far fit.call.far.0 fit.call.terminal l.far_line fit.call.far.1;
         };
         is = refl;
-      }))
+      })))
 
   now0 : Now l fit v0
   now0 = record { there = []; back = []; follows = first.follows l b [] 0 fit.call one-data one-clean undue; weight = 4; on_wire = on-wire }
@@ -252,7 +257,7 @@ module _ (l : Line) (fit : Begins l) (b : Beat) (data_alone : AsksData l b) (is_
       let its = its_link l.service l.tei (cfg l fit side) (rng l fit side) (lens l fit side) a.at in
       timed-then l.service l.tei (cfg l fit side) (rng l fit side) (lens l fit side) Never moment a port.pull timed (goes-on (cfg l fit side) a.at port.pull tt timed.ran) before
       (facts-as l.service l.tei (cfg l fit side) (rng l fit side) (lens l fit side) (circuit.happens port.pull a.at) (end_of l fit side v2) then f) tt
-      (pull-ours l.service l.tei (cfg l fit side) (cfg l fit (not side)) (face l fit side) a.at before.way before.n before.stands)
+      (pull-ours l.service l.tei (cfg l fit side) (cfg l fit (not side)) (face l fit side) a.at before.way before.place before.n before.stands)
       (λ open_now open_then. subst (Moves its) (sym link ∙ link_then) (none-moves its))
 
   a3-timed : EndTimed l fit false Never moment a3
@@ -334,14 +339,14 @@ module _ (l : Line) (fit : Begins l) (b : Beat) (data_alone : AsksData l b) (is_
       ∙ sym (same-link l.service l.tei l.far (rng l fit true) l.far_lengths w1.far.at (both_hear v2.near v2.far).far sim-first.far.same.alike)
 
   abbrev OldFirst : Bool → ℕ → ℕ → Type 0
-  OldFirst side a m = OldAt l fit w1 (both_hear v2.near v2.far) refl stands-first few-left side [] a m
+  OldFirst side a m = OldAt l fit w1 (both_hear v2.near v2.far) 0 refl stands-first side [] a m
 
   old-first : (side : Bool) (a m s : ℕ) → s ≡ (link_of_end l fit side (end_of l fit side (both_hear v2.near v2.far))).s → Due l.service l.tei (cfg l fit side) (rng l fit side) (lens l fit side) Never moment a s m → OldFirst side a m
   old-first side a m s is (inl never) = absurd never
   old-first side a m s is (inr (less, late)) =
       ([], [], refl, subst (λ (v : Circuit). a < (link_of_end l fit side (end_of l fit side v)).s) (sym (none-done l fit (both_hear v2.near v2.far))) (omega (arith, less, is)), late)
 
-  pub at-first : At l fit w1 (both_hear v2.near v2.far) refl stands-first few-left []
+  pub at-first : At l fit w1 (both_hear v2.near v2.far) 0 refl stands-first []
   at-first = record {
     all = All-nil (AsksData l);
     sim = subst (run.Sim l fit.call.near.0 fit.call.far.0 w1) (sym (none-done l fit (both_hear v2.near v2.far))) sim-first;
@@ -350,48 +355,3 @@ module _ (l : Line) (fit : Begins l) (b : Beat) (data_alone : AsksData l b) (is_
     far = subst (EndHeld l fit true (OldFirst true)) far-ends
         (beat-ends l fit true Never (OldFirst true) moment z4 z4-timed (λ m x. old-first true (link_in true z4).a m (link_in true z4).s (ap (λ (k : Link). k.s) far-link) x));
   }
-
-  -- The rest of the call.
-  module _ (bs : List Beat) (all : All (AsksData l) bs) (clean_all : All IsClean bs) (long : 3 * longest l.near.n201 + 2 * l.way + l.rate < l.lengths.t200 * l.rate) (long_far : 3 * longest l.near.n201 + 2 * l.way + l.rate < l.far_lengths.t200 * l.rate) where
-    pub begun-undue : suc (length bs) ≤ l.lengths.t203 * l.rate → suc (length bs) ≤ l.far_lengths.t203 * l.rate → NoneFallsDue l.rate (calls l b ∷ bs) (begins l)
-    unfolding NoneFallsDue
-    begun-undue here there = (
-      undue-both.0,
-      undue-both.1,
-      none-falls-due l fit w1 (both_hear v2.near v2.far) refl stands-first few-left long long_far bs [] all clean_all at-first (omega (arith, here)) (omega (arith, there)),
-    )
-
-    rest-of : NoneFallsDue l.rate (calls l b ∷ bs) (begins l) → NoneFallsDue l.rate bs (beat l.rate (begins l) (calls l b))
-    unfolding NoneFallsDue
-    rest-of none = none.2
-
-    pub at-end : NoneFallsDue l.rate (calls l b ∷ bs) (begins l) → At l fit w1 (both_hear v2.near v2.far) refl stands-first few-left bs
-    at-end none = at-all l fit w1 (both_hear v2.near v2.far) refl stands-first few-left long long_far bs [] all clean_all at-first (rest-of none)
-
-    pub first-is : (c : Beat) → AsksData l c → IsClean c → NoneFallsDue l.rate (calls l b ∷ bs) (begins l) → (x : Expiry) → let w = after l.rate (calls l b ∷ bs) (begins l) in
-        (due (asked (w.beats / l.rate) c.near_asks w.near).clock ≡ Some x) ⊎ (due (asked (w.beats / l.rate) c.far_asks w.far).clock ≡ Some x) → x.timer ≡ T203 l.service l.tei
-    first-is c data_c clean_c none x = λ either. go either
-      where
-        go : (due (asked ((after l.rate (calls l b ∷ bs) (begins l)).beats / l.rate) c.near_asks (after l.rate (calls l b ∷ bs) (begins l)).near).clock ≡ Some x) ⊎ (due (asked ((after l.rate (calls l b ∷ bs) (begins l)).beats / l.rate) c.far_asks (after l.rate (calls l b ∷ bs) (begins l)).far).clock ≡ Some x) → x.timer ≡ T203 l.service l.tei
-        go (inl near) = near-first l fit w1 (both_hear v2.near v2.far) refl stands-first few-left bs (at-end none) c data_c clean_c long long_far x near
-        go (inr far) = far-first l fit w1 (both_hear v2.near v2.far) refl stands-first few-left bs (at-end none) c data_c clean_c long long_far x far
-
-pub a-call-comes-in-time : ACallComesInTime
-a-call-comes-in-time l b bs n h = (none-due-in, a-call-takes-beats l b bs n h.calm.begins.call h.calm.data_alone h.calm.are_clean none-due-in)
-  where
-    long : length (bs ++ replicate n plain) ≡ length bs + n
-    long = length-append bs (replicate n plain) ∙ ap (λ k. length bs + k) (length-replicate {A = Beat} n plain)
-
-    none-due-in : NoneFallsDue l.rate (calls l b ∷ bs ++ replicate n plain) (begins l)
-    none-due-in =
-        let is = long in let here = h.t203.0 in let there = h.t203.1 in
-        begun-undue l h.calm.begins b (All-head (AsksData l) b bs h.calm.data_alone) (All-head IsClean b bs h.calm.are_clean) (bs ++ replicate n plain)
-        (All-append (AsksData l) bs (replicate n plain) (All-tail (AsksData l) b bs h.calm.data_alone) (run.plain-data l h.calm.begins.call.near.0 h.calm.begins.call.far.0 n))
-        (All-append IsClean bs (replicate n plain) (All-tail IsClean b bs h.calm.are_clean) (run.plain-clean n)) h.calm.t200.0 h.calm.t200.1 (omega (arith, is, here)) (omega (arith, is, there))
-
-pub t203-falls-due-first : T203FallsDueFirst
-t203-falls-due-first l b c bs x h first =
-    let data_all = All-tail (AsksData l) b (bs ++ c ∷ []) h.data_alone in let clean_all = All-tail IsClean b (bs ++ c ∷ []) h.are_clean in
-    let last = All-head (AsksData l) c [] (all-right (AsksData l) bs (c ∷ []) data_all) in let last_clean = All-head IsClean c [] (all-right IsClean bs (c ∷ []) clean_all) in
-    first-is l h.begins b (All-head (AsksData l) b (bs ++ c ∷ []) h.data_alone) (All-head IsClean b (bs ++ c ∷ []) h.are_clean) bs (all-left (AsksData l) bs (c ∷ []) data_all) (all-left IsClean bs (c ∷ []) clean_all)
-    h.t200.0 h.t200.1 c last last_clean first.before x first.now

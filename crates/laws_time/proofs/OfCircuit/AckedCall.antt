@@ -1,5 +1,5 @@
 -- A call on a wire: once SABME and UA are received both ends are up, and once so much more is received all that was sent is acknowledged.
-use Rattle.std.proofs.Common.{arith, ◌≡◌, ℕ, ◌+◌, ◌-◌, ◌≤◌, List, [], ◌∷◌, ◌++◌, length, map, refl, ap, ◌∙◌, subst, All, inl, inr}
+use Rattle.std.proofs.Common.{arith, ◌≡◌, ℕ, ◌+◌, ◌-◌, ◌≤◌, false, List, [], ◌∷◌, ◌++◌, length, map, refl, ap, ◌∙◌, subst, All, inl, inr}
 use Rattle.std.proofs.lemmas.List.Elements.{All-nil, All-cons, All-head, All-tail}
 use Rattle.lapd_frame.specs.declared.services.Service.{Service}
 use Rattle.model_link.specs.Link.{Link}
@@ -13,6 +13,7 @@ unfoldable use Rattle.laws_wire.specs.Call.{both_call}
 use Rattle.laws_wire.proofs.Talking.{Face, Past}
 use Rattle.laws_wire.proofs.Up.{Talk, does}
 use Rattle.laws_time.proofs.OfCircuit.AckedLinks.{infos, infos-append}
+use Rattle.laws_time.proofs.OfCircuit.AckedLogs.{Log, log_of, relogged, doing-logged, takes-logged}
 use Rattle.laws_time.proofs.OfCircuit.AckedWire.{parts_in, near_takes, far_takes, Counted, Flows, flows, Heeds, Acks, acks-on, counted-up, window-near, far-clears, acks-all, heeds-step}
 
 -- ---- so often in a list of steps
@@ -93,22 +94,25 @@ module _ (service : Service) (tei : ℕ) where
   grows c t r r' s s' way way' (inr (one, (o, is, more))) h g =
       let sum = ap (λ x. infos (parts_in service tei c x)) is ∙ infos-append (read_as c o) (parts_in service tei c way') in (omega (arith, more), omega (arith, h, g, more, sum))
 
-  -- ---- both ends are up
+  -- ---- both ends are up, whatever was granted and told before
 
   module _ (c d : Config) (p q : ℕ) (face : Face c d) (back : Face d c) (first second : Past) where
     abbrev pub Up : Wire → Type 0
-    Up w = (n : LinkEndpoint) × (m : LinkEndpoint) × Talk service tei c d p q first second w n m
+    Up w = (x : Log) × (y : Log) × (n : LinkEndpoint) × (m : LinkEndpoint) × Talk service tei c d p q first second (relogged x y w) n m
 
     pub up-step : (k : StepAt) → Talks k → (w : Wire) → Up w → Up (doing k w)
-    up-step k is w (n, m, h) = let x = does service tei c d p q face back first second k is w n m h in (x.n', x.m', x.talk)
+    up-step k is w (x, y, n, m, h) =
+        let v = relogged x y w in
+        let z = does service tei c d p q face back first second k is v n m h in
+        (log_of (doing k v).near, log_of (doing k v).far, z.n', z.m', subst (λ u. Talk service tei c d p q first second u z.n' z.m') (doing-logged k x y w) z.talk)
 
     pub up-all : (es : List StepAt) → All Talks es → (w : Wire) → Up w → Up (doing_all es w)
     unfolding doing_all
     up-all [] all w h = h
     up-all (k ∷ ks) all w h = up-all ks (All-tail Talks k ks all) (doing k w) (up-step k (All-head Talks k ks all) w h)
 
-    counts : (w : Wire) → Up w → Counted service tei c w
-    counts w (n, m, h) = counted-up service tei c d p q face back first second w n m h
+    pub counts : (w : Wire) → Up w → Counted service tei c w
+    counts w (x, y, n, m, h) = counted-up service tei c d p q face back first second (relogged x y w) n m h
 
     abbrev A : Wire → ℕ
     A w = (own_link service tei w.near).a
@@ -119,6 +123,21 @@ module _ (service : Service) (tei : ℕ) where
     abbrev R : Wire → ℕ
     R w = (own_link service tei w.far).r
 
+    window : (w : Wire) → Up w → S w ≤ A w + 127
+    window w (x, y, n, m, h) = window-near service tei c d p q face back first second (relogged x y w) n m h
+
+    heeds : (k : StepAt) → Talks k → (w : Wire) → Up w → Heeds service tei d (near_takes k w) (A w) (S w) w.far.way (A (doing k w)) (doing k w).far.way
+    heeds k is w (x, y, n, m, h) =
+        subst (λ t. Heeds service tei d t (A w) (S w) w.far.way (A (doing k w)) (doing k w).far.way) (takes-logged k x y w)
+        (subst (λ (u : Wire). Heeds service tei d (near_takes k (relogged x y w)) (A w) (S w) w.far.way (A u) u.far.way) (doing-logged k x y w)
+        (heeds-step service tei c d p q face back first second (relogged x y w) n m h k is))
+
+    clears : (w : Wire) → Up w → (own_link service tei (doing (at_far sends) w).far).pending ≡ false
+    clears w (x, y, n, m, h) = far-clears service tei c d p q face back first second (relogged x y w) n m h
+
+    covers : (w : Wire) → Up w → (few : ℕ) → (own_link service tei w.far).pending ≡ false → few ≤ R w → Acks service tei d few (R w) (length w.far.way) (A w) w.far.way
+    covers w (x, y, n, m, h) few none enough = acks-all service tei c d p q face back first second (relogged x y w) n m h few none enough
+
     grown : (k : StepAt) → Talks k → (w : Wire) → Up w → (R w ≤ R (doing k w)) × (S w ≤ S (doing k w))
     grown k is w h =
         let now = counts w h in let then = counts (doing k w) (up-step k is w h) in
@@ -126,9 +145,9 @@ module _ (service : Service) (tei : ℕ) where
 
     -- V(A) goes on by no more than a window, and V(S) stays or goes on.
     pub moves : (k : StepAt) → Talks k → (w : Wire) → Up w → Moves (own_link service tei w.near) (own_link service tei (doing k w).near)
-    moves k is w (n, m, h) =
-        let more = (grown k is w (n, m, h)).1 in let few = window-near service tei c d p q face back first second w n m h in
-        go few more (heeds-step service tei c d p q face back first second w n m h k is)
+    moves k is w h =
+        let more = (grown k is w h).1 in let few = window w h in
+        go few more (heeds k is w h)
       where
         go : S w ≤ A w + 127 → S w ≤ S (doing k w) → Heeds service tei d (near_takes k w) (A w) (S w) w.far.way (A (doing k w)) (doing k w).far.way → Moves (own_link service tei w.near) (own_link service tei (doing k w).near)
         go few more (inl (none, same, rest)) = record { low = omega (arith, same); high = omega (arith, same); sent = more }
@@ -139,15 +158,14 @@ module _ (service : Service) (tei : ℕ) where
         → Acks service tei d few hi (j - sum_all near_takes es w) (A (doing_all es w)) (doing_all es w).far.way
     unfolding doing_all sum_all
     acks-all-on few hi [] all w h j high acks = subst (λ j. Acks service tei d few hi j (A w) w.far.way) (let e : j ≡ j - 0 = omega arith in e) acks
-    acks-all-on few hi (k ∷ ks) all w (n, m, h) j high acks =
+    acks-all-on few hi (k ∷ ks) all w h j high acks =
         let is = All-head Talks k ks all in
         let w' = doing k w in
-        let more = (grown k is w (n, m, h)).1 in
-        let one = acks-on service tei d few hi (near_takes k w) j (A w) (S w) w.far.way (A w') w'.far.way (window-near service tei c d p q face back first second w n m h) high
-        (heeds-step service tei c d p q face back first second w n m h k is) acks in
+        let more = (grown k is w h).1 in
+        let one = acks-on service tei d few hi (near_takes k w) j (A w) (S w) w.far.way (A w') w'.far.way (window w h) high (heeds k is w h) acks in
         let t = near_takes k w in let rest = sum_all near_takes ks w' in
         subst (λ j. Acks service tei d few hi j (A (doing_all ks w')) (doing_all ks w').far.way) (let e : j - t - rest ≡ j - (t + rest) = omega arith in e)
-        (acks-all-on few hi ks (All-tail Talks k ks all) w' (up-step k is w (n, m, h)) (j - t) (omega (arith, high, more)) one)
+        (acks-all-on few hi ks (All-tail Talks k ks all) w' (up-step k is w h) (j - t) (omega (arith, high, more)) one)
 
     record Owed (few : ℕ) (w : Wire) : Type 0 where
       j : ℕ
@@ -157,21 +175,12 @@ module _ (service : Service) (tei : ℕ) where
 
     -- once the far end was asked for a frame, what it received is acknowledged by what is in transit
     owed-now : (few : ℕ) (w : Wire) → Up w → few ≤ R w → Owed few (doing (at_far sends) w)
-    owed-now few w (n, m, h) enough = go (up-step (at_far sends) tt w (n, m, h))
-      where
-        w' : Wire
-        w' = doing (at_far sends) w
-
-        go : Up (doing (at_far sends) w) → Owed few (doing (at_far sends) w)
-        go (n', m', h') =
-            let more = (grown (at_far sends) tt w (n, m, h)).0 in
-            let all = counted-up service tei c d p q face back first second w' n' m' h' in
-            record {
-              j = length w'.far.way;
-              hi = R w';
-              high = omega (arith, all);
-              acks = acks-all service tei c d p q face back first second w' n' m' h' few (far-clears service tei c d p q face back first second w n m h) (omega (arith, enough, more));
-            }
+    owed-now few w h enough =
+        let w' = doing (at_far sends) w in
+        let up = up-step (at_far sends) tt w h in
+        let more = (grown (at_far sends) tt w h).0 in
+        let all = counts w' up in
+        record { j = length w'.far.way; hi = R w'; high = omega (arith, all); acks = covers w' up few (clears w h) (omega (arith, enough, more)) }
 
     sent-more : (es : List StepAt) → All Talks es → (w : Wire) → Up w → S w ≤ S (doing_all es w)
     unfolding doing_all

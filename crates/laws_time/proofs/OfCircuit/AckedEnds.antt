@@ -2,7 +2,7 @@
 use Rattle.std.proofs.Common.{arith, ◌≡◌, ℕ, ◌+◌, ◌<◌, ◌≤◌, List, Option, Some, None, refl, sym, ap, ◌∙◌, subst, ◌⊎◌, inl, inr}
 use Rattle.std.specs.List.{AllByRecursion}
 use Rattle.lapd_clock.specs.Moments.{moment_of}
-use Rattle.lapd_clock.specs.Timer.{Lengths, duration}
+use Rattle.lapd_clock.specs.Timer.{Lengths}
 use Rattle.lapd_clock.specs.Timers.{Expiry}
 use Rattle.lapd_frame.specs.declared.services.Service.{Service}
 use Rattle.lapd_frame.specs.declared.timers.Timer.TheVariants as timers
@@ -51,8 +51,9 @@ module _ (service : Service) (tei : ℕ) (c : Config) (ranged : IsInRange c) (ls
 
   pub record Facts (s : Endpoint) : Type 0 where
     pub way : List (List ℕ)
+    pub place : ℕ
     pub n : LinkEndpoint
-    pub stands : StationStands c service tei 0 (as_endpoint way s) n
+    pub stands : StationStands c service tei place (as_endpoint way s) n
     pub fine : IsFine (its_link s)
 
   pub same-link : (s u : Endpoint) → Alike s u → its_link u ≡ its_link s
@@ -61,13 +62,14 @@ module _ (service : Service) (tei : ℕ) (c : Config) (ranged : IsInRange c) (ls
   pub facts-as : (s u : Endpoint) → Alike s u → Facts u → Facts s
   facts-as s u h x = record {
     way = x.way;
+    place = x.place;
     n = x.n;
-    stands = subst (λ y. StationStands c service tei 0 y x.n) (λ i. record { card = h.card i; line = h.line i; way = x.way; granted = h.granted i; told = h.told i }) x.stands;
+    stands = subst (λ y. StationStands c service tei x.place y x.n) (λ i. record { card = h.card i; line = h.line i; way = x.way; granted = h.granted i; told = h.told i }) x.stands;
     fine = subst IsFine (same-link s u h) x.fine;
   }
 
-  abbrev its_late : ℕ → Expiry → Type 0
-  its_late number x = (x.line ≡ number) × (duration ls x.timer ≤ x.moment)
+  abbrev IsHere : ℕ → Expiry → Type 0
+  IsHere number x = x.line ≡ number
 
   -- Old: until when T200 runs at least, if so much is acknowledged. It was started before, or in this millisecond while something was not
   -- acknowledged.
@@ -75,20 +77,24 @@ module _ (service : Service) (tei : ℕ) (c : Config) (ranged : IsInRange c) (ls
     abbrev pub Due : ℕ → ℕ → ℕ → ℕ → Type 0
     Due now a s m = Old a m ⊎ ((a < s) × (now + ls.t200 ≤ m))
 
+    -- T200 runs for its time, and a link awaits an answer meanwhile.
+    abbrev pub Claim : (ℕ → ℕ → ℕ → Type 0) → Link → ℕ → Type 0
+    Claim until l m = (ls.t200 ≤ m) × Awaits l × (Open l → until l.a l.s m)
+
     pub record Timed (now : ℕ) (a : TimedEndpoint) : Type 0 where
       pub ran : Ran c a.at
       pub now_is : a.clock.now ≡ now
       pub lengths : a.clock.lengths ≡ ls
-      pub late : AllByRecursion (its_late a.at.line) a.clock.running
+      pub here : AllByRecursion (IsHere a.at.line) a.clock.running
       pub ours : AllByRecursion (RunsOurs service tei) a.clock.running
-      pub claim : (m : ℕ) → moment_of a.at.line (timers.T200 service tei) a.clock.running ≡ Some m → Awaits (its_link a.at) × (Open (its_link a.at) → Due now (its_link a.at).a (its_link a.at).s m)
+      pub claim : (m : ℕ) → moment_of a.at.line (timers.T200 service tei) a.clock.running ≡ Some m → Claim (Due now) (its_link a.at) m
 
     module _ (now : ℕ) (a : TimedEndpoint) (ev : port.Event) (h : Timed now a) (ran : Ran c (happens ev a).at) (before : Facts a.at) (then : Facts (happens ev a).at) (none : IsOrdinary ev)
         (own : AreOurs service tei (octet_orders (answered ev a.at))) (moves : Open (its_link a.at) → Open (its_link (happens ev a).at) → Moves (its_link a.at) (its_link (happens ev a).at)) where
       abbrev ClaimOf : Card → Clock → Type 0
       ClaimOf card clock =
           (m : ℕ) → moment_of a.at.line (timers.T200 service tei) clock.running ≡ Some m
-          → Awaits (link_of service tei (line_at a.at.line card)) × (Open (link_of service tei (line_at a.at.line card)) → Due now (link_of service tei (line_at a.at.line card)).a (link_of service tei (line_at a.at.line card)).s m)
+          → Claim (Due now) (link_of service tei (line_at a.at.line card)) m
 
       abbrev l : Link
       l = its_link a.at
@@ -107,10 +113,14 @@ module _ (service : Service) (tei : ℕ) (c : Config) (ranged : IsInRange c) (ls
       due : (m : ℕ) → Awaits l' → Open l' → (m ≡ a.clock.now + a.clock.lengths.t200) ⊎ ((t200_at c ranged service tei a ≡ Some m) × (Open l' → Open l × (l'.a ≡ l.a))) → Due now l'.a l'.s m
       due m waits open_then (inl is) =
           let n = h.now_is in let t = ap (λ (ls : Lengths). ls.t200) h.lengths in let more = less waits open_then in inr (more, omega (arith, is, n, t))
-      due m waits open_then (inr (was, kept)) = let k = kept open_then in let more = (moves k.0 open_then).sent in goes-on m ((h.claim m was).1 k.0) k.1 more
+      due m waits open_then (inr (was, kept)) = let k = kept open_then in let more = (moves k.0 open_then).sent in goes-on m ((h.claim m was).2 k.0) k.1 more
 
-      runs-claim : (what : line.Event) (is : meant_at (octet_at a.at.line ev) a.at.card ≡ Some what) (m : ℕ) → Runs c ranged service tei a h.ran ev what is m → Awaits l' × (Open l' → Due now l'.a l'.s m)
-      runs-claim what is m x = (x.waits, λ open_then. due m x.waits open_then x.since)
+      long : (m : ℕ) (X : Type 0) → (m ≡ a.clock.now + a.clock.lengths.t200) ⊎ ((t200_at c ranged service tei a ≡ Some m) × X) → ls.t200 ≤ m
+      long m X (inl is) = let t = ap (λ (ls : Lengths). ls.t200) h.lengths in omega (arith, is, t)
+      long m X (inr (was, kept)) = (h.claim m was).0
+
+      runs-claim : (what : line.Event) (is : meant_at (octet_at a.at.line ev) a.at.card ≡ Some what) (m : ℕ) → Runs c ranged service tei a h.ran ev what is m → Claim (Due now) l' m
+      runs-claim what is m x = (long m _ x.since, x.waits, λ open_then. due m x.waits open_then x.since)
 
       by-meaning : (o : Option line.Event) → meant_at (octet_at a.at.line ev) a.at.card ≡ o → ClaimOf (happens ev a).at.card.card (happens ev a).clock
       by-meaning None is =
@@ -119,7 +129,7 @@ module _ (service : Service) (tei : ℕ) (c : Config) (ranged : IsInRange c) (ls
       by-meaning (Some what) is =
           λ m at_m.
           runs-claim what is m
-          (runs-then c ranged service tei a h.ran ev what is before.stands.speaks.placed then.stands.speaks.placed before.fine then.fine moves (ordinary a.at.card.card.config.n201 ev _ what none is) m (λ was. (h.claim m was).0) at_m)
+          (runs-then c ranged service tei a h.ran ev what is (before.place, before.stands.speaks.placed) (then.place, then.stands.speaks.placed) before.fine then.fine moves (ordinary a.at.card.card.config.n201 ev _ what none is) m (λ was. (h.claim m was).1) at_m)
 
       pub timed-then : Timed now (happens ev a)
       timed-then =
@@ -128,7 +138,7 @@ module _ (service : Service) (tei : ℕ) (c : Config) (ranged : IsInRange c) (ls
             ran = ran;
             now_is = now-stays a.at.line a.clock orders ∙ h.now_is;
             lengths = lengths-stay a.at.line a.clock orders ∙ h.lengths;
-            late = all-obeyed (its_late a.at.line) a.at.line a.clock orders (λ timer. (refl, let e = ap (λ (ls : Lengths). duration ls timer) h.lengths in omega (arith, e))) h.late;
+            here = all-obeyed (IsHere a.at.line) a.at.line a.clock orders (λ timer. refl) h.here;
             ours = ours-obeyed service tei a.at.line a.clock orders own h.ours;
             claim = by-meaning (meant_at (octet_at a.at.line ev) a.at.card) refl;
           }
@@ -137,9 +147,9 @@ module _ (service : Service) (tei : ℕ) (c : Config) (ranged : IsInRange c) (ls
     pub record Held (a : TimedEndpoint) : Type 0 where
       pub ran : Ran c a.at
       pub lengths : a.clock.lengths ≡ ls
-      pub late : AllByRecursion (its_late a.at.line) a.clock.running
+      pub here : AllByRecursion (IsHere a.at.line) a.clock.running
       pub ours : AllByRecursion (RunsOurs service tei) a.clock.running
-      pub claim : (m : ℕ) → moment_of a.at.line (timers.T200 service tei) a.clock.running ≡ Some m → Awaits (its_link a.at) × (Open (its_link a.at) → Old (its_link a.at).a m)
+      pub claim : (m : ℕ) → moment_of a.at.line (timers.T200 service tei) a.clock.running ≡ Some m → Claim (λ acked sent m. Old acked m) (its_link a.at) m
 
     pub beat-begins : (now : ℕ) (a : TimedEndpoint) → Held a → Timed now (at_time now a)
-    beat-begins now a h = record { ran = h.ran; now_is = refl; lengths = h.lengths; late = h.late; ours = h.ours; claim = λ m at_m. let x = h.claim m at_m in (x.0, λ open_now. inl (x.1 open_now)) }
+    beat-begins now a h = record { ran = h.ran; now_is = refl; lengths = h.lengths; here = h.here; ours = h.ours; claim = λ m at_m. let x = h.claim m at_m in (x.0, x.1, λ open_now. inl (x.2 open_now)) }

@@ -90,13 +90,16 @@ module _ (c : Config) (ranged : IsInRange c) (service : Service) (tei : ℕ) whe
   abbrev pub t200_at : TimedEndpoint → Option ℕ
   t200_at a = moment_of a.at.line (timers.T200 service tei) a.clock.running
 
-  abbrev pub IsPlaced : TimedEndpoint → Type 0
-  IsPlaced a = place_in (line_at a.at.line a.at.card.card) tei ≡ Some 0
+  abbrev IsOn : Line → Type 0
+  IsOn l = (place : ℕ) × (place_in l tei ≡ Some place)
 
-  on-at : (events : List frame_event.Event) (number : ℕ) (all : AreAtLines (cards.fresh c) events) (within : number < c.lines) (l : Line) → line_at number (frame_runs.after_all (cards.fresh c) events) ≡ l → place_in l tei ≡ Some 0
+  abbrev pub IsPlaced : TimedEndpoint → Type 0
+  IsPlaced a = IsOn (line_at a.at.line a.at.card.card)
+
+  on-at : (events : List frame_event.Event) (number : ℕ) (all : AreAtLines (cards.fresh c) events) (within : number < c.lines) (l : Line) → line_at number (frame_runs.after_all (cards.fresh c) events) ≡ l → IsOn l
       → is_on tei (view_of c service tei number events).teis ≡ true
   on-at events number all within l is on =
-      on-line-now c events number ranged all within service tei ∙ ap (λ (l : Line). is_some (option_map (state_in l service) (place_in l tei))) is ∙ ap (λ o. is_some (option_map (state_in l service) o)) on
+      on-line-now c events number ranged all within service tei ∙ ap (λ (l : Line). is_some (option_map (state_in l service) (place_in l tei))) is ∙ ap (λ o. is_some (option_map (state_in l service) o)) on.1
 
   module _ (a : TimedEndpoint) (ran : Ran c a.at) (ev : port.Event) where
     abbrev number : ℕ
@@ -144,12 +147,12 @@ module _ (c : Config) (ranged : IsInRange c) (service : Service) (tei : ℕ) whe
       q = (view_behind c service tei a.at.line (meant_all (fresh c) ran.events) what).link
 
       seen : IsPlaced a → IsSeen (view_of c service tei a.at.line (meant_all (fresh c) ran.events)).link (link_now a)
-      seen on = seen-at c past number ranged all-past ran.within service tei (line_at number a.at.card.card) (ap (line_at number) here-is) 0 on
+      seen on = seen-at c past number ranged all-past ran.within service tei (line_at number a.at.card.card) (ap (line_at number) here-is) on.0 on.1
 
       seen-then : IsPlaced (happens ev a) → IsSeen (view_behind c service tei a.at.line (meant_all (fresh c) ran.events) what).link (link_now (happens ev a))
       seen-then on =
           subst (λ (v : View). IsSeen v.link (link_now (happens ev a))) (view-then c service tei number past (at number what))
-          (seen-at c more number ranged all-then ran.within service tei (line_at number (happens ev a).at.card.card) (ap (line_at number) then-is) 0 on)
+          (seen-at c more number ranged all-then ran.within service tei (line_at number (happens ev a).at.card.card) (ap (line_at number) then-is) on.0 on.1)
 
       by : IsPlaced a → IsPlaced (happens ev a) → (view_behind c service tei a.at.line (meant_all (fresh c) ran.events) what).link ≡ by_event c service tei what (moment_at c (meant_all (fresh c) ran.events) a.at.line what).answer (view_of c service tei a.at.line (meant_all (fresh c) ran.events)).link
       by on on_then =

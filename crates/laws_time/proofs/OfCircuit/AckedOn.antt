@@ -1,4 +1,4 @@
--- A call on a wire: after SABME and UA both ends are up; and what each has sent is acknowledged in so many frames.
+-- A call on a wire, or two ends that are up: after SABME and UA both are; and what each has sent is acknowledged in so many frames.
 use Rattle.std.proofs.Common.{arith, ◌≡◌, ℕ, zero, suc, ◌+◌, ◌-◌, ◌≤◌, false, List, [], ◌∷◌, length, map, refl, sym, ap, ◌∙◌, subst, All, ◌⊎◌, inl, inr}
 use Rattle.std.proofs.Math.Seq.{take-length}
 use Rattle.std.proofs.lemmas.List.Elements.{All-nil, All-cons, All-head, All-tail}
@@ -14,20 +14,20 @@ use Rattle.laws_link.proofs.OfTwo.AnyOrder.{Steady}
 use Rattle.laws_link.proofs.OfTwo.AnyOrderRuns.{Pair}
 use Rattle.laws_wire.specs.Call.{IsTalk, confirmed, indicated}
 use Rattle.laws_wire.specs.Facing.{own_link}
-use Rattle.laws_wire.specs.Wire.{Wire, Step, StepAt, requests, sends, receives, at_near, at_far, turned, doing}
+use Rattle.laws_wire.specs.Wire.{Endpoint as FrameEndpoint, Wire, Step, StepAt, requests, sends, receives, at_near, at_far, turned, doing}
 unfoldable use Rattle.laws_wire.specs.Wire.{doing_all}
-use Rattle.laws_wire.proofs.BothHalf as half
 use Rattle.laws_wire.proofs.BothPhases.{Goes}
 use Rattle.laws_wire.proofs.Calling.{sabme, asked, awaiting, caller, end, with_ua_waiting, with_ua_first}
 use Rattle.laws_wire.proofs.Quiet.{Both, turned-both}
 use Rattle.laws_wire.proofs.Run.{runs}
 use Rattle.laws_wire.proofs.Standing.{StationStands}
 use Rattle.laws_wire.proofs.Talking.{Face, Past, unheard, after_note, Holds}
-use Rattle.laws_wire.proofs.Up.{pair_of, turned-pair}
+use Rattle.laws_wire.proofs.Up.{Talk, pair_of, turned-pair}
 use Rattle.laws_time.proofs.OfCircuit.AckedLinks.{infos, lane-counts, window}
-use Rattle.laws_time.proofs.OfCircuit.AckedWire.{own-stands, parts_in, parts-are, one_if_any, near_takes, far_takes, Counted, Flows, flows, Comes, comes-on, counted-up}
+use Rattle.laws_time.proofs.OfCircuit.AckedLogs.{Log, log_of, logged}
+use Rattle.laws_time.proofs.OfCircuit.AckedWire.{own-stands, parts_in, parts-are, near_takes, far_takes, Counted, Flows, flows, Comes, comes-on}
 unfoldable use Rattle.laws_time.proofs.OfCircuit.AckedCall.{sum_all}
-use Rattle.laws_time.proofs.OfCircuit.AckedCall.{near_sends, far_sends, turn, turn-all, takes-turned, sends-turned, sum-turned, talks-turned, grows, Moves, moves, Up, up-all, acknowledged-then}
+use Rattle.laws_time.proofs.OfCircuit.AckedCall.{near_sends, far_sends, turn, turn-all, takes-turned, sends-turned, sum-turned, talks-turned, grows, Moves, moves, Up, counts, up-step, up-all, acknowledged-then}
 use Rattle.laws_time.proofs.OfCircuit.InBeatsCall.{are-calls, none-call}
 
 -- A link in state 7.
@@ -39,37 +39,6 @@ pub record Open (l : Link) : Type 0 where
 
 open-steady : (n : LinkEndpoint) → Steady n → Open n.link
 open-steady n h = record { state = h.state; free = h.peer_busy; ordered = h.sound.ordered; few = window n h }
-
-pub takes-few : (k : StepAt) (w : Wire) → near_takes k w ≤ 1
-takes-few (at_near receives) w = go w.far.way
-  where
-    go : (way : List (List ℕ)) → one_if_any way ≤ 1
-    go [] = omega arith
-    go (o ∷ os) = omega arith
-takes-few (at_near sends) w = omega arith
-takes-few (at_near (requests r)) w = omega arith
-takes-few (at_near other) w = omega arith
-takes-few (at_far act) w = omega arith
-
-pub far-takes-few : (k : StepAt) (w : Wire) → far_takes k w ≤ 1
-far-takes-few (at_near act) w = omega arith
-far-takes-few (at_far act) w = takes-few (at_near act) (turned w)
-
--- a step with which the far end receives
-pub by-receipt : (k : StepAt) (w : Wire) (P : StepAt → Type 0) → far_takes k w ≡ 1 → (1 ≤ length w.near.way → P (at_far receives)) → P k
-by-receipt (at_near act) w P one h = absurd (omega (arith, one))
-by-receipt (at_far receives) w P one h = h (go w.near.way one)
-  where
-    go : (way : List (List ℕ)) → one_if_any way ≡ 1 → 1 ≤ length way
-    go [] one = absurd (omega (arith, one))
-    go (o ∷ os) one = omega arith
-by-receipt (at_far sends) w P one h = absurd (omega (arith, one))
-by-receipt (at_far (requests r)) w P one h = absurd (omega (arith, one))
-by-receipt (at_far other) w P one h = absurd (omega (arith, one))
-
-pub by-near-receipt : (k : StepAt) (w : Wire) (P : StepAt → Type 0) → near_takes k w ≡ 1 → (1 ≤ length w.far.way → P (at_near receives)) → P k
-by-near-receipt (at_near act) w P one h = by-receipt (at_far act) (turned w) (λ k. P (turn k)) one h
-by-near-receipt (at_far act) w P one h = absurd (omega (arith, one))
 
 module _ (service : Service) (tei : ℕ) (few : tei ≤ 126) (c d : Config) (face : Face c d) (back : Face d c) (rt : IsInRange (terms c service tei)) (ru : IsInRange (terms d service tei)) where
   abbrev t : Terms
@@ -87,14 +56,18 @@ module _ (service : Service) (tei : ℕ) (few : tei ≤ 126) (c d : Config) (fac
   abbrev Talks : StepAt → Type 0
   Talks k = IsTalk service tei k
 
-  abbrev pub On : Wire → ℕ → Type 0
-  On w weight = Goes service tei few c d 0 0 face back rt ru false w weight
-
+  -- Two ends that are up, whatever happened before; a call; and either of them.
   abbrev pub UpNow : Wire → Type 0
-  UpNow w = Up service tei c d 0 0 face back first second w
+  UpNow w = (p : ℕ) × (q : ℕ) × (before : Past) × (behind : Past) × Up service tei c d p q face back before behind w
 
-  abbrev HalfNow : Wire → Type 0
-  HalfNow w = (weight : ℕ) × half.Half service tei (indicated service tei) c d 0 0 face back rt w weight
+  abbrev pub Calls : Wire → ℕ → Type 0
+  Calls w weight = Goes service tei few c d 0 0 face back rt ru false w weight
+
+  abbrev pub On : Wire → ℕ → Type 0
+  On w weight = Calls w weight ⊎ UpNow w
+
+  pub called-up : (w : Wire) (n m : LinkEndpoint) → Talk service tei c d 0 0 first second w n m → UpNow w
+  called-up w n m h = (0, 0, first, second, (log_of w.near, log_of w.far, n, m, h))
 
   abbrev pub near_link : Wire → Link
   near_link w = own_link service tei w.near
@@ -104,10 +77,24 @@ module _ (service : Service) (tei : ℕ) (few : tei ≤ 126) (c d : Config) (fac
 
   -- ---- a call goes on
 
-  pub all-on : (es : List StepAt) → All Talks es → (w : Wire) (weight : ℕ) → On w weight → (weight' : ℕ) × On (doing_all es w) weight'
-  all-on es all w weight h =
+  pub up-once : (k : StepAt) → Talks k → (w : Wire) → UpNow w → UpNow (doing k w)
+  up-once k is w (p, q, before, behind, h) = (p, q, before, behind, up-step service tei c d p q face back before behind k is w h)
+
+  pub up-on : (es : List StepAt) → All Talks es → (w : Wire) → UpNow w → UpNow (doing_all es w)
+  up-on es all w (p, q, before, behind, h) = (p, q, before, behind, up-all service tei c d p q face back before behind es all w h)
+
+  pub all-called : (es : List StepAt) → All Talks es → (w : Wire) (weight : ℕ) → Calls w weight → (weight' : ℕ) × Calls (doing_all es w) weight'
+  all-called es all w weight h =
       let x = runs service tei few c d 0 0 face back rt ru es (are-calls service tei es all) false w weight h in
       (x.weight, subst (λ b. Goes service tei few c d 0 0 face back rt ru b (doing_all es w) x.weight) (none-call service tei es all w) x.goes)
+
+  pub call-step : (k : StepAt) → Talks k → (w : Wire) (weight : ℕ) → Calls w weight → (weight' : ℕ) × Calls (doing k w) weight'
+  unfolding doing_all
+  call-step k is w weight h = all-called (k ∷ []) (All-cons Talks k [] is (All-nil Talks)) w weight h
+
+  pub all-on : (es : List StepAt) → All Talks es → (w : Wire) (weight : ℕ) → On w weight → (weight' : ℕ) × On (doing_all es w) weight'
+  all-on es all w weight (inl h) = let x = all-called es all w weight h in (x.0, inl x.1)
+  all-on es all w weight (inr up) = (weight, inr (up-on es all w up))
 
   pub on-step : (k : StepAt) → Talks k → (w : Wire) (weight : ℕ) → On w weight → (weight' : ℕ) × On (doing k w) weight'
   unfolding doing_all
@@ -131,31 +118,32 @@ module _ (service : Service) (tei : ℕ) (few : tei ≤ 126) (c d : Config) (fac
   sent-by : (m : LinkEndpoint) → Pair (pair_of (end t caller []) m) → 0 + infos m.way ≡ m.link.s
   sent-by m h = lane-counts m.terms m.link.contents 0 m.link.s 0 m.link.r m.link.pending m.way h.back.lane
 
-  up-turned : (w : Wire) → UpNow w → Up service tei d c 0 0 back face second first (turned w)
-  up-turned w (n, m, h) = (m, n, record { near = h.far; far = h.near; pair = turned-pair n m h.pair })
+  up-turned : (p q : ℕ) (before behind : Past) (w : Wire) → Up service tei c d p q face back before behind w → Up service tei d c q p back face behind before (turned w)
+  up-turned p q before behind w (x, y, n, m, h) = (y, x, m, n, record { near = h.far; far = h.near; pair = turned-pair n m h.pair })
+
+  counted-now : (w : Wire) → UpNow w → Counted service tei c w × Counted service tei d (turned w)
+  counted-now w (p, q, before, behind, h) =
+      (counts service tei c d p q face back before behind w h, counts service tei d c q p back face behind before (turned w) (up-turned p q before behind w h))
 
   pub counted : (w : Wire) (weight : ℕ) → On w weight → Counted service tei c w × Counted service tei d (turned w)
-  counted w weight (inl h) = (
+  counted w weight (inl (inl h)) = (
     counted-by c d unheard unheard w (end t asked []) (end u fresh []) h.both refl,
     counted-by d c unheard unheard (turned w) (end u fresh []) (end t asked []) (turned-both service tei c d 0 0 unheard unheard w _ _ h.both) refl,
   )
-  counted w weight (inr (inl h)) = (
+  counted w weight (inl (inr (inl h))) = (
     counted-by c d unheard unheard w (end t awaiting (sabme t ∷ [])) (end u fresh []) h.both refl,
     counted-by d c unheard unheard (turned w) (end u fresh []) (end t awaiting (sabme t ∷ [])) (turned-both service tei c d 0 0 unheard unheard w _ _ h.both) refl,
   )
-  counted w weight (inr (inr (inl h))) = (
+  counted w weight (inl (inr (inr (inl h)))) = (
     counted-by c d unheard second w (end t awaiting []) (with_ua_waiting h.m) h.both (let none = none-received h.m h.pair in omega (arith, none)),
     counted-by d c second unheard (turned w) (with_ua_waiting h.m) (end t awaiting []) (turned-both service tei c d 0 0 unheard second w _ _ h.both) (sent-by h.m h.pair),
   )
-  counted w weight (inr (inr (inr (inl h)))) = (
+  counted w weight (inl (inr (inr (inr (inl h))))) = (
     counted-by c d unheard second w (end t awaiting []) (with_ua_first h.m) h.both (let none = none-received h.m h.pair in omega (arith, none)),
     counted-by d c second unheard (turned w) (with_ua_first h.m) (end t awaiting []) (turned-both service tei c d 0 0 unheard second w _ _ h.both) (let sent = sent-by h.m h.pair in omega (arith, sent)),
   )
-  counted w weight (inr (inr (inr (inr h)))) =
-      (counted-up service tei c d 0 0 face back first second w h.n h.m h.talk, by-turned (up-turned w (h.n, h.m, h.talk)))
-    where
-      by-turned : Up service tei d c 0 0 back face second first (turned w) → Counted service tei d (turned w)
-      by-turned (n, m, talk) = counted-up service tei d c 0 0 back face second first (turned w) n m talk
+  counted w weight (inl (inr (inr (inr (inr h))))) = counted-now w (called-up w h.n h.m h.talk)
+  counted w weight (inr up) = counted-now w up
 
   -- ---- the links
 
@@ -165,37 +153,53 @@ module _ (service : Service) (tei : ℕ) (few : tei ≤ 126) (c d : Config) (fac
   pub far-is : (first : Past) (w : Wire) (m : LinkEndpoint) → Holds d service tei 0 first w.far m → own_link service tei w.far ≡ m.link
   far-is first w m h = own-stands service tei d 0 w.far m h.stands
 
+  open-now : (w : Wire) → UpNow w → Open (own_link service tei w.near) × Open (own_link service tei w.far)
+  open-now w (p, q, before, behind, (x, y, n, m, h)) = (
+    subst Open (sym (own-stands service tei c p (logged x w.near) n h.near.stands)) (open-steady n h.pair.near),
+    subst Open (sym (own-stands service tei d q (logged y w.far) m h.far.stands)) (open-steady m h.pair.far),
+  )
+
   abbrev Rings : Link → Type 0
   Rings l = (l.state ≡ AwaitingEstablishment) × (l.r ≡ 0) × (l.a ≡ 0)
 
   pub near-place : (w : Wire) (weight : ℕ) → On w weight → Rings (own_link service tei w.near) ⊎ (UpNow w × Open (own_link service tei w.near))
-  near-place w weight (inl h) = inl (subst Rings (sym (near-is unheard w (end t asked []) h.both.near)) (refl, refl, refl))
-  near-place w weight (inr (inl h)) = inl (subst Rings (sym (near-is unheard w (end t awaiting (sabme t ∷ [])) h.both.near)) (refl, refl, refl))
-  near-place w weight (inr (inr (inl h))) = inl (subst Rings (sym (near-is unheard w (end t awaiting []) h.both.near)) (refl, refl, refl))
-  near-place w weight (inr (inr (inr (inl h)))) = inl (subst Rings (sym (near-is unheard w (end t awaiting []) h.both.near)) (refl, refl, refl))
-  near-place w weight (inr (inr (inr (inr h)))) = inr ((h.n, h.m, h.talk), subst Open (sym (near-is first w h.n h.talk.near)) (open-steady h.n h.talk.pair.near))
+  near-place w weight (inl (inl h)) = inl (subst Rings (sym (near-is unheard w (end t asked []) h.both.near)) (refl, refl, refl))
+  near-place w weight (inl (inr (inl h))) = inl (subst Rings (sym (near-is unheard w (end t awaiting (sabme t ∷ [])) h.both.near)) (refl, refl, refl))
+  near-place w weight (inl (inr (inr (inl h)))) = inl (subst Rings (sym (near-is unheard w (end t awaiting []) h.both.near)) (refl, refl, refl))
+  near-place w weight (inl (inr (inr (inr (inl h))))) = inl (subst Rings (sym (near-is unheard w (end t awaiting []) h.both.near)) (refl, refl, refl))
+  near-place w weight (inl (inr (inr (inr (inr h))))) = let up = called-up w h.n h.m h.talk in inr (up, (open-now w up).0)
+  near-place w weight (inr up) = inr (up, (open-now w up).0)
 
   pub far-place : (w : Wire) (weight : ℕ) → On w weight → ((own_link service tei w.far).state ≡ TeiAssigned) ⊎ Open (own_link service tei w.far)
-  far-place w weight (inl h) = inl (ap (λ (l : Link). l.state) (far-is unheard w (end u fresh []) h.both.far))
-  far-place w weight (inr (inl h)) = inl (ap (λ (l : Link). l.state) (far-is unheard w (end u fresh []) h.both.far))
-  far-place w weight (inr (inr (inl h))) = inr (subst Open (sym (far-is second w (with_ua_waiting h.m) h.both.far)) (record { state = h.pair.far.state; free = h.pair.far.peer_busy; ordered = h.pair.far.sound.ordered; few = window h.m h.pair.far }))
-  far-place w weight (inr (inr (inr (inl h)))) = inr (subst Open (sym (far-is second w (with_ua_first h.m) h.both.far)) (open-steady h.m h.pair.far))
-  far-place w weight (inr (inr (inr (inr h)))) = inr (subst Open (sym (far-is second w h.m h.talk.far)) (open-steady h.m h.talk.pair.far))
+  far-place w weight (inl (inl h)) = inl (ap (λ (l : Link). l.state) (far-is unheard w (end u fresh []) h.both.far))
+  far-place w weight (inl (inr (inl h))) = inl (ap (λ (l : Link). l.state) (far-is unheard w (end u fresh []) h.both.far))
+  far-place w weight (inl (inr (inr (inl h)))) = inr (subst Open (sym (far-is second w (with_ua_waiting h.m) h.both.far)) (record { state = h.pair.far.state; free = h.pair.far.peer_busy; ordered = h.pair.far.sound.ordered; few = window h.m h.pair.far }))
+  far-place w weight (inl (inr (inr (inr (inl h))))) = inr (subst Open (sym (far-is second w (with_ua_first h.m) h.both.far)) (open-steady h.m h.pair.far))
+  far-place w weight (inl (inr (inr (inr (inr h))))) = inr (open-now w (called-up w h.n h.m h.talk)).1
+  far-place w weight (inr up) = inr (open-now w up).1
 
   -- the station at either end
-  pub near-stands : (w : Wire) (weight : ℕ) → On w weight → (n : LinkEndpoint) × StationStands c service tei 0 w.near n
-  near-stands w weight (inl h) = (end t asked [], h.both.near.stands)
-  near-stands w weight (inr (inl h)) = (end t awaiting (sabme t ∷ []), h.both.near.stands)
-  near-stands w weight (inr (inr (inl h))) = (end t awaiting [], h.both.near.stands)
-  near-stands w weight (inr (inr (inr (inl h)))) = (end t awaiting [], h.both.near.stands)
-  near-stands w weight (inr (inr (inr (inr h)))) = (h.n, h.talk.near.stands)
+  abbrev pub Station : Config → FrameEndpoint → Type 0
+  Station k s = (place : ℕ) × (n : LinkEndpoint) × StationStands k service tei place s n
 
-  pub far-stands : (w : Wire) (weight : ℕ) → On w weight → (m : LinkEndpoint) × StationStands d service tei 0 w.far m
-  far-stands w weight (inl h) = (end u fresh [], h.both.far.stands)
-  far-stands w weight (inr (inl h)) = (end u fresh [], h.both.far.stands)
-  far-stands w weight (inr (inr (inl h))) = (with_ua_waiting h.m, h.both.far.stands)
-  far-stands w weight (inr (inr (inr (inl h)))) = (with_ua_first h.m, h.both.far.stands)
-  far-stands w weight (inr (inr (inr (inr h)))) = (h.m, h.talk.far.stands)
+  relog : (k : Config) (x : Log) (s : FrameEndpoint) (place : ℕ) (n : LinkEndpoint) → StationStands k service tei place (logged x s) n → Station k s
+  relog k x s place n h = (place, n, record { config = h.config; sound = h.sound; within = h.within; speaks = h.speaks; terms = h.terms; way = h.way; carried = h.carried })
+
+  pub near-stands : (w : Wire) (weight : ℕ) → On w weight → Station c w.near
+  near-stands w weight (inl (inl h)) = (0, end t asked [], h.both.near.stands)
+  near-stands w weight (inl (inr (inl h))) = (0, end t awaiting (sabme t ∷ []), h.both.near.stands)
+  near-stands w weight (inl (inr (inr (inl h)))) = (0, end t awaiting [], h.both.near.stands)
+  near-stands w weight (inl (inr (inr (inr (inl h))))) = (0, end t awaiting [], h.both.near.stands)
+  near-stands w weight (inl (inr (inr (inr (inr h))))) = (0, h.n, h.talk.near.stands)
+  near-stands w weight (inr (p, q, before, behind, (x, y, n, m, h))) = relog c x w.near p n h.near.stands
+
+  pub far-stands : (w : Wire) (weight : ℕ) → On w weight → Station d w.far
+  far-stands w weight (inl (inl h)) = (0, end u fresh [], h.both.far.stands)
+  far-stands w weight (inl (inr (inl h))) = (0, end u fresh [], h.both.far.stands)
+  far-stands w weight (inl (inr (inr (inl h)))) = (0, with_ua_waiting h.m, h.both.far.stands)
+  far-stands w weight (inl (inr (inr (inr (inl h))))) = (0, with_ua_first h.m, h.both.far.stands)
+  far-stands w weight (inl (inr (inr (inr (inr h))))) = (0, h.m, h.talk.far.stands)
+  far-stands w weight (inr (p, q, before, behind, (x, y, n, m, h))) = relog d y w.far q m h.far.stands
 
   -- an end that received an I-frame
   up-by-near : (w : Wire) (weight : ℕ) → On w weight → 1 ≤ (own_link service tei w.near).r → UpNow w
@@ -206,13 +210,14 @@ module _ (service : Service) (tei : ℕ) (few : tei ≤ 126) (c d : Config) (fac
       go (inr (up, open_now)) = up
 
   up-by-far : (w : Wire) (weight : ℕ) → On w weight → 1 ≤ (own_link service tei w.far).r → UpNow w
-  up-by-far w weight (inl h) some = let is = ap (λ (l : Link). l.r) (far-is unheard w (end u fresh []) h.both.far) in absurd (omega (arith, some, is))
-  up-by-far w weight (inr (inl h)) some = let is = ap (λ (l : Link). l.r) (far-is unheard w (end u fresh []) h.both.far) in absurd (omega (arith, some, is))
-  up-by-far w weight (inr (inr (inl h))) some =
+  up-by-far w weight (inl (inl h)) some = let is = ap (λ (l : Link). l.r) (far-is unheard w (end u fresh []) h.both.far) in absurd (omega (arith, some, is))
+  up-by-far w weight (inl (inr (inl h))) some = let is = ap (λ (l : Link). l.r) (far-is unheard w (end u fresh []) h.both.far) in absurd (omega (arith, some, is))
+  up-by-far w weight (inl (inr (inr (inl h)))) some =
       let is = ap (λ (l : Link). l.r) (far-is second w (with_ua_waiting h.m) h.both.far) in let none = none-received h.m h.pair in absurd (omega (arith, some, is, none))
-  up-by-far w weight (inr (inr (inr (inl h)))) some =
+  up-by-far w weight (inl (inr (inr (inr (inl h))))) some =
       let is = ap (λ (l : Link). l.r) (far-is second w (with_ua_first h.m) h.both.far) in let none = none-received h.m h.pair in absurd (omega (arith, some, is, none))
-  up-by-far w weight (inr (inr (inr (inr h)))) some = (h.n, h.m, h.talk)
+  up-by-far w weight (inl (inr (inr (inr (inr h))))) some = called-up w h.n h.m h.talk
+  up-by-far w weight (inr up) some = up
 
   -- ---- how far an end goes on with a step
 
@@ -221,19 +226,29 @@ module _ (service : Service) (tei : ℕ) (few : tei ≤ 126) (c d : Config) (fac
   flows-turned (at_near act) is w h g = flows service tei d (at_far act) is (turned w) h g
   flows-turned (at_far act) is w h g = flows service tei d (at_near act) is (turned w) h g
 
+  both-not : (w : Wire) → UpNow w → Rings (own_link service tei w.near) → {X : Type 0} → X
+  both-not w up rings = let e : Established ≡ AwaitingEstablishment = sym (open-now w up).0.state ∙ rings.0 in absurd (cc e)
+
+  up-moves : (k : StepAt) → Talks k → (w : Wire) → UpNow w → Moves (own_link service tei w.near) (own_link service tei (doing k w).near)
+  up-moves k is w (p, q, before, behind, h) = moves service tei c d p q face back before behind k is w h
+
+  up-moves-far : (act : Step) → Talks (at_far act) → (w : Wire) → UpNow w → Moves (own_link service tei w.far) (own_link service tei (doing (at_far act) w).far)
+  up-moves-far act is w (p, q, before, behind, h) = moves service tei d c q p back face behind before (at_near act) is (turned w) (up-turned p q before behind w h)
+
   far-none : (w : Wire) (weight : ℕ) → On w weight → Rings (own_link service tei w.near) → (own_link service tei w.far).a ≡ 0
-  far-none w weight (inl h) rings = ap (λ (l : Link). l.a) (far-is unheard w (end u fresh []) h.both.far)
-  far-none w weight (inr (inl h)) rings = ap (λ (l : Link). l.a) (far-is unheard w (end u fresh []) h.both.far)
-  far-none w weight (inr (inr (inl h))) rings = let low = none-acked h.m h.pair in let is = ap (λ (l : Link). l.a) (far-is second w (with_ua_waiting h.m) h.both.far) in omega (arith, low, is)
-  far-none w weight (inr (inr (inr (inl h)))) rings = let low = none-acked h.m h.pair in let is = ap (λ (l : Link). l.a) (far-is second w (with_ua_first h.m) h.both.far) in omega (arith, low, is)
-  far-none w weight (inr (inr (inr (inr h)))) rings = let e : Established ≡ AwaitingEstablishment = sym h.talk.pair.near.state ∙ sym (ap (λ (l : Link). l.state) (near-is first w h.n h.talk.near)) ∙ rings.0 in absurd (cc e)
+  far-none w weight (inl (inl h)) rings = ap (λ (l : Link). l.a) (far-is unheard w (end u fresh []) h.both.far)
+  far-none w weight (inl (inr (inl h))) rings = ap (λ (l : Link). l.a) (far-is unheard w (end u fresh []) h.both.far)
+  far-none w weight (inl (inr (inr (inl h)))) rings = let low = none-acked h.m h.pair in let is = ap (λ (l : Link). l.a) (far-is second w (with_ua_waiting h.m) h.both.far) in omega (arith, low, is)
+  far-none w weight (inl (inr (inr (inr (inl h))))) rings = let low = none-acked h.m h.pair in let is = ap (λ (l : Link). l.a) (far-is second w (with_ua_first h.m) h.both.far) in omega (arith, low, is)
+  far-none w weight (inl (inr (inr (inr (inr h))))) rings = both-not w (called-up w h.n h.m h.talk) rings
+  far-none w weight (inr up) rings = both-not w up rings
 
   pub near-moves : (k : StepAt) → Talks k → (w : Wire) (weight : ℕ) → On w weight → Open (own_link service tei w.near) → Moves (own_link service tei w.near) (own_link service tei (doing k w).near)
   near-moves k is w weight h is_open = go (near-place w weight h)
     where
       go : Rings (own_link service tei w.near) ⊎ (UpNow w × Open (own_link service tei w.near)) → Moves (own_link service tei w.near) (own_link service tei (doing k w).near)
       go (inl rings) = let e : Established ≡ AwaitingEstablishment = sym is_open.state ∙ rings.0 in absurd (cc e)
-      go (inr (up, open_now)) = moves service tei c d 0 0 face back first second k is w up
+      go (inr (up, open_now)) = up-moves k is w up
 
   pub far-moves : (act : Step) → Talks (at_far act) → (w : Wire) (weight : ℕ) → On w weight → Moves (own_link service tei w.far) (own_link service tei (doing (at_far act) w).far)
   far-moves act is w weight h = go (near-place w weight h)
@@ -251,7 +266,7 @@ module _ (service : Service) (tei : ℕ) (few : tei ≤ 126) (c d : Config) (fac
       near-same other is = absurd is
 
       go : Rings (own_link service tei w.near) ⊎ (UpNow w × Open (own_link service tei w.near)) → Moves (own_link service tei w.far) (own_link service tei (doing (at_far act) w).far)
-      go (inr (up, open_now)) = moves service tei d c 0 0 back face second first (at_near act) is (turned w) (up-turned w up)
+      go (inr (up, open_now)) = up-moves-far act is w up
       go (inl rings) =
           let none = far-none w weight h rings in
           let none_then = far-none w' on.0 on.1 (subst Rings (sym (near-same act is)) rings) in
@@ -265,14 +280,14 @@ module _ (service : Service) (tei : ℕ) (few : tei ≤ 126) (c d : Config) (fac
     where
       go : Rings (own_link service tei w.near) ⊎ (UpNow w × Open (own_link service tei w.near)) → (own_link service tei w.near).a ≤ (own_link service tei (doing k w).near).a
       go (inl (state, none, unacked)) = omega (arith, unacked)
-      go (inr (up, open_now)) = (moves service tei c d 0 0 face back first second k is w up).low
+      go (inr (up, open_now)) = (up-moves k is w up).low
 
   pub by-up : (w : Wire) → UpNow w → (own_link service tei w.near).state ≡ Established
-  by-up w (n, m, h) = ap (λ (l : Link). l.state) (near-is first w n h.near) ∙ h.pair.near.state
+  by-up w up = (open-now w up).0.state
 
   -- Once the near end is in state 7, it stays so.
   pub up-stays : (es : List StepAt) → All Talks es → (w : Wire) (weight : ℕ) → On w weight → (own_link service tei w.near).state ≡ Established → (own_link service tei (doing_all es w).near).state ≡ Established
-  up-stays es all w weight h is = by-up (doing_all es w) (up-all service tei c d 0 0 face back first second es all w (go (near-place w weight h)))
+  up-stays es all w weight h is = by-up (doing_all es w) (up-on es all w (go (near-place w weight h)))
     where
       go : Rings (own_link service tei w.near) ⊎ (UpNow w × Open (own_link service tei w.near)) → UpNow w
       go (inl rings) = let e : Established ≡ AwaitingEstablishment = sym is ∙ rings.0 in absurd (cc e)
@@ -343,9 +358,12 @@ module _ (service : Service) (tei : ℕ) (few : tei ≤ 126) (c d : Config) (fac
     pub near-acked : length w.near.way ≤ sum_all far_takes es w → 1 ≤ sum_all far_sends fs w1 → length w2.far.way ≤ sum_all near_takes gs w2 → (own_link service tei w.near).s ≤ (own_link service tei w3.near).a
     near-acked all some then = go (own_link service tei w.near).s (far-received all)
       where
+        by : (n : ℕ) → n ≤ (own_link service tei w1.far).r → UpNow w1 → n ≤ (own_link service tei w3.near).a
+        by n low (p, q, before, behind, h) = acknowledged-then service tei c d p q face back before behind n fs gs two three w1 h low some then
+
         go : (n : ℕ) → n ≤ (own_link service tei w1.far).r → n ≤ (own_link service tei w3.near).a
         go zero low = omega arith
-        go (suc n) low = acknowledged-then service tei c d 0 0 face back first second (suc n) fs gs two three w1 (up-by-far w1 on1.0 on1.1 (omega (arith, low))) low some then
+        go (suc n) low = by (suc n) low (up-by-far w1 on1.0 on1.1 (omega (arith, low)))
 
     pub far-acked : length w.far.way ≤ sum_all near_takes es w → 1 ≤ sum_all near_sends fs w1 → length w2.near.way ≤ sum_all far_takes gs w2 → (own_link service tei w.far).s ≤ (own_link service tei w3.far).a
     far-acked all some then = go (own_link service tei w.far).s (near-received all)
@@ -362,9 +380,12 @@ module _ (service : Service) (tei : ℕ) (few : tei ≤ 126) (c d : Config) (fac
         all_taken : length (doing_all (map turn fs) (turned w1)).far.way ≤ sum_all near_takes (map turn gs) (doing_all (map turn fs) (turned w1))
         all_taken = subst (λ (v : Wire). length v.far.way ≤ sum_all near_takes (map turn gs) v) (sym led) (subst (λ k. length w2.near.way ≤ k) (sym (sum-turned near_takes far_takes takes-turned gs w2)) then)
 
+        by : (n : ℕ) → n ≤ (own_link service tei w1.near).r → UpNow w1 → n ≤ (own_link service tei w3.far).a
+        by n low (p, q, before, behind, h) =
+            subst (λ (v : Wire). n ≤ (own_link service tei v.near).a) last
+            (acknowledged-then service tei d c q p back face behind before n (map turn fs) (map turn gs) (talks-turned service tei fs two) (talks-turned service tei gs three) (turned w1)
+            (up-turned p q before behind w1 h) low asks_one all_taken)
+
         go : (n : ℕ) → n ≤ (own_link service tei w1.near).r → n ≤ (own_link service tei w3.far).a
         go zero low = omega arith
-        go (suc n) low =
-            subst (λ (v : Wire). suc n ≤ (own_link service tei v.near).a) last
-            (acknowledged-then service tei d c 0 0 back face second first (suc n) (map turn fs) (map turn gs) (talks-turned service tei fs two) (talks-turned service tei gs three) (turned w1)
-            (up-turned w1 (up-by-near w1 on1.0 on1.1 (omega (arith, low)))) low asks_one all_taken)
+        go (suc n) low = by (suc n) low (up-by-near w1 on1.0 on1.1 (omega (arith, low)))

@@ -1,7 +1,6 @@
 -- A call with clocks and without noise, beat by beat: no timer falls due.
 use Rattle.std.proofs.Common.{arith, ◌≡◌, ℕ, suc, ◌+◌, ◌*◌, ◌/◌, ◌<◌, ◌≤◌, Bool, true, false, List, [], ◌∷◌, ◌++◌, length, drop, refl, sym, ap, ◌∙◌, subst, All, Some, ◌⊎◌, inl, inr, append-nil, append_assoc, length-append}
 use Rattle.std.specs.Prelude.{fold}
-use Rattle.std.proofs.Math.Nat.{mul-div-le}
 use Rattle.std.proofs.lemmas.Bool.{cases_lt}
 use Rattle.std.proofs.lemmas.List.Elements.{All-nil, All-cons, All-head, All-tail, All-append}
 use Rattle.std.proofs.lemmas.List.Sums.{fold-append}
@@ -9,9 +8,9 @@ use Rattle.lapd_clock.specs.Timers.{Expiry}
 use Rattle.lapd_frame.specs.declared.timers.Timer.TheVariants as timers
 use Rattle.model_link.specs.declared.states.State.TheVariants.{AwaitingEstablishment, Established}
 use Rattle.model_link.specs.Link.{Link}
+use Rattle.model_line.specs.Request.{Request}
 use Rattle.model_line.specs.Sound.{IsInRange}
 use Rattle.model_card.specs.ports.Port as port
-use Rattle.model_card.specs.ports.Port.{left_of}
 use Rattle.model_timed.specs.Clock.{due}
 use Rattle.laws_line.proofs.OfCard.Meanwhile.{all-left, all-right}
 use Rattle.laws_order.specs.circuit.Beats.{longest}
@@ -20,18 +19,17 @@ use Rattle.laws_time.specs.circuit.Answered.{IsClean}
 use Rattle.laws_time.specs.circuit.Clocked.{TimedEndpoint, Clocked, Beat, happens, asks, hears, gone, beat, after, without_first_octet}
 use Rattle.laws_time.specs.circuit.InBeats.{AsksData, IsUndue, Begins}
 unfoldable use Rattle.laws_time.specs.circuit.InBeats.{NoneFallsDue}
-use Rattle.laws_time.specs.circuit.LongEnough.{Line}
+use Rattle.laws_time.specs.circuit.LongEnough.{Line, asked}
 use Rattle.laws_time.proofs.OfCircuit.AckedBeats.{Now, done, done-append, beaten-is, Stands, stands-then, acked-then}
 use Rattle.laws_time.proofs.OfCircuit.AckedEnds.{same-link, Due, Held, beat-begins}
 use Rattle.laws_time.proofs.OfCircuit.AckedOn.{Open}
-use Rattle.laws_time.proofs.OfCircuit.AckedRings.{up-by}
 use Rattle.laws_time.proofs.OfCircuit.AckedSides.{cfg, rng, lens, end_of, link_of_end, now-one, EndTimed, IsUpAt, far-not-ringing}
 use Rattle.laws_time.proofs.OfCircuit.AckedStep.{ask_all, all-other, low-all, up-all, Asked, asks-run, pull-run, hear-run}
 use Rattle.laws_time.proofs.OfCircuit.AckedUndue.{is-t203, none-due}
 use Rattle.laws_time.proofs.OfCircuit.Answered.{beats-then}
 use Rattle.laws_time.proofs.OfCircuit.Ends.{at_time}
 use Rattle.laws_time.proofs.OfCircuit.InBeatsAs.{Twin, twin-event, ran-way, first-way}
-use Rattle.laws_time.proofs.OfCircuit.InBeatsDue.{early}
+use Rattle.laws_time.proofs.OfCircuit.InBeatsDue.{Rule, Keeps, AreOnTime, on-time, AreKept, kept-beat, first-keeps, early}
 use Rattle.laws_time.proofs.OfCircuit.InBeatsRun as run
 use Rattle.laws_time.proofs.OfCircuit.InBeatsRun.{undue-stays}
 use Rattle.laws_time.proofs.OfCircuit.InCallFair.{fewer}
@@ -57,9 +55,9 @@ module _ (l : Line) (fit : Begins l) where
   beat-ends b Old New now a h more = record {
     ran = ran-way (cfg l fit b) a.at (drop 1 a.at.way) h.ran;
     lengths = h.lengths;
-    late = h.late;
+    here = h.here;
     ours = h.ours;
-    claim = λ m at_m. let x = h.claim m at_m in (x.0, λ open_now. more m (x.1 open_now));
+    claim = λ m at_m. let x = h.claim m at_m in (x.0, x.1, λ open_now. more m (x.2 open_now));
   }
 
   -- ---- one beat
@@ -191,14 +189,15 @@ module _ (l : Line) (fit : Begins l) where
   abbrev most : ℕ
   most = 3 * longest l.near.n201 + 2 * l.way
 
-  module _ (w1 : Clocked) (v1 : Circuit) (one_beat : w1.beats ≡ 1) (stands : Stands l fit v1) (few : length (left_of (port_of v1.near)) ≤ 7) where
+  -- From a beat on, of this number.
+  module _ (w1 : Clocked) (v1 : Circuit) (number : ℕ) (are : w1.beats ≡ suc number) (stands : Stands l fit v1) where
     abbrev v_at : List Beat → Circuit
     v_at xs = done l fit xs v1
 
     -- T200 was started in a beat, after which so much was sent.
     abbrev pub OldAt : Bool → List Beat → ℕ → ℕ → Type 0
     OldAt b xs a m =
-        (ps : List Beat) × (qs : List Beat) × (xs ≡ ps ++ qs) × (a < (link_of_end l fit b (end_of l fit b (done l fit ps v1))).s) × (length ps / l.rate + (lens l fit b).t200 ≤ m)
+        (ps : List Beat) × (qs : List Beat) × (xs ≡ ps ++ qs) × (a < (link_of_end l fit b (end_of l fit b (done l fit ps v1))).s) × ((number + length ps) / l.rate + (lens l fit b).t200 ≤ m)
 
     pub record At (xs : List Beat) : Type 0 where
       pub all : All (AsksData l) xs
@@ -216,8 +215,8 @@ module _ (l : Line) (fit : Begins l) where
       stands-now : Stands l fit v
       stands-now = stands-then l fit xs h.all v1 stands
 
-      beats-are : w.beats ≡ suc (length xs)
-      beats-are = let sum = beats-then l.rate xs w1 in omega (arith, sum, one_beat)
+      beats-are : w.beats ≡ suc (number + length xs)
+      beats-are = let sum = beats-then l.rate xs w1 in omega (arith, sum, are)
 
       -- what was sent so long ago is acknowledged
       too-old : (b : Bool) (a m : ℕ) → (link_of_end l fit b (end_of l fit b v)).a ≤ a → most + l.rate < (lens l fit b).t200 * l.rate → 1 ≤ l.rate → OldAt b xs a m → m ≤ w.beats / l.rate → ⊥
@@ -233,7 +232,7 @@ module _ (l : Line) (fit : Begins l) where
           led = sym (done-append l fit ps qs v1) ∙ ap (λ es. done l fit es v1) (sym is)
 
           go : (b : Bool) → (length qs < most) ⊎ (most ≤ length qs) → (link_of_end l fit b (end_of l fit b v)).a ≤ a → most + l.rate < (lens l fit b).t200 * l.rate
-              → a < (link_of_end l fit b (end_of l fit b (done l fit ps v1))).s → length ps / l.rate + (lens l fit b).t200 ≤ m → ⊥
+              → a < (link_of_end l fit b (end_of l fit b (done l fit ps v1))).s → (number + length ps) / l.rate + (lens l fit b).t200 ≤ m → ⊥
           go false (inr enough) low long less later =
               let x = acked-then l fit qs (all-right (AsksData l) ps qs parts) enough (done l fit ps v1) (stands-then l fit ps (all-left (AsksData l) ps qs parts) v1 stands) in
               let acked = subst (λ (u : Circuit). (link_of_end l fit false (done l fit ps v1).near).s ≤ (link_of_end l fit false u.near).a) led x.near in
@@ -243,12 +242,14 @@ module _ (l : Line) (fit : Begins l) where
               let acked = subst (λ (u : Circuit). (link_of_end l fit true (done l fit ps v1).far).s ≤ (link_of_end l fit true u.far).a) led x.far in
               absurd (omega (arith, acked, low, less))
           go b (inl few) low long less later =
-              let early = fewer (length ps) (length qs + 1) l.rate (lens l fit b).t200 some (omega (arith, few, long)) in
-              let same : w.beats ≡ length ps + (length qs + 1) = (let a = beats-are in omega (arith, a, sum)) in
-              let then = subst (λ n. n / l.rate < length ps / l.rate + (lens l fit b).t200) (sym same) early in
+              let early = fewer (number + length ps) (length qs + 1) l.rate (lens l fit b).t200 some (omega (arith, few, long)) in
+              let same : w.beats ≡ number + length ps + (length qs + 1) = (let a = beats-are in omega (arith, a, sum)) in
+              let then = subst (λ n. n / l.rate < (number + length ps) / l.rate + (lens l fit b).t200) (sym same) early in
               absurd (omega (arith, then, later, soon))
 
-      module _ (b : Beat) (data_alone : AsksData l b) (is_clean : IsClean b) (long : most + l.rate < l.lengths.t200 * l.rate) (long_far : most + l.rate < l.far_lengths.t200 * l.rate) where
+      -- If T200 of the near end has run once, its SABME is answered.
+      module _ (b : Beat) (data_alone : AsksData l b) (is_clean : IsClean b) (long : most + l.rate < l.lengths.t200 * l.rate) (long_far : most + l.rate < l.far_lengths.t200 * l.rate)
+          (answered : l.lengths.t200 ≤ w.beats / l.rate → IsUpAt l fit v) where
         abbrev moment : ℕ
         moment = w.beats / l.rate
 
@@ -284,30 +285,13 @@ module _ (l : Line) (fit : Begins l) where
             let one = low-all l fit true b.far_asks data_alone.1 u asked-near.in_call in
             subst (λ (x : Link). (link_of_end l fit true v.far).a ≤ x.a) far-same (subst (λ (s : Endpoint). (link_of_end l fit true s).a ≤ (link_of_end l fit true u2.far).a) (all-other l fit false b.near_asks v) one)
 
-        -- SABME is answered by then
         not-ringing : (link_of false n1).state ≡ AwaitingEstablishment → l.lengths.t200 ≤ w.beats / l.rate → ⊥
-        not-ringing rings late = go (cases_lt (length xs) (1 + most))
-          where
-            go : (length xs < 1 + most) ⊎ (1 + most ≤ length xs) → ⊥
-            go (inr enough) =
-                let up : IsUpAt l fit v = up-by l fit v1 stands few xs h.all enough in
-                let then = up-all l fit false b.near_asks data_alone.0 v stands-now.now up in
-                let e : Established ≡ AwaitingEstablishment = sym then ∙ ap (λ (x : Link). x.state) near-same ∙ rings in cc e
-            go (inl few_beats) =
-                let whole = mul-div-le w.beats l.rate in
-                let is = beats-are in
-                let up : l.lengths.t200 * l.rate ≤ l.rate * (w.beats / l.rate) = more l.lengths.t200 (w.beats / l.rate) l.rate late in
-                let some = fit.some in
-                absurd (omega (arith, whole, is, up, few_beats, long, some))
-              where
-                more : (n m rate : ℕ) → n ≤ m → n * rate ≤ rate * m
-                more n m rate less = grind arith
+        not-ringing rings late =
+            let then = up-all l fit false b.near_asks data_alone.0 v stands-now.now (answered late) in
+            let e : Established ≡ AwaitingEstablishment = sym then ∙ ap (λ (x : Link). x.state) near-same ∙ rings in cc e
 
         not-ringing-far : (link_of true f1).state ≡ AwaitingEstablishment → l.far_lengths.t200 ≤ w.beats / l.rate → ⊥
         not-ringing-far rings late = far-not-ringing l fit u2 asked-far.in_call (ap (λ (x : Link). x.state) far-same ∙ rings)
-
-        before : (t : ℕ) → suc (length xs) < t * l.rate → w.beats / l.rate < t
-        before t low = early l.rate fit.some t w.beats (let is = beats-are in omega (arith, is, low))
 
         old-near : (m : ℕ) → Open (link_of false n1) → OldAt false xs (link_of false n1).a m → m ≤ w.beats / l.rate → ⊥
         old-near m open_now old soon = too-old false (link_of false n1).a m near-low long fit.some old soon
@@ -323,13 +307,16 @@ module _ (l : Line) (fit : Begins l) where
         far-first x is =
             is-t203 l.service l.tei (cfg l fit true) (rng l fit true) (lens l fit true) (OldAt true xs) moment f1 asked-far.timed old-far not-ringing-far fit.lengths.1.t200 x is
 
-        pub near-undue : suc (length xs) < l.lengths.t203 * l.rate → IsUndue (w.beats / l.rate) b.near_asks w.near
-        near-undue t203 =
-            none-due l.service l.tei (cfg l fit false) (rng l fit false) (lens l fit false) (OldAt false xs) moment n1 asked-near.timed old-near not-ringing fit.lengths.0.t200 (before l.lengths.t203 t203)
+        abbrev IsLater : TimedEndpoint → Type 0
+        IsLater a = (x : Expiry) → due a.clock ≡ Some x → x.timer ≡ timers.T203 l.service l.tei → w.beats / l.rate < x.moment
 
-        pub far-undue : suc (length xs) < l.far_lengths.t203 * l.rate → IsUndue (w.beats / l.rate) b.far_asks w.far
-        far-undue t203 =
-            none-due l.service l.tei (cfg l fit true) (rng l fit true) (lens l fit true) (OldAt true xs) moment f1 asked-far.timed old-far not-ringing-far fit.lengths.1.t200 (before l.far_lengths.t203 t203)
+        pub near-undue : IsLater n1 → IsUndue (w.beats / l.rate) b.near_asks w.near
+        near-undue later =
+            none-due l.service l.tei (cfg l fit false) (rng l fit false) (lens l fit false) (OldAt false xs) moment n1 asked-near.timed old-near not-ringing fit.lengths.0.t200 later
+
+        pub far-undue : IsLater f1 → IsUndue (w.beats / l.rate) b.far_asks w.far
+        far-undue later =
+            none-due l.service l.tei (cfg l fit true) (rng l fit true) (lens l fit true) (OldAt true xs) moment f1 asked-far.timed old-far not-ringing-far fit.lengths.1.t200 later
 
         abbrev ys : List Beat
         ys = xs ++ b ∷ []
@@ -345,7 +332,7 @@ module _ (l : Line) (fit : Begins l) where
         grown side a m (inr (less, later)) =
             let long = length-append xs (b ∷ []) in
             let is = beats-are in
-            let same : length (xs ++ b ∷ []) ≡ w.beats = omega (arith, long, is) in (
+            let same : number + length (xs ++ b ∷ []) ≡ w.beats = omega (arith, long, is) in (
               xs ++ b ∷ [],
               [],
               sym (append-nil (xs ++ b ∷ [])),
@@ -364,27 +351,37 @@ module _ (l : Line) (fit : Begins l) where
               (far-then w v stands-now h.sim (OldAt false xs) (OldAt true xs) h.near h.far b data_alone is_clean undue undue_far (OldAt true ys) (λ a m x. grown true a m x));
         }
 
-    module _ (long : most + l.rate < l.lengths.t200 * l.rate) (long_far : most + l.rate < l.far_lengths.t200 * l.rate) where
-      -- So none falls due.
-      pub none-falls-due : (bs xs : List Beat) → All (AsksData l) bs → All IsClean bs → At xs → suc (length xs + length bs) ≤ l.lengths.t203 * l.rate → suc (length xs + length bs) ≤ l.far_lengths.t203 * l.rate → NoneFallsDue l.rate bs (after l.rate xs w1)
-      unfolding NoneFallsDue
-      none-falls-due [] xs data_alone is_clean h t203 t203_far = tt
-      none-falls-due (b ∷ bs) xs data_alone is_clean h t203 t203_far =
-          let d = All-head (AsksData l) b bs data_alone in let c = All-head IsClean b bs is_clean in
-          let first = near-undue xs h b d c long long_far (omega (arith, t203)) in
-          let first_far = far-undue xs h b d c long long_far (omega (arith, t203_far)) in
-          let long_one = length-append xs (b ∷ []) in
-          let rest = none-falls-due bs (xs ++ b ∷ []) (All-tail (AsksData l) b bs data_alone) (All-tail IsClean b bs is_clean) (at-then xs h b d c long long_far first first_far) (omega (arith, t203, long_one)) (omega (arith, t203_far, long_one)) in (
-            first,
-            first_far,
-            subst (NoneFallsDue l.rate bs) (sym (after-so xs h b d c long long_far)) rest,
-          )
-
-      -- As long as none does, it goes on.
+    module _ (long : most + l.rate < l.lengths.t200 * l.rate) (long_far : most + l.rate < l.far_lengths.t200 * l.rate)
+        (answered : (xs : List Beat) → All (AsksData l) xs → l.lengths.t200 ≤ (after l.rate xs w1).beats / l.rate → IsUpAt l fit (done l fit xs v1)) where
+      -- As long as none falls due, it goes on.
       pub at-all : (bs xs : List Beat) → All (AsksData l) bs → All IsClean bs → At xs → NoneFallsDue l.rate bs (after l.rate xs w1) → At (xs ++ bs)
       unfolding NoneFallsDue
       at-all [] xs data_alone is_clean h none = subst At (sym (append-nil xs)) h
       at-all (b ∷ bs) xs data_alone is_clean h (first, first_far, rest) =
-          let d = All-head (AsksData l) b bs data_alone in let c = All-head IsClean b bs is_clean in
+          let d = All-head (AsksData l) b bs data_alone in let c = All-head IsClean b bs is_clean in let so = answered xs h.all in
           subst At (append_assoc xs (b ∷ []) bs)
-          (at-all bs (xs ++ b ∷ []) (All-tail (AsksData l) b bs data_alone) (All-tail IsClean b bs is_clean) (at-then xs h b d c long long_far first first_far) (subst (NoneFallsDue l.rate bs) (after-so xs h b d c long long_far) rest))
+          (at-all bs (xs ++ b ∷ []) (All-tail (AsksData l) b bs data_alone) (All-tail IsClean b bs is_clean) (at-then xs h b d c long long_far so first first_far)
+          (subst (NoneFallsDue l.rate bs) (after-so xs h b d c long long_far so) rest))
+
+      -- So none does, if T203 falls due so late.
+      module _ (r q : Rule) (limit : ℕ) (late : (now m : ℕ) → r.holds now (timers.T203 l.service l.tei) m → limit ≤ m * l.rate) (late_far : (now m : ℕ) → q.holds now (timers.T203 l.service l.tei) m → limit ≤ m * l.rate) where
+        later : (r : Rule) → ((now m : ℕ) → r.holds now (timers.T203 l.service l.tei) m → limit ≤ m * l.rate) → (beats : ℕ) → beats < limit → (rs : List Request) (s : TimedEndpoint) → s.clock.now ≤ beats / l.rate → Keeps r s
+            → (x : Expiry) → due (asked (beats / l.rate) rs s).clock ≡ Some x → x.timer ≡ timers.T203 l.service l.tei → beats / l.rate < x.moment
+        later r late beats low rs s on kept x is same =
+            let most = late (beats / l.rate) x.moment (subst (λ t. r.holds (beats / l.rate) t x.moment) same (first-keeps r (beats / l.rate) rs s on kept x is)) in
+            early l.rate fit.some x.moment beats (omega (arith, low, most))
+
+        pub none-falls-due : (bs xs : List Beat) → All (AsksData l) bs → All IsClean bs → At xs → AreOnTime l.rate (after l.rate xs w1) → AreKept l.rate fit.some r q (after l.rate xs w1)
+            → (after l.rate xs w1).beats + length bs ≤ limit → NoneFallsDue l.rate bs (after l.rate xs w1)
+        unfolding NoneFallsDue
+        none-falls-due [] xs data_alone is_clean h on kept low = tt
+        none-falls-due (b ∷ bs) xs data_alone is_clean h on kept low =
+            let d = All-head (AsksData l) b bs data_alone in let c = All-head IsClean b bs is_clean in let so = answered xs h.all in
+            let u = after l.rate xs w1 in
+            let first = near-undue xs h b d c long long_far so (later r late u.beats (omega (arith, low)) b.near_asks u.near on.near kept.near) in
+            let first_far = far-undue xs h b d c long long_far so (later q late_far u.beats (omega (arith, low)) b.far_asks u.far on.far kept.far) in
+            let led = after-so xs h b d c long long_far so in
+            let more : (beat l.rate u b).beats + length bs ≤ limit = omega (arith, low) in
+            let rest = none-falls-due bs (xs ++ b ∷ []) (All-tail (AsksData l) b bs data_alone) (All-tail IsClean b bs is_clean) (at-then xs h b d c long long_far so first first_far)
+            (subst (AreOnTime l.rate) led (on-time l.rate fit.some b u)) (subst (AreKept l.rate fit.some r q) led (kept-beat l.rate fit.some r q b u on kept)) (subst (λ (z : Clocked). z.beats + length bs ≤ limit) led more) in
+            (first, first_far, subst (NoneFallsDue l.rate bs) (sym led) rest)

@@ -88,10 +88,10 @@ module _ (l : Line) (fit : Begins l) where
   abbrev pub OnWire : Wire → ℕ → Type 0
   OnWire f weight = on.On l.service l.tei fit.call.terminal l.near l.far (face false) (face true) (terms_in_range l.near fit.call.near.0 l.service l.tei fit.call.terminal) (terms_in_range l.far fit.call.far.0 l.service l.tei fit.call.terminal) f weight
 
-  near-station : (v : Circuit) (h : Now l fit v) → (n : LinkEndpoint) × StationStands l.near l.service l.tei 0 (as_endpoint h.there v.near) n
+  near-station : (v : Circuit) (h : Now l fit v) → (place : ℕ) × (n : LinkEndpoint) × StationStands l.near l.service l.tei place (as_endpoint h.there v.near) n
   near-station v h = on.near-stands l.service l.tei fit.call.terminal l.near l.far (face false) (face true) (terms_in_range l.near fit.call.near.0 l.service l.tei fit.call.terminal) (terms_in_range l.far fit.call.far.0 l.service l.tei fit.call.terminal) (wire_of v h) h.weight h.on_wire
 
-  far-station : (v : Circuit) (h : Now l fit v) → (m : LinkEndpoint) × StationStands l.far l.service l.tei 0 (as_endpoint h.back v.far) m
+  far-station : (v : Circuit) (h : Now l fit v) → (place : ℕ) × (m : LinkEndpoint) × StationStands l.far l.service l.tei place (as_endpoint h.back v.far) m
   far-station v h = on.far-stands l.service l.tei fit.call.terminal l.near l.far (face false) (face true) (terms_in_range l.near fit.call.near.0 l.service l.tei fit.call.terminal) (terms_in_range l.far fit.call.far.0 l.service l.tei fit.call.terminal) (wire_of v h) h.weight h.on_wire
 
   fine-near : (x : Link) (A B C : Type 0) → ((x.state ≡ AwaitingEstablishment) × A × C) ⊎ (B × Open x) → IsFine x
@@ -107,16 +107,18 @@ module _ (l : Line) (fit : Begins l) where
       let x = near-station v h in
       record {
         way = h.there;
-        n = x.0;
-        stands = x.1;
+        place = x.0;
+        n = x.1;
+        stands = x.2;
         fine = fine-near (link_of_end false v.near) _ _ _ (on.near-place l.service l.tei fit.call.terminal l.near l.far (face false) (face true) (terms_in_range l.near fit.call.near.0 l.service l.tei fit.call.terminal) (terms_in_range l.far fit.call.far.0 l.service l.tei fit.call.terminal) (wire_of v h) h.weight h.on_wire);
       }
   facts true v h =
       let x = far-station v h in
       record {
         way = h.back;
-        n = x.0;
-        stands = x.1;
+        place = x.0;
+        n = x.1;
+        stands = x.2;
         fine = fine-far (link_of_end true v.far) (on.far-place l.service l.tei fit.call.terminal l.near l.far (face false) (face true) (terms_in_range l.near fit.call.near.0 l.service l.tei fit.call.terminal) (terms_in_range l.far fit.call.far.0 l.service l.tei fit.call.terminal) (wire_of v h) h.weight h.on_wire);
       }
 
@@ -210,7 +212,7 @@ module _ (l : Line) (fit : Begins l) where
       one-heard l.near.n201 (port_of v.far) v.far.way (port_of v.near).received h.back h.follows.comes (subst (λ n. IsSoundPort n (port_of v.far)) (fits-far l fit).size (sound-port d fit.call.far.0 v.far h.follows.far))
       (on-line d fit.call.far.0 v.far h.follows.far) value more e is some in
       let m = far-station v h in
-      let y = first-of d h.back m.0.way x.first x.rest m.1.way m.1.carried x.frames_are in
+      let y = first-of d h.back m.1.way x.first x.rest m.2.way m.2.carried x.frames_are in
       (y.0, x.event ∙ ap (λ octets. stream.frame octets) y.1, y.2)
   theirs true v h value more is e some =
       let d = l.near in
@@ -218,7 +220,7 @@ module _ (l : Line) (fit : Begins l) where
       one-heard l.near.n201 (port_of v.near) v.near.way (port_of v.far).received h.there h.follows.goes (subst (λ n. IsSoundPort n (port_of v.near)) (fits l fit).size (sound-port d fit.call.near.0 v.near h.follows.near))
       (on-line d fit.call.near.0 v.near h.follows.near) value more e is some in
       let n = near-station v h in
-      let y = first-of d h.there n.0.way x.first x.rest n.1.way n.1.carried x.frames_are in
+      let y = first-of d h.there n.1.way x.first x.rest n.2.way n.2.carried x.frames_are in
       (y.0, x.event ∙ ap (λ octets. stream.frame octets) y.1, y.2)
 
   -- ---- one step of an end with its clock

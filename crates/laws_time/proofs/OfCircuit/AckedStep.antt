@@ -16,7 +16,7 @@ use Rattle.laws_time.specs.circuit.InBeats.{IsDataOf, Begins}
 use Rattle.laws_time.specs.circuit.LongEnough.{Line}
 use Rattle.laws_time.proofs.OfCircuit.AckedBeats.{Now}
 use Rattle.laws_time.proofs.OfCircuit.AckedEnds.{Facts, facts-as}
-use Rattle.laws_time.proofs.OfCircuit.AckedOurs.{data-ours, pull-ours, octet-ours}
+use Rattle.laws_time.proofs.OfCircuit.AckedOurs.{link-ours, pull-ours, octet-ours}
 use Rattle.laws_time.proofs.OfCircuit.AckedSides.{cfg, rng, lens, end_of, at_end, face, link_of_end, facts, now-one, EndTimed, step-timed, IsOfOther, theirs, low, IsUpAt, up-stays}
 use Rattle.laws_time.proofs.OfCircuit.InBeatsAs.{Alike, Twin, twin-event}
 use Rattle.laws_time.proofs.OfCircuit.InBeatsRun.{ask}
@@ -102,7 +102,7 @@ module _ (l : Line) (fit : Begins l) where
           record {
             in_call = now-one l fit (at_end l fit b (requests r)) (is-asked b r is) v h.in_call;
             timed = step-timed l fit b Old now (requests r) is v h.in_call ev tt a h.timed here (alike (ask a.at r) (end_of l fit b v') rel_then) (goes-on (cfg l fit b) a.at ev is.2 h.timed.ran)
-                (data-ours l.service l.tei (cfg l fit b) (cfg l fit (not b)) (face l fit b) a.at x.way x.n x.stands s t contents is.0 is.1);
+                (link-ours l.service l.tei (cfg l fit b) (cfg l fit (not b)) (face l fit b) a.at x.way x.place x.n x.stands r is);
             rel = rel_then;
           }
       one other is a v h = absurd is
@@ -124,7 +124,7 @@ module _ (l : Line) (fit : Begins l) where
         let after = twin-event l.way (cfg l fit b) (rng l fit b) port.pull tt a.at (end_of l fit b v) twin in
         let x = facts-as l.service l.tei (cfg l fit b) (rng l fit b) (lens l fit b) a.at (end_of l fit b v) twin.same.alike (facts l fit b v h) in
         step-timed l fit b Old now sends tt v h port.pull tt a timed twin.same.alike (subst (Alike (circuit.happens port.pull a.at)) (sym (pull-own v)) after.same.alike) after.ran
-        (pull-ours l.service l.tei (cfg l fit b) (cfg l fit (not b)) (face l fit b) a.at x.way x.n x.stands)
+        (pull-ours l.service l.tei (cfg l fit b) (cfg l fit (not b)) (face l fit b) a.at x.way x.place x.n x.stands)
 
     -- An octet. The other end may have given more, or less, of what is in transit from here.
     hear-own : (v : Circuit) → end_of l fit b (doing (at_end l fit b receives) v) ≡ with_first_of (end_of l fit (not b) v).way (end_of l fit b v)
@@ -149,7 +149,7 @@ module _ (l : Line) (fit : Begins l) where
     hear-run noise none [] a u v h timed twin left own other = timed
     hear-run noise none (value ∷ more) a u v h timed twin left own other =
         subst (λ o. Its (happens (port.octet (unwrap_or o value)) a)) (sym none)
-        (step-timed l fit b Old now receives tt v h (port.octet value) tt a timed here then after.ran (octet-ours l.service l.tei (cfg l fit b) (cfg l fit (not b)) (face l fit b) a.at x.way x.n x.stands value theirs_here))
+        (step-timed l fit b Old now receives tt v h (port.octet value) tt a timed here then after.ran (octet-ours l.service l.tei (cfg l fit b) (cfg l fit (not b)) (face l fit b) a.at x.way x.place x.n x.stands value theirs_here))
       where
         here : Alike a.at (end_of l fit b v)
         here = subst (Alike a.at) (sym own) (record { card = twin.same.alike.card; line = twin.same.alike.line; granted = twin.same.alike.granted; told = twin.same.alike.told })

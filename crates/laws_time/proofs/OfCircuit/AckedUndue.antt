@@ -3,7 +3,7 @@ use Rattle.std.proofs.Common.{arith, ◌≡◌, ℕ, ◌<◌, ◌≤◌, true, L
 use Rattle.std.specs.List.{AllByRecursion}
 use Rattle.std.proofs.lemmas.Bool.{true≢false}
 use Rattle.lapd_clock.specs.Moments.{moment_of}
-use Rattle.lapd_clock.specs.Timer.{Lengths, duration}
+use Rattle.lapd_clock.specs.Timer.{Lengths}
 use Rattle.lapd_clock.specs.Timers.{Expiry}
 use Rattle.lapd_frame.specs.declared.services.Service.{Service}
 use Rattle.lapd_frame.specs.declared.timers.Timer.{Timer}
@@ -14,7 +14,7 @@ use Rattle.model_line.specs.declared.config.Config.{Config}
 use Rattle.model_timed.specs.Clock.{due}
 use Rattle.laws_trace.specs.TimersAreTimely.{is_timer_of}
 use Rattle.laws_time.specs.circuit.Clocked.{TimedEndpoint}
-use Rattle.laws_time.proofs.OfCircuit.AckedEnds.{its_link, Due, Timed}
+use Rattle.laws_time.proofs.OfCircuit.AckedEnds.{its_link, Due, Claim, Timed}
 use Rattle.laws_time.proofs.OfCircuit.AckedOn.{Open}
 use Rattle.laws_time.proofs.OfCircuit.AckedTimers.{Awaits}
 use Rattle.laws_time.proofs.OfCircuit.Acts.{own-same}
@@ -25,22 +25,12 @@ use Rattle.laws_time.proofs.OfCircuit.Orders.{RunsOurs}
 module _ (service : Service) (tei : ℕ) (c : Config) (ranged : IsInRange c) (ls : Lengths) (Old : ℕ → ℕ → Type 0) (now : ℕ) (a : TimedEndpoint) (h : Timed service tei c ranged ls Old now a)
     (not_old : (m : ℕ) → Open (its_link service tei c ranged ls a.at) → Old (its_link service tei c ranged ls a.at).a m → m ≤ now → ⊥)
     (not_ringing : (its_link service tei c ranged ls a.at).state ≡ AwaitingEstablishment → ls.t200 ≤ now → ⊥) (t200 : 1 ≤ ls.t200) where
-  abbrev Late : Expiry → Type 0
-  Late x = (x.line ≡ a.at.line) × (duration ls x.timer ≤ x.moment)
-
-  lines : (xs : List Expiry) → AllByRecursion Late xs → AllByRecursion (λ x. x.line ≡ a.at.line) xs
-  lines [] all = tt
-  lines (x ∷ xs) all = (all.0.0, lines xs all.1)
-
   module _ (x : Expiry) (is : due a.clock ≡ Some x) where
-    late : Late x
-    late = first-of Late a.clock.running a.clock.now x h.late is
-
     ours : is_timer_of service tei x.timer ≡ true
     ours = first-of (RunsOurs service tei) a.clock.running a.clock.now x h.ours is
 
     found : (its : Timer) → x.timer ≡ its → (moment_of a.at.line its a.clock.running ≡ Some x.moment) × (x.moment ≤ a.clock.now)
-    found its same = due-is a.at.line a.clock.now its a.clock.running x (lines a.clock.running h.late) is same
+    found its same = due-is a.at.line a.clock.now its a.clock.running x h.here is same
 
     soon : x.moment ≤ now
     soon = let low = (found x.timer refl).1 in let n = h.now_is in omega (arith, low, n)
@@ -48,16 +38,13 @@ module _ (service : Service) (tei : ℕ) (c : Config) (ranged : IsInRange c) (ls
     t200-not : x.timer ≡ timers.T200 service tei → ⊥
     t200-not same = go (h.claim x.moment (found (timers.T200 service tei) same).0)
       where
-        long : ls.t200 ≤ x.moment
-        long = subst (λ t. duration ls t ≤ x.moment) same late.1
-
         by-due : Open (its_link service tei c ranged ls a.at) → Due service tei c ranged ls Old now (its_link service tei c ranged ls a.at).a (its_link service tei c ranged ls a.at).s x.moment → ⊥
         by-due open_now (inl old) = not_old x.moment open_now old soon
         by-due open_now (inr (less, late)) = let low = soon in absurd (omega (arith, late, low, t200))
 
-        go : Awaits (its_link service tei c ranged ls a.at) × (Open (its_link service tei c ranged ls a.at) → Due service tei c ranged ls Old now (its_link service tei c ranged ls a.at).a (its_link service tei c ranged ls a.at).s x.moment) → ⊥
-        go (inl ringing, due_so) = let low = soon in let most = long in not_ringing ringing (omega (arith, low, most))
-        go (inr (open_now, less), due_so) = by-due open_now (due_so open_now)
+        go : Claim service tei c ranged ls Old (Due service tei c ranged ls Old now) (its_link service tei c ranged ls a.at) x.moment → ⊥
+        go (long, inl ringing, due_so) = let low = soon in not_ringing ringing (omega (arith, low, long))
+        go (long, inr (open_now, less), due_so) = by-due open_now (due_so open_now)
 
     by-timer : (timer : Timer) → x.timer ≡ timer → is_timer_of service tei timer ≡ true → x.timer ≡ timers.T203 service tei
     by-timer (timers.T200 of by) same own = let e = own-same service tei of by own in absurd (t200-not (same ∙ (λ i. timers.T200 (e.0 i) (e.1 i))))
@@ -68,12 +55,10 @@ module _ (service : Service) (tei : ℕ) (c : Config) (ranged : IsInRange c) (ls
     pub is-t203 : x.timer ≡ timers.T203 service tei
     is-t203 = by-timer x.timer refl ours
 
-    never : now < ls.t203 → ⊥
-    never t203 = let most = subst (λ t. duration ls t ≤ x.moment) is-t203 late.1 in let low = soon in omega (arith, most, low, t203)
-
-  pub none-due : now < ls.t203 → due a.clock ≡ None
-  none-due t203 = go (due a.clock) refl
+  -- So none is, before T203 is.
+  pub none-due : ((x : Expiry) → due a.clock ≡ Some x → x.timer ≡ timers.T203 service tei → now < x.moment) → due a.clock ≡ None
+  none-due later = go (due a.clock) refl
     where
       go : (o : Option Expiry) → due a.clock ≡ o → due a.clock ≡ None
       go None is = is
-      go (Some x) is = absurd (never x is t203)
+      go (Some x) is = let low = soon x is in let high = later x is (is-t203 x is) in absurd (omega (arith, low, high))

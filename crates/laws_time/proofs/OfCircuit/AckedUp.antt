@@ -14,7 +14,7 @@ use Rattle.model_line.specs.Event.{next}
 use Rattle.model_line.specs.Line.{terms}
 use Rattle.model_line.specs.Taken.{own_side}
 use Rattle.model_line.specs.declared.config.Config.{Config}
-use Rattle.laws_wire.specs.Call.{IsTalk, confirmed, indicated}
+use Rattle.laws_wire.specs.Call.{IsTalk, indicated}
 use Rattle.laws_wire.specs.Facing.{own_link}
 use Rattle.laws_wire.specs.Wire as wire
 use Rattle.laws_wire.specs.Wire.{Endpoint, Wire, Step, StepAt, requests, sends, receives, at_near, at_far, acting, turned, doing, happens, with_first_of, frame_comes, frames_by, answered}
@@ -28,8 +28,41 @@ use Rattle.laws_wire.proofs.Standing.{StationStands, gives-stands}
 use Rattle.laws_wire.proofs.Talking.{Face, Past, unheard, after_note, takes}
 use Rattle.laws_time.proofs.OfCircuit.AckedWire.{own-stands, one_if_any, near_takes, far_takes}
 unfoldable use Rattle.laws_time.proofs.OfCircuit.AckedCall.{sum_all}
-use Rattle.laws_time.proofs.OfCircuit.AckedCall.{near_sends, far_sends, up-step, up-all}
-use Rattle.laws_time.proofs.OfCircuit.AckedOn.{On, UpNow, on-step, all-on, takes-few, far-takes-few, by-receipt, by-near-receipt, near-is, far-is}
+use Rattle.laws_time.proofs.OfCircuit.AckedCall.{near_sends, far_sends, turn}
+use Rattle.laws_time.proofs.OfCircuit.AckedOn.{Calls, On, UpNow, called-up, up-once, up-on as up-all, call-step, all-called, near-is, far-is}
+
+-- ---- a step with which a frame is received
+
+takes-few : (k : StepAt) (w : Wire) → near_takes k w ≤ 1
+takes-few (at_near receives) w = go w.far.way
+  where
+    go : (way : List (List ℕ)) → one_if_any way ≤ 1
+    go [] = omega arith
+    go (o ∷ os) = omega arith
+takes-few (at_near sends) w = omega arith
+takes-few (at_near (requests r)) w = omega arith
+takes-few (at_near other) w = omega arith
+takes-few (at_far act) w = omega arith
+
+far-takes-few : (k : StepAt) (w : Wire) → far_takes k w ≤ 1
+far-takes-few (at_near act) w = omega arith
+far-takes-few (at_far act) w = takes-few (at_near act) (turned w)
+
+-- a step with which the far end receives
+by-receipt : (k : StepAt) (w : Wire) (P : StepAt → Type 0) → far_takes k w ≡ 1 → (1 ≤ length w.near.way → P (at_far receives)) → P k
+by-receipt (at_near act) w P one h = absurd (omega (arith, one))
+by-receipt (at_far receives) w P one h = h (go w.near.way one)
+  where
+    go : (way : List (List ℕ)) → one_if_any way ≡ 1 → 1 ≤ length way
+    go [] one = absurd (omega (arith, one))
+    go (o ∷ os) one = omega arith
+by-receipt (at_far sends) w P one h = absurd (omega (arith, one))
+by-receipt (at_far (requests r)) w P one h = absurd (omega (arith, one))
+by-receipt (at_far other) w P one h = absurd (omega (arith, one))
+
+by-near-receipt : (k : StepAt) (w : Wire) (P : StepAt → Type 0) → near_takes k w ≡ 1 → (1 ≤ length w.far.way → P (at_near receives)) → P k
+by-near-receipt (at_near act) w P one h = by-receipt (at_far act) (turned w) (λ k. P (turn k)) one h
+by-near-receipt (at_far act) w P one h = absurd (omega (arith, one))
 
 any : (way : List (List ℕ)) → 1 ≤ length way → one_if_any way ≡ 1
 any [] some = absurd (omega (arith, some))
@@ -46,17 +79,14 @@ module _ (service : Service) (tei : ℕ) (few : tei ≤ 126) (c d : Config) (fac
   abbrev u : Terms
   u = terms d service tei
 
-  abbrev first : Past
-  first = after_note (confirmed service tei)
-
   abbrev second : Past
   second = after_note (indicated service tei)
 
   abbrev Talks : StepAt → Type 0
   Talks k = IsTalk service tei k
 
-  abbrev Calls : Wire → ℕ → Type 0
-  Calls w weight = On service tei few c d face back rt ru w weight
+  abbrev InCall : Wire → ℕ → Type 0
+  InCall w weight = Calls service tei few c d face back rt ru w weight
 
   abbrev BothUp : Wire → Type 0
   BothUp w = UpNow service tei few c d face back rt ru w
@@ -71,7 +101,7 @@ module _ (service : Service) (tei : ℕ) (few : tei ≤ 126) (c d : Config) (fac
   half-step k is w (weight, h) = let x = half.step service tei (indicated service tei) c d 0 0 face back rt k is w weight h in (x.weight, x.goes)
 
   up-on : (k : StepAt) → Talks k → (w : Wire) → BothUp w → BothUp (doing k w)
-  up-on k is w h = up-step service tei c d 0 0 face back first second k is w h
+  up-on k is w h = up-once service tei few c d face back rt ru k is w h
 
   none-empty : (f : Parts → List ℕ) (w : List (List ℕ)) (way : List Parts) → w ≡ map f way → way ≡ [] → 1 ≤ length w → {X : Type 0} → X
   none-empty f w way is none some = let e = ap length is ∙ ap (λ x. length (map f x)) none in absurd (omega (arith, e, some))
@@ -86,16 +116,16 @@ module _ (service : Service) (tei : ℕ) (few : tei ≤ 126) (c d : Config) (fac
       ap (λ way. (own_link service tei (with_first_of way w.far)).state) way.0
       ∙ ap (λ (l : Link). l.state) (own-stands service tei d 0 (frame_comes (spelling (own_side c) f) w.far) (with_link (received (frame f)) (end u fresh [])) x.stands ∙ takes-sabme u ru t)
 
-  not-idle : (w : Wire) (weight : ℕ) → Calls w weight → (own_link service tei w.far).state ≡ Established → HalfNow w
+  not-idle : (w : Wire) (weight : ℕ) → InCall w weight → (own_link service tei w.far).state ≡ Established → HalfNow w
   not-idle w weight (inl h) is = let e : TeiAssigned ≡ Established = sym (ap (λ (l : Link). l.state) (far-is service tei few c d face back rt ru unheard w (end u fresh []) h.both.far)) ∙ is in absurd (cc e)
   not-idle w weight (inr (inl h)) is = let e : TeiAssigned ≡ Established = sym (ap (λ (l : Link). l.state) (far-is service tei few c d face back rt ru unheard w (end u fresh []) h.both.far)) ∙ is in absurd (cc e)
   not-idle w weight (inr (inr h)) is = (weight, h)
 
-  half-heard : (k : StepAt) → Talks k → (w : Wire) (weight : ℕ) → Calls w weight → far_takes k w ≡ 1 → HalfNow (doing k w)
+  half-heard : (k : StepAt) → Talks k → (w : Wire) (weight : ℕ) → InCall w weight → far_takes k w ≡ 1 → HalfNow (doing k w)
   half-heard k is w weight (inl h) one = by-receipt k w (λ k. HalfNow (doing k w)) one (λ some. none-empty (spelling (own_side c)) w.near.way [] h.both.near.stands.way refl some)
   half-heard k is w weight (inr (inl h)) one =
       by-receipt k w (λ k. HalfNow (doing k w)) one
-      (λ some. let on = on-step service tei few c d face back rt ru (at_far receives) tt w weight (inr (inl h)) in not-idle (doing (at_far receives) w) on.0 on.1 (answers-sabme w weight h))
+      (λ some. let on = call-step service tei few c d face back rt ru (at_far receives) tt w weight (inr (inl h)) in not-idle (doing (at_far receives) w) on.0 on.1 (answers-sabme w weight h))
   half-heard k is w weight (inr (inr h)) one = half-step k is w (weight, h)
 
   -- ---- UA is received
@@ -111,14 +141,14 @@ module _ (service : Service) (tei : ℕ) (few : tei ≤ 126) (c d : Config) (fac
   not-ringing : (w : Wire) → HalfNow w → (own_link service tei w.near).state ≡ Established → BothUp w
   not-ringing w (weight, inl h) is = let e : AwaitingEstablishment ≡ Established = sym (ap (λ (l : Link). l.state) (near-is service tei few c d face back rt ru unheard w (end t awaiting []) h.both.near)) ∙ is in absurd (cc e)
   not-ringing w (weight, inr (inl h)) is = let e : AwaitingEstablishment ≡ Established = sym (ap (λ (l : Link). l.state) (near-is service tei few c d face back rt ru unheard w (end t awaiting []) h.both.near)) ∙ is in absurd (cc e)
-  not-ringing w (weight, inr (inr h)) is = (h.n, h.m, h.talk)
+  not-ringing w (weight, inr (inr h)) is = (called-up service tei few c d face back rt ru w h.n h.m h.talk)
 
   up-heard : (k : StepAt) → Talks k → (w : Wire) → HalfNow w → near_takes k w ≡ 1 → BothUp (doing k w)
   up-heard k is w (weight, inl h) one = by-near-receipt k w (λ k. BothUp (doing k w)) one (λ some. none-empty (spelling (own_side d)) w.far.way h.m.way h.both.far.stands.way h.none some)
   up-heard k is w (weight, inr (inl h)) one =
       by-near-receipt k w (λ k. BothUp (doing k w)) one
       (λ some. not-ringing (doing (at_near receives) w) (half-step (at_near receives) tt w (weight, inr (inl h))) (confirms-ua w weight h))
-  up-heard k is w (weight, inr (inr h)) one = up-on k is w (h.n, h.m, h.talk)
+  up-heard k is w (weight, inr (inr h)) one = up-on k is w (called-up service tei few c d face back rt ru w h.n h.m h.talk)
 
   -- ---- the far end was asked for a frame: UA is in transit, or was received
 
@@ -138,7 +168,7 @@ module _ (service : Service) (tei : ℕ) (few : tei ≤ 126) (c d : Config) (fac
   sent-now w (weight, inr (inl h)) =
       let way = ap length h.both.far.stands.way in
       (half-step (at_far sends) tt w (weight, inr (inl h)), inl (longer w (omega (arith, way))))
-  sent-now w (weight, inr (inr h)) = (half-step (at_far sends) tt w (weight, inr (inr h)), inr (up-on (at_far sends) tt w (h.n, h.m, h.talk)))
+  sent-now w (weight, inr (inr h)) = (half-step (at_far sends) tt w (weight, inr (inr h)), inr (up-on (at_far sends) tt w (called-up service tei few c d face back rt ru w h.n h.m h.talk)))
 
   sent-step : (k : StepAt) → Talks k → (w : Wire) → Sent w → Sent (doing k w)
   sent-step k is w (h, inr up) = (half-step k is w h, inr (up-on k is w up))
@@ -163,11 +193,11 @@ module _ (service : Service) (tei : ℕ) (few : tei ≤ 126) (c d : Config) (fac
   half-all [] all w h = h
   half-all (k ∷ ks) all w h = half-all ks (All-tail Talks k ks all) (doing k w) (half-step k (All-head Talks k ks all) w h)
 
-  half-then : (es : List StepAt) → All Talks es → (w : Wire) (weight : ℕ) → Calls w weight → 1 ≤ sum_all far_takes es w → HalfNow (doing_all es w)
+  half-then : (es : List StepAt) → All Talks es → (w : Wire) (weight : ℕ) → InCall w weight → 1 ≤ sum_all far_takes es w → HalfNow (doing_all es w)
   unfolding doing_all sum_all
   half-then [] all w weight h some = absurd (omega (arith, some))
   half-then (k ∷ ks) all w weight h some =
-      let on = on-step service tei few c d face back rt ru k (All-head Talks k ks all) w weight h in
+      let on = call-step service tei few c d face back rt ru k (All-head Talks k ks all) w weight h in
       go (λ more. half-then ks (All-tail Talks k ks all) (doing k w) on.0 on.1 more) (far_takes k w) refl
     where
       is : Talks k
@@ -198,7 +228,7 @@ module _ (service : Service) (tei : ℕ) (few : tei ≤ 126) (c d : Config) (fac
 
       go : (1 ≤ sum_all near_takes ks (doing k w) → BothUp (doing_all ks (doing k w))) → (n : ℕ) → near_takes k w ≡ n → BothUp (doing_all ks (doing k w))
       go rest zero none = rest (omega (arith, some, none))
-      go rest (suc zero) one = up-all service tei c d 0 0 face back first second ks (All-tail Talks k ks all) (doing k w) (up-heard k is w h one)
+      go rest (suc zero) one = up-all service tei few c d face back rt ru ks (All-tail Talks k ks all) (doing k w) (up-heard k is w h one)
       go rest (suc (suc n)) more = let most = takes-few k w in absurd (omega (arith, most, more))
 
   -- ---- the near end was asked for a frame: SABME is in transit, or was received
@@ -209,7 +239,7 @@ module _ (service : Service) (tei : ℕ) (few : tei ≤ 126) (c d : Config) (fac
   near-longer : (w : Wire) → 1 ≤ length w.near.way → 1 ≤ length (happens next w.near).way
   near-longer w some = let more = length-append w.near.way (frames_by (answered next w.near)) in omega (arith, some, more)
 
-  rung-now : (w : Wire) (weight : ℕ) → Calls w weight → Rung (doing (at_near sends) w)
+  rung-now : (w : Wire) (weight : ℕ) → InCall w weight → Rung (doing (at_near sends) w)
   rung-now w weight (inl h) =
       let near = h.both.near.stands in
       let there = gives-stands service tei 0 w.near (end t asked []) (subst (λ k. StationStands k service tei 0 w.near (end t asked [])) (sym near.config) near) in
@@ -217,7 +247,7 @@ module _ (service : Service) (tei : ℕ) (few : tei ≤ 126) (c d : Config) (fac
   rung-now w weight (inr (inl h)) = let way = ap length h.both.near.stands.way in inl (near-longer w (omega (arith, way)))
   rung-now w weight (inr (inr h)) = inr (half-step (at_near sends) tt w (weight, h))
 
-  rung-step : (k : StepAt) → Talks k → (w : Wire) (weight : ℕ) → Calls w weight → Rung w → Rung (doing k w)
+  rung-step : (k : StepAt) → Talks k → (w : Wire) (weight : ℕ) → InCall w weight → Rung w → Rung (doing k w)
   rung-step k is w weight h (inr halved) = inr (half-step k is w halved)
   rung-step (at_near (requests r)) is w weight h (inl some) = inl (subst (λ way. 1 ≤ length way) (sym (asks-way r w.near)) some)
   rung-step (at_near sends) is w weight h (inl some) = inl (near-longer w some)
@@ -228,20 +258,20 @@ module _ (service : Service) (tei : ℕ) (few : tei ≤ 126) (c d : Config) (fac
   rung-step (at_near other) is w weight h (inl some) = absurd is
   rung-step (at_far other) is w weight h (inl some) = absurd is
 
-  rung-all : (es : List StepAt) → All Talks es → (w : Wire) (weight : ℕ) → Calls w weight → Rung w → Rung (doing_all es w)
+  rung-all : (es : List StepAt) → All Talks es → (w : Wire) (weight : ℕ) → InCall w weight → Rung w → Rung (doing_all es w)
   unfolding doing_all
   rung-all [] all w weight h rung = rung
   rung-all (k ∷ ks) all w weight h rung =
       let is = All-head Talks k ks all in
-      let on = on-step service tei few c d face back rt ru k is w weight h in
+      let on = call-step service tei few c d face back rt ru k is w weight h in
       rung-all ks (All-tail Talks k ks all) (doing k w) on.0 on.1 (rung-step k is w weight h rung)
 
-  rung-then : (es : List StepAt) → All Talks es → (w : Wire) (weight : ℕ) → Calls w weight → 1 ≤ sum_all near_sends es w → Rung (doing_all es w)
+  rung-then : (es : List StepAt) → All Talks es → (w : Wire) (weight : ℕ) → InCall w weight → 1 ≤ sum_all near_sends es w → Rung (doing_all es w)
   unfolding doing_all sum_all
   rung-then [] all w weight h some = absurd (omega (arith, some))
   rung-then (k ∷ ks) all w weight h some =
       let is = All-head Talks k ks all in
-      let on = on-step service tei few c d face back rt ru k is w weight h in
+      let on = call-step service tei few c d face back rt ru k is w weight h in
       go k (near_sends k w) refl (rung-all ks (All-tail Talks k ks all) (doing k w) on.0 on.1) (λ more. rung-then ks (All-tail Talks k ks all) (doing k w) on.0 on.1 more) some
     where
       go : (k : StepAt) (n : ℕ) → near_sends k w ≡ n → (Rung (doing k w) → Rung (doing_all ks (doing k w))) → (1 ≤ sum_all near_sends ks (doing k w) → Rung (doing_all ks (doing k w)))
@@ -253,7 +283,7 @@ module _ (service : Service) (tei : ℕ) (few : tei ≤ 126) (c d : Config) (fac
       go (at_near wire.loses) n is now rest some = rest (omega (arith, some))
       go (at_far act) n is now rest some = rest (omega (arith, some))
 
-  module _ (rs es fs gs : List StepAt) (zero : All Talks rs) (one : All Talks es) (two : All Talks fs) (three : All Talks gs) (w : Wire) (weight : ℕ) (h : Calls w weight) where
+  module _ (rs es fs gs : List StepAt) (zero : All Talks rs) (one : All Talks es) (two : All Talks fs) (three : All Talks gs) (w : Wire) (weight : ℕ) where
     abbrev v1 : Wire
     v1 = doing_all rs w
 
@@ -263,12 +293,11 @@ module _ (service : Service) (tei : ℕ) (few : tei ≤ 126) (c d : Config) (fac
     abbrev v3 : Wire
     v3 = doing_all fs (doing_all es (doing_all rs w))
 
-    -- So both ends are up.
-    pub both-up : 1 ≤ sum_all near_sends rs w → length v1.near.way ≤ sum_all far_takes es v1 → 1 ≤ sum_all far_sends fs v2 → length v3.far.way ≤ sum_all near_takes gs v3 → BothUp (doing_all gs v3)
-    both-up asked_first there asked all = go (sent-then fs two v2 (halved (rung-then rs zero w weight h asked_first)) asked)
+    called-then : InCall w weight → 1 ≤ sum_all near_sends rs w → length v1.near.way ≤ sum_all far_takes es v1 → 1 ≤ sum_all far_sends fs v2 → length v3.far.way ≤ sum_all near_takes gs v3 → BothUp (doing_all gs v3)
+    called-then h asked_first there asked all = go (sent-then fs two v2 (halved (rung-then rs zero w weight h asked_first)) asked)
       where
-        on : (weight' : ℕ) × Calls (doing_all rs w) weight'
-        on = all-on service tei few c d face back rt ru rs zero w weight h
+        on : (weight' : ℕ) × InCall (doing_all rs w) weight'
+        on = all-called service tei few c d face back rt ru rs zero w weight h
 
         halved : Rung (doing_all rs w) → HalfNow (doing_all es (doing_all rs w))
         halved (inl some) = half-then es one (doing_all rs w) on.0 on.1 (omega (arith, some, there))
@@ -276,4 +305,11 @@ module _ (service : Service) (tei : ℕ) (few : tei ≤ 126) (c d : Config) (fac
 
         go : Sent v3 → BothUp (doing_all gs v3)
         go (half_now, inl some) = up-by-takes gs three v3 half_now (omega (arith, some, all))
-        go (half_now, inr up) = up-all service tei c d 0 0 face back first second gs three v3 up
+        go (half_now, inr up) = up-all service tei few c d face back rt ru gs three v3 up
+
+    -- So both ends are up.
+    pub both-up : On service tei few c d face back rt ru w weight → 1 ≤ sum_all near_sends rs w → length v1.near.way ≤ sum_all far_takes es v1 → 1 ≤ sum_all far_sends fs v2 → length v3.far.way ≤ sum_all near_takes gs v3
+        → BothUp (doing_all gs v3)
+    both-up (inl h) asked_first there asked all = called-then h asked_first there asked all
+    both-up (inr up) asked_first there asked all =
+        let on = up-all service tei few c d face back rt ru in on gs three v3 (on fs two v2 (on es one v1 (on rs zero w up)))

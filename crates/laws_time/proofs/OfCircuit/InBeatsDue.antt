@@ -1,12 +1,10 @@
--- No timer falls due before a moment, if none that runs does, and each that is started runs until then.
-use Rattle.std.proofs.Common.{arith, ◌≡◌, ℕ, zero, suc, ◌+◌, ◌*◌, ◌/◌, ◌<◌, ◌≤◌, false, cond, List, [], ◌∷◌, length, Option, Some, None, refl, sym, ap, ◌∙◌, subst, nat_le}
+-- What holds of each timer that is started holds of each that runs. So none falls due in the first milliseconds.
+use Rattle.std.proofs.Common.{arith, ◌≡◌, ℕ, zero, suc, ◌+◌, ◌*◌, ◌/◌, ◌<◌, ◌≤◌, Bool, true, false, cond, List, [], ◌∷◌, length, Option, Some, None, refl, sym, ap, ◌∙◌, subst, nat_le}
 use Rattle.std.specs.List.{AllByRecursion}
 use Rattle.std.specs.Option.{option_map_or, unwrap_or}
 use Rattle.std.specs.Prelude.{fold}
 use Rattle.std.proofs.Math.Nat.{div-lt_iff_lt-mul}
-use Rattle.std.proofs.lemmas.Bool.{le-ltb}
-use Rattle.std.proofs.lemmas.List.Elements.{recursion_from_All}
-use Rattle.lapd_clock.specs.Timer.{Lengths, Timer, T200, T203, T201, T202, duration}
+use Rattle.lapd_clock.specs.Timer.{Lengths, Timer, duration}
 use Rattle.lapd_clock.specs.Timers.{Expiry}
 use Rattle.model_line.specs.Request.{Request, Assign}
 use Rattle.model_card.specs.ports.Port as port
@@ -15,73 +13,73 @@ use Rattle.model_timed.specs.Octets.{orders_in}
 use Rattle.laws_order.specs.circuit.Circuit.{answered}
 use Rattle.laws_time.specs.circuit.Clocked.{TimedEndpoint, Clocked, Beat, first, happens, asks, falls, hears, comes_to, beat, after}
 unfoldable use Rattle.laws_time.specs.circuit.Clocked.{fall_due}
-use Rattle.laws_time.specs.circuit.InBeats.{FallsDueFrom, NoneFallsDueBefore, IsUndue}
+use Rattle.laws_time.specs.circuit.InBeats.{IsUndue}
 unfoldable use Rattle.laws_time.specs.circuit.InBeats.{NoneFallsDue}
-use Rattle.laws_time.specs.circuit.LongEnough.{Line, begins}
+use Rattle.laws_time.specs.circuit.LongEnough.{Line, asked, begins}
 use Rattle.laws_time.proofs.Moments.{now-stays, lengths-stay}
-use Rattle.laws_time.proofs.OfCircuit.Ends.{at_time, rest-of}
+use Rattle.laws_time.proofs.OfCircuit.Ends.{at_time, rest-of, first-of}
 use Rattle.laws_time.proofs.OfCircuit.Prompt.{all-obeyed, div-stays}
-use Rattle.lapd_frame.specs.declared.services.Service.TheVariants.{Call}
 
--- Each timer that runs falls due from a moment on, and each that is started now or later runs until then.
-record RunsUntil (t now : ℕ) (ls : Lengths) : Type 0 where
-  t200 : t ≤ now + ls.t200
-  t203 : t ≤ now + ls.t203
-  t201 : t ≤ now + ls.t201
-  t202 : t ≤ now + ls.t202
+-- What holds of each timer that runs, by the moment now and that at which it falls due: of each that is started from a moment on, and then as
+-- time goes on.
+pub record Rule : Type 1 where
+  pub lengths : Lengths
+  pub from : ℕ
+  pub holds : ℕ → Timer → ℕ → Type 0
+  pub starts : (now : ℕ) (timer : Timer) → from ≤ now → holds now timer (now + duration lengths timer)
+  pub stays : (now later : ℕ) (timer : Timer) (m : ℕ) → now ≤ later → holds now timer m → holds later timer m
 
-module _ (t : ℕ) where
-  long : (now : ℕ) (ls : Lengths) → RunsUntil t now ls → (timer : Timer) → t ≤ now + duration ls timer
-  long now ls h (T200 service tei) = h.t200
-  long now ls h (T203 service tei) = h.t203
-  long now ls h T201 = h.t201
-  long now ls h T202 = h.t202
+module _ (r : Rule) where
+  abbrev pub HoldsAt : ℕ → Expiry → Type 0
+  HoldsAt now x = r.holds now x.timer x.moment
 
-  record IsLate (s : TimedEndpoint) : Type 0 where
-    running : AllByRecursion (λ x. t ≤ x.moment) s.clock.running
-    lengths : RunsUntil t s.clock.now s.clock.lengths
+  pub record Keeps (s : TimedEndpoint) : Type 0 where
+    pub running : AllByRecursion (HoldsAt s.clock.now) s.clock.running
+    pub lengths : s.clock.lengths ≡ r.lengths
+    pub since : r.from ≤ s.clock.now
 
-  late-event : (e : port.Event) (s : TimedEndpoint) → IsLate s → IsLate (happens e s)
-  late-event e s h =
+  pub keeps-event : (e : port.Event) (s : TimedEndpoint) → Keeps s → Keeps (happens e s)
+  keeps-event e s h =
       let orders = orders_in (answered e s.at) in
+      let now = s.clock.now in
+      let same = sym (now-stays s.at.line s.clock orders) in
       record {
-        running = all-obeyed (λ x. t ≤ x.moment) s.at.line s.clock orders (λ timer. long s.clock.now s.clock.lengths h.lengths timer) h.running;
-        lengths =
-            subst (λ n. RunsUntil t n (happens e s).clock.lengths) (sym (now-stays s.at.line s.clock orders))
-            (subst (λ ls. RunsUntil t s.clock.now ls) (sym (lengths-stay s.at.line s.clock orders)) h.lengths);
+        running = subst (λ n. AllByRecursion (HoldsAt n) (happens e s).clock.running) same
+            (all-obeyed (HoldsAt now) s.at.line s.clock orders (λ timer. subst (λ (ls : Lengths). r.holds now timer (now + duration ls timer)) (sym h.lengths) (r.starts now timer h.since)) h.running);
+        lengths = lengths-stay s.at.line s.clock orders ∙ h.lengths;
+        since = subst (λ n. r.from ≤ n) same h.since;
       }
 
-  late-asks : (rs : List Request) (s : TimedEndpoint) → IsLate s → IsLate (fold asks s rs)
-  late-asks [] s h = h
-  late-asks (r ∷ rs) s h = late-asks rs (asks s r) (late-event (port.request r) s h)
+  keeps-asks : (rs : List Request) (s : TimedEndpoint) → Keeps s → Keeps (fold asks s rs)
+  keeps-asks [] s h = h
+  keeps-asks (q ∷ rs) s h = keeps-asks rs (asks s q) (keeps-event (port.request q) s h)
 
-  late-fell : (s : TimedEndpoint) (o : Option Expiry) → IsLate s → IsLate (option_map_or (falls s) o s)
-  late-fell s None h = h
-  late-fell s (Some x) h =
-      late-event (port.expiry x.timer) (record s { clock = without_first s.clock })
-      (record { running = rest-of (λ x. t ≤ x.moment) s.clock.running h.running; lengths = h.lengths })
+  keeps-fell : (s : TimedEndpoint) (o : Option Expiry) → Keeps s → Keeps (option_map_or (falls s) o s)
+  keeps-fell s None h = h
+  keeps-fell s (Some x) h =
+      keeps-event (port.expiry x.timer) (record s { clock = without_first s.clock })
+      (record { running = rest-of (HoldsAt s.clock.now) s.clock.running h.running; lengths = h.lengths; since = h.since })
 
-  late-falls : (k : ℕ) (s : TimedEndpoint) → IsLate s → IsLate (fall_due k s)
+  keeps-falls : (k : ℕ) (s : TimedEndpoint) → Keeps s → Keeps (fall_due k s)
   unfolding fall_due
-  late-falls zero s h = h
-  late-falls (suc k) s h = late-falls k (option_map_or (falls s) (due s.clock) s) (late-fell s (due s.clock) h)
+  keeps-falls zero s h = h
+  keeps-falls (suc k) s h = keeps-falls k (option_map_or (falls s) (due s.clock) s) (keeps-fell s (due s.clock) h)
 
-  late-time : (moment : ℕ) (s : TimedEndpoint) → s.clock.now ≤ moment → IsLate s → IsLate (at_time moment s)
-  late-time moment s later h =
-      let a = h.lengths.t200 in let b = h.lengths.t203 in let c = h.lengths.t201 in let d = h.lengths.t202 in
-      record { running = h.running; lengths = record { t200 = omega (arith, later, a); t203 = omega (arith, later, b); t201 = omega (arith, later, c); t202 = omega (arith, later, d) } }
+  all-stay : (now later : ℕ) → now ≤ later → (xs : List Expiry) → AllByRecursion (HoldsAt now) xs → AllByRecursion (HoldsAt later) xs
+  all-stay now later more [] all = tt
+  all-stay now later more (x ∷ xs) all = (r.stays now later x.timer x.moment more all.0, all-stay now later more xs all.1)
 
-  late-comes : (moment : ℕ) (rs : List Request) (s : TimedEndpoint) → s.clock.now ≤ moment → IsLate s → IsLate (comes_to moment rs s)
-  late-comes moment rs s later h =
-      let a = fold asks (at_time moment s) rs in late-falls (length a.clock.running) a (late-asks rs (at_time moment s) (late-time moment s later h))
+  keeps-time : (moment : ℕ) (s : TimedEndpoint) → s.clock.now ≤ moment → Keeps s → Keeps (at_time moment s)
+  keeps-time moment s later h =
+      let since = h.since in record { running = all-stay s.clock.now moment later s.clock.running h.running; lengths = h.lengths; since = omega (arith, later, since) }
 
-  late-hears : (noise : Option ℕ) (way : List ℕ) (s : TimedEndpoint) → IsLate s → IsLate (hears noise way s)
-  late-hears noise [] s h = h
-  late-hears noise (value ∷ more) s h = late-event (port.octet (unwrap_or noise value)) s h
+  keeps-comes : (moment : ℕ) (rs : List Request) (s : TimedEndpoint) → s.clock.now ≤ moment → Keeps s → Keeps (comes_to moment rs s)
+  keeps-comes moment rs s later h =
+      let a = fold asks (at_time moment s) rs in keeps-falls (length a.clock.running) a (keeps-asks rs (at_time moment s) (keeps-time moment s later h))
 
-  record AreLate (w : Clocked) : Type 0 where
-    near : IsLate w.near
-    far : IsLate w.far
+  keeps-hears : (noise : Option ℕ) (way : List ℕ) (s : TimedEndpoint) → Keeps s → Keeps (hears noise way s)
+  keeps-hears noise [] s h = h
+  keeps-hears noise (value ∷ more) s h = keeps-event (port.octet (unwrap_or noise value)) s h
 
 -- The moment after a beat.
 now-asked : (rs : List Request) (s : TimedEndpoint) → (fold asks s rs).clock.now ≡ s.clock.now
@@ -108,12 +106,12 @@ now-pulled : (s : TimedEndpoint) → (happens port.pull s).clock.now ≡ s.clock
 now-pulled s = now-stays s.at.line s.clock (orders_in (answered port.pull s.at))
 
 -- It is that of the beat.
-record AreOnTime (rate : ℕ) (w : Clocked) : Type 0 where
-  near : w.near.clock.now ≤ w.beats / rate
-  far : w.far.clock.now ≤ w.beats / rate
+pub record AreOnTime (rate : ℕ) (w : Clocked) : Type 0 where
+  pub near : w.near.clock.now ≤ w.beats / rate
+  pub far : w.far.clock.now ≤ w.beats / rate
 
 module _ (rate : ℕ) (some : 1 ≤ rate) where
-  on-time : (b : Beat) (w : Clocked) → AreOnTime rate (beat rate w b)
+  pub on-time : (b : Beat) (w : Clocked) → AreOnTime rate (beat rate w b)
   on-time b w =
       let moment = w.beats / rate in
       let n = happens port.pull (comes_to moment b.near_asks w.near) in
@@ -123,73 +121,97 @@ module _ (rate : ℕ) (some : 1 ≤ rate) where
       let more = (div-stays w.beats rate some).0 in
       record { near = subst (λ k. k ≤ (w.beats + 1) / rate) (sym x) more; far = subst (λ k. k ≤ (w.beats + 1) / rate) (sym y) more }
 
-  all-on-time : (bs : List Beat) (w : Clocked) → AreOnTime rate w → AreOnTime rate (after rate bs w)
+  pub all-on-time : (bs : List Beat) (w : Clocked) → AreOnTime rate w → AreOnTime rate (after rate bs w)
   all-on-time [] w h = h
   all-on-time (b ∷ bs) w h = all-on-time bs (beat rate w b) (on-time b w)
 
-  module _ (t : ℕ) where
-    late-beat : (b : Beat) (w : Clocked) → AreOnTime rate w → AreLate t w → AreLate t (beat rate w b)
-    late-beat b w on h =
+  module _ (r q : Rule) where
+    pub record AreKept (w : Clocked) : Type 0 where
+      pub near : Keeps r w.near
+      pub far : Keeps q w.far
+
+    pub kept-beat : (b : Beat) (w : Clocked) → AreOnTime rate w → AreKept w → AreKept (beat rate w b)
+    kept-beat b w on h =
         let moment = w.beats / rate in
-        let n = late-event t port.pull (comes_to moment b.near_asks w.near) (late-comes t moment b.near_asks w.near on.near h.near) in
-        let f = late-event t port.pull (comes_to moment b.far_asks w.far) (late-comes t moment b.far_asks w.far on.far h.far) in
-        let x = late-hears t b.near_noise (happens port.pull (comes_to moment b.far_asks w.far)).at.way (happens port.pull (comes_to moment b.near_asks w.near)) n in
-        let y = late-hears t b.far_noise (happens port.pull (comes_to moment b.near_asks w.near)).at.way (happens port.pull (comes_to moment b.far_asks w.far)) f in
-        record { near = record { running = x.running; lengths = x.lengths }; far = record { running = y.running; lengths = y.lengths } }
+        let n = happens port.pull (comes_to moment b.near_asks w.near) in
+        let f = happens port.pull (comes_to moment b.far_asks w.far) in
+        let x = keeps-hears r b.near_noise f.at.way n (keeps-event r port.pull (comes_to moment b.near_asks w.near) (keeps-comes r moment b.near_asks w.near on.near h.near)) in
+        let y = keeps-hears q b.far_noise n.at.way f (keeps-event q port.pull (comes_to moment b.far_asks w.far) (keeps-comes q moment b.far_asks w.far on.far h.far)) in
+        record { near = record { running = x.running; lengths = x.lengths; since = x.since }; far = record { running = y.running; lengths = y.lengths; since = y.since } }
 
-    -- So none is due before.
-    pub early : (n : ℕ) → n < t * rate → n / rate < t
-    early n low = grind (arith, div-lt_iff_lt-mul)
+    pub all-kept : (bs : List Beat) (w : Clocked) → AreOnTime rate w → AreKept w → AreKept (after rate bs w)
+    all-kept [] w on h = h
+    all-kept (b ∷ bs) w on h = all-kept bs (beat rate w b) (on-time b w) (kept-beat b w on h)
 
-    not-now : (now moment : ℕ) → now < moment → nat_le moment now ≡ false
-    not-now now moment later = grind (arith, le-ltb)
+-- So it holds of the first that is due.
+pub first-keeps : (r : Rule) (moment : ℕ) (rs : List Request) (s : TimedEndpoint) → s.clock.now ≤ moment → Keeps r s → (x : Expiry) → due (asked moment rs s).clock ≡ Some x → r.holds moment x.timer x.moment
+first-keeps r moment rs s later h x is =
+    let a = fold asks (at_time moment s) rs in
+    let k = keeps-asks r rs (at_time moment s) (keeps-time r moment s later h) in
+    subst (λ n. r.holds n x.timer x.moment) (now-asked rs (at_time moment s)) (first-of (HoldsAt r a.clock.now) a.clock.running a.clock.now x k.running is)
 
-    none-due : (xs : List Expiry) (now : ℕ) → now < t → AllByRecursion (λ x. t ≤ x.moment) xs → first_due xs now ≡ None
-    none-due [] now low all = refl
-    none-due (x ∷ xs) now low all = let one = all.0 in ap (λ b. cond b (Some x) None) (not-now now x.moment (omega (arith, low, one)))
+the-same : (e x : Expiry) → Some e ≡ Some x → e ≡ x
+the-same e x is = cc is
 
-    undue : (moment : ℕ) (rs : List Request) (s : TimedEndpoint) → moment < t → s.clock.now ≤ moment → IsLate t s → IsUndue moment rs s
-    undue moment rs s low later h =
-        let a = fold asks (at_time moment s) rs in
-        none-due a.clock.running a.clock.now (subst (λ n. n < t) (sym (now-asked rs (at_time moment s))) low) (late-asks t rs (at_time moment s) (late-time t moment s later h)).running
+is-due : (n m : ℕ) → nat_le n m ≡ true → n ≤ m
+is-due n m is = grind arith
 
-    all-undue : (bs : List Beat) (w : Clocked) → AreOnTime rate w → AreLate t w → w.beats + length bs ≤ t * rate → NoneFallsDue rate bs w
+due-soon : (xs : List Expiry) (now : ℕ) (x : Expiry) → first_due xs now ≡ Some x → x.moment ≤ now
+due-soon [] now x is = cc is
+due-soon (e ∷ es) now x is = go (nat_le e.moment now) refl is
+  where
+    go : (b : Bool) → nat_le e.moment now ≡ b → cond b (Some e) None ≡ Some x → x.moment ≤ now
+    go true low is = subst (λ (y : Expiry). y.moment ≤ now) (the-same e x is) (is-due e.moment now low)
+    go false low is = cc is
+
+pub early : (rate : ℕ) → 1 ≤ rate → (t n : ℕ) → n < t * rate → n / rate < t
+early rate some t n low = grind (arith, div-lt_iff_lt-mul)
+
+-- None falls due before a moment, if each timer that is started runs until then at least.
+abbrev Until : ℕ → Lengths → Type 0
+Until t ls = (timer : Timer) → t ≤ duration ls timer
+
+abbrev until : (t : ℕ) (ls : Lengths) → Until t ls → Rule
+until t ls long = record { lengths = ls; from = 0; holds = λ now timer m. t ≤ m; starts = λ now timer since. let some = long timer in omega (arith, some); stays = λ now later timer m more h. h }
+
+module _ (rate : ℕ) (some : 1 ≤ rate) (t : ℕ) where
+  undue : (ls : Lengths) (long : Until t ls) (moment : ℕ) (rs : List Request) (s : TimedEndpoint) → moment < t → s.clock.now ≤ moment → Keeps (until t ls long) s → IsUndue moment rs s
+  undue ls long moment rs s low later h = go (due (asked moment rs s).clock) refl
+    where
+      go : (o : Option Expiry) → due (asked moment rs s).clock ≡ o → due (asked moment rs s).clock ≡ None
+      go None is = is
+      go (Some x) is =
+          let high : t ≤ x.moment = first-keeps (until t ls long) moment rs s later h x is in
+          let soon = due-soon (asked moment rs s).clock.running (asked moment rs s).clock.now x is in
+          let now = now-asked rs (at_time moment s) in absurd (omega (arith, low, high, soon, now))
+
+  module _ (ls ls_far : Lengths) (long : Until t ls) (long_far : Until t ls_far) where
+    all-undue : (bs : List Beat) (w : Clocked) → AreOnTime rate w → AreKept rate some (until t ls long) (until t ls_far long_far) w → w.beats + length bs ≤ t * rate → NoneFallsDue rate bs w
     unfolding NoneFallsDue
     all-undue [] w on h few = tt
     all-undue (b ∷ bs) w on h few =
-        let before : w.beats / rate < t = early w.beats (omega (arith, few)) in (
-          undue (w.beats / rate) b.near_asks w.near before on.near h.near,
-          undue (w.beats / rate) b.far_asks w.far before on.far h.far,
-          all-undue bs (beat rate w b) (on-time b w) (late-beat b w on h) (omega (arith, few)),
+        let before : w.beats / rate < t = early rate some t w.beats (omega (arith, few)) in (
+          undue ls long (w.beats / rate) b.near_asks w.near before on.near h.near,
+          undue ls_far long_far (w.beats / rate) b.far_asks w.far before on.far h.far,
+          all-undue bs (beat rate w b) (on-time rate some b w) (kept-beat rate some (until t ls long) (until t ls_far long_far) b w on h) (omega (arith, few)),
         )
 
 -- ---- as the circuit begins
 
-begins-on-time : (l : Line) → AreOnTime l.rate (begins l)
+pub begins-on-time : (l : Line) → AreOnTime l.rate (begins l)
 begins-on-time l =
     let n = now-stays l.near_line (first l.near l.near_line l.lengths l.way).clock (orders_in (answered (port.request (Assign l.tei)) (first l.near l.near_line l.lengths l.way).at)) in
     let f = now-stays l.far_line (first l.far l.far_line l.far_lengths l.way).clock (orders_in (answered (port.request (Assign l.tei)) (first l.far l.far_line l.far_lengths l.way).at)) in
     record { near = subst (λ k. k ≤ 0 / l.rate) (sym n) (omega arith); far = subst (λ k. k ≤ 0 / l.rate) (sym f) (omega arith) }
 
--- In the first milliseconds none falls due.
-pub none-at-first : (l : Line) (bs : List Beat) (t : ℕ) → 1 ≤ l.rate → ((timer : Timer) → t ≤ duration l.lengths timer) → ((timer : Timer) → t ≤ duration l.far_lengths timer) → length bs ≤ t * l.rate → NoneFallsDue l.rate bs (begins l)
-none-at-first l bs t some near far few =
-    let n = late-event t (port.request (Assign l.tei)) (first l.near l.near_line l.lengths l.way) (record { running = tt; lengths = the l.lengths near }) in
-    let f = late-event t (port.request (Assign l.tei)) (first l.far l.far_line l.far_lengths l.way) (record { running = tt; lengths = the l.far_lengths far }) in
-    all-undue l.rate some t bs (begins l) (begins-on-time l) (record { near = n; far = f }) (omega (arith, few))
-  where
-    the : (ls : Lengths) → ((timer : Timer) → t ≤ duration ls timer) → RunsUntil t 0 ls
-    the ls h =
-        let a = h (T200 Call 0) in let b = h (T203 Call 0) in let c = h T201 in let d = h T202 in
-        record { t200 = omega (arith, a); t203 = omega (arith, b); t201 = omega (arith, c); t202 = omega (arith, d) }
+-- What holds of each timer that is started holds from the start on.
+pub begins-kept : (l : Line) (some : 1 ≤ l.rate) (r q : Rule) → r.lengths ≡ l.lengths → q.lengths ≡ l.far_lengths → r.from ≡ 0 → q.from ≡ 0 → AreKept l.rate some r q (begins l)
+begins-kept l some r q here there none none_far = record {
+  near = keeps-event r (port.request (Assign l.tei)) (first l.near l.near_line l.lengths l.way) (record { running = tt; lengths = sym here; since = omega (arith, none) });
+  far = keeps-event q (port.request (Assign l.tei)) (first l.far l.far_line l.far_lengths l.way) (record { running = tt; lengths = sym there; since = omega (arith, none_far) });
+}
 
-pub none-falls-due-before : NoneFallsDueBefore
-none-falls-due-before l before bs t some near far few =
-    all-undue l.rate some t bs (after l.rate before (begins l)) (all-on-time l.rate some before (begins l) (begins-on-time l))
-    (record { near = late near; far = late far }) few
-  where
-    late : {s : TimedEndpoint} → FallsDueFrom t s → IsLate t s
-    late {s} h = record {
-      running = recursion_from_All (λ x. t ≤ x.moment) s.clock.running h.running;
-      lengths = record { t200 = h.t200; t203 = h.t203; t201 = h.t201; t202 = h.t202 };
-    }
+-- In the first milliseconds none falls due.
+pub none-at-first : (l : Line) (bs : List Beat) (t : ℕ) → 1 ≤ l.rate → Until t l.lengths → Until t l.far_lengths → length bs ≤ t * l.rate → NoneFallsDue l.rate bs (begins l)
+none-at-first l bs t some near far few =
+    all-undue l.rate some t l.lengths l.far_lengths near far bs (begins l) (begins-on-time l) (begins-kept l some (until t l.lengths near) (until t l.far_lengths far) refl refl refl refl) (omega (arith, few))

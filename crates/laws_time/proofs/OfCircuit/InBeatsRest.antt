@@ -69,7 +69,7 @@ module _ (l : Line) (fit : Begins l) where
     abbrev v : Circuit
     v = k.v
 
-    follows : Follows l.near.n201 l.near l.far k.v [] []
+    pub follows : Follows l.near.n201 l.near l.far k.v [] []
     follows =
         let there = none-way (port_of v.near) (port_of r.near.at) (port_of v.far) (port_of r.far.at) k.there k.sim.near.same.port k.sim.far.same.port rest.near.received k.follows.goes.are in
         let back = none-way (port_of v.far) (port_of r.far.at) (port_of v.near) (port_of r.near.at) k.back k.sim.far.same.port k.sim.near.same.port rest.far.received k.follows.comes.are in
@@ -81,7 +81,7 @@ module _ (l : Line) (fit : Begins l) where
     abbrev g : Wire
     g = record { near = as_frames r.near; far = as_frames r.far }
 
-    same : as_wire [] [] k.v ≡ record { near = as_frames r.near; far = as_frames r.far }
+    pub same : as_wire [] [] k.v ≡ record { near = as_frames r.near; far = as_frames r.far }
     same =
         let n = station-same r.near.at v.near k.sim.near.same.alike in let m = station-same r.far.at v.far k.sim.far.same.alike in
         λ i. record { near = n i; far = m i }

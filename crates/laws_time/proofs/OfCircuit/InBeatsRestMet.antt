@@ -1,4 +1,4 @@
--- A worked link is at rest: so after 72 beats more all is told that is granted then. And its SABME comes in nine beats.
+-- A worked link is at rest, and T203 runs on: so after 72 beats more all is told that is granted then. And its SABME comes in nine beats.
 use Rattle.std.proofs.Common.{arith, ◌≡◌, ℕ, zero, suc, ◌+◌, ◌-◌, ◌*◌, ◌≤◌, ◌<◌, false, List, [], ◌∷◌, ◌++◌, length, map, replicate, Some, refl, sym, ap, ◌∙◌, subst, All}
 use Rattle.std.proofs.lemmas.List.Elements.{All-nil, All-cons}
 use Rattle.lapd_clock.specs.Timer.{T203, AreInRange}
@@ -29,15 +29,14 @@ use Rattle.laws_order.proofs.OfCircuit.Ran.{sound, config}
 use Rattle.laws_time.specs.circuit.Answered.{IsClean}
 use Rattle.laws_time.specs.circuit.Arriving.{calls}
 use Rattle.laws_time.specs.circuit.Clocked.{TimedEndpoint, Clocked, Beat, plain, beat, after, clean, fall_due}
-use Rattle.laws_time.specs.circuit.InBeats.{AreShort, HasReceived, AsksData, Begins, IsAtRest, IsToldSince, FallsDueFrom, granted_in, as_frames}
+use Rattle.laws_time.specs.circuit.InBeats.{AreShort, HasReceived, AsksData, Begins, IsAtRest, IsToldSince, IsCalmSince, RunsOn, granted_in, as_frames}
 use Rattle.laws_time.specs.circuit.LongEnough.{IsOfLink, IsTalk, begins}
-use Rattle.laws_time.specs.circuit.WorkedInBeats.{its_line, user, network, rested, near_clock, far_clock}
-use Rattle.laws_time.proofs.OfCircuit.InBeatsDue.{none-falls-due-before}
+use Rattle.laws_time.specs.circuit.WorkedInBeats.{its_line, user, network, rested, runs_until, near_clock, far_clock}
 use Rattle.laws_time.proofs.OfCircuit.InBeatsFrames.{frames-come-in-beats}
 use Rattle.laws_time.proofs.OfCircuit.InBeatsKept.{Kept, all-kept, first-kept}
 use Rattle.laws_time.proofs.OfCircuit.InBeatsMet.{can, sends, asks-one}
-use Rattle.laws_time.proofs.OfCircuit.InBeatsRest.{messages-take-beats}
 use Rattle.laws_time.proofs.OfCircuit.InBeatsRun.{plain-clean}
+use Rattle.laws_time.proofs.OfCircuit.Rested.{messages-come-in-time}
 
 in-range : AreInRange its_line.lengths
 in-range = record { t200 = omega arith; t203 = omega arith; t201 = omega arith; t202 = omega arith; t200_most = omega arith; t203_most = omega arith; t201_most = omega arith; t202_most = omega arith }
@@ -150,23 +149,34 @@ one-granted = refl
 abbrev its_t203 : ℕ → Expiry
 its_t203 moment = record { moment = moment; line = 0; timer = T203 Call 0 }
 
-later : (moment : ℕ) → 93 ≤ moment → (s : TimedEndpoint) → s.clock ≡ record { lengths = its_line.lengths; running = its_t203 moment ∷ []; now = 19 } → FallsDueFrom 93 s
-later moment long s is =
-    subst (λ (c : Clock). FallsDueFrom 93 (record s { clock = c })) (sym is)
-    (record {
-      running = All-cons (λ (x : Expiry). 93 ≤ x.moment) (its_t203 moment) [] long (All-nil (λ (x : Expiry). 93 ≤ x.moment));
-      t200 = omega arith;
-      t203 = omega arith;
-      t201 = omega arith;
-      t202 = omega arith;
-    })
+-- T203 of either end, which runs then, falls due later than 73 beats from there.
+late : (moment : ℕ) → 93 ≤ moment → (s : TimedEndpoint) → s.clock ≡ runs_until moment → All (λ (x : Expiry). rested.beats + 73 ≤ x.moment * 1) s.clock.running
+late moment long s is =
+    subst (λ (c : Clock). All (λ (x : Expiry). rested.beats + 73 ≤ x.moment * 1) c.running) (sym is)
+    (All-cons (λ (x : Expiry). rested.beats + 73 ≤ x.moment * 1) (its_t203 moment) [] (omega (arith, long)) (All-nil (λ (x : Expiry). rested.beats + 73 ≤ x.moment * 1)))
+
+calm : IsCalmSince its_line rings (replicate 19 plain) (sends ∷ [])
+calm =
+    let is : longest 8 ≡ 18 = refl in
+    record {
+      calm = record {
+        begins = fit;
+        data_alone = All-cons (AsksData its_line) sends [] asks-one (All-nil (AsksData its_line));
+        are_clean = All-cons IsClean sends [] (refl, refl) (All-nil IsClean);
+        t200 = (omega (arith, is), omega (arith, is));
+      };
+      talk = All-cons (IsTalk its_line) rings (replicate 19 plain) rings-talk (plain-talk 19);
+      clean_before = All-cons IsClean rings (replicate 19 plain) (refl, refl) (plain-clean 19);
+      rest = at-rest;
+    }
+
+runs-on : RunsOn its_line rings (replicate 19 plain) (sends ∷ []) 72
+runs-on = record { calm = calm; t203 = (late 10013 (omega arith) rested.near near_clock, late 10007 (omega arith) rested.far far_clock) }
 
 told-then : IsToldSince its_line rested (clean 1 72 (after 1 (sends ∷ []) rested))
 told-then =
-    messages-take-beats its_line rings (replicate 19 plain) (sends ∷ []) 72 fit (All-cons (IsTalk its_line) rings (replicate 19 plain) rings-talk (plain-talk 19))
-    (All-cons (AsksData its_line) sends [] asks-one (All-nil (AsksData its_line))) (All-cons IsClean rings (replicate 19 plain) (refl, refl) (plain-clean 19)) (All-cons IsClean sends [] (refl, refl) (All-nil IsClean)) at-rest
-    (none-falls-due-before its_line (rings ∷ replicate 19 plain) (sends ∷ replicate 72 plain) 93 (omega arith) (later 10013 (omega arith) rested.near near_clock) (later 10007 (omega arith) rested.far far_clock) (omega arith))
-    (subst (λ g. 2 * g * (longest 8 + (longest 8 + 0)) ≤ 72) (sym one-granted) (omega arith))
+    let law = messages-come-in-time its_line rings (replicate 19 plain) (sends ∷ []) 72 runs-on in
+    law.1 (subst (λ g. 2 * g * (longest 8 + (longest 8 + 0)) ≤ 72) (sym one-granted) (omega arith))
 
 -- ---- SABME comes
 

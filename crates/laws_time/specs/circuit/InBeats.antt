@@ -1,4 +1,4 @@
--- How many beats a call without noise takes, as long as no timer falls due in it.
+-- How many beats a call without noise takes, as long as no timer falls due in it; and with which timers none does.
 use Rattle.std.specs.Prelude.{◌≡◌, ◌≤◌, ◌<◌, ℕ, ◌+◌, ◌-◌, ◌*◌, ◌/◌, false, List, [], ◌∷◌, ◌++◌, length, map, replicate, drop, All, ◌⊎◌, None, Some}
 use Rattle.lapd_clock.specs.Timer.{AreInRange, T203}
 use Rattle.lapd_clock.specs.Timers.{Expiry}
@@ -116,21 +116,7 @@ FramesComeInBeats =
     longest m + l.way ≤ length bs → let w = after l.rate (b ∷ before) (begins l) in let u = after l.rate bs w in AreShort m w.near → AreShort m w.far →
     HasReceived l w.near u.far × HasReceived l w.far u.near
 
--- Nothing that runs at an end falls due before a moment, and each timer that is started there runs until then at least.
-pub record FallsDueFrom (t : ℕ) (s : TimedEndpoint) : Type 0 where
-  pub running : All (λ x. t ≤ x.moment) s.clock.running
-  pub t200 : t ≤ s.clock.now + s.clock.lengths.t200
-  pub t203 : t ≤ s.clock.now + s.clock.lengths.t203
-  pub t201 : t ≤ s.clock.now + s.clock.lengths.t201
-  pub t202 : t ≤ s.clock.now + s.clock.lengths.t202
-
--- Then none falls due in the beats before that moment, whatever is asked for and whatever noise there is.
-abbrev pub NoneFallsDueBefore : Type 0
-NoneFallsDueBefore =
-    (l : Line) (before bs : List Beat) (t : ℕ) → 1 ≤ l.rate → let w = after l.rate before (begins l) in FallsDueFrom t w.near → FallsDueFrom t w.far →
-    w.beats + length bs ≤ t * l.rate → NoneFallsDue l.rate bs w
-
--- A call without noise, in which layer 3 asks to send octets alone. T200 of each end runs for more than 3 L + 2 D octet times and a
+-- No noise, and layer 3 asks to send octets alone. T200 of each end runs for more than 3 L + 2 D octet times and a
 -- millisecond, as moments are whole.
 pub record IsCalm (l : Line) (bs : List Beat) : Type 0 where
   pub begins : Begins l
@@ -149,12 +135,37 @@ ACallComesInTime =
     (l : Line) (b : Beat) (bs : List Beat) (n : ℕ) → RunsThrough l b bs n → let w = after l.rate (calls l b ∷ bs) (begins l) in
     NoneFallsDue l.rate (calls l b ∷ bs ++ replicate n plain) (begins l) × (enough_beats l.near.n201 l.way false (granted_in w) ≤ n → IsToldAll l (clean l.rate n w))
 
--- What is the first that falls due at an end in a call: it does so in the beat behind these.
-pub record FallsDueFirst (l : Line) (b : Beat) (bs : List Beat) (c : Beat) (x : Expiry) : Type 0 where
-  pub before : NoneFallsDue l.rate (calls l b ∷ bs) (begins l)
-  pub now : let w = after l.rate (calls l b ∷ bs) (begins l) in let moment = w.beats / l.rate in
+-- What is the first that falls due at an end: it does so in the beat behind these.
+pub record FallsDueFirst (l : Line) (bs : List Beat) (from : Clocked) (c : Beat) (x : Expiry) : Type 0 where
+  pub before : NoneFallsDue l.rate bs from
+  pub now : let w = after l.rate bs from in let moment = w.beats / l.rate in
       (due (asked moment c.near_asks w.near).clock ≡ Some x) ⊎ (due (asked moment c.far_asks w.far).clock ≡ Some x)
 
 -- However long T203 runs, that is T203.
 abbrev pub T203FallsDueFirst : Type 0
-T203FallsDueFirst = (l : Line) (b c : Beat) (bs : List Beat) (x : Expiry) → IsCalm l (b ∷ bs ++ c ∷ []) → FallsDueFirst l b bs c x → x.timer ≡ T203 l.service l.tei
+T203FallsDueFirst = (l : Line) (b c : Beat) (bs : List Beat) (x : Expiry) → IsCalm l (b ∷ bs ++ c ∷ []) → FallsDueFirst l (calls l b ∷ bs) (begins l) c x → x.timer ≡ T203 l.service l.tei
+
+-- The same from a link at rest.
+pub record IsCalmSince (l : Line) (b : Beat) (before bs : List Beat) : Type 0 where
+  pub calm : IsCalm l bs
+  pub talk : All (IsTalk l) (b ∷ before)
+  pub clean_before : All IsClean (b ∷ before)
+  pub rest : IsAtRest l (after l.rate (b ∷ before) (begins l))
+
+-- T203 runs at each end then. No timer that runs falls due until so many octet times after the last request.
+pub record RunsOn (l : Line) (b : Beat) (before bs : List Beat) (n : ℕ) : Type 0 where
+  pub calm : IsCalmSince l b before bs
+  pub t203 : let r = after l.rate (b ∷ before) (begins l) in
+      All (λ x. r.beats + (length bs + n) ≤ x.moment * l.rate) r.near.clock.running × All (λ x. r.beats + (length bs + n) ≤ x.moment * l.rate) r.far.clock.running
+
+abbrev pub MessagesComeInTime : Type 0
+MessagesComeInTime =
+    (l : Line) (b : Beat) (before bs : List Beat) (n : ℕ) → RunsOn l b before bs n → let r = after l.rate (b ∷ before) (begins l) in
+    let w = after l.rate bs r in let longest_frame = longest l.near.n201 in
+    NoneFallsDue l.rate (bs ++ replicate n plain) r
+    × (2 * (granted_in w - granted_in r) * (longest_frame + (longest_frame + l.way)) ≤ n → IsToldSince l r (clean l.rate n w))
+
+abbrev pub T203FallsDueFirstSince : Type 0
+T203FallsDueFirstSince =
+    (l : Line) (b c : Beat) (before bs : List Beat) (x : Expiry) → IsCalmSince l b before (bs ++ c ∷ []) → let r = after l.rate (b ∷ before) (begins l) in
+    FallsDueFirst l bs r c x → x.timer ≡ T203 l.service l.tei

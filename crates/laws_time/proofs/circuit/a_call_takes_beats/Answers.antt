@@ -1,14 +1,10 @@
 -- Hand-written answers for `a_call_takes_beats`.
 use Rattle.laws_time.proofs.OfCircuit.InBeats.{a-call-takes-beats, a-short-call-takes-beats}
-use Rattle.laws_time.proofs.OfCircuit.InBeatsDue.{none-falls-due-before}
 use Rattle.laws_time.proofs.OfCircuit.InBeatsRest.{messages-take-beats, short-messages-take-beats}
 use Rattle.laws_time.proofs.circuit.a_call_takes_beats.Goals as goal
 
 pub returns-clause-told : goal.returns-clause-told
 returns-clause-told c = a-call-takes-beats
-
-pub returns-clause-undue : goal.returns-clause-undue
-returns-clause-undue c = none-falls-due-before
 
 pub returns-clause-since : goal.returns-clause-since
 returns-clause-since c = messages-take-beats

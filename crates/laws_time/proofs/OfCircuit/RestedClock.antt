@@ -1,0 +1,150 @@
+-- At an end of a link at rest T203 runs, and T200 does not.
+use Rattle.std.proofs.Common.{arith, ◌≡◌, ℕ, ◌+◌, ◌*◌, ◌<◌, ◌≤◌, ◌==◌, ◌||◌, not, Bool, true, false, cond, List, [], ◌∷◌, Option, Some, None, is_some, refl, sym, ap, ◌∙◌, subst, All, eq-eqb}
+use Rattle.std.specs.List.{AllByRecursion}
+use Rattle.std.specs.Option.{option_map_or}
+use Rattle.std.proofs.lemmas.Bool.{true≢false, and_parts}
+use Rattle.std.proofs.lemmas.List.Elements.{All-head, All-tail}
+use Rattle.std.proofs.lemmas.Nat.{mul-le}
+use Rattle.lapd_clock.specs.Moments.{moment_of}
+use Rattle.lapd_clock.specs.Timer.{Lengths, duration, is_same}
+use Rattle.lapd_clock.specs.Timers.{Expiry, is_held, is_of}
+use Rattle.lapd_frame.specs.declared.services.Service.{Service}
+use Rattle.lapd_frame.specs.declared.timers.Timer.{Timer}
+use Rattle.lapd_frame.specs.declared.timers.Timer.TheVariants as timers
+use Rattle.model_link.specs.declared.states.State.TheVariants.{Established}
+use Rattle.model_link.specs.declared.timers.LinkTimer.{LinkTimer}
+use Rattle.model_link.specs.declared.timers.LinkTimer.TheVariants.{T200, T203}
+use Rattle.model_link.specs.Link.{Link, fresh}
+use Rattle.model_link.specs.Told.{runs}
+use Rattle.model_line.specs.Expiry.{is_running, runs_at}
+use Rattle.model_line.specs.Line.{Line, link_in, link_number, link_of, place_in}
+use Rattle.model_line.specs.Sound.{IsInRange}
+use Rattle.model_line.specs.declared.config.Config.{Config}
+use Rattle.model_card.specs.Card as cards
+use Rattle.model_card.specs.Card.{line_at}
+use Rattle.model_card.specs.Run as frame_runs
+use Rattle.model_card.specs.ports.Card.{OctetCard, fresh as fresh_card}
+use Rattle.model_card.specs.ports.Run.{meant_all}
+use Rattle.model_card.proofs.OfPorts.Codec.{refined_card, meant_at_lines}
+use Rattle.model_timed.specs.Octets.{TimedOctetCard}
+use Rattle.model_timed.specs.RunTheSame.{RunAs, as_they_are}
+use Rattle.model_timed.proofs.Orders.{held-is}
+use Rattle.model_timed.proofs.RunTheSame.{octet_timers_run_the_same}
+use Rattle.laws_link.specs.two.Needed.{HasItsTimer, needed_in}
+use Rattle.laws_line.specs.card.Timers.{AllHaveTheirTimers}
+use Rattle.laws_trace.proofs.TimersAreTimely.{timely-now}
+use Rattle.laws_order.proofs.OfCircuit.Ran.{Ran, config}
+use Rattle.laws_time.specs.circuit.Clocked.{TimedEndpoint}
+use Rattle.laws_time.specs.circuit.Ends.{IsTimedCard}
+use Rattle.laws_time.proofs.Moments.{same}
+use Rattle.laws_time.proofs.OfCircuit.InBeatsDue.{Rule}
+
+none-some : (o : Option ℕ) → is_some o ≡ false → o ≡ None
+none-some None is = refl
+none-some (Some m) is = absurd (true≢false is)
+
+some-some : (o : Option ℕ) → is_some o ≡ true → (m : ℕ) × (o ≡ Some m)
+some-some None is = absurd (true≢false (sym is))
+some-some (Some m) is = (m, refl)
+
+module _ (c : Config) (ranged : IsInRange c) (service : Service) (tei : ℕ) (ls : Lengths) (a : TimedEndpoint) (ran : Ran c a.at) (timed : IsTimedCard c ls a) (on : place_in (line_at a.at.line a.at.card.card) tei ≡ Some 0) where
+  abbrev line : Line
+  line = line_at a.at.line a.at.card.card
+
+  abbrev its : Link
+  its = link_of service tei (line_at a.at.line a.at.card.card)
+
+  abbrev running : List Expiry
+  running = a.clock.running
+
+  within : a.at.line < a.at.card.card.config.lines
+  within = subst (λ (k : Config). a.at.line < k.lines) (sym (config c ranged a.at ran)) ran.within
+
+  link-is : link_in (line_at a.at.line a.at.card.card) service 0 ≡ link_of service tei (line_at a.at.line a.at.card.card)
+  link-is = sym (ap (λ o. option_map_or (link_in line service) o fresh) on)
+
+  here-is : frame_runs.after_all (cards.fresh c) (meant_all (fresh_card c) ran.events) ≡ a.at.card.card
+  here-is = sym (ap (λ (m : OctetCard). m.card) ran.is ∙ refined_card (fresh_card c) ran.events)
+
+  -- The link runs the timer that it needs, and so does the clock.
+  has-timer : HasItsTimer (link_of service tei (line_at a.at.line a.at.card.card))
+  has-timer =
+      let all = meant_at_lines (fresh_card c) ran.events ran.at_lines in
+      let timely = subst AllHaveTheirTimers here-is (timely-now c (meant_all (fresh_card c) ran.events) a.at.line ranged all ran.within service tei) in
+      subst HasItsTimer link-is ((timely.lines a.at.line within).links (link_number 0 service))
+
+  run-as : (timer : Timer) → is_held a.at.line timer a.clock.running ≡ is_running timer (line_at a.at.line a.at.card.card)
+  run-as timer =
+      let all = subst (λ (t : TimedOctetCard). RunAs as_they_are t.card.card t.clock) timed.2 (octet_timers_run_the_same c ls 0 timed.0 ranged timed.1) in all a.at.line timer within
+
+  runs-t200 : is_some (moment_of a.at.line (timers.T200 service tei) a.clock.running) ≡ runs T200 (link_of service tei (line_at a.at.line a.at.card.card)).running
+  runs-t200 =
+      sym (held-is a.at.line (timers.T200 service tei) running) ∙ run-as (timers.T200 service tei) ∙ ap (λ o. runs_at service T200 o line) on ∙ ap (λ (x : Link). runs T200 x.running) link-is
+
+  runs-t203 : is_some (moment_of a.at.line (timers.T203 service tei) a.clock.running) ≡ runs T203 (link_of service tei (line_at a.at.line a.at.card.card)).running
+  runs-t203 =
+      sym (held-is a.at.line (timers.T203 service tei) running) ∙ run-as (timers.T203 service tei) ∙ ap (λ o. runs_at service T203 o line) on ∙ ap (λ (x : Link). runs T203 x.running) link-is
+
+  module _ (up : its.state ≡ Established) (free : its.peer_busy ≡ false) (acked : its.s ≡ its.a) where
+    needs : its.running ≡ Some T203
+    needs =
+        let same_number = eq-eqb its.s its.a acked in
+        has-timer.running ∙ ap (λ state. needed_in state its) up ∙ (λ i. cond (not (same_number i) || free i) (Some T200) (Some T203))
+
+    pub t200-none : moment_of a.at.line (timers.T200 service tei) a.clock.running ≡ None
+    t200-none = none-some (moment_of a.at.line (timers.T200 service tei) running) (runs-t200 ∙ ap (runs T200) needs)
+
+    pub t203-some : (m : ℕ) × (moment_of a.at.line (timers.T203 service tei) a.clock.running ≡ Some m)
+    t203-some = some-some (moment_of a.at.line (timers.T203 service tei) running) (runs-t203 ∙ ap (runs T203) needs)
+
+-- What holds of all that runs holds of the moment of a timer.
+moment-keeps : (P : Timer → ℕ → Type 0) (number : ℕ) (its : Timer) (es : List Expiry) (m : ℕ) → AllByRecursion (λ x. P x.timer x.moment) es → moment_of number its es ≡ Some m → P its m
+moment-keeps P number its [] m all is = absurd (cc is)
+moment-keeps P number its (e ∷ es) m all is = go (moment-keeps P number its es m all.1) (is_of number its e) refl is
+  where
+    number-is : Some e.moment ≡ Some m → e.moment ≡ m
+    number-is is = cc is
+
+    go : (moment_of number its es ≡ Some m → P its m) → (b : Bool) → is_of number its e ≡ b → cond b (Some e.moment) (moment_of number its es) ≡ Some m → P its m
+    go rest true own is =
+        let timer = same e.timer its (and_parts (e.line == number) (is_same e.timer its) own).1 in subst (λ n. P its n) (number-is is) (subst (λ t. P t e.moment) timer all.0)
+    go rest false other is = rest is
+
+-- Each timer falls due within its time.
+abbrev pub recent : Lengths → Rule
+recent ls = record { lengths = ls; from = 0; holds = λ now timer m. m ≤ now + duration ls timer; starts = λ now timer since. omega arith; stays = λ now later timer m more h. omega (arith, more, h) }
+
+-- T203 falls due so late, of whichever link.
+abbrev pub Late : ℕ → ℕ → Timer → ℕ → Type 0
+Late limit rate (timers.T200 of by) m = Unit {0}
+Late limit rate (timers.T203 of by) m = limit ≤ m * rate
+Late limit rate timers.T201 m = Unit {0}
+Late limit rate timers.T202 m = Unit {0}
+
+as-late : (limit rate : ℕ) (timer : Timer) (m : ℕ) → limit ≤ m * rate → Late limit rate timer m
+as-late limit rate (timers.T200 of by) m late = tt
+as-late limit rate (timers.T203 of by) m late = late
+as-late limit rate timers.T201 m late = tt
+as-late limit rate timers.T202 m late = tt
+
+pub all-late : (limit rate : ℕ) (xs : List Expiry) → All (λ (x : Expiry). limit ≤ x.moment * rate) xs → AllByRecursion (λ x. Late limit rate x.timer x.moment) xs
+all-late limit rate [] all = tt
+all-late limit rate (x ∷ xs) all =
+    (as-late limit rate x.timer x.moment (All-head (λ (x : Expiry). limit ≤ x.moment * rate) x xs all), all-late limit rate xs (All-tail (λ (x : Expiry). limit ≤ x.moment * rate) x xs all))
+
+pub late-starts : (limit rate from now : ℕ) (ls : Lengths) (timer : Timer) → limit ≤ (from + ls.t203) * rate → from ≤ now → Late limit rate timer (now + duration ls timer)
+late-starts limit rate from now ls (timers.T200 of by) enough since = tt
+late-starts limit rate from now ls (timers.T203 of by) enough since = let more = mul-le (from + ls.t203) rate (now + ls.t203) rate (omega (arith, since)) (omega arith) in omega (arith, enough, more)
+late-starts limit rate from now ls timers.T201 enough since = tt
+late-starts limit rate from now ls timers.T202 enough since = tt
+
+abbrev pub lasts : (limit rate from : ℕ) (ls : Lengths) → limit ≤ (from + ls.t203) * rate → Rule
+lasts limit rate from ls enough = record { lengths = ls; from = from; holds = λ now timer m. Late limit rate timer m; starts = λ now timer since. late-starts limit rate from now ls timer enough since; stays = λ now later timer m more h. h }
+
+-- If T203 that runs falls due so late, so does each that is started later.
+pub enough-since : (limit rate number now : ℕ) (its : Timer) (ls : Lengths) (xs : List Expiry) (m : ℕ) → moment_of number its xs ≡ Some m → duration ls its ≡ ls.t203 → AllByRecursion (λ x. x.moment ≤ now + duration ls x.timer) xs
+    → AllByRecursion (λ x. limit ≤ x.moment * rate) xs → limit ≤ (now + ls.t203) * rate
+enough-since limit rate number now its ls xs m is its_length soon late =
+    let high = moment-keeps (λ timer m. m ≤ now + duration ls timer) number its xs m soon is in
+    let low = moment-keeps (λ timer m. limit ≤ m * rate) number its xs m late is in
+    let more = mul-le m rate (now + ls.t203) rate (omega (arith, high, its_length)) (omega arith) in omega (arith, low, more)

@@ -1,0 +1,212 @@
+-- Beats without noise, in which anything of the link is asked for and timers fall due: at either end the link alone speaks, and its timers
+-- alone run.
+use Rattle.std.proofs.Common.{◌≡◌, ℕ, zero, suc, ◌/◌, ◌<◌, true, List, [], ◌∷◌, ◌++◌, length, Option, Some, None, refl, sym, ap, ◌∙◌, subst, All, append_assoc}
+use Rattle.std.specs.List.{AllByRecursion}
+use Rattle.std.specs.Option.{option_map_or, unwrap_or}
+use Rattle.std.specs.Prelude.{fold, option_to_list}
+use Rattle.std.proofs.lemmas.List.Elements.{All-head, All-tail}
+use Rattle.lapd_clock.specs.Timers.{Expiry}
+use Rattle.lapd_frame.specs.declared.services.Service.{Service}
+use Rattle.lapd_frame.specs.declared.timers.Timer.{Timer}
+use Rattle.lapd_frame.specs.Senders.{spelling}
+use Rattle.model_bits.specs.Stream as stream
+use Rattle.model_bits.specs.Stream.{heard_in}
+use Rattle.model_line.specs.Request.{Request}
+use Rattle.model_line.specs.Sound.{IsInRange}
+use Rattle.model_line.specs.Taken.{own_side}
+use Rattle.model_line.specs.declared.config.Config.{Config}
+use Rattle.model_card.specs.ports.Codec.{frames_among}
+use Rattle.model_card.specs.ports.Port as port
+use Rattle.model_card.specs.ports.Port.{Port, gained}
+use Rattle.model_card.proofs.OfPorts.Gains.{heard_with}
+use Rattle.model_timed.specs.Clock.{due, without_first}
+use Rattle.model_timed.specs.Octets.{orders_in as octet_orders}
+use Rattle.laws_trace.specs.TimersAreTimely.{is_timer_of}
+use Rattle.laws_wire.proofs.Run.{faces, faces-back}
+use Rattle.laws_wire.proofs.Talking.{Face}
+use Rattle.laws_order.specs.circuit.Circuit as circuit
+use Rattle.laws_order.specs.circuit.Circuit.{Endpoint, port_of, answered}
+use Rattle.laws_order.proofs.OfCircuit.OneWay.{framed}
+use Rattle.laws_order.proofs.OfCircuit.Projected.{port-after}
+use Rattle.laws_order.proofs.OfCircuit.Ran.{within-ports}
+use Rattle.laws_time.specs.circuit.Answered.{IsClean}
+use Rattle.laws_time.specs.circuit.Clocked.{TimedEndpoint, Clocked, Beat, happens, asks, falls, comes_to, gone, hears, beat, after, without_first_octet}
+unfoldable use Rattle.laws_time.specs.circuit.Clocked.{fall_due}
+use Rattle.laws_time.specs.circuit.InBeats.{Begins}
+use Rattle.laws_time.specs.circuit.LongEnough.{Line, IsOfLink, IsTalk, begins}
+use Rattle.laws_time.proofs.OfCircuit.AckedOurs.{of-link, of-timer, link-ours, expired-ours, pull-ours, octet-ours, IsTheirs}
+use Rattle.laws_time.proofs.OfCircuit.Began.{end-begins}
+use Rattle.laws_time.proofs.OfCircuit.Ends.{at_time, rest-of, first-of}
+use Rattle.laws_time.proofs.OfCircuit.InBeatsAs.{Twin, frames-plus}
+use Rattle.laws_time.proofs.OfCircuit.InBeatsKept.{Kept, one-kept, first-kept}
+use Rattle.laws_time.proofs.OfCircuit.Orders.{AreOurs, RunsOurs, ours-obeyed}
+use Rattle.laws_time.proofs.OfCircuit.Prompt.{all-obeyed}
+use Rattle.laws_time.proofs.OfCircuit.Standing.{Ends, IsOwn, bare, ends-asked, ends-expired, heard-none, heard-frame, pulls}
+
+-- What is heard in a stream of frames is one of them.
+one-framed : (P : List ℕ → Type 0) (fs : List (List ℕ)) (xs ys : List stream.Event) (e : stream.Event) → framed fs ≡ xs ++ e ∷ ys → All P fs → (o : List ℕ) × (e ≡ stream.frame o) × P o
+one-framed P [] [] ys e is all = absurd (cc is)
+one-framed P [] (x ∷ xs) ys e is all = absurd (cc is)
+one-framed P (f ∷ fs) [] ys e is all = (f, sym (cc is), All-head P f fs all)
+one-framed P (f ∷ fs) (x ∷ xs) ys e is all = one-framed P fs xs ys e (cc is) (All-tail P f fs all)
+
+module _ (service : Service) (tei : ℕ) (c d : Config) (ranged : IsInRange c) (ranged_far : IsInRange d) (face : Face c d) where
+  abbrev IsHere : ℕ → Expiry → Type 0
+  IsHere number x = x.line ≡ number
+
+  pub record Own (a : TimedEndpoint) : Type 0 where
+    pub ends : Ends c service tei 0 ranged a.at
+    pub here : AllByRecursion (IsHere a.at.line) a.clock.running
+    pub ours : AllByRecursion (RunsOurs service tei) a.clock.running
+
+  own-event : (e : port.Event) (a : TimedEndpoint) → Own a → Ends c service tei 0 ranged (circuit.happens e a.at) → AreOurs service tei (octet_orders (answered e a.at)) → Own (happens e a)
+  own-event e a h ends orders = record {
+    ends = ends;
+    here = all-obeyed (IsHere a.at.line) a.at.line a.clock (octet_orders (answered e a.at)) (λ timer. refl) h.here;
+    ours = ours-obeyed service tei a.at.line a.clock (octet_orders (answered e a.at)) orders h.ours;
+  }
+
+  -- Layer 3 asks, and timers fall due.
+  own-asks : (rs : List Request) → All (IsOfLink service tei) rs → (a : TimedEndpoint) → Own a → Own (fold asks a rs)
+  own-asks [] all a h = h
+  own-asks (r ∷ rs) all a h =
+      let is = All-head (IsOfLink service tei) r rs all in
+      let x = of-link service tei r is in
+      own-asks rs (All-tail (IsOfLink service tei) r rs all) (asks a r)
+      (own-event (port.request r) a h (ends-asked c service tei 0 ranged a.at h.ends r x.0 x.1 x.2).ends (link-ours service tei c d face a.at [] 0 (bare c service tei 0 ranged h.ends.its) h.ends.stands r is))
+
+  own-expires : (timer : Timer) → is_timer_of service tei timer ≡ true → (a : TimedEndpoint) → Own a → Own (happens (port.expiry timer) a)
+  own-expires timer is a h =
+      let x = of-timer service tei timer is in
+      own-event (port.expiry timer) a h (ends-expired c service tei 0 ranged a.at h.ends timer x.0 x.1).ends (expired-ours service tei c d face a.at [] 0 (bare c service tei 0 ranged h.ends.its) h.ends.stands timer is)
+
+  own-fell : (a : TimedEndpoint) (o : Option Expiry) → due a.clock ≡ o → Own a → Own (option_map_or (falls a) o a)
+  own-fell a None is h = h
+  own-fell a (Some x) is h =
+      own-expires x.timer (first-of (RunsOurs service tei) a.clock.running a.clock.now x h.ours is) (record a { clock = without_first a.clock })
+      (record { ends = h.ends; here = rest-of (IsHere a.at.line) a.clock.running h.here; ours = rest-of (RunsOurs service tei) a.clock.running h.ours })
+
+  own-falls : (k : ℕ) (a : TimedEndpoint) → Own a → Own (fall_due k a)
+  unfolding fall_due
+  own-falls zero a h = h
+  own-falls (suc k) a h = own-falls k (option_map_or (falls a) (due a.clock) a) (own-fell a (due a.clock) refl h)
+
+  -- An octet is pulled.
+  pub own-gone : (moment : ℕ) (rs : List Request) → All (IsOfLink service tei) rs → (a : TimedEndpoint) → Own a → Own (happens port.pull (comes_to moment rs a))
+  own-gone moment rs all a h =
+      let b = fold asks (at_time moment a) rs in
+      let u = comes_to moment rs a in
+      let k = own-falls (length b.clock.running) b (own-asks rs all (at_time moment a) (record { ends = h.ends; here = h.here; ours = h.ours })) in
+      own-event port.pull u k (pulls c service tei 0 ranged u.at k.ends).ends (pull-ours service tei c d face u.at [] 0 (bare c service tei 0 ranged k.ends.its) k.ends.stands)
+
+  -- An octet is heard: if it ends a frame, that is one that the other end has put.
+  module _ (a : TimedEndpoint) (h : Own a) (value : ℕ) (fs : List (List ℕ)) (rest : List stream.Event) (all : All (IsOwn d service tei 0 ranged_far) fs)
+      (are : framed fs ≡ heard_in c.n201 ((port_of a.at).received ++ value ∷ []) ++ rest) where
+    abbrev Theirs : stream.Event → Type 0
+    Theirs e = IsTheirs service tei c d face a.at [] 0 (bare c service tei 0 ranged h.ends.its) h.ends.stands e
+
+    theirs : (e : stream.Event) → gained a.at.card.card.config.n201 (port_of a.at).received value ≡ Some e → Theirs e
+    theirs e is =
+        let heard = heard_in c.n201 (port_of a.at).received in
+        let here = sym (ap (λ (k : Config). gained k.n201 (port_of a.at).received value) h.ends.stands.config) ∙ is in
+        let x = one-framed (IsOwn d service tei 0 ranged_far) fs heard rest e
+        (are ∙ ap (λ es. es ++ rest) (heard_with c.n201 (port_of a.at).received value ∙ ap (λ o. heard ++ option_to_list o) here) ∙ append_assoc heard (e ∷ []) rest) all in
+        (x.2.0, x.1 ∙ ap (λ o. stream.frame o) x.2.1, x.2.2)
+
+    ends-heard : Ends c service tei 0 ranged (circuit.happens (port.octet value) a.at)
+    ends-heard = go (gained a.at.card.card.config.n201 (port_of a.at).received value) refl
+      where
+        go : (o : Option stream.Event) → gained a.at.card.card.config.n201 (port_of a.at).received value ≡ o → Ends c service tei 0 ranged (circuit.happens (port.octet value) a.at)
+        go None is = (heard-none c service tei 0 ranged a.at h.ends value is).ends
+        go (Some e) is =
+            let x = theirs e is in
+            (heard-frame c service tei 0 ranged a.at h.ends value d (spelling (own_side d) x.0) x.0 refl x.2 face.side (sym face.n201) (is ∙ ap Some x.1)).ends
+
+    own-octet : Own (happens (port.octet value) a)
+    own-octet = own-event (port.octet value) a h ends-heard (octet-ours service tei c d face a.at [] 0 (bare c service tei 0 ranged h.ends.its) h.ends.stands value theirs)
+
+  pub own-hears : (noise : Option ℕ) (way : List ℕ) (a : TimedEndpoint) → Own a → (n201 : ℕ) → c.n201 ≡ n201 → (fs : List (List ℕ)) (rest : List stream.Event) → All (IsOwn d service tei 0 ranged_far) fs
+      → framed fs ≡ heard_in n201 (port_of (hears noise way a).at).received ++ rest → Own (hears noise way a)
+  own-hears noise [] a h n201 size fs rest all are = h
+  own-hears noise (value ∷ more) a h n201 size fs rest all are =
+      let got = unwrap_or noise value in
+      let received = ap (λ (p : Port). p.received) (port-after a.at (port.octet got) (within-ports c ranged a.at h.ends.ran)) in
+      own-octet a h got fs rest all (are ∙ (λ i. heard_in (sym size i) (received i) ++ rest))
+
+  -- What an end puts stays so as it hears an octet.
+  pub items-stay : (noise : Option ℕ) (way : List ℕ) (a : TimedEndpoint) → Own a → (port_of (hears noise way a).at).items ≡ (port_of a.at).items
+  items-stay noise [] a h = refl
+  items-stay noise (value ∷ more) a h = ap (λ (p : Port). p.items) (port-after a.at (port.octet (unwrap_or noise value)) (within-ports c ranged a.at h.ends.ran))
+
+  pub own-shorter : (a : TimedEndpoint) → Own a → Own (without_first_octet a)
+  own-shorter a h = record {
+    ends = record {
+      ran = record { within = h.ends.ran.within; events = h.ends.ran.events; at_lines = h.ends.ran.at_lines; is = h.ends.ran.is; exact = h.ends.ran.exact };
+      its = h.ends.its;
+      stands = h.ends.stands;
+      frames = h.ends.frames;
+      octets = h.ends.octets;
+    };
+    here = h.here;
+    ours = h.ours;
+  }
+
+module _ (l : Line) (fit : Begins l) where
+  abbrev near : IsInRange l.near
+  near = fit.call.near.0
+
+  abbrev far : IsInRange l.far
+  far = fit.call.far.0
+
+  abbrev face : Face l.near l.far
+  face = faces l.near l.far fit.call.opposite
+
+  abbrev back : Face l.far l.near
+  back = faces-back l.near l.far fit.call.opposite
+
+  pub record BothOwn (w : Clocked) : Type 0 where
+    pub near : Own l.service l.tei l.near l.far fit.call.near.0 fit.call.far.0 (faces l.near l.far fit.call.opposite) w.near
+    pub far : Own l.service l.tei l.far l.near fit.call.far.0 fit.call.near.0 (faces-back l.near l.far fit.call.opposite) w.far
+
+  -- The frames that an end of the circuit without clocks has put are those of the clocked end.
+  same-frames : (c : Config) (s u : Endpoint) → Twin l.way c s u → frames_among (port_of u).items ≡ frames_among (port_of s).items
+  same-frames c s u h = ap (λ (p : Port). frames_among p.items) h.same.port ∙ frames-plus l.way (port_of s).items
+
+  own-beat : (b : Beat) → IsTalk l b → (w : Clocked) → BothOwn w → Kept l fit (beat l.rate w b) → BothOwn (beat l.rate w b)
+  own-beat b talk w own k =
+      let v = gone l.rate b w in
+      let moment = w.beats / l.rate in
+      let n = own-gone l.service l.tei l.near l.far near far face moment b.near_asks talk.0 w.near own.near in
+      let f = own-gone l.service l.tei l.far l.near far near back moment b.far_asks talk.1 w.far own.far in
+      let put = same-frames l.near (beat l.rate w b).near.at k.v.near k.sim.near ∙ ap frames_among (items-stay l.service l.tei l.near l.far near far face b.near_noise v.far.at.way v.near n) in
+      let put_far = same-frames l.far (beat l.rate w b).far.at k.v.far k.sim.far ∙ ap frames_among (items-stay l.service l.tei l.far l.near far near back b.far_noise v.near.at.way v.far f) in
+      let got = ap (λ (p : Port). heard_in l.near.n201 p.received ++ framed k.back) k.sim.near.same.port in
+      let got_far = ap (λ (p : Port). heard_in l.near.n201 p.received ++ framed k.there) k.sim.far.same.port in
+      record {
+        near = own-shorter l.service l.tei l.near l.far near far face (hears b.near_noise v.far.at.way v.near)
+            (own-hears l.service l.tei l.near l.far near far face b.near_noise v.far.at.way v.near n l.near.n201 refl (frames_among (port_of v.far.at).items) (framed k.back) f.ends.frames
+            (ap framed (sym put_far) ∙ k.follows.comes.are ∙ got));
+        far = own-shorter l.service l.tei l.far l.near far near back (hears b.far_noise v.near.at.way v.far)
+            (own-hears l.service l.tei l.far l.near far near back b.far_noise v.near.at.way v.far f l.near.n201 (sym fit.call.opposite.1) (frames_among (port_of v.near.at).items) (framed k.there) n.ends.frames
+            (ap framed (sym put) ∙ k.follows.goes.are ∙ got_far));
+      }
+
+  own-begins : BothOwn (begins l)
+  own-begins =
+      let n = end-begins l.near l.service l.tei l.near_line l.way near fit.call.near.1 fit.call.terminal l.lengths fit.lengths.0 l.rate 0 in
+      let f = end-begins l.far l.service l.tei l.far_line l.way far fit.call.far.1 fit.call.terminal l.far_lengths fit.lengths.1 l.rate 0 in
+      record { near = record { ends = n.but.ends; here = n.but.clock.here; ours = n.but.ours }; far = record { ends = f.but.ends; here = f.but.clock.here; ours = f.but.ours } }
+
+  own-all : (bs : List Beat) → All (IsTalk l) bs → All IsClean bs → (w : Clocked) → Kept l fit w → BothOwn w → Kept l fit (after l.rate bs w) × BothOwn (after l.rate bs w)
+  own-all [] talk is_clean w k own = (k, own)
+  own-all (b ∷ bs) talk is_clean w k own =
+      let t = All-head (IsTalk l) b bs talk in
+      let then = (one-kept l fit b t (All-head IsClean b bs is_clean) w k).kept in
+      own-all bs (All-tail (IsTalk l) b bs talk) (All-tail IsClean b bs is_clean) (beat l.rate w b) then (own-beat b t w own then)
+
+  -- So it is after any such beats.
+  pub own-then : (b : Beat) (before : List Beat) → All (IsTalk l) (b ∷ before) → All IsClean (b ∷ before) → Kept l fit (after l.rate (b ∷ before) (begins l)) × BothOwn (after l.rate (b ∷ before) (begins l))
+  own-then b before talk is_clean =
+      let t = All-head (IsTalk l) b before talk in
+      let first = first-kept l fit b t (All-head IsClean b before is_clean) in
+      own-all before (All-tail (IsTalk l) b before talk) (All-tail IsClean b before is_clean) (beat l.rate (begins l) b) first (own-beat b t (begins l) own-begins first)

@@ -26,8 +26,7 @@
 //! busy, while data is asked for on and on (while an end is heard to be busy T200 of the other runs on). That all
 //! arrives with no expiry if nothing is lost, no I-frame comes to a busy end, and each of its reports finds a place to
 //! wait (without that it is false: `specs/WorkedReports`). Losses if both ends call, with other requests, links or
-//! lines, or from elsewhere than nothing. That a terminal which asks gets a TEI if frames are lost. That a given T200
-//! is long enough.
+//! lines, or from elsewhere than nothing. That a terminal which asks gets a TEI if frames are lost.
 #![tactic(auto)]
 
 mod answering;

@@ -29,8 +29,9 @@ ghost use Rattle.laws_order.specs.circuit.Resting.{CallsComeToRest};
 ghost use Rattle.laws_order.specs.circuit.Through.{CallsComeThroughInOctets};
 
 /// A call comes through, octet by octet. Two cards of octets have just begun, one of each side, with configurations in
-/// range and the same N201. A line of one faces a line of the other, and each has the same TEI assigned, 0 to 126.
-/// Layer 3 of one asks for the establishment of a link, of either service. Then, in any order:
+/// range, the same N201 and the same SAPI of the second service. A line of one faces a line of the other, and each has
+/// the same TEI assigned, 0 to 126. Layer 3 of one asks for the establishment of a link, of either service. Then, in any
+/// order:
 ///
 /// - layer 3 of either end asks to establish the link, too, or to send octets as data on it, as it is granted or
 ///   refused;

@@ -5,9 +5,9 @@ ghost use Rattle.laws_order.specs.Order.{DeliveredInOrder};
 ghost use Rattle.laws_order.specs.Release.{ReleasedIsOver, ReleasesEnd};
 
 /// What is delivered is in order, whatever else happens. A line of a card of one side faces a line of a card of the
-/// other; their configurations may differ otherwise. Each card has come about by events from its start, as every card
-/// has. At both `Card::state` tells 7 or 8 of the link of the same service and TEI. They are in step to an observer of
-/// their lines (`Observer` and `Outgoing` of `laws_trace`):
+/// other, with the same SAPI of the second service; all else of their configurations may differ. Each card has
+/// come about by events from its start, as every card has. At both `Card::state` tells 7 or 8 of the link of the same
+/// service and TEI. They are in step to an observer of their lines (`Observer` and `Outgoing` of `laws_trace`):
 ///
 /// - Each was told of at least as many contents since its numbers began as the other has heard acknowledged since its
 ///   own. It may be more, of those that the other keeps and within its window.

@@ -139,9 +139,10 @@ pub fn frames_come_in_beats()
 /// If T203 of each end runs as long as the call, no timer falls due in it. So (2 + 2 u) (2 L + D) octet times after the
 /// last request all is told, as that law has it (`told`). However long T203 runs, it is the first that falls due (`first`),
 /// so until then that law holds. For whatever an end has sent is received L + D octet times later. In the next L a frame of
-/// the other end begins that acknowledges it, and L + D later that is received. At 16 kbit/s with 4 octets in transit T200
-/// of 487 ms is long enough, and at 64 kbit/s with 16 one of 126 ms. (A shorter T200 falls due though nothing is lost, and
-/// may bring error C. A short T203 falls due, and so does T200 if noise takes SABME: `specs/circuit/WorkedInTime`.)
+/// the other end begins that acknowledges it, and L + D later that is received. With N201 of 260, at 16 kbit/s with 4 octets
+/// in transit, T200 of 487 ms is long enough, and at 64 kbit/s with 16 one of 126 ms. (One some octet times shorter may fall
+/// due though nothing is lost, and may bring error C. A short T203 falls due, and so does T200 if noise takes SABME:
+/// `specs/circuit/WorkedInTime`.)
 ///
 /// The same holds of a link at rest, as [`a_call_takes_beats`] has it, with that T200. Only data is asked for since, without
 /// noise. T203 runs at each end then: if no timer that runs there falls due in so many octet times, none does. So 2 u (2 L

@@ -7,9 +7,9 @@ ghost use Rattle.laws_wire.specs.Losing.{CallsAreToldInOrder};
 ghost use Rattle.laws_wire.specs.Recovering.{WhatIsLostArrives};
 ghost use Rattle.laws_wire.specs.StillTimely.{WhatIsLostArrivesFromRest};
 
-/// A call comes through. Two cards have just begun, one of each side, with configurations in range and the same N201. A
-/// line of one faces a line of the other, and each has the same TEI assigned, 0 to 126. Layer 3 of one asks for the
-/// establishment of a link, of either service. Then, in any order:
+/// A call comes through. Two cards have just begun, one of each side, with configurations in range, the same N201 and the
+/// same SAPI of the second service. A line of one faces a line of the other, and each has the same TEI assigned, 0 to
+/// 126. Layer 3 of one asks for the establishment of a link, of either service. Then, in any order:
 ///
 /// - layer 3 of either end asks to establish the link, too, or to send data on it, as it is granted or refused;
 /// - turns come: an end sends its next frame, or receives the first that is in transit to it. So SABMEs may cross
@@ -26,7 +26,7 @@ pub fn a_call_comes_through()
     ensures { CallsComeThrough }
 {}
 
-/// Cards deliver. Two cards, one of each side, with the same N201, face each other by a link of the same service and
+/// Cards deliver. Two cards, one of each side, with the same N201 and second SAPI, face each other by a link of the same service and
 /// TEI, however they came there. At each `Card::state` tells 7 of it, and neither side is busy. Nothing is in transit
 /// or waits on the line except I-frames of the link, and an acknowledgement that it owes. Each has received all that
 /// the other has sent, and owes the acknowledgement of what is not acknowledged.

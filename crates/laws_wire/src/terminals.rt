@@ -3,9 +3,9 @@
 ghost use Rattle.laws_wire.specs.Terminals.{TerminalsComeThrough};
 
 /// A terminal comes through. A line of a terminal's card faces one of a card of the network's side. Both cards have just
-/// begun, with configurations in range and the same N201, so no TEI is on either line. Layer 3 of the terminal, or its
-/// management, asks for a TEI (Q.921 clause 5.3.2). Then turns come, in any order: an end sends its next frame, or
-/// receives the first that is in transit to it. Nothing is lost, and no timer expires.
+/// begun, with configurations in range, the same N201 and the same SAPI of the second service. So no TEI is on either
+/// line. Layer 3 of the terminal, or its management, asks for a TEI (Q.921 clause 5.3.2). Then turns come, in any order:
+/// an end sends its next frame, or receives the first that is in transit to it. Nothing is lost, and no timer expires.
 ///
 /// Then each end is told that TEI 64 is assigned: once, and nothing else. When no turn is left both have been told. There
 /// are at most four turns.

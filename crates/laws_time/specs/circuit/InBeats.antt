@@ -135,7 +135,7 @@ ACallComesInTime =
     (l : Line) (b : Beat) (bs : List Beat) (n : ℕ) → RunsThrough l b bs n → let w = after l.rate (calls l b ∷ bs) (begins l) in
     NoneFallsDue l.rate (calls l b ∷ bs ++ replicate n plain) (begins l) × (enough_beats l.near.n201 l.way false (granted_in w) ≤ n → IsToldAll l (clean l.rate n w))
 
--- What is the first that falls due at an end: it does so in the beat behind these.
+-- What is the first that falls due at an end: it does so in the beat after these.
 pub record FallsDueFirst (l : Line) (bs : List Beat) (from : Clocked) (c : Beat) (x : Expiry) : Type 0 where
   pub before : NoneFallsDue l.rate bs from
   pub now : let w = after l.rate bs from in let moment = w.beats / l.rate in

@@ -95,8 +95,8 @@ impl KeptCard {
             → AreLeftIn e self.old.timers m c → TimersStandIn self.new.timers (after e m) (obeyed line (orders_at e m) c) }
     {
         if self.timers.is_some() {
-            report.show_nothing();
             self.carry_out_list(line, orders);
+            report.show_nothing();
         } else {
             report.show_orders(orders);
         }

@@ -1,5 +1,6 @@
 -- What is heard, by whom it is for.
-use Rattle.lapd_line.proofs.Vocabulary.{management_of, arith, ◌≡◌, ℕ, Bool, true, false, not, ◌&&◌, nat_le, ◌==◌, ◌≤◌, List, [], ◌∷◌, Option, Some, None, Err, length, drop, sym, ap, ◌∙◌, cond, subst, eqb-true, drop_of_length-le, Address, Side, Note, Service, ShortList, Parts, service_of, listed, Unserved, Control, ReadFault, Management, Owned, Store, Config, LineTold, Line, addressed, at_place}
+use Rattle.lapd_line.proofs.Vocabulary.{Result, Sender, ReadFault, heard_side, reading}
+use Rattle.lapd_line.proofs.Vocabulary.{management_of, arith, ◌≡◌, ℕ, Bool, true, false, not, ◌&&◌, nat_le, ◌==◌, ◌≤◌, List, [], ◌∷◌, Option, Some, None, Err, length, drop, sym, ap, ◌∙◌, cond, subst, eqb-true, drop_of_length-le, Address, Side, Note, Service, ShortList, Parts, service_of, listed, Unserved, Control, Management, Owned, Store, Config, LineTold, Line, addressed, at_place}
 use Rattle.lapd_line.proofs.Vocabulary.{to_service}
 use Rattle.lapd_line.proofs.Vocabulary.{group_tei, drop_for, message_of, aim_of_long, aim_of_reading, Aim, at_none, at_management, of_aim, group_told, told_of_ui, told_of_group, told_at, managed_at, at_side, is_network, is_terminal, serves_messages, dropped, Network, User, Call, refl, ◌||◌, Addressee, LinkLayer, BareReport, addressee, of_service, aim_at, is_ui, message_at, group_service}
 use Rattle.lapd_line.proofs.Vocabulary.{LayerStands, Serves, always, told_in, IsClear}
@@ -19,6 +20,13 @@ serves_as {aim'} {aim} {octets} {e} {new} {s} {t} {o} same h = record {
   stands = λ others m st. subst (λ a. LayerStands new t others (of_aim e.config a m).line) (sym (same others m st)) (h.stands others m st);
   told = λ others m st. h.told others m st ∙ ap (λ a. (of_aim e.config a m).told) (sym (same others m st));
 }
+
+-- octets are read so
+pub read_as : {aim : Line → Aim} {e new : LinkLayer} {s t : Store} {o : BareReport} (octets : List ℕ) (side : Sender) (is : Result Parts ReadFault) → side ≡ heard_side e.config → is ≡ reading side octets
+    → ((others : List Owned) (m : Line) → LayerStands e s others m → aim_of_reading e.config m is ≡ aim m)
+    → Serves aim octets e s new t o → Serves (λ m. aim_of_reading e.config m (reading (heard_side e.config) octets)) octets e s new t o
+read_as {e = e} octets side is from read same served =
+    serves_as (λ others m st. ap (λ x. aim_of_reading e.config m (reading x octets)) (sym from) ∙ ap (aim_of_reading e.config m) (sym read) ∙ same others m st) served
 
 -- nothing changes, and something is told
 pub serves_none : (e : LinkLayer) (s : Store) (octets : List ℕ) (o : BareReport) (told : LineTold) → told_in octets o ≡ told → Serves (always (at_none told)) octets e s e s o

@@ -2,6 +2,7 @@
 
 ghost use Rattle.std.specs.Prelude.{◌≡◌, ℕ, ◌≤◌, List, [], drop, length, Ok, Err};
 ghost use Rattle.lapd_line.specs.{heard_of, parts_of, long_reading, start_of, Unserved, dropped, addressed, aim_of_long, aim_of_reading, drop_for, heard_side, unless_at_link, is_network, serves_messages, management_of, told_at, is_ui, received_of, info_of, addressee, group_service, message_at, IsAtPlace, Standing, Serves, always, aim_of_event, octets_of, told_in, IsClear};
+ghost use Rattle.lapd_frame.specs.Senders.{reading};
 ghost use Rattle.model_link.specs.Events as link;
 
 use crate::link_layer::LinkLayer;
@@ -58,6 +59,42 @@ impl LinkLayer {
             Heard::Frame(octets) => octets,
             Heard::Overlong(head) => return self.overlong(&head, report, shelf),
         };
+        self.serve_octets(octets, report, shelf);
+    }
+
+    /// Serves the octets of a frame. Mostly they are a frame for a link.
+    #[inline(always)]
+    fn serve_octets<S: Shelf>(&mut self, octets: &[u8], report: &mut BareReport, shelf: &mut S)
+        requires stands { Standing self.old (S.store shelf.old) }
+        requires clear { IsClear report.old }
+        ensures { Serves (λ m. aim_of_reading self.old.config m (reading (heard_side self.old.config) octets.now)) octets.now self.old (S.store shelf.old) self.new (S.store shelf.new) report.new }
+    {
+        if let Ok(frame) = self.config.heard_side().read(octets) {
+            if let Addressee::Link(service, tei, place) = self.addressee(frame.address) {
+                let received = Received::Frame(frame);
+                return self.receive(
+                    service,
+                    tei,
+                    place,
+                    received,
+                    frame.control.start(),
+                    report,
+                    shelf,
+                );
+            }
+        }
+        self.serve_any(octets, report, shelf);
+    }
+
+    /// Serves the octets of a frame, whatever they are.
+    // They are read once more: so a frame for a link has no part of what else there may be in its way.
+    #[cold]
+    #[inline(never)]
+    fn serve_any<S: Shelf>(&mut self, octets: &[u8], report: &mut BareReport, shelf: &mut S)
+        requires stands { Standing self.old (S.store shelf.old) }
+        requires clear { IsClear report.old }
+        ensures { Serves (λ m. aim_of_reading self.old.config m (reading (heard_side self.old.config) octets.now)) octets.now self.old (S.store shelf.old) self.new (S.store shelf.new) report.new }
+    {
         let frame = match self.config.heard_side().read(octets) {
             Ok(frame) => frame,
             Err(fault) => return self.faulty(fault, octets.len(), report, shelf),
@@ -66,7 +103,7 @@ impl LinkLayer {
             Addressee::Management => self.message(frame, report, shelf),
             Addressee::Link(service, tei, place) => {
                 let received = Received::Frame(frame);
-                self.receive(
+                self.receive_apart(
                     service,
                     tei,
                     place,
@@ -183,7 +220,7 @@ impl LinkLayer {
     {
         match self.addressee(address) {
             Addressee::Management => tell_drop(report, Cause::Unserved),
-            Addressee::Link(service, tei, place) => self.receive(
+            Addressee::Link(service, tei, place) => self.receive_apart(
                 service, tei, place, received, len, report, shelf,
             ),
             Addressee::Nobody(cause) => tell_drop(report, cause),
@@ -225,6 +262,7 @@ impl LinkLayer {
     }
 
     /// For whom a frame is.
+    #[inline(always)]
     fn addressee(&self, address: Address) -> Addressee
         ensures is { result ≡ addressee (management_of self.now.teis) address }
         ensures at { IsAtPlace (management_of self.now.teis) result }

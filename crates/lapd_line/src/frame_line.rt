@@ -101,12 +101,33 @@ impl FrameLine {
         ensures counted { self.new ≡ with_counted self.old (bare_shown report.now) }
         ensures quiet { result ≡ true → IsQuiet report.now }
     {
+        if report.delivered {
+            // Mostly this is an I-frame's, whose note is counted at once.
+            self.count_told(report);
+            return false;
+        }
         if report.is_quiet() {
             return true;
         }
+        self.count_apart(report);
+        false
+    }
+
+    /// The same of what tells more.
+    #[inline(always)]
+    fn count_told(&mut self, report: &BareReport)
+        ensures { self.new ≡ with_counted self.old (bare_shown report.now) }
+    {
         self.counters
             .told(report.notes(), report.cause(), report.lost);
-        false
+    }
+
+    /// The same. It stands apart, so that a report of orders alone is only looked at.
+    #[inline(never)]
+    fn count_apart(&mut self, report: &BareReport)
+        ensures { self.new ≡ with_counted self.old (bare_shown report.now) }
+    {
+        self.count_told(report);
     }
 
     /// Takes a frame that a controller brings, from its address to its information, without its check, and tells in the report

@@ -63,4 +63,27 @@ impl LinkLayer {
         report.start = start;
         self.has_frame.set(number, self.links.has_frame(number));
     }
+
+    /// The same where it is no frame that [`LinkLayer::serve`] takes to its link at once.
+    // It stands apart, since few are.
+    #[cold]
+    #[inline(never)]
+    pub(crate) fn receive_apart<S: Shelf>(
+        &mut self,
+        service: Service,
+        tei: u8,
+        place: usize,
+        received: Received<'_>,
+        start: usize,
+        report: &mut BareReport,
+        shelf: &mut S,
+    )
+        requires at { IsAt (management_of self.old.teis).places place tei }
+        requires clear { IsClear report.old }
+        requires stands { Standing self.old (S.store shelf.old) }
+        ensures { (octets : List ℕ) → info_of received.entry ≡ drop start octets
+            → Serves (always (at_link service tei place (event.received (received_of received.entry)))) octets self.old (S.store shelf.old) self.new (S.store shelf.new) report.new }
+    {
+        self.receive(service, tei, place, received, start, report, shelf);
+    }
 }

@@ -124,8 +124,9 @@ impl LinkLayer {
     {
         let address = self.links.address(number, frame.command);
         self.has_frame.set(number, self.links.has_frame(number));
-        load(out, self.config.own_side(), address, frame.control, info);
+        // This comes first, so that what was loaded last is at hand where it is counted.
         self.turn = number + 1;
+        load(out, self.config.own_side(), address, frame.control, info);
     }
 
     /// The oldest message of TEI management.

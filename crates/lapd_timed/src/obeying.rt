@@ -41,7 +41,8 @@ impl CardTimers {
     }
 
     /// The same, of the orders as a report has them.
-    #[inline(never)]
+    // It is compiled into its caller: so where one order starts the T203 that falls due first anew, nothing is called.
+    #[inline(always)]
     pub fn obey_list<S: Shelf>(
         &mut self,
         card: &FrameCard<S>,
@@ -54,13 +55,31 @@ impl CardTimers {
             → TimersStand self.new (after e m) (obeyed line (listed orders.now) c) }
     {
         match orders {
-            ShortList::None => {}
             ShortList::One(order) => {
                 if !self.restart_alone(line, order) {
                     self.obey_more(card, line, order);
                 }
             }
-            _ => self.obey_more(card, line, orders.as_slice()),
+            _ => self.obey_others(card, line, orders),
+        }
+    }
+
+    /// The same where there is none, or more than one.
+    #[inline(never)]
+    fn obey_others<S: Shelf>(&mut self, card: &FrameCard<S>, line: usize, orders: &ShortList<Order>)
+        ensures lines { self.new.lines ≡ self.old.lines }
+        ensures terminals { self.new.terminals ≡ self.old.terminals }
+        ensures after { (e : Event) (m : Card) (c : Clock) → HasLedTo S.store card.now line e m → listed orders.now ≡ orders_at e m → AreLeft e self.old m c
+            → TimersStand self.new (after e m) (obeyed line (listed orders.now) c) }
+    {
+        match orders {
+            ShortList::None => {}
+            ShortList::Two(two) => {
+                if !self.exchange_alone(line, two) {
+                    self.obey_in_places(card, line, two);
+                }
+            }
+            _ => self.obey_in_places(card, line, orders.as_slice()),
         }
     }
 

@@ -11,7 +11,7 @@ returns-in-Management g c = λ octets short.
 pub returns-in-Link : goal.returns-in-Link
 returns-in-Link g c = λ octets short.
     serves_as (λ others m st. aimed c.args.self.now (g.S.Shelf.store c.args.shelf.now) others m c.args.address (received_of c.args.received) (drop_for Unserved) _ c.in-Link.ensures.is st)
-    (c.receive.ensures octets (c.requires.no_frame ∙ nothing_after octets c.args.len short))
+    (c.receive_apart.ensures octets (c.requires.no_frame ∙ nothing_after octets c.args.len short))
 
 pub returns-in-Nobody : goal.returns-in-Nobody
 returns-in-Nobody g c = λ octets short.

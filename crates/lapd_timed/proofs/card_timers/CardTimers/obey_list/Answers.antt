@@ -1,15 +1,10 @@
--- There is no order; or one, which is carried out at once; or each is carried out in its place.
+-- There is one order, which is carried out at once; or each is carried out in its place.
 use Rattle.std.proofs.Common.{◌∙◌, sym, ap, subst}
 use Rattle.lapd_frame.specs.ShortLists.{listed}
 use Rattle.model_card.specs.Machine.{after}
 use Rattle.model_timed.specs.Clock.{obeyed}
-use Rattle.lapd_timed.specs.Stands.{AreLeft, TimersStand, held}
-use Rattle.lapd_timed.proofs.Carried.{rested}
+use Rattle.lapd_timed.specs.Stands.{AreLeft, TimersStand}
 use Rattle.lapd_timed.proofs.card_timers.CardTimers.obey_list.Goals as goal
-
-pub returns-in-None-clause-after : goal.returns-in-None-clause-after
-returns-in-None-clause-after g c = λ e m k led is left.
-    rested (held c.args.self.now) c.args.line (listed c.args.orders.now) (ap listed c.in-None.is) e m k led.line_is led.line_there is left
 
 pub returns-then-not-restart_alone-clause-after : goal.returns-then-not-restart_alone-clause-after
 returns-then-not-restart_alone-clause-after g c = λ e m k led is left.
@@ -20,8 +15,3 @@ pub returns-else-not-restart_alone-clause-after : goal.returns-else-not-restart_
 returns-else-not-restart_alone-clause-after g c = λ e m k led is left.
     subst (λ orders. TimersStand c.restart_alone.new.self (after e m) (obeyed c.args.line orders k)) (sym (ap listed c.in-One.is))
     (c.restart_alone.ensures.after c.if-not-restart_alone.false e m k led.line_is led.line_there (sym (ap listed c.in-One.is) ∙ is) left)
-
-pub returns-in_default-clause-after : goal.returns-in_default-clause-after
-returns-in_default-clause-after g c = λ e m k led is left.
-    subst (λ orders. TimersStand c.obey_more-in_default.new.self (after e m) (obeyed c.args.line orders k)) c.as_slice.ensures
-    (c.obey_more-in_default.ensures.after e m k led (c.as_slice.ensures ∙ is) left)

@@ -1,0 +1,11 @@
+-- Hand-written answers for `LinkLayer::serve_octets`.
+use Rattle.lapd_line.proofs.Vocabulary.{Ok, drop, sym, ap, ◌∙◌, parts_of, message_of, at_side}
+use Rattle.model_link.specs.Events as link
+use Rattle.lapd_line.proofs.AddressSteps.{aimed, read_as}
+use Rattle.lapd_line.proofs.link_layer.LinkLayer.serve_octets.Goals as goal
+
+pub returns-in-Link : goal.returns-in-Link
+returns-in-Link g c =
+    read_as c.args.octets.now c.heard_side.result (Ok (parts_of c.in-Ok.frame)) c.heard_side.ensures c.in-Ok.ensures.reading
+    (λ others m st. ap (at_side c.args.self.now.config (parts_of c.in-Ok.frame)) (aimed c.args.self.now (g.S.Shelf.store c.args.shelf.now) others m c.in-Ok.frame.address (link.frame (parts_of c.in-Ok.frame)) (message_of c.in-Ok.frame.control c.in-Ok.frame.info.now) _ c.in-Link.ensures.is st))
+    (c.receive.ensures c.args.octets.now (c.in-Ok.ensures.tail ∙ ap (λ n. drop n c.args.octets.now) (sym c.start.ensures.value)))

@@ -81,3 +81,13 @@ pub mod AckedStep
 pub mod AckedUndue
 pub mod AckedRun
 pub mod AckedBegun
+pub mod CaughtLinks
+pub mod CaughtWire
+pub mod CaughtBegun
+pub mod CaughtEnds
+pub mod CaughtLaw
+pub mod CaughtParts
+pub mod CaughtNear
+pub mod CaughtBack
+pub mod CaughtUp
+pub mod CaughtMirror

@@ -18,6 +18,7 @@
 
 ghost use Rattle.laws_time.specs.circuit.Answered.{AnEnquiryIsAnswered, CommandsAreAnswered, NoNoiseIsClear, OneEnquiryIsEnough};
 ghost use Rattle.laws_time.specs.circuit.Arriving.{CallsBearNoise};
+ghost use Rattle.laws_time.specs.circuit.CaughtUp.{AnEnquiryCatchesUp, AnswersTellWhatCame};
 ghost use Rattle.laws_time.specs.circuit.Ends.{EndsAreTimedCards};
 ghost use Rattle.laws_time.specs.circuit.InBeats.{ACallComesInTime, ACallTakesBeats, AShortCallTakesBeats, FramesComeInBeats, MessagesTakeBeats, NoneFallsDueBefore, ShortMessagesTakeBeats, T203FallsDueFirst};
 ghost use Rattle.laws_time.specs.circuit.InCall.{ACallOutlastsNoise, N200LastsInACall};
@@ -91,6 +92,23 @@ pub fn calls_bear_noise()
 pub fn a_call_outlasts_noise()
     ensures bears { N200LastsInACall }
     ensures through { ACallOutlastsNoise }
+{}
+
+/// An answer tells what came. A call is as [`calls_bear_noise`] has it, with any noise that makes no frame, and with data and
+/// busy requests at any time. N200 is not used up, and the end that is called tells no error F (of a lost UA).
+///
+/// Let an end be in state 8 at any time, so that it enquires. Once it is in state 7 again, so many contents are acknowledged
+/// there as the other end had been told at that time, or more (`came`). The room of the link says how many (`Card::room`): its
+/// queue keeps the others of those that were granted. No more are acknowledged than the other end was told by now. (Of the
+/// end that is called this is said from when the other is up.)
+///
+/// Let the end that calls come from state 7 to state 8, as T200 or T203 falls due, in a beat without noise. Let no noise
+/// come for 2 (L + D) + 9 (c + c') octet times more, and let no frame find no place. Then that end has caught up with what
+/// the other had been told as the timer fell due, whatever noise took before (`in_time`). So a lost acknowledgement is made
+/// good so soon (Q.921 clause 5.6.7).
+pub fn an_answer_tells_what_came()
+    ensures came { AnswersTellWhatCame }
+    ensures in_time { AnEnquiryCatchesUp }
 {}
 
 /// Without noise from the start on, noise makes no frame (`clear`): each frame that is heard stood at that place in what

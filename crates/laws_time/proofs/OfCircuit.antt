@@ -91,3 +91,4 @@ pub mod CaughtNear
 pub mod CaughtBack
 pub mod CaughtUp
 pub mod CaughtMirror
+pub mod CaughtMet

@@ -15,3 +15,4 @@ pub mod InBeats
 pub mod WorkedInBeats
 pub mod WorkedInTime
 pub mod CaughtUp
+pub mod WorkedCaughtUp

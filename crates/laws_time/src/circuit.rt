@@ -9,7 +9,7 @@
 //! `LongEnough`, and worked out in `WorkedLongEnough`. Answers that come are in `Answered` and `WorkedAnswered`. What a
 //! call through noise tells is in `Arriving`, and a run that meets its premises in `WorkedArriving`. How soon it comes
 //! through is in `InCall` and `WorkedInCall`. How many beats a call without noise takes is in `InBeats` and
-//! `WorkedInBeats`, and with which T200 no timer falls due in it in `WorkedInTime`. Random and chosen runs broke nothing of what is open, if layer 3 asks for no unit data and is not
+//! `WorkedInBeats`, and with which T200 no timer falls due in it in `WorkedInTime`. What the answer to an enquiry brings is in `CaughtUp` and `WorkedCaughtUp`. Random and chosen runs broke nothing of what is open, if layer 3 asks for no unit data and is not
 //! busy, T200 is at least as long as an answer takes, and noise makes no frame.
 //!
 //! # Open
@@ -24,6 +24,7 @@ ghost use Rattle.laws_time.specs.circuit.InBeats.{ACallComesInTime, ACallTakesBe
 ghost use Rattle.laws_time.specs.circuit.InCall.{ACallOutlastsNoise, N200LastsInACall};
 ghost use Rattle.laws_time.specs.circuit.LongEnough.{AnswersComeInTime};
 ghost use Rattle.laws_time.specs.circuit.WorkedAnswered.{AnEnquiryIsMet};
+ghost use Rattle.laws_time.specs.circuit.WorkedCaughtUp.{AnEnquiryMeetsIt};
 
 /// Each end of the clocked circuit is a timed card of octets, as `model_timed` has it. Anything may be asked for at
 /// either end, with any noise, and any number of beats may have passed. Then the card at an end and its clock came
@@ -102,13 +103,14 @@ pub fn a_call_outlasts_noise()
 /// queue keeps the others of those that were granted. No more are acknowledged than the other end was told by now. (Of the
 /// end that is called this is said from when the other is up.)
 ///
-/// Let the end that calls come from state 7 to state 8, as T200 or T203 falls due, in a beat without noise. Let no noise
-/// come for 2 (L + D) + 9 (c + c') octet times more, and let no frame find no place. Then that end has caught up with what
-/// the other had been told as the timer fell due, whatever noise took before (`in_time`). So a lost acknowledgement is made
-/// good so soon (Q.921 clause 5.6.7).
+/// Let either end come from state 7 to state 8, as T200 or T203 falls due, on a line without noise. Let no noise come for
+/// 2 (L + D) + 9 (c + c') octet times from then on, and let no frame find no place, while requests may go on. Then that end
+/// has caught up with what the other had been told as the timer fell due, whatever noise took before (`in_time`). So a lost
+/// acknowledgement is made good so soon (Q.921 clause 5.6.7). A worked run meets all premises of the first (`met`).
 pub fn an_answer_tells_what_came()
     ensures came { AnswersTellWhatCame }
     ensures in_time { AnEnquiryCatchesUp }
+    ensures met { AnEnquiryMeetsIt }
 {}
 
 /// Without noise from the start on, noise makes no frame (`clear`): each frame that is heard stood at that place in what

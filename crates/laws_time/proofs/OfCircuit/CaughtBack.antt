@@ -1,28 +1,22 @@
 -- The end that was called asks at a time: it has caught up in the end, or asks all the time.
-use Rattle.std.proofs.Common.{arith, ◌≡◌, ℕ, ◌<◌, ◌≤◌, Bool, true, false, IsTrue, List, [], ◌∷◌, ◌++◌, length, map, Some, refl, sym, ap, ◌∙◌, subst, All, ◌⊎◌, inl, inr, append_assoc, append-nil}
-use Rattle.std.proofs.lemmas.List.{map-append}
+use Rattle.std.proofs.Common.{◌≡◌, ℕ, Bool, true, false, List, [], ◌∷◌, ◌++◌, length, map, Some, refl, sym, ap, ◌∙◌, subst, ◌⊎◌, inl, inr, append_assoc}
 use Rattle.std.proofs.lemmas.List.Sums.{fold-append}
-use Rattle.model_link.specs.Link.{is_multiple_frame, state_number}
-use Rattle.model_link.specs.declared.states.State.{State}
-use Rattle.model_link.specs.declared.states.State.TheVariants.{TeiAssigned, AwaitingEstablishment, AwaitingRelease, Established, TimerRecovery}
 use Rattle.laws_wire.specs.Wire.{Wire, turned}
 use Rattle.laws_wire.proofs.LooseUp.{LooseUp, loose-turned-up}
-use Rattle.laws_time.proofs.OfCircuit.Answered.{an-enquiry-is-answered}
 use Rattle.laws_time.proofs.OfCircuit.ArrivPath.{path-turned}
 use Rattle.laws_time.proofs.OfCircuit.CaughtEnds.{owing, settled, told-as-many}
-use Rattle.laws_time.proofs.OfCircuit.CaughtLaw.{near_past, far_past, its, goes-on, shows, near-number, far-number, near-in-7, near-in-8, far-in-7, far-in-8, near-shows, far-shows, near-contents, far-contents}
+use Rattle.laws_time.proofs.OfCircuit.CaughtLaw.{near_past, far_past, its, goes-on, shows, near-number, far-number, far-in-7, far-in-8, far-shows, near-contents}
 use Rattle.laws_time.proofs.OfCircuit.CaughtLinks.{Owes}
-use Rattle.laws_time.proofs.OfCircuit.CaughtMirror.{turned_line, turned_beat, turned_world, after-turned, answered-same, fit-turned, talk-turned, clear-turned, clean-turned, length-turned}
+use Rattle.laws_time.proofs.OfCircuit.CaughtMirror.{turned_line, turned_beat, turned_world}
 use Rattle.laws_time.proofs.OfCircuit.CaughtNear.{up-in}
 use Rattle.laws_time.proofs.OfCircuit.CaughtParts.{pair-w, reached-w, both-are-up, parts-world, pair-done, pair-rest, r-done, r-rest}
 use Rattle.laws_time.proofs.OfCircuit.CaughtWire.{UpWith}
-use Rattle.laws_time.specs.circuit.Answered.{IsUndisturbed, begun, lost_at, state_at}
+use Rattle.laws_time.specs.circuit.Answered.{state_at}
 unfoldable use Rattle.laws_time.specs.circuit.Answered.{Enquires}
-use Rattle.laws_time.specs.circuit.Arriving.{calls}
-use Rattle.laws_time.specs.circuit.CaughtUp.{HasCaughtUp, GoesWell, in_call, AnswersTellWhatCame, AnEnquiryCatchesUp}
-use Rattle.laws_time.specs.circuit.Clocked.{TimedEndpoint, Clocked, Beat, beat, after, contents_at}
+use Rattle.laws_time.specs.circuit.CaughtUp.{HasCaughtUp, GoesWell, in_call}
+use Rattle.laws_time.specs.circuit.Clocked.{Clocked, Beat, beat, after}
 use Rattle.laws_time.specs.circuit.InCall.{IsUp}
-use Rattle.laws_time.specs.circuit.LongEnough.{Line, IsTalk, AreClear, answered_in, begins}
+use Rattle.laws_time.specs.circuit.LongEnough.{Line}
 
 -- The end that was called asks at a time.
 module _ (l : Line) (before bs more : List Beat) (b : Beat) (h : GoesWell l before b (bs ++ more)) (near_up : IsUp l (in_call l before b bs).near) (eight : state_at l (in_call l before b bs).far ≡ Some 8) where

@@ -1,5 +1,5 @@
 -- A call on a wire in which no error F was told: once the end that calls was told the confirm, both links are up.
-use Rattle.std.proofs.Common.{◌≡◌, ℕ, ◌==◌, Bool, true, false, List, [], ◌∷◌, length, map, refl, sym, ap, ◌∙◌, subst, All, ◌⊎◌, inl, inr}
+use Rattle.std.proofs.Common.{◌≡◌, ℕ, ◌==◌, Bool, List, [], ◌∷◌, length, refl, sym, ap, ◌∙◌, subst, All, ◌⊎◌, inl, inr}
 use Rattle.std.proofs.lemmas.Bool.{true≢false}
 use Rattle.std.proofs.lemmas.List.Elements.{All-nil}
 use Rattle.lapd_frame.specs.declared.services.Service.{Service}
@@ -14,13 +14,13 @@ use Rattle.laws_wire.specs.Losing.{heard_in}
 use Rattle.laws_wire.specs.Wire.{Wire, StepAt}
 unfoldable use Rattle.laws_wire.specs.Wire.{doing_all}
 use Rattle.laws_wire.proofs.LooseUp.{LooseUp}
-use Rattle.laws_wire.proofs.LossyRun.{Setting, setting}
+use Rattle.laws_wire.proofs.LossyRun.{setting}
 use Rattle.laws_wire.proofs.Talking.{Face}
 use Rattle.laws_wire.proofs.UaLost.{not-told}
 use Rattle.laws_wire.proofs.UaLostRun as run
 use Rattle.laws_wire.proofs.UaTold.{lossy-calls-come-through, patient-goes}
 use Rattle.laws_time.proofs.OfCircuit.ArrivFair.{codes}
-use Rattle.laws_time.proofs.OfCircuit.ArrivTold.{Known, GoesSo, all-known, few, no-earlier, starts, down-near}
+use Rattle.laws_time.proofs.OfCircuit.ArrivTold.{Known, all-known, few, no-earlier, starts, down-near}
 
 module _ (service : Service) (tei : ℕ) (c d : Config) (p q : ℕ) (face : Face c d) (back : Face d c) (rt : IsInRange (terms c service tei)) (ru : IsInRange (terms d service tei)) where
   abbrev Up : Wire → Type 0

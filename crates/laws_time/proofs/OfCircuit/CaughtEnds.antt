@@ -1,5 +1,5 @@
 -- A station whose link is up: how many of its contents are acknowledged, as its room says, and how many the other was told.
-use Rattle.std.proofs.Common.{arith, ◌≡◌, ℕ, ◌+◌, ◌≤◌, Bool, true, false, cond, not, List, [], ◌∷◌, ◌++◌, length, map, take, drop, None, Some, Option, Ok, refl, sym, ap, ◌∙◌, subst, ◌⊎◌, inl, inr}
+use Rattle.std.proofs.Common.{arith, ◌≡◌, ℕ, ◌+◌, ◌≤◌, Bool, true, false, cond, not, List, [], ◌++◌, length, map, None, Some, Ok, refl, sym, ap, ◌∙◌, subst, ◌⊎◌, inl, inr}
 use Rattle.std.proofs.lemmas.Bool.{le-ltb}
 use Rattle.std.proofs.lemmas.List.{length-drop, length-take-le}
 use Rattle.lapd_frame.specs.declared.refusals.Refusal.{Refusal}
@@ -15,7 +15,7 @@ use Rattle.model_link.specs.declared.rooms.Room.{Room}
 use Rattle.model_link.specs.declared.states.State.TheVariants.{Established, TimerRecovery}
 use Rattle.model_link.specs.declared.terms.Terms.{Terms}
 use Rattle.model_line.specs.Event.{LineTold}
-use Rattle.model_line.specs.Line.{Line, terms, link_of}
+use Rattle.model_line.specs.Line.{terms, link_of}
 use Rattle.model_line.specs.Room.{unless}
 use Rattle.model_line.specs.declared.config.Config.{Config}
 use Rattle.model_card.specs.Card.{line_at}
@@ -25,7 +25,6 @@ use Rattle.laws_wire.specs.Losing.{heard_in}
 use Rattle.laws_wire.specs.Wire.{Endpoint, Wire}
 use Rattle.laws_wire.proofs.Awaited.{link-is}
 use Rattle.laws_wire.proofs.Held.{Held}
-use Rattle.laws_wire.proofs.Loose.{Loose}
 use Rattle.laws_wire.proofs.LooseUp.{LooseUp, LooseAt}
 use Rattle.laws_wire.proofs.Standing.{StationStands, link-ranges, link-sound}
 use Rattle.laws_time.proofs.OfCircuit.ArrivTold.{contents_of, contents-append, contents-data}

@@ -1,49 +1,33 @@
 -- An end that enquired catches up: on a wire, and as it is seen on the circuit.
-use Rattle.std.proofs.Common.{arith, ◌≡◌, ℕ, ◌≤◌, Bool, true, false, List, [], ◌∷◌, ◌++◌, length, Option, Some, refl, sym, ap, ◌∙◌, subst, All, ◌⊎◌, inl, inr, append_assoc}
-use Rattle.std.specs.Prelude.{flat_map}
-use Rattle.std.specs.List.{list_any}
-use Rattle.std.proofs.lemmas.List.Elements.{All-nil, All-cons, All-append, All-head, All-tail}
-use Rattle.std.proofs.lemmas.List.Folds.{list_any-append}
-use Rattle.std.proofs.lemmas.List.Sums.{fold-append}
-use Rattle.lapd_frame.specs.declared.notes.ErrorCode.{ErrorCode}
+use Rattle.std.proofs.Common.{arith, ◌≡◌, ℕ, ◌≤◌, Bool, true, false, List, [], ◌∷◌, length, Option, Some, refl, sym, ap, ◌∙◌, subst}
 use Rattle.lapd_frame.specs.declared.services.Service.{Service}
 use Rattle.model_link.specs.Link.{Link, state_number}
-use Rattle.model_link.specs.Sound.{IsInRange}
 use Rattle.model_link.specs.TwoEnds.{Endpoint as LinkEndpoint}
 use Rattle.model_link.specs.declared.states.State.{State}
 use Rattle.model_link.specs.declared.states.State.TheVariants.{TeiAssigned, AwaitingEstablishment, AwaitingRelease, Established, TimerRecovery}
 use Rattle.model_line.specs.Event.{LineTold}
-use Rattle.model_line.specs.Request.{Request, Establish}
 use Rattle.model_line.specs.declared.config.Config.{Config}
-use Rattle.laws_line.proofs.OfCard.Meanwhile.{all-left, all-right}
-use Rattle.laws_wire.specs.Call.{calling, confirmed, indicated}
-use Rattle.laws_wire.specs.Losing.{for_layer_3, heard_in}
+use Rattle.laws_wire.specs.Call.{confirmed, indicated}
+use Rattle.laws_wire.specs.Losing.{heard_in}
 use Rattle.laws_wire.specs.Wire.{Endpoint as FrameEndpoint, Wire, turned}
-use Rattle.laws_wire.proofs.LooseUp.{LooseUp, loose-turned-up}
+use Rattle.laws_wire.proofs.LooseUp.{LooseUp}
 use Rattle.laws_wire.proofs.LossyRun.{Setting, setting}
 use Rattle.laws_wire.proofs.Standing.{StationStands}
 use Rattle.laws_wire.proofs.Talking.{Face}
 use Rattle.laws_time.proofs.OfCircuit.ArrivAs.{heard_of}
-use Rattle.laws_time.proofs.OfCircuit.ArrivBegan.{reached, clear-parts}
-use Rattle.laws_time.proofs.OfCircuit.ArrivFair.{codes, codes-append, neither}
-use Rattle.laws_time.proofs.OfCircuit.ArrivPath.{Path, path-none, path-turned}
-use Rattle.laws_time.proofs.OfCircuit.ArrivRun.{Reached, SameNow, IsFairBoth, all-beats, all-of-link, fair-all}
-use Rattle.laws_time.proofs.OfCircuit.ArrivTold.{codes-heard, contents-heard, contents_of}
-use Rattle.laws_time.proofs.OfCircuit.CaughtBegun.{both-up}
+use Rattle.laws_time.proofs.OfCircuit.ArrivPath.{Path}
+use Rattle.laws_time.proofs.OfCircuit.ArrivRun.{SameNow}
+use Rattle.laws_time.proofs.OfCircuit.ArrivTold.{contents-heard, contents_of}
 use Rattle.laws_time.proofs.OfCircuit.CaughtEnds.{Acknowledges, told-as-many, acknowledges-some, no-more, owing, settled, paid}
 use Rattle.laws_time.proofs.OfCircuit.CaughtLinks.{Owes, owes-keeps, owed-keeps}
 use Rattle.laws_time.proofs.OfCircuit.CaughtWire.{UpWith, all-steps}
-use Rattle.laws_time.proofs.OfCircuit.InCallFair.{BothWalk, walks-all, talk-all}
-use Rattle.laws_time.proofs.OfCircuit.InCallPhase.{its-is, in-call}
-use Rattle.laws_time.proofs.OfCircuit.InTime.{PairNow, near_card, far_card, pair-begins}
-use Rattle.laws_time.proofs.OfCircuit.LongEnough.{all-pairs}
+use Rattle.laws_time.proofs.OfCircuit.InCallPhase.{its-is}
+use Rattle.laws_time.proofs.OfCircuit.InTime.{PairNow}
 use Rattle.laws_time.proofs.OfCircuit.Under.{state-here}
 use Rattle.laws_time.specs.circuit.Answered.{state_at}
-use Rattle.laws_time.specs.circuit.Arriving.{IsIdle, AreAsked, calls, errors_at, is_used_up}
-use Rattle.laws_time.specs.circuit.CaughtUp.{AreAcknowledged, HasCaughtUp, GoesWell, in_call, AnswersTellWhatCame}
-use Rattle.laws_time.specs.circuit.Clocked.{TimedEndpoint, Clocked, Beat, beat, after, contents_at}
-use Rattle.laws_time.specs.circuit.InCall.{IsUp}
-use Rattle.laws_time.specs.circuit.LongEnough.{Line, IsFit, IsTalk, IsOfLink, AreClear, begins}
+use Rattle.laws_time.specs.circuit.CaughtUp.{HasCaughtUp}
+use Rattle.laws_time.specs.circuit.Clocked.{TimedEndpoint, Clocked, contents_at}
+use Rattle.laws_time.specs.circuit.LongEnough.{Line, IsFit}
 
 -- The states by their numbers.
 in-7 : (s : State) → state_number s ≡ 7 → s ≡ Established

@@ -1,6 +1,6 @@
 -- Two links that are up: what the one had received while the other asks is acknowledged once that is answered.
-use Rattle.laws_wire.proofs.Vocabulary.{◌≡◌, ℕ, ◌+◌, ◌≤◌, Bool, true, IsTrue, List, [], ◌∷◌, ◌++◌, refl, sym, ap, subst, ◌∙◌, ◌⊎◌, inl, inr, arith, Control, Parts, Seq, seq, TimerRecovery, LinkTimer, Terms, Link, received, expired, offer, frame, frames_of, is_multiple_frame, after, course}
-use Rattle.laws_wire.proofs.Vocabulary.{LinkEndpoint, with_link, with_sent, offer-gave, offer-goes, expires-goes, line, line_of, Kind, kind_of, numbered, enquiry, answer, report, rejection, alien, NoAlien, is-no-alien, Flow, Heard, heard, is_recovering, answer-says, Rising, rising-low, Means, frame-taken, named-within}
+use Rattle.laws_wire.proofs.Vocabulary.{◌≡◌, ℕ, ◌+◌, ◌≤◌, Bool, true, IsTrue, List, ◌∷◌, ◌++◌, refl, sym, ap, subst, ◌∙◌, ◌⊎◌, inl, inr, arith, Control, Parts, Seq, seq, TimerRecovery, LinkTimer, Terms, Link, received, expired, frame, frames_of, is_multiple_frame, after}
+use Rattle.laws_wire.proofs.Vocabulary.{LinkEndpoint, with_link, with_sent, offer-gave, offer-goes, expires-goes, line, Kind, kind_of, numbered, enquiry, answer, report, rejection, alien, NoAlien, is-no-alien, Flow, Heard, heard, is_recovering, answer-says, Rising, rising-low, Means, frame-taken, named-within}
 use Rattle.laws_wire.proofs.Vocabulary.{named-means, named-is_seq, flows-low, most}
 use Rattle.laws_wire.proofs.Joint.{timer-goes}
 use Rattle.laws_wire.proofs.Loose.{Loose}

@@ -1,5 +1,5 @@
 -- The run of `WorkedCaughtUp` meets all premises.
-use Rattle.std.proofs.Common.{arith, ◌≡◌, ◌<◌, ℕ, zero, suc, List, [], ◌∷◌, ◌++◌, refl, All}
+use Rattle.std.proofs.Common.{arith, ◌<◌, ℕ, zero, suc, [], ◌∷◌, ◌++◌, refl, All}
 use Rattle.std.specs.Prelude.{replicate}
 use Rattle.std.proofs.lemmas.List.Elements.{All-nil, All-cons, All-append}
 use Rattle.lapd_frame.specs.declared.services.Service.TheVariants.{Call}

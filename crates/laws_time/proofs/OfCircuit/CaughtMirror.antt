@@ -1,13 +1,11 @@
 -- The circuit from the other side: the two ends are exchanged.
-use Rattle.std.proofs.Common.{arith, ◌≡◌, ℕ, suc, ◌+◌, ◌*◌, ◌≤◌, List, [], ◌∷◌, ◌++◌, length, map, refl, sym, ap, ◌∙◌, subst, All}
-use Rattle.std.proofs.lemmas.List.{map-append}
+use Rattle.std.proofs.Common.{arith, ◌≡◌, ℕ, suc, List, [], ◌∷◌, length, map, refl, sym, ap, subst, All}
 use Rattle.std.proofs.lemmas.List.Elements.{All-nil, All-cons, All-head, All-tail}
-use Rattle.model_bits.specs.Stream as stream
 use Rattle.laws_order.specs.circuit.Beats.{longest}
 use Rattle.laws_wire.proofs.Spelled.{sides-turned}
 use Rattle.laws_time.specs.circuit.Answered.{IsClean}
 use Rattle.laws_time.specs.circuit.Clocked.{Clocked, Beat, gone, beat, after}
-use Rattle.laws_time.specs.circuit.LongEnough.{Line, IsFit, IsTalk, IsClearAt, RunsLong, answered_in, begins}
+use Rattle.laws_time.specs.circuit.LongEnough.{Line, IsFit, IsTalk, IsClearAt, answered_in}
 unfoldable use Rattle.laws_time.specs.circuit.LongEnough.{AreClear}
 
 abbrev pub turned_line : Line → Line

@@ -1,43 +1,34 @@
 -- A call on the circuit up to a time, and from there on, part by part: on a wire of frames both links are up.
-use Rattle.std.proofs.Common.{arith, ◌≡◌, ℕ, ◌<◌, ◌≤◌, Bool, true, false, IsTrue, List, [], ◌∷◌, ◌++◌, length, Option, Some, refl, sym, ap, ◌∙◌, subst, All, ◌⊎◌, inl, inr, append_assoc, append-nil}
+use Rattle.std.proofs.Common.{◌≡◌, ℕ, false, List, [], ◌∷◌, ◌++◌, Option, Some, refl, sym, ap, ◌∙◌, subst, All, ◌⊎◌, inl, inr, append_assoc}
 use Rattle.std.specs.List.{list_any}
 use Rattle.std.proofs.lemmas.List.Elements.{All-nil, All-cons, All-append, All-head, All-tail}
 use Rattle.std.proofs.lemmas.List.Folds.{list_any-append}
 use Rattle.std.proofs.lemmas.List.Sums.{fold-append}
 use Rattle.lapd_frame.specs.declared.notes.ErrorCode.{ErrorCode}
-use Rattle.model_link.specs.Link.{Link, is_multiple_frame, state_number}
-use Rattle.model_link.specs.declared.states.State.{State}
-use Rattle.model_link.specs.declared.states.State.TheVariants.{TeiAssigned, AwaitingEstablishment, AwaitingRelease, Established, TimerRecovery}
-use Rattle.model_line.specs.Event.{LineTold}
 use Rattle.model_line.specs.Request.{Request, Establish}
 use Rattle.laws_line.proofs.OfCard.Meanwhile.{all-left, all-right}
-use Rattle.laws_wire.specs.Call.{calling, confirmed, indicated}
+use Rattle.laws_wire.specs.Call.{calling}
 use Rattle.laws_wire.specs.Losing.{heard_in}
-use Rattle.laws_wire.specs.Wire.{Wire, turned}
-use Rattle.laws_wire.proofs.LooseUp.{LooseUp, loose-turned-up}
-use Rattle.laws_time.proofs.OfCircuit.Answered.{an-enquiry-is-answered}
-use Rattle.laws_time.proofs.OfCircuit.ArrivAs.{heard_of}
+use Rattle.laws_wire.specs.Wire.{Wire}
+use Rattle.laws_wire.proofs.LooseUp.{LooseUp}
 use Rattle.laws_time.proofs.OfCircuit.ArrivBegan.{reached, clear-parts}
 use Rattle.laws_time.proofs.OfCircuit.ArrivFair.{codes, codes-append, neither}
-use Rattle.laws_time.proofs.OfCircuit.ArrivPath.{Path, path-none, path-turned}
+use Rattle.laws_time.proofs.OfCircuit.ArrivPath.{path-none}
 use Rattle.laws_time.proofs.OfCircuit.ArrivRun.{Reached, IsFairBoth, all-beats, all-of-link, fair-all}
 use Rattle.laws_time.proofs.OfCircuit.ArrivTold.{codes-heard}
 use Rattle.laws_time.proofs.OfCircuit.CaughtBegun.{both-up}
-use Rattle.laws_time.proofs.OfCircuit.CaughtEnds.{owing, settled, told-as-many}
-use Rattle.laws_time.proofs.OfCircuit.CaughtLaw.{near-number, far-number, near_past, far_past, its, caught, goes-on, shows, near-in-7, near-in-8, far-in-7, far-in-8, near-heard, far-heard, near-shows, far-shows, near-contents, far-contents}
-use Rattle.laws_time.proofs.OfCircuit.CaughtLinks.{Owes}
-use Rattle.laws_time.proofs.OfCircuit.CaughtWire.{UpWith}
+use Rattle.laws_time.proofs.OfCircuit.CaughtLaw.{near_past, far_past, near-heard, far-heard}
 use Rattle.laws_time.proofs.OfCircuit.InCallFair.{BothWalk, walks-all, talk-all}
 use Rattle.laws_time.proofs.OfCircuit.InCallPhase.{in-call}
 use Rattle.laws_time.proofs.OfCircuit.InTime.{PairNow, near_card, far_card, pair-begins}
 use Rattle.laws_time.proofs.OfCircuit.LongEnough.{all-pairs}
-use Rattle.laws_time.specs.circuit.Answered.{IsUndisturbed, begun, state_at}
+use Rattle.laws_time.specs.circuit.Answered.{state_at}
 unfoldable use Rattle.laws_time.specs.circuit.Answered.{Enquires}
 use Rattle.laws_time.specs.circuit.Arriving.{IsIdle, AreAsked, calls, errors_at, is_used_up}
-use Rattle.laws_time.specs.circuit.CaughtUp.{HasCaughtUp, GoesWell, in_call, AnswersTellWhatCame, AnEnquiryCatchesUp}
-use Rattle.laws_time.specs.circuit.Clocked.{TimedEndpoint, Clocked, Beat, beat, after, contents_at}
+use Rattle.laws_time.specs.circuit.CaughtUp.{GoesWell, in_call}
+use Rattle.laws_time.specs.circuit.Clocked.{Clocked, Beat, beat, after}
 use Rattle.laws_time.specs.circuit.InCall.{IsUp}
-use Rattle.laws_time.specs.circuit.LongEnough.{Line, IsFit, IsTalk, IsOfLink, AreClear, answered_in, begins}
+use Rattle.laws_time.specs.circuit.LongEnough.{Line, IsFit, IsTalk, IsOfLink, AreClear, begins}
 
 idle-talk : (l : Line) (before : List Beat) → All IsIdle before → All (IsTalk l) before
 idle-talk l [] all = All-nil (IsTalk l)

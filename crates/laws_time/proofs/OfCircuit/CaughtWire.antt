@@ -1,6 +1,6 @@
 -- Two stations whose links are up: what holds of the ends for which they stand goes on to hold, whatever is done there, if either end
 -- keeps it.
-use Rattle.laws_wire.proofs.Vocabulary.{◌≡◌, ℕ, false, IsTrue, List, [], ◌∷◌, drop, refl, sym, ap, subst, All, All-head, All-tail, Service, Parts, Timer, TimerRecovery, LinkTimer, LinkEndpoint, is_multiple_frame, with_link, with_sent, Config, LineTold, Request, expired, CanRepeat, T200, T203, Wire, EndStep, requests, expires}
+use Rattle.laws_wire.proofs.Vocabulary.{◌≡◌, ℕ, false, IsTrue, List, [], ◌∷◌, drop, refl, ap, subst, All, All-head, All-tail, Service, Parts, Timer, TimerRecovery, LinkTimer, LinkEndpoint, is_multiple_frame, with_link, with_sent, Config, LineTold, Request, expired, CanRepeat, T200, T203, Wire, EndStep, requests, expires}
 use Rattle.laws_wire.proofs.Vocabulary.{sends, receives, loses, acting, turned, StepAt, at_near, at_far, doing, doing_all, awaits_answer, IsAsked, IsFullTalkOf, IsFullTalk, IsTimelyOf, StayPatient, timer_T200, timer_T203, two_ends_with_first_of, two_ends_without_first}
 use Rattle.model_link.specs.TwoEnds as two_ends
 use Rattle.laws_link.specs.two.Timely as two_links_timely
@@ -12,7 +12,7 @@ use Rattle.laws_wire.proofs.LossyPhases.{Aims}
 use Rattle.laws_wire.proofs.Talking.{Face}
 use Rattle.laws_wire.proofs.TimelyUp.{each-timer, never}
 use Rattle.laws_wire.proofs.UaCalledAt.{Free, asked-at}
-use Rattle.laws_time.proofs.OfCircuit.CaughtLinks.{Still, sent-still, timer-still, stirred, Keeps}
+use Rattle.laws_time.proofs.OfCircuit.CaughtLinks.{sent-still, timer-still, stirred, Keeps}
 
 -- As the other end sees it.
 abbrev pub flipped : (LinkEndpoint → LinkEndpoint → Type 0) → LinkEndpoint → LinkEndpoint → Type 0

@@ -6,10 +6,9 @@ use Rattle.model_line.specs.declared.config.Config.{Config}
 use Rattle.model_line.specs.Request.{Data}
 use Rattle.laws_wire.specs.Worked as wire
 use Rattle.laws_time.specs.circuit.Answered.{state_at}
-use Rattle.laws_time.specs.circuit.Arriving.{calls}
 use Rattle.laws_time.specs.circuit.CaughtUp.{GoesWell, in_call}
 use Rattle.laws_time.specs.circuit.Clocked.{Clocked, Beat, plain, after, contents_at}
-use Rattle.laws_time.specs.circuit.LongEnough.{Line, answered_in, begins}
+use Rattle.laws_time.specs.circuit.LongEnough.{Line, answered_in}
 
 -- An octet a millisecond, none in transit, eight octets in a content at most and two control frames: an answer takes 72 octet times at most.
 -- T203 of the end that calls runs for 20 milliseconds.

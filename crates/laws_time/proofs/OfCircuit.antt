@@ -86,3 +86,14 @@ pub mod RestedOwn
 pub mod RestedClock
 pub mod Rested
 pub mod InBeatsRestMet
+pub mod CaughtLinks
+pub mod CaughtWire
+pub mod CaughtBegun
+pub mod CaughtEnds
+pub mod CaughtLaw
+pub mod CaughtParts
+pub mod CaughtNear
+pub mod CaughtBack
+pub mod CaughtUp
+pub mod CaughtMirror
+pub mod CaughtMet

@@ -14,3 +14,5 @@ pub mod WorkedInCall
 pub mod InBeats
 pub mod WorkedInBeats
 pub mod WorkedInTime
+pub mod CaughtUp
+pub mod WorkedCaughtUp

@@ -9,7 +9,7 @@
 //! `LongEnough`, and worked out in `WorkedLongEnough`. Answers that come are in `Answered` and `WorkedAnswered`. What a
 //! call through noise tells is in `Arriving`, and a run that meets its premises in `WorkedArriving`. How soon it comes
 //! through is in `InCall` and `WorkedInCall`. How many beats a call without noise takes is in `InBeats` and
-//! `WorkedInBeats`, and with which T200 no timer falls due in it in `WorkedInTime`. Random and chosen runs broke nothing of what is open, if layer 3 asks for no unit data and is not
+//! `WorkedInBeats`, and with which T200 no timer falls due in it in `WorkedInTime`. What the answer to an enquiry brings is in `CaughtUp` and `WorkedCaughtUp`. Random and chosen runs broke nothing of what is open, if layer 3 asks for no unit data and is not
 //! busy, T200 is at least as long as an answer takes, and noise makes no frame.
 //!
 //! # Open
@@ -19,11 +19,13 @@
 
 ghost use Rattle.laws_time.specs.circuit.Answered.{AnEnquiryIsAnswered, CommandsAreAnswered, NoNoiseIsClear, OneEnquiryIsEnough};
 ghost use Rattle.laws_time.specs.circuit.Arriving.{CallsBearNoise};
+ghost use Rattle.laws_time.specs.circuit.CaughtUp.{AnEnquiryCatchesUp, AnswersTellWhatCame};
 ghost use Rattle.laws_time.specs.circuit.Ends.{EndsAreTimedCards};
 ghost use Rattle.laws_time.specs.circuit.InBeats.{ACallComesInTime, ACallTakesBeats, AShortCallTakesBeats, FramesComeInBeats, MessagesComeInTime, MessagesTakeBeats, ShortMessagesTakeBeats, T203FallsDueFirst, T203FallsDueFirstSince};
 ghost use Rattle.laws_time.specs.circuit.InCall.{ACallOutlastsNoise, N200LastsInACall};
 ghost use Rattle.laws_time.specs.circuit.LongEnough.{AnswersComeInTime};
 ghost use Rattle.laws_time.specs.circuit.WorkedAnswered.{AnEnquiryIsMet};
+ghost use Rattle.laws_time.specs.circuit.WorkedCaughtUp.{AnEnquiryMeetsIt};
 
 /// Each end of the clocked circuit is a timed card of octets, as `model_timed` has it. Anything may be asked for at
 /// either end, with any noise, and any number of beats may have passed. Then the card at an end and its clock came
@@ -92,6 +94,24 @@ pub fn calls_bear_noise()
 pub fn a_call_outlasts_noise()
     ensures bears { N200LastsInACall }
     ensures through { ACallOutlastsNoise }
+{}
+
+/// An answer tells what came. A call is as [`calls_bear_noise`] has it, with any noise that makes no frame, and with data and
+/// busy requests at any time. N200 is not used up, and the end that is called tells no error F (of a lost UA).
+///
+/// Let an end be in state 8 at any time, so that it enquires. Once it is in state 7 again, so many contents are acknowledged
+/// there as the other end had been told at that time, or more (`came`). The room of the link says how many (`Card::room`): its
+/// queue keeps the others of those that were granted. No more are acknowledged than the other end was told by now. (Of the
+/// end that is called this is said from when the other is up.)
+///
+/// Let either end come from state 7 to state 8, as T200 or T203 falls due, on a line without noise. Let no noise come for
+/// 2 (L + D) + 9 (c + c') octet times from then on, and let no frame find no place, while requests may go on. Then that end
+/// has caught up with what the other had been told as the timer fell due, whatever noise took before (`in_time`). So a lost
+/// acknowledgement is made good so soon (Q.921 clause 5.6.7). A worked run meets all premises of the first (`met`).
+pub fn an_answer_tells_what_came()
+    ensures came { AnswersTellWhatCame }
+    ensures in_time { AnEnquiryCatchesUp }
+    ensures met { AnEnquiryMeetsIt }
 {}
 
 /// Without noise from the start on, noise makes no frame (`clear`): each frame that is heard stood at that place in what

@@ -50,7 +50,7 @@ fair-before rate b w fair =
       fair-comes (w.beats / rate) b.far_asks w.far (fair-happens port.pull (comes_to (w.beats / rate) b.far_asks w.far) v.1),
     )
 
-fair-all : (rate : ℕ) (bs : List Beat) (w : Clocked) → IsFairBoth (after rate bs w) → IsFairBoth w
+pub fair-all : (rate : ℕ) (bs : List Beat) (w : Clocked) → IsFairBoth (after rate bs w) → IsFairBoth w
 fair-all rate [] w fair = fair
 fair-all rate (b ∷ bs) w fair = fair-before rate b w (fair-all rate bs (beat rate w b) fair)
 
@@ -86,7 +86,7 @@ module _ (l : Line) (fit : IsFit l) where
   all-of-link [] all = All-nil (IsOfLink l.service l.tei)
   all-of-link (r ∷ rs) all = All-cons (IsOfLink l.service l.tei) r rs (both-of r (All-head (IsAsked l) r rs all)).0 (all-of-link rs (All-tail (IsAsked l) r rs all))
 
-  abbrev SameNow : Clocked → Wire → Type 0
+  abbrev pub SameNow : Clocked → Wire → Type 0
   SameNow w f = Same l fit.some fit.call.near.0 fit.call.far.0 fit.call.opposite.0 fit.call.opposite.1 fit.t200 (near_card l fit) (far_card l fit) w f
 
   -- It leads there from a wire.
@@ -117,7 +117,7 @@ module _ (l : Line) (fit : IsFit l) where
       (near-stood l fit.some c.near.0 c.far.0 c.opposite.0 c.opposite.1 fit.t200 (near_card l fit) (far_card l fit) w p b talk s.back s.comes s.us s.far_heard s.there s.goes s.ts s.near_heard)
       b.near_asks refl (all-both b.near_asks are_asked.0) (all-both b.far_asks are_asked.1) now.0 now.1 clear.0 clear.1)
 
-  all-beats : (start : Wire) (bs : List Beat) (w : Clocked) → PairNow l fit w → All (AreAsked l) bs → AreClear l bs w → IsFairBoth (after l.rate bs w) → Reached start w → Reached start (after l.rate bs w)
+  pub all-beats : (start : Wire) (bs : List Beat) (w : Clocked) → PairNow l fit w → All (AreAsked l) bs → AreClear l bs w → IsFairBoth (after l.rate bs w) → Reached start w → Reached start (after l.rate bs w)
   unfolding AreClear
   all-beats start [] w p all clear fair h = h
   all-beats start (b ∷ bs) w p all clear fair h =

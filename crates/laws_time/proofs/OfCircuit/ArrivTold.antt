@@ -50,7 +50,7 @@ use Rattle.laws_time.proofs.OfCircuit.ArrivFair.{codes, codes-append}
 abbrev pub contents_of : List LineTold → List (List ℕ)
 contents_of ts = flat_map (λ (t : LineTold). option_to_list t.contents) ts
 
-contents-append : (ts us : List LineTold) → contents_of (ts ++ us) ≡ contents_of ts ++ contents_of us
+pub contents-append : (ts us : List LineTold) → contents_of (ts ++ us) ≡ contents_of ts ++ contents_of us
 contents-append ts us = flat_map-append (λ (t : LineTold). option_to_list t.contents) ts us
 
 codes-one : (t : LineTold) → codes (for_layer_3 t) ≡ codes (t ∷ [])
@@ -83,7 +83,7 @@ codes-data : (service : Service) (tei : ℕ) (xs : List (List ℕ)) → codes (m
 codes-data service tei [] = refl
 codes-data service tei (x ∷ xs) = codes-data service tei xs
 
-contents-data : (service : Service) (tei : ℕ) (xs : List (List ℕ)) → contents_of (map (data_told service tei) xs) ≡ xs
+pub contents-data : (service : Service) (tei : ℕ) (xs : List (List ℕ)) → contents_of (map (data_told service tei) xs) ≡ xs
 contents-data service tei [] = refl
 contents-data service tei (x ∷ xs) = ap (λ ys. x ∷ ys) (contents-data service tei xs)
 
@@ -127,10 +127,10 @@ module _ (service : Service) (tei : ℕ) where
       go (inr (inr some)) = inr (inr (λ none. some (front-nil (codes told) (codes (news told sent ∷ [])) (sym (codes-append told (news told sent ∷ [])) ∙ none))))
 
 module _ (service : Service) (tei : ℕ) (c d : Config) (p q : ℕ) (face : Face c d) (back : Face d c) (rt : IsInRange (terms c service tei)) (ru : IsInRange (terms d service tei)) where
-  abbrev GoesSo : Called → Wire → Type 0
+  abbrev pub GoesSo : Called → Wire → Type 0
   GoesSo x w = run.Goes service tei c d p q face back rt ru x w
 
-  abbrev KnownOf : Called → Type 0
+  abbrev pub KnownOf : Called → Type 0
   KnownOf x = Known service tei x.told x.given_up
 
   no-length : (ts : List LineTold) → ts ≡ [] → (length ts == 0) ≡ false → ⊥
@@ -155,7 +155,7 @@ module _ (service : Service) (tei : ℕ) (c d : Config) (p q : ℕ) (face : Face
       go false = known
   known-step x (at_far loses) w h known = known
 
-  all-known : (ds : List StepAt) → All (IsFullTalk service tei) ds → (w : Wire) → StayPatient ds w → (x : Called) → GoesSo x w → KnownOf x → KnownOf (seen service tei ds w x)
+  pub all-known : (ds : List StepAt) → All (IsFullTalk service tei) ds → (w : Wire) → StayPatient ds w → (x : Called) → GoesSo x w → KnownOf x → KnownOf (seen service tei ds w x)
   unfolding doing_all StayPatient seen
   all-known [] all w patient x h known = known
   all-known (k ∷ ds) all w patient x h known =
@@ -275,6 +275,9 @@ module _ (service : Service) (tei : ℕ) (c d : Config) (p q : ℕ) (face : Face
         go (inr (inl h)) = (h.far.heard, h.near.granted, h.far.granted, h.near.heard)
         go (inr (inr h)) = (h.far.heard, h.near.granted, h.far.granted, h.near.heard)
 
+  pub down-near : (v : Wire) → run.Rs service tei c d p q face back rt ru (run.Down service tei c d p q face back rt ru) v → heard_in v.near ≡ []
+  down-near v down = (down-far v down).3
+
   phase-far : (x : Called) (v : Wire) → run.Phase service tei c d p q face back rt ru x v → IsFree v.near → heard_in v.far ≡ x.told ++ all_data v.near.granted
   phase-far x v (inl (told, sent, down)) free =
       let n = down-far v down in n.0 ∙ sym (ap (λ ts. ts ++ all_data v.near.granted) told ∙ ap all_data n.1)
@@ -300,7 +303,7 @@ module _ (service : Service) (tei : ℕ) (c d : Config) (p q : ℕ) (face : Face
     none-of (x ∷ xs) e = absurd (omega (arith, e))
 
     -- no error was told there
-    few : codes (heard_in w.far) ≡ [] → ((x.told ≡ []) × (x.given_up ≡ 0)) ⊎ ((x.told ≡ indicated service tei ∷ []) × (x.given_up ≡ 0))
+    pub few : codes (heard_in w.far) ≡ [] → ((x.told ≡ []) × (x.given_up ≡ 0)) ⊎ ((x.told ≡ indicated service tei ∷ []) × (x.given_up ≡ 0))
     few none = go known.kinds
       where
         quiet : codes x.told ≡ []
@@ -319,7 +322,7 @@ module _ (service : Service) (tei : ℕ) (c d : Config) (p q : ℕ) (face : Face
         go (inl y) = y.1
         go (inr y) = y.1
 
-    no-earlier : codes (heard_in w.far) ≡ [] → w ≡ h.v
+    pub no-earlier : codes (heard_in w.far) ≡ [] → w ≡ h.v
     no-earlier none =
         h.is ∙ ap (λ g. with_before g h.v) (none-of h.earlier (sym h.given_up ∙ none-given none))
 
@@ -354,7 +357,7 @@ module _ (service : Service) (tei : ℕ) (c d : Config) (p q : ℕ) (face : Face
           ∙ contents-append x.told (all_data w.near.granted) ∙ ap (λ cs. cs ++ contents_of (all_data w.near.granted)) (told-contents none) ∙ contents-data service tei w.near.granted;
     }
 
-starts : (service : Service) (c d : Config) (line other tei : ℕ) (can : CanCall c line d other tei) → let s = setting service c d line other tei can in
+pub starts : (service : Service) (c d : Config) (line other tei : ℕ) (can : CanCall c line d other tei) → let s = setting service c d line other tei can in
     run.Goes service tei c d 0 0 s.face s.back s.near s.far uncalled (calling service tei c line d other)
 unfolding doing_all seen StayPatient
 starts service c d line other tei can = patient-goes service c d line other tei [] can (All-nil (IsFullTalk service tei)) tt

@@ -1,0 +1,100 @@
+-- A station whose link is up: how many of its contents are acknowledged, as its room says, and how many the other was told.
+use Rattle.std.proofs.Common.{arith, ◌≡◌, ℕ, ◌+◌, ◌≤◌, Bool, true, false, cond, not, List, [], ◌++◌, length, map, None, Some, Ok, refl, sym, ap, ◌∙◌, subst, ◌⊎◌, inl, inr}
+use Rattle.std.proofs.lemmas.Bool.{le-ltb}
+use Rattle.std.proofs.lemmas.List.{length-drop, length-take-le}
+use Rattle.lapd_frame.specs.declared.refusals.Refusal.{Refusal}
+use Rattle.lapd_frame.specs.declared.refusals.Refusal.TheVariants.{BadTei, NoLink}
+use Rattle.lapd_frame.specs.declared.services.Service.{Service}
+use Rattle.lapd_tei.proofs.Tables.{is_on-at, place_of-is}
+use Rattle.model_link.proofs.Direction.{line_of}
+use Rattle.model_link.proofs.Lines.{rising-low}
+use Rattle.model_link.specs.Link.{Link, queue_of}
+use Rattle.model_link.specs.Room.{room_of}
+use Rattle.model_link.specs.TwoEnds.{Endpoint as LinkEndpoint}
+use Rattle.model_link.specs.declared.rooms.Room.{Room}
+use Rattle.model_link.specs.declared.states.State.TheVariants.{Established, TimerRecovery}
+use Rattle.model_link.specs.declared.terms.Terms.{Terms}
+use Rattle.model_line.specs.Event.{LineTold}
+use Rattle.model_line.specs.Line.{terms, link_of}
+use Rattle.model_line.specs.Room.{unless}
+use Rattle.model_line.specs.declared.config.Config.{Config}
+use Rattle.model_card.specs.Card.{line_at}
+use Rattle.model_card.specs.Room.{room, free as free_slots}
+use Rattle.laws_wire.specs.Call.{data_told}
+use Rattle.laws_wire.specs.Losing.{heard_in}
+use Rattle.laws_wire.specs.Wire.{Endpoint, Wire}
+use Rattle.laws_wire.proofs.Awaited.{link-is}
+use Rattle.laws_wire.proofs.Held.{Held}
+use Rattle.laws_wire.proofs.LooseUp.{LooseUp, LooseAt}
+use Rattle.laws_wire.proofs.Standing.{StationStands, link-ranges, link-sound}
+use Rattle.laws_time.proofs.OfCircuit.ArrivTold.{contents_of, contents-append, contents-data}
+use Rattle.laws_time.proofs.OfCircuit.CaughtLinks.{Owes}
+use Rattle.laws_time.proofs.OfCircuit.CaughtWire.{UpWith}
+
+-- So many are acknowledged.
+abbrev pub Acknowledges : Service → ℕ → ℕ → Endpoint → Type 0
+Acknowledges service tei n s = (left : Room) × (room s.line service tei s.card ≡ Ok left) × (left.queue + length s.granted ≡ s.card.config.queue + n)
+
+two-pass : (a b : Bool) (x y : Refusal) → a ≡ false → b ≡ false → cond a (Some x) (cond b (Some y) None) ≡ None
+two-pass a b x y e e' = rw (e, e') refl
+
+module _ (service : Service) (tei : ℕ) where
+  module _ (c : Config) (place : ℕ) (past : List LineTold) (s : Endpoint) (n : LinkEndpoint) (h : Held c service tei place past s n) (low : n.link.a ≤ length n.link.contents) where
+    own : StationStands s.card.config service tei place s n
+    own = subst (λ k. StationStands k service tei place s n) (sym h.stands.config) h.stands
+
+    pub acknowledges : Acknowledges service tei n.link.a s
+    acknowledges =
+        let l = line_at s.line s.card in
+        let few : tei ≤ 126 = subst (λ (t : Terms). t.tei ≤ 126) h.stands.terms (link-ranges service tei place s n own).tei in
+        let at = (place_of-is l.management.places tei place h.stands.speaks.placed).1 in
+        let link = ap (λ (l : Link). length (queue_of l)) (link-is service tei c place s n h.stands) in
+        let some = length-drop n.link.a n.link.contents in
+        let kept = (link-sound service tei place s n own).queue in
+        let terms_are = ap (λ (t : Terms). t.queue) h.stands.terms in
+        let config = ap (λ (k : Config). k.queue) h.stands.config in
+        let granted = ap length h.granted in
+        let left = room_of (terms s.card.config service tei) (free_slots s.card) (link_of service tei l) in (
+          left,
+          ap (λ o. unless o left) (two-pass _ _ BadTei NoLink (le-ltb 126 tei few) (ap not (is_on-at l.management.places place tei at))),
+          omega (arith, link, some, kept, terms_are, config, granted, low),
+        )
+
+  module _ (c d : Config) (p q : ℕ) (past other : List LineTold) (w : Wire) (n m : LinkEndpoint) (h : LooseAt service tei c d p q past other w n m) where
+    -- V(A), V(R) and what was accepted
+    acked : n.link.a ≤ m.link.r
+    acked = rising-low n.link.a m.link.r (line_of m) h.loose.joined.there.rising
+
+    accepted : m.link.r ≤ length n.link.contents
+    accepted = h.loose.joined.there.accepted
+
+    -- The other end was told as many contents as it has received.
+    pub told-as-many : contents_of other ≡ [] → length (contents_of (heard_in w.far)) ≡ m.link.r
+    told-as-many none =
+        let told = ap contents_of h.far.heard ∙ contents-append other (map (data_told service tei) m.delivered) ∙ ap (λ cs. cs ++ contents_of (map (data_told service tei) m.delivered)) none
+        ∙ contents-data service tei m.delivered in
+        ap length told ∙ ap length h.loose.joined.there.delivered ∙ length-take-le m.link.r n.link.contents accepted
+
+    pub acknowledges-some : Acknowledges service tei n.link.a w.near
+    acknowledges-some = let one = acked in let two = accepted in acknowledges c p past w.near n h.near (omega (arith, one, two))
+
+    pub no-more : n.link.a ≤ m.link.r
+    no-more = acked
+
+  module _ (c d : Config) (p q : ℕ) (past other : List LineTold) (w : Wire) where
+    pub owing : (h : LooseUp service tei c d p q past other w) → h.n.link.state ≡ TimerRecovery → UpWith service tei c d p q past other (Owes true h.m.link.r) w
+    owing h at = record { n = h.n; m = h.m; at = record { near = h.near; far = h.far; loose = h.loose }; holds = record { had = omega arith; is = inl (refl, at) } }
+
+    pub settled : (k : ℕ) (h : UpWith service tei c d p q past other (Owes true k) w) → h.n.link.state ≡ Established → UpWith service tei c d p q past other (Owes false k) w
+    settled k h at = record { n = h.n; m = h.m; at = h.at; holds = record { had = h.holds.had; is = inr (go h.holds.is) } }
+      where
+        go : ((true ≡ true) × (h.n.link.state ≡ TimerRecovery)) ⊎ (k ≤ h.n.link.a) → k ≤ h.n.link.a
+        go (inl (b, asks)) = absurd (cc (sym asks ∙ at))
+        go (inr low) = low
+
+    pub paid : (k : ℕ) (h : UpWith service tei c d p q past other (Owes false k) w) → k ≤ h.n.link.a
+    paid k h = go h.holds.is
+      where
+        go : ((false ≡ true) × (h.n.link.state ≡ TimerRecovery)) ⊎ (k ≤ h.n.link.a) → k ≤ h.n.link.a
+        go (inl (b, asks)) = absurd (cc b)
+        go (inr low) = low

@@ -1,0 +1,162 @@
+-- A call on the circuit up to a time, and from there on, part by part: on a wire of frames both links are up.
+use Rattle.std.proofs.Common.{◌≡◌, ℕ, false, List, [], ◌∷◌, ◌++◌, Option, Some, refl, sym, ap, ◌∙◌, subst, All, ◌⊎◌, inl, inr, append_assoc}
+use Rattle.std.specs.List.{list_any}
+use Rattle.std.proofs.lemmas.List.Elements.{All-nil, All-cons, All-append, All-head, All-tail}
+use Rattle.std.proofs.lemmas.List.Folds.{list_any-append}
+use Rattle.std.proofs.lemmas.List.Sums.{fold-append}
+use Rattle.lapd_frame.specs.declared.notes.ErrorCode.{ErrorCode}
+use Rattle.model_line.specs.Request.{Request, Establish}
+use Rattle.laws_line.proofs.OfCard.Meanwhile.{all-left, all-right}
+use Rattle.laws_wire.specs.Call.{calling}
+use Rattle.laws_wire.specs.Losing.{heard_in}
+use Rattle.laws_wire.specs.Wire.{Wire}
+use Rattle.laws_wire.proofs.LooseUp.{LooseUp}
+use Rattle.laws_time.proofs.OfCircuit.ArrivBegan.{reached, clear-parts}
+use Rattle.laws_time.proofs.OfCircuit.ArrivFair.{codes, codes-append, neither}
+use Rattle.laws_time.proofs.OfCircuit.ArrivPath.{path-none}
+use Rattle.laws_time.proofs.OfCircuit.ArrivRun.{Reached, IsFairBoth, all-beats, all-of-link, fair-all}
+use Rattle.laws_time.proofs.OfCircuit.ArrivTold.{codes-heard}
+use Rattle.laws_time.proofs.OfCircuit.CaughtBegun.{both-up}
+use Rattle.laws_time.proofs.OfCircuit.CaughtLaw.{near_past, far_past, near-heard, far-heard}
+use Rattle.laws_time.proofs.OfCircuit.InCallFair.{BothWalk, walks-all, talk-all}
+use Rattle.laws_time.proofs.OfCircuit.InCallPhase.{in-call}
+use Rattle.laws_time.proofs.OfCircuit.InTime.{PairNow, near_card, far_card, pair-begins}
+use Rattle.laws_time.proofs.OfCircuit.LongEnough.{all-pairs}
+use Rattle.laws_time.specs.circuit.Answered.{state_at}
+unfoldable use Rattle.laws_time.specs.circuit.Answered.{Enquires}
+use Rattle.laws_time.specs.circuit.Arriving.{IsIdle, AreAsked, calls, errors_at, is_used_up}
+use Rattle.laws_time.specs.circuit.CaughtUp.{GoesWell, in_call}
+use Rattle.laws_time.specs.circuit.Clocked.{Clocked, Beat, beat, after}
+use Rattle.laws_time.specs.circuit.InCall.{IsUp}
+use Rattle.laws_time.specs.circuit.LongEnough.{Line, IsFit, IsTalk, IsOfLink, AreClear, begins}
+
+idle-talk : (l : Line) (before : List Beat) → All IsIdle before → All (IsTalk l) before
+idle-talk l [] all = All-nil (IsTalk l)
+idle-talk l (b ∷ before) all = All-cons (IsTalk l) b before (none b.near_asks (All-head IsIdle b before all).0, none b.far_asks (All-head IsIdle b before all).1) (idle-talk l before (All-tail IsIdle b before all))
+  where
+    none : (rs : List Request) → rs ≡ [] → All (IsOfLink l.service l.tei) rs
+    none rs is = subst (All (IsOfLink l.service l.tei)) (sym is) (All-nil (IsOfLink l.service l.tei))
+
+front-nil : (a b : List ErrorCode) → a ++ b ≡ [] → a ≡ []
+front-nil [] b e = refl
+front-nil (x ∷ a) b e = absurd (cc e)
+
+-- A call up to a time, and from there on.
+module _ (l : Line) (before bs more : List Beat) (b : Beat) (h : GoesWell l before b (bs ++ more)) where
+  abbrev fit : IsFit l
+  fit = h.fit
+
+  abbrev w : Clocked
+  w = in_call l before b bs
+
+  abbrev u : Clocked
+  u = after l.rate more (in_call l before b bs)
+
+  abbrev first : List Beat
+  first = before ++ calls l b ∷ bs
+
+  same-list : before ++ calls l b ∷ (bs ++ more) ≡ (before ++ calls l b ∷ bs) ++ more
+  same-list = sym (append_assoc before (calls l b ∷ bs) more)
+
+  pub same-world : in_call l before b (bs ++ more) ≡ after l.rate more (in_call l before b bs)
+  same-world = ap (λ bs. after l.rate bs (begins l)) same-list ∙ fold-append (beat l.rate) (begins l) first more
+
+  pub clear : AreClear l (before ++ calls l b ∷ bs) (begins l) × AreClear l more (in_call l before b bs)
+  clear = clear-parts l h.fit first more (begins l) (subst (λ bs. AreClear l bs (begins l)) same-list h.clear)
+
+  asked-b : AreAsked l b
+  asked-b = All-head (AreAsked l) b (bs ++ more) h.asked
+
+  asked-all : All (AreAsked l) (bs ++ more)
+  asked-all = All-tail (AreAsked l) b (bs ++ more) h.asked
+
+  asked-bs : All (AreAsked l) bs
+  asked-bs = all-left (AreAsked l) bs more asked-all
+
+  pub asked-more : All (AreAsked l) more
+  asked-more = all-right (AreAsked l) bs more asked-all
+
+  call-talk : IsTalk l (calls l b)
+  call-talk = (All-cons (IsOfLink l.service l.tei) (Establish l.service l.tei) b.near_asks (refl, refl) (all-of-link l h.fit b.near_asks asked-b.0), all-of-link l h.fit b.far_asks asked-b.1)
+
+  first-talk : All (IsTalk l) (before ++ calls l b ∷ bs)
+  first-talk = All-append (IsTalk l) before (calls l b ∷ bs) (idle-talk l before h.idle) (All-cons (IsTalk l) (calls l b) bs call-talk (talk-all l h.fit bs asked-bs))
+
+  pub pair-w : PairNow l h.fit (in_call l before b bs)
+  pair-w =
+      let k = h.fit.call in
+      all-pairs l h.fit.some k.near.0 k.far.0 k.opposite.0 k.opposite.1 h.fit.t200 (near_card l h.fit) (far_card l h.fit) first first-talk (begins l) clear.0 (pair-begins l h.fit)
+
+  walk : BothWalk l h.fit (in_call l before b bs) (after l.rate more (in_call l before b bs))
+  walk = walks-all l h.fit more w pair-w (talk-all l h.fit more asked-more) clear.1
+
+  pub fair-u : IsFairBoth (after l.rate more (in_call l before b bs))
+  fair-u =
+      let used = subst (λ (u : Clocked). list_any is_used_up (errors_at u.near ++ errors_at u.far) ≡ false) same-world h.used in
+      neither (list_any is_used_up (errors_at u.near)) (list_any is_used_up (errors_at u.far)) (sym (list_any-append is_used_up (errors_at u.near) (errors_at u.far)) ∙ used)
+
+  abbrev start : Wire
+  start = calling l.service l.tei l.near l.near_line l.far l.far_line
+
+  pub reached-w : Reached l h.fit (calling l.service l.tei l.near l.near_line l.far l.far_line) (in_call l before b bs)
+  reached-w = reached l h.fit before b bs h.idle asked-b asked-bs clear.0 (fair-all l.rate more w fair-u)
+
+  -- No error F was told by then.
+  quiet : codes (heard_in reached-w.f.far) ≡ []
+  quiet =
+      let none = subst (λ (u : Clocked). errors_at u.far ≡ []) same-world h.heard in
+      ap codes (far-heard l h.fit w pair-w reached-w.f reached-w.same)
+      ∙ codes-heard w.far.at.told
+      ∙ front-nil (codes w.far.at.told) (codes walk.far.more) (sym (codes-append w.far.at.told walk.far.more) ∙ ap codes (sym walk.far.grows) ∙ none)
+
+  -- Both links are up, once the end that calls is.
+  pub both-are-up : IsUp l w.near → LooseUp l.service l.tei l.near l.far 0 0 (near_past l h.fit) (far_past l h.fit) reached-w.f
+  both-are-up up =
+      subst (λ f. codes (heard_in f.far) ≡ [] → (heard_in f.near ≡ [] → ⊥) → LooseUp l.service l.tei l.near l.far 0 0 (near_past l h.fit) (far_past l h.fit) f) reached-w.path.leads
+      (both-up l.service l.near l.far l.near_line l.far_line l.tei reached-w.path.steps h.fit.call reached-w.path.talk reached-w.path.patient) quiet some
+    where
+      not-5 : (o : Option ℕ) → (o ≡ Some 7) ⊎ (o ≡ Some 8) → o ≡ Some 5 → ⊥
+      not-5 o (inl seven) five = cc (sym seven ∙ five)
+      not-5 o (inr eight) five = cc (sym eight ∙ five)
+
+      some : heard_in reached-w.f.near ≡ [] → ⊥
+      some none = elim (in-call l h.fit w pair-w reached-w) [
+        | inl x ↦ not-5 (state_at l w.near) up x.0
+        | inr x ↦ x.0 (sym (near-heard l h.fit w pair-w reached-w.f reached-w.same) ∙ none)
+      ]
+
+  -- A part of what comes, and the rest.
+  module _ (done rest : List Beat) (all : done ++ rest ≡ more) where
+    pub parts-world : after l.rate more (in_call l before b bs) ≡ after l.rate rest (after l.rate done (in_call l before b bs))
+    parts-world = ap (λ bs. after l.rate bs w) (sym all) ∙ fold-append (beat l.rate) w done rest
+
+    parts : AreClear l done (in_call l before b bs) × AreClear l rest (after l.rate done (in_call l before b bs))
+    parts = clear-parts l h.fit done rest w (subst (λ bs. AreClear l bs w) (sym all) clear.1)
+
+    asked : All (AreAsked l) (done ++ rest)
+    asked = subst (All (AreAsked l)) (sym all) asked-more
+
+    asked-done : All (AreAsked l) done
+    asked-done = all-left (AreAsked l) done rest asked
+
+    asked-rest : All (AreAsked l) rest
+    asked-rest = all-right (AreAsked l) done rest asked
+
+    pub pair-done : PairNow l h.fit (after l.rate done (in_call l before b bs))
+    pair-done = (walks-all l h.fit done w pair-w (talk-all l h.fit done asked-done) parts.0).pair
+
+    pub pair-rest : PairNow l h.fit (after l.rate rest (after l.rate done (in_call l before b bs)))
+    pair-rest = (walks-all l h.fit rest (after l.rate done w) pair-done (talk-all l h.fit rest asked-rest) parts.1).pair
+
+    fair-rest : IsFairBoth (after l.rate rest (after l.rate done (in_call l before b bs)))
+    fair-rest = subst IsFairBoth parts-world fair-u
+
+    pub r-done : Reached l h.fit reached-w.f (after l.rate done (in_call l before b bs))
+    r-done =
+        all-beats l h.fit reached-w.f done w pair-w asked-done parts.0 (fair-all l.rate rest (after l.rate done w) fair-rest)
+        (record { f = reached-w.f; path = path-none l.service l.tei reached-w.f reached-w.f refl; same = reached-w.same })
+
+    pub r-rest : Reached l h.fit r-done.f (after l.rate rest (after l.rate done (in_call l before b bs)))
+    r-rest =
+        all-beats l h.fit r-done.f rest (after l.rate done w) pair-done asked-rest parts.1 fair-rest
+        (record { f = r-done.f; path = path-none l.service l.tei r-done.f r-done.f refl; same = r-done.same })

@@ -1,0 +1,13 @@
+-- Hand-written answers for `an_answer_tells_what_came`.
+use Rattle.laws_time.proofs.OfCircuit.CaughtMet.{an-enquiry-meets-it}
+use Rattle.laws_time.proofs.OfCircuit.CaughtUp.{an-enquiry-catches-up, answers-tell-what-came}
+use Rattle.laws_time.proofs.circuit.an_answer_tells_what_came.Goals as goal
+
+pub returns-clause-came : goal.returns-clause-came
+returns-clause-came c = answers-tell-what-came
+
+pub returns-clause-in_time : goal.returns-clause-in_time
+returns-clause-in_time c = an-enquiry-catches-up
+
+pub returns-clause-met : goal.returns-clause-met
+returns-clause-met c = an-enquiry-meets-it

@@ -9,8 +9,9 @@
 //! `LongEnough`, and worked out in `WorkedLongEnough`. Answers that come are in `Answered` and `WorkedAnswered`. What a
 //! call through noise tells is in `Arriving`, and a run that meets its premises in `WorkedArriving`. How soon it comes
 //! through is in `InCall` and `WorkedInCall`. How many beats a call without noise takes is in `InBeats` and
-//! `WorkedInBeats`, and with which T200 no timer falls due in it in `WorkedInTime`. What the answer to an enquiry brings is in `CaughtUp` and `WorkedCaughtUp`. Random and chosen runs broke nothing of what is open, if layer 3 asks for no unit data and is not
-//! busy, T200 is at least as long as an answer takes, and noise makes no frame.
+//! `WorkedInBeats`, and with which T200 no timer falls due in it in `WorkedInTime`. What the answer to an enquiry
+//! brings is in `CaughtUp` and `WorkedCaughtUp`. Random and chosen runs broke nothing of what is open, if layer 3 asks
+//! for no unit data and is not busy, T200 is at least as long as an answer takes, and noise makes no frame.
 //!
 //! # Open
 //!

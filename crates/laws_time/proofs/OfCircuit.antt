@@ -97,3 +97,4 @@ pub mod CaughtBack
 pub mod CaughtUp
 pub mod CaughtMirror
 pub mod CaughtMet
+pub mod CaughtAll

@@ -20,7 +20,7 @@
 
 ghost use Rattle.laws_time.specs.circuit.Answered.{AnEnquiryIsAnswered, CommandsAreAnswered, NoNoiseIsClear, OneEnquiryIsEnough};
 ghost use Rattle.laws_time.specs.circuit.Arriving.{CallsBearNoise};
-ghost use Rattle.laws_time.specs.circuit.CaughtUp.{AnEnquiryCatchesUp, AnswersTellWhatCame};
+ghost use Rattle.laws_time.specs.circuit.CaughtUp.{AllPlacesAreFree, AnEnquiryCatchesUp, AnswersTellWhatCame};
 ghost use Rattle.laws_time.specs.circuit.Ends.{EndsAreTimedCards};
 ghost use Rattle.laws_time.specs.circuit.InBeats.{ACallComesInTime, ACallTakesBeats, AShortCallTakesBeats, FramesComeInBeats, MessagesComeInTime, MessagesTakeBeats, ShortMessagesTakeBeats, T203FallsDueFirst, T203FallsDueFirstSince};
 ghost use Rattle.laws_time.specs.circuit.InCall.{ACallOutlastsNoise, N200LastsInACall};
@@ -108,10 +108,12 @@ pub fn a_call_outlasts_noise()
 /// Let either end come from state 7 to state 8, as T200 or T203 falls due, on a line without noise. Let no noise come for
 /// 2 (L + D) + 9 (c + c') octet times from then on, and let no frame find no place, while requests may go on. Then that end
 /// has caught up with what the other had been told as the timer fell due, whatever noise took before (`in_time`). So a lost
-/// acknowledgement is made good so soon (Q.921 clause 5.6.7). A worked run meets all premises of the first (`met`).
+/// acknowledgement is made good so soon (Q.921 clause 5.6.7). If the other end had been told all that is granted by then,
+/// each place of the queue is free (`all`). A worked run meets all premises of the first (`met`).
 pub fn an_answer_tells_what_came()
     ensures came { AnswersTellWhatCame }
     ensures in_time { AnEnquiryCatchesUp }
+    ensures all { AllPlacesAreFree }
     ensures met { AnEnquiryMeetsIt }
 {}
 

@@ -4,7 +4,7 @@ use Rattle.std.specs.List.{list_any}
 use Rattle.model_link.specs.declared.rooms.Room.{Room}
 use Rattle.model_card.specs.Room.{room}
 use Rattle.laws_time.specs.circuit.Answered.{IsUndisturbed, begun, state_at}
-use Rattle.laws_time.specs.circuit.Arriving.{IsIdle, AreAsked, calls, errors_at, is_used_up}
+use Rattle.laws_time.specs.circuit.Arriving.{IsIdle, AreAsked, HasAllPlaces, calls, errors_at, is_used_up}
 use Rattle.laws_time.specs.circuit.Clocked.{TimedEndpoint, Clocked, Beat, beat, after, contents_at}
 use Rattle.laws_time.specs.circuit.InCall.{IsUp}
 use Rattle.laws_time.specs.circuit.LongEnough.{Line, IsFit, AreClear, answered_in, begins}
@@ -17,6 +17,10 @@ AreAcknowledged l n s =
 -- These are as many as the other end had been told at a time, or more, and no more than it has been told by now.
 abbrev pub HasCaughtUp : Line → TimedEndpoint → TimedEndpoint → TimedEndpoint → Type 0
 HasCaughtUp l then now s = (n : ℕ) × AreAcknowledged l n s × (length (contents_at then) ≤ n) × (n ≤ length (contents_at now))
+
+-- If the other end had been told all that is granted by now, each place of the queue is free.
+abbrev pub AllPlacesAreFree : Type 0
+AllPlacesAreFree = (l : Line) (then now s : TimedEndpoint) → HasCaughtUp l then now s → contents_at then ≡ s.at.granted → HasAllPlaces l s
 
 -- A call through any noise that makes no frame, in which N200 is not used up, and no UA was lost (error F).
 abbrev pub in_call : Line → List Beat → Beat → List Beat → Clocked

@@ -1,4 +1,5 @@
 -- Hand-written answers for `an_answer_tells_what_came`.
+use Rattle.laws_time.proofs.OfCircuit.CaughtAll.{all-places-are-free}
 use Rattle.laws_time.proofs.OfCircuit.CaughtMet.{an-enquiry-meets-it}
 use Rattle.laws_time.proofs.OfCircuit.CaughtUp.{an-enquiry-catches-up, answers-tell-what-came}
 use Rattle.laws_time.proofs.circuit.an_answer_tells_what_came.Goals as goal
@@ -11,3 +12,6 @@ returns-clause-in_time c = an-enquiry-catches-up
 
 pub returns-clause-met : goal.returns-clause-met
 returns-clause-met c = an-enquiry-meets-it
+
+pub returns-clause-all : goal.returns-clause-all
+returns-clause-all c = all-places-are-free

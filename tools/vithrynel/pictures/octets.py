@@ -63,11 +63,12 @@ COMES = [
         Note("Card::hear goes on with a frame that ended"), back("does a frame wait on the line?", "waiting")], "Card::hear"),
     Call("FrameLine::heard", "lapd_line/src/frame_line.rt", [
         Note("what is heard is counted", code="counters"), back("so is what is told", "count")]),
-    Call("LinkLayer::serve", "lapd_line/src/addressing.rt", [
+    Call("LinkLayer::serve, serve_octets, serve_any", "lapd_line/src/addressing.rt", [
         Note("lapd_frame/src/reading.rt", code="read"), Note("SAPI 63, lapd_tei/src/teis.rt", code="message"),
         drop("extension, sapi, tei, unserved")]),
     Call("LinkLayer::receive", "lapd_line/src/link_layer.rt", [
-        back("has the link a frame to give?", "has_frame"), back("where contents begin in the frame", "start")]),
+        back("has the link a frame to give?", "has_frame"), back("where contents begin in the frame", "start")],
+        "serve_octets"),
     Call("Links::receive", "lapd_line/src/links.rt", [Note("the link of that service and TEI")]),
     Call("Link::receive, hear", "lapd_link/src/events.rt", [
         back("contents leave the shelf, and", "settle"), back("timers get their orders")]),

@@ -6,7 +6,7 @@ from ..svg import Drawing
 
 LEFT, RIGHT, BOX, GAP = 36, 690, 310, 18
 BACK = LEFT + BOX + 30  # the way back
-WIDTH, HEIGHT = 1150, 1003
+WIDTH, HEIGHT = 1150, 1021
 
 
 class Note(NamedTuple):

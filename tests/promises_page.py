@@ -73,6 +73,10 @@ SHARED = {'a call': ['CanCall c line d other tei'], 'talk': ['All (IsTalk servic
           'a quiet line': ['Begins l', 'All (IsTalk l) (b ∷ before)', 'All IsClean (b ∷ before)', 'All IsClean bs'],
           'at rest': ['All (AsksData l) bs', 'IsAtRest l r', 'NoneFallsDue l.rate (bs ++ replicate n plain) r'],
           'a timed line': ['IsInRange c', 'number < c.lines', 'ArePrompt w.kind late before begun', 'ArePrompt w.kind late steps t']}
+# What some of these say, in words.
+IN_WORDS = {'a call': 'two cards, one of each side, with one TEI', 'talk': 'data is asked for; frames are sent and received',
+            'rough talk': 'frames are lost and timers expire, too', 'full talk': 'so, and ends are busy and ready again',
+            'a noisy call': 'T200 is long enough; noise makes no frame', 'a quiet call': 'no noise; no timer falls due'}
 MACHINE_ROW = re.compile(r'^machine: (\S+)$|^law: (\S+) (\S+)', re.MULTILINE)
 
 
@@ -206,7 +210,8 @@ def page():
     it, lines = Statement(), []
     always = of_definition(it.files[('laws_trace', 'Trace')].definitions[ALWAYS])['']
     lines += ['', '`%s`: %s.' % (ALWAYS, quoted(always))]
-    told = ['%s: %s.' % (name.capitalize(), '; '.join('`%s`' % it for it in them)) for name, them in SHARED.items()]
+    told = ['%s%s: %s.' % (name.capitalize(), ' (%s)' % IN_WORDS[name] if name in IN_WORDS else '', '; '.join('`%s`' % it for it in them))
+            for name, them in SHARED.items()]
     lines += sum((textwrap.wrap(it, 120, break_on_hyphens=False, break_long_words=False) for it in told), [])
     for place, rows in it.rows_of.items():
         lines += ['', '## %s' % (title(place)[0].upper() + title(place)[1:])]

@@ -1,6 +1,6 @@
 -- A control frame that waits is taken by one of so many calls also where other events of its line are between them.
 use Rattle.laws_line.proofs.Vocabulary.{◌≡◌, ℕ, ◌+◌, ◌-◌, ◌<◌, ◌≤◌, Bool, false, cond, List, [], ◌∷◌, ◌++◌, Option, Some, sym, ap, ◌∙◌, ◌⊎◌, inl, inr, arith, append_assoc, append-nil, length-append, eq-eqb, Service, Parts, ControlFrame, State, Terms, Link, event-follows, as_heard, is_overlong, waiting_left, Change, one_more_waits, Config, LineTold, Answer, Aim, of_change, of_aim, Line, link_count}
-use Rattle.laws_line.proofs.Vocabulary.{service_at, place_at, tei_at, terms, link_at, IsInRange, Event, after, answer, IsSound, deactivates, IsBy, frames_before, is_take, go_first, link_overlong, link_offer, link_received, link_frame, link_cleared, LinkEvent, link_after}
+use Rattle.laws_line.proofs.Vocabulary.{service_at, place_at, tei_at, terms, link_at, IsInRange, Event, after, answer, IsSound, deactivates, IsBy, frames_before, is_take, priority_waiting, link_overlong, link_offer, link_received, link_frame, link_cleared, LinkEvent, link_after}
 use Rattle.laws_line.proofs.Happening.{Happens, event-happens}
 use Rattle.laws_line.proofs.Vocabulary.{None, refl, true, at_management, at_terminal, at_no_link, at_a_terminal, of_management, of_network, of_terminal, of_terminal_if, told_of_management, told_of_terminal, is_terminal, terminal_in, with_terminal, without_units, TeiEvent, TerminalEvent, tei_told, tei_after, terminal_told, terminal_after, down as line_down}
 
@@ -79,7 +79,7 @@ module _ (c : Config) (ranged : IsInRange c) (number tei : ℕ) (few : number < 
 
   -- so it comes no nearer, and no farther than by what comes first
   pub no-farther-off : (e : Event) (l : Line) (others : ℕ) → is_take e ≡ false
-      → frames_before c (after c e l) number others ≤ frames_before c l number others + (go_first (after c e l) - go_first l)
+      → frames_before c (after c e l) number others ≤ frames_before c l number others + (priority_waiting (after c e l) - priority_waiting l)
   no-farther-off e l others apart = grind (arith, meanwhile)
 
   pub other-waits : (e : Event) (l : Line) → is_take e ≡ false → deactivates (service_at number) tei e ≡ false → IsSound c l → tei_at (place_at number) l ≡ Some tei → tei_at (place_at number) (after c e l) ≡ Some tei

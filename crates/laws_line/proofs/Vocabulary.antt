@@ -153,7 +153,7 @@ pub use Rattle.laws_link.specs.Waiting.{waiting_left}
 pub use Rattle.laws_link.specs.two.Needed.{HasItsTimer}
 pub use Rattle.laws_link.specs.two.Waits.{Goes, GoesWhole, HasNothingToSend}
 unfoldable pub use Rattle.laws_link.specs.two.Waits.{after_offers}
-pub use Rattle.laws_line.specs.Among.{go_first}
+pub use Rattle.laws_line.specs.Among.{priority_waiting}
 unfoldable pub use Rattle.laws_line.specs.Among.{after_events}
 pub use Rattle.laws_line.specs.Drains.{IsIdling, control_text, frames_before, frames_to_go, link_to_go, most_frames, most_frames_before, most_messages, to_go_at_link, way_round}
 unfoldable pub use Rattle.laws_line.specs.Drains.{after_takes}
@@ -177,5 +177,5 @@ pub use Rattle.laws_line.specs.card.Brief.{CausesAreTold, LeavesOthers, LinksSta
 pub use Rattle.laws_line.specs.card.OneEvent.{IsOneEventIn}
 pub use Rattle.laws_line.specs.card.Promises.{HasOneEvent, RunsWhatIsNeeded}
 pub use Rattle.laws_line.specs.card.PromisesOfTakes.{CallsComeToAnEnd, IsNotDeactivated, WaitingIsTaken, Wherever, is_deactivated_at}
-unfoldable pub use Rattle.laws_line.specs.card.PromisesOfTakes.{StaysAt, come_first_at}
+unfoldable pub use Rattle.laws_line.specs.card.PromisesOfTakes.{StaysAt, priority_added_at}
 pub use Rattle.laws_line.specs.card.Timers.{AllHaveTheirTimers, one_more as line_one_more, runs_at_callers}

@@ -11,5 +11,5 @@ after_events c [] l = l
 after_events c (e ∷ es) l = after_events c es (after c e l)
 
 -- The frames that go before all links: messages of TEI management, and unit data.
-abbrev pub go_first : Line → ℕ
-go_first l = length l.management.waiting + length l.own.waiting + length l.units
+abbrev pub priority_waiting : Line → ℕ
+priority_waiting l = length l.management.waiting + length l.own.waiting + length l.units

@@ -13,12 +13,9 @@
 //!
 //! # Open
 //!
-//! That what was granted is told in the end; that the other end is told of a release after error H. Order of both
-//! ends together from where a SABME of the establishment is still in transit as UA is received
-//! (`specs/WorkedBroken`). It holds there by `told_in_order` of `laws_wire` as long as neither end is told an error.
-//! It does not by `delivered_in_order`, which speaks of each end by itself. So the former is no instance of the
-//! latter. It says besides that nothing else is told, and its proof by the phases of a call serves other laws there,
-//! too.
+//! That what was granted is told in the end; that the other end is told of a release after error H. Order of both ends
+//! together while a SABME of the establishment is still in transit as UA is received, after an error is told
+//! (`specs/WorkedBroken`; until then `told_in_order` of `laws_wire` says it).
 #![tactic(auto)]
 
 mod circuit;

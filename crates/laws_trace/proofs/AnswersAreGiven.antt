@@ -7,7 +7,7 @@ use Rattle.model_line.specs.Event as line_event
 use Rattle.model_line.specs.Line.{is_terminal}
 use Rattle.model_line.specs.Sound.{IsOfSide}
 use Rattle.laws_line.specs.card.Among.{AreAmong}
-unfoldable use Rattle.laws_line.specs.card.PromisesOfTakes.{StaysAt, come_first_at}
+unfoldable use Rattle.laws_line.specs.card.PromisesOfTakes.{StaysAt, priority_added_at}
 use Rattle.laws_line.specs.card.PromisesOfTakes.{IsNotDeactivated, is_deactivated_at}
 use Rattle.laws_trace.specs.NoLossInVain.{puts_by}
 use Rattle.laws_trace.specs.AnswersAreGiven.{texts, priority_waiting, QueueIsSent, AnswersAreSent}
@@ -60,7 +60,7 @@ module _ (c : Config) (number : ℕ) (ranged : IsInRange c) (within : number < c
           ap (λ (v : Managed). length v.owed + length (own_of c v).owed) (knows.network net) ∙ sym (ap (λ ms. length l.management.waiting + length ms) none.1)
 
   -- the frames that go first
-  first-are : (events : List Event) → AreAtLines (fresh c) events → priority_waiting c number events ≡ at_line.go_first (end events)
+  first-are : (events : List Event) → AreAtLines (fresh c) events → priority_waiting c number events ≡ at_line.priority_waiting (end events)
   first-are events all =
       let units = ap length (waiting-is c events number ranged all within) ∙ length-map (end events).units (unit_frame c) in
       ap (λ n. n + length (units_of c events number)) (messages-are events all)
@@ -70,18 +70,18 @@ module _ (c : Config) (number : ℕ) (ranged : IsInRange c) (within : number < c
   unfolding after_all
   card-then before e = after_all-append (fresh c) before (e ∷ [])
 
-  pub come-so : (before events : List Event) → AreAtLines (fresh c) (before ++ events) → priority_added c number before events ≡ come_first_at number (card before) events
-  unfolding priority_added come_first_at
+  pub come-so : (before events : List Event) → AreAtLines (fresh c) (before ++ events) → priority_added c number before events ≡ priority_added_at number (card before) events
+  unfolding priority_added priority_added_at
   come-so before [] all = refl
   come-so before (e ∷ events) all =
       let whole = subst (AreAtLines (fresh c)) (sym (append_assoc before (e ∷ []) events)) all in
       let was = first-are before (all-left (IsAtLine (fresh c)) before (e ∷ events) all) in
       let now = first-are (before ++ e ∷ []) (all-left (IsAtLine (fresh c)) (before ++ e ∷ []) events whole)
-      ∙ ap (λ k. at_line.go_first (line_at number k)) (card-then before e) in
-      let rest = come-so (before ++ e ∷ []) events whole ∙ ap (λ k. come_first_at number k events) (card-then before e) in
+      ∙ ap (λ k. at_line.priority_waiting (line_at number k)) (card-then before e) in
+      let rest = come-so (before ++ e ∷ []) events whole ∙ ap (λ k. priority_added_at number k events) (card-then before e) in
       ap (λ n. cond (e.line == number && is_take e.what) 0 (n - priority_waiting c number before) + priority_added c number (before ++ e ∷ []) events) now
-      ∙ ap (λ n. cond (e.line == number && is_take e.what) 0 (at_line.go_first (line_at number (after e (card before))) - n) + priority_added c number (before ++ e ∷ []) events) was
-      ∙ ap (λ n. cond (e.line == number && is_take e.what) 0 (at_line.go_first (line_at number (after e (card before))) - at_line.go_first (end before)) + n) rest
+      ∙ ap (λ n. cond (e.line == number && is_take e.what) 0 (at_line.priority_waiting (line_at number (after e (card before))) - n) + priority_added c number (before ++ e ∷ []) events) was
+      ∙ ap (λ n. cond (e.line == number && is_take e.what) 0 (at_line.priority_waiting (line_at number (after e (card before))) - at_line.priority_waiting (end before)) + n) rest
 
   module _ (service : Service) (tei : ℕ) where
     is-there : (before : List Event) → AreAtLines (fresh c) before → is_on tei (managed_after c number before) ≡ true → has_tei tei (end before) ≡ true
@@ -174,7 +174,7 @@ module _ (c : Config) (number : ℕ) (ranged : IsInRange c) (within : number < c
       given = frames_given number (moments (card before) behind)
 
       AreTaken : Config → Type 0
-      AreTaken d = number < d.lines → link < link_count d → most_frames_before d + come_first_at number (card before) behind < takes_of number behind
+      AreTaken d = number < d.lines → link < link_count d → most_frames_before d + priority_added_at number (card before) behind < takes_of number behind
           → AreAmong (map (control_text d link tei) ws) given
 
       taken : AreTaken (card before).config

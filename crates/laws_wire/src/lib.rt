@@ -22,11 +22,10 @@
 //! # Open
 //!
 //! What is told after an error other than F of a lost UA. Whether rest is reached after such an error, or after a
-//! release (that the weight of `proofs/Weighing` falls there was not tried). What arrives if UA is lost or an end is
-//! busy, while data is asked for on and on (while an end is heard to be busy T200 of the other runs on). That all
-//! arrives with no expiry if nothing is lost, no I-frame comes to a busy end, and each of its reports finds a place to
-//! wait (without that it is false: `specs/WorkedReports`). Losses if both ends call, with other requests, links or
-//! lines, or from elsewhere than nothing. That a terminal which asks gets a TEI if frames are lost.
+//! release. What arrives if UA is lost or an end is busy, while data is asked for on and on. That all arrives with no
+//! expiry if nothing is lost, no I-frame comes to a busy end, and each of its reports finds a place to wait (without that
+//! it is false: `specs/WorkedReports`). Losses if both ends call, with other requests, links or lines, or from elsewhere
+//! than nothing. That a terminal which asks gets a TEI if frames are lost.
 #![tactic(auto)]
 
 mod answering;

@@ -1,7 +1,7 @@
 -- A control frame that waits at a line of a card is taken by one of so many calls also where other events of that line are
 -- between them.
 use Rattle.laws_line.proofs.Vocabulary.{◌≡◌, ℕ, ◌+◌, ◌-◌, ◌<◌, ◌≤◌, ◌==◌, ◌&&◌, Bool, true, false, cond, List, [], ◌∷◌, ◌++◌, length, get_or, set, Some, refl, sym, ap, subst, ◌∙◌, ◌⊎◌, inl, inr, arith, eq-eqb, eqb-false, get_or-set_same, All-head, All-tail, ControlFrame, next, Line, fresh_line, link_count, service_at, place_at, tei_at, link_at, Taken, taken, Card, line_at, at, wants_room}
-use Rattle.laws_line.proofs.Vocabulary.{IsAtLine, AreAtLines, after_is_sound, eqb-true, is_take, go_first, frames_before, control_text, deactivates, CardEvent as Event, card_after as after, CardIsSound as IsSound, AreAmong, map, card_answer as answer, come_first_at, takes_of, is_deactivated_at, StaysAt, IsNotDeactivated}
+use Rattle.laws_line.proofs.Vocabulary.{IsAtLine, AreAtLines, after_is_sound, eqb-true, is_take, priority_waiting, frames_before, control_text, deactivates, CardEvent as Event, card_after as after, CardIsSound as IsSound, AreAmong, map, card_answer as answer, priority_added_at, takes_of, is_deactivated_at, StaysAt, IsNotDeactivated}
 use Rattle.model_line.specs.Machine as lines
 unfoldable use Rattle.model_line.specs.Machine.{answer as line_answer}
 unfoldable use Rattle.model_card.specs.Run.{moments}
@@ -26,7 +26,7 @@ module _ (number link tei : ℕ) (f : ControlFrame) where
   abbrev Farther : Card → List ControlFrame → Line → Line → Type 0
   Farther card before l l' =
       ((behind' : List ControlFrame) × Waits l' before behind')
-      × (frames_before card.config l' link (length before) ≤ frames_before card.config l link (length before) + (go_first l' - go_first l))
+      × (frames_before card.config l' link (length before) ≤ frames_before card.config l link (length before) + (priority_waiting l' - priority_waiting l))
 
   unmoved : (card : Card) (before behind : List ControlFrame) (l l' : Line) → l' ≡ l → Waits l before behind → Farther card before l l'
   unmoved card before behind l l' same waits = grind arith
@@ -62,7 +62,7 @@ module _ (number link tei : ℕ) (f : ControlFrame) where
 
   abbrev Less : Card → List Event → List ControlFrame → Type 0
   Less card events before =
-      frames_before card.config (line_at number card) link (length before) + come_first_at number card events < takes_of number events
+      frames_before card.config (line_at number card) link (length before) + priority_added_at number card events < takes_of number events
 
   -- what is given by the calls among events
   abbrev given : Card → List Event → List (List ℕ)
@@ -92,7 +92,7 @@ module _ (number link tei : ℕ) (f : ControlFrame) where
 
   by-call : (card : Card) (events : List Event) → IsSound card → number < card.config.lines → link < link_count card.config → On (line_at number card)
       → (before behind : List ControlFrame) → Waits (line_at number card) before behind
-      → frames_before card.config (line_at number card) link (length before) + come_first_at number (after (at number next) card) events < 1 + takes_of number events
+      → frames_before card.config (line_at number card) link (length before) + priority_added_at number (after (at number next) card) events < 1 + takes_of number events
       → Rest card (at number next) events → AreAmong (texts card (before ++ f ∷ [])) (given card (at number next ∷ events))
   unfolding Rest
   by-call card events s few some at' before behind waits less more =
@@ -119,7 +119,7 @@ module _ (number link tei : ℕ) (f : ControlFrame) where
   pub taken-amid : (events : List Event) (card : Card) → IsSound card → number < card.config.lines → link < link_count card.config → AreAtLines card events → StaysAt number link tei card events
       → IsNotDeactivated number link tei events
       → (before behind : List ControlFrame) → Waits (line_at number card) before behind → Less card events before → AreAmong (texts card (before ++ f ∷ [])) (given card events)
-  unfolding StaysAt come_first_at Rest
+  unfolding StaysAt priority_added_at Rest
   taken-amid [] card s few some lines on up before behind waits less = absurd (omega (arith, less))
   taken-amid (e ∷ events) card s few some lines on up before behind waits less =
       let here = All-head (IsAtLine card) e events lines in
@@ -128,10 +128,10 @@ module _ (number link tei : ℕ) (f : ControlFrame) where
       (All-tail (λ e. is_deactivated_at number link tei e ≡ false) e events up) before' behind' waits' less')
     where
       come : ℕ
-      come = go_first (line_at number (after e card)) - go_first (line_at number card)
+      come = priority_waiting (line_at number (after e card)) - priority_waiting (line_at number card)
 
       rest : ℕ
-      rest = come_first_at number (after e card) events
+      rest = priority_added_at number (after e card) events
 
       with-kind : (b : Bool) → (e.line == number && is_take e.what) ≡ b
           → frames_before card.config (line_at number card) link (length before) + (cond b 0 come + rest) < cond b 1 0 + takes_of number events

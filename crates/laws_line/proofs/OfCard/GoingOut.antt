@@ -1,6 +1,6 @@
 -- A control frame that waits at a line of octets goes out: a receiver hears it.
 use Rattle.laws_line.proofs.Vocabulary.{List, None, Option, Some, [], ap, append-nil, append_assoc, arith, eq-eqb, false, length, map, option_map, refl, subst, sym, ℕ, ◌++◌, ◌+◌, ◌<◌, ◌∙◌, ◌∷◌, ◌≡◌, ◌≤◌, ControlFrame, next, answer as line_answer, place_at, tei_at, taken, next_of, Config, Card, line_at, at, card_after, after_all as frames_after, moments as frame_moments, CardIsSound as IsSound}
-use Rattle.laws_line.proofs.Vocabulary.{control_text, most_frames_before, AreAmong, link_at, link_count, option_to_list, IsNotDeactivated, is_deactivated_at, takes_of, StaysAt, come_first_at}
+use Rattle.laws_line.proofs.Vocabulary.{control_text, most_frames_before, AreAmong, link_at, link_count, option_to_list, IsNotDeactivated, is_deactivated_at, takes_of, StaysAt, priority_added_at}
 use Rattle.std.proofs.lemmas.Grind.{flat_map-append}
 use Rattle.std.specs.List.{flat_map}
 use Rattle.std.proofs.lemmas.List.{length-map, map-append}
@@ -61,8 +61,8 @@ stays-first number link tei card [] [] on = on
 stays-first number link tei card [] (e ∷ b) on = on.0
 stays-first number link tei card (e ∷ a) b on = (on.0, stays-first number link tei (card_after e card) a b on.1)
 
-come-few : (number : ℕ) (card : Card) (a b : List frames.Event) → come_first_at number card a ≤ come_first_at number card (a ++ b)
-unfolding come_first_at
+come-few : (number : ℕ) (card : Card) (a b : List frames.Event) → priority_added_at number card a ≤ priority_added_at number card (a ++ b)
+unfolding priority_added_at
 come-few number card [] b = omega arith
 come-few number card (e ∷ a) b = let rest = come-few number (card_after e card) a b in omega (arith, rest)
 
@@ -117,14 +117,14 @@ given-before number card a b given x =
 -- So it is where the calls are more by one than are enough for them.
 waiting-before : (card : Card) (es : List frames.Event) → IsSound card → runs.AreAtLines card es
     → (number link tei : ℕ) → number < card.config.lines → link < link_count card.config → StaysAt number link tei card es → IsNotDeactivated number link tei es
-    → most_frames_before card.config + come_first_at number card es + 1 < takes_of number es
+    → most_frames_before card.config + priority_added_at number card es + 1 < takes_of number es
     → AreGivenBefore number card es (map (control_text card.config link tei) (link_at link (line_at number card)).waiting)
 unfolding frames_after
 waiting-before card es s all number link tei few some on up less =
     let frames = map (control_text card.config link tei) (link_at link (line_at number card)).waiting in
-    let x = call-behind number (most_frames_before card.config + come_first_at number card es + 1) es less in
+    let x = call-behind number (most_frames_before card.config + priority_added_at number card es + 1) es less in
     let rest = at number next ∷ x.back in
-    let fewer = subst (λ l. come_first_at number card x.front ≤ come_first_at number card l) (sym x.split) (come-few number card x.front rest) in
+    let fewer = subst (λ l. priority_added_at number card x.front ≤ priority_added_at number card l) (sym x.split) (come-few number card x.front rest) in
     subst (λ l. AreGivenBefore number card l frames) (sym x.split)
     (given-before number card x.front x.back frames
     (waiting-taken card x.front s (all-left (runs.IsAtLine card) x.front rest (subst (runs.AreAtLines card) x.split all)) [] x.front refl number link tei few some
@@ -245,7 +245,7 @@ WaitingIsHeard m events =
     let c = m.card.config in
     let meant = meant_all m events in
     (number link tei : ℕ) → number < c.lines → link < link_count c → StaysAt number link tei m.card meant → IsNotDeactivated number link tei meant →
-    most_pulls_behind c.n201 (most_frames_before c + come_first_at number m.card meant + 1) ≤ pulls_of number events →
+    most_pulls_behind c.n201 (most_frames_before c + priority_added_at number m.card meant + 1) ≤ pulls_of number events →
     AreHeardSince c.n201 (port_at number m).given (port_at number (after_all m events)).given
     (map (control_text c link tei) (link_at link (line_at number m.card)).waiting)
 
@@ -253,7 +253,7 @@ pub waiting_heard : (m : OctetCard) (events : List Event) → IsReached m → Ar
 waiting_heard m events r all number link tei few some on up enough =
     let c = m.card.config in
     let meant = meant_all m events in
-    let n = most_frames_before c + come_first_at number m.card meant + 1 in
+    let n = most_frames_before c + priority_added_at number m.card meant + 1 in
     let s = reached_sound m r in
     let fs = (link_at link (line_at number m.card)).waiting in
     let most = pulls_are_takes.most c r.events number r.config r.at_lines few n in

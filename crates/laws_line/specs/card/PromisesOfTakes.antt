@@ -3,7 +3,7 @@ use Rattle.std.specs.Prelude.{◌≡◌, ℕ, ◌+◌, ◌-◌, ◌<◌, ◌≤�
 use Rattle.model_line.specs.Event.{next, gave}
 use Rattle.model_line.specs.Line.{link_count, service_at, place_at, tei_at, link_at}
 use Rattle.laws_line.specs.Drains.{control_text, most_frames, most_frames_before}
-use Rattle.laws_line.specs.Among.{go_first}
+use Rattle.laws_line.specs.Among.{priority_waiting}
 use Rattle.laws_line.specs.Requests.{deactivates}
 use Rattle.model_card.specs.Card.{Card, line_at}
 use Rattle.model_card.specs.Event.{Event, at}
@@ -17,11 +17,11 @@ abbrev pub Wherever : (Card → List Event → Type 0) → Card → List Event �
 Wherever P m events = (front behind : List Event) → events ≡ front ++ behind → P (after_all m front) behind
 
 -- How many messages of TEI management and unit data come at a line by other events than calls for its next frame.
-unfoldable pub come_first_at : ℕ → Card → List Event → ℕ
-come_first_at number card [] = 0
-come_first_at number card (e ∷ events) =
-    (if e.line == number && is_take e.what then 0 else go_first (line_at number (after e card)) - go_first (line_at number card))
-    + come_first_at number (after e card) events
+unfoldable pub priority_added_at : ℕ → Card → List Event → ℕ
+priority_added_at number card [] = 0
+priority_added_at number card (e ∷ events) =
+    (if e.line == number && is_take e.what then 0 else priority_waiting (line_at number (after e card)) - priority_waiting (line_at number card))
+    + priority_added_at number (after e card) events
 
 -- At the place of a link of a line stays this TEI.
 unfoldable pub StaysAt : ℕ → ℕ → ℕ → Card → List Event → Type 0
@@ -42,7 +42,7 @@ abbrev pub WaitingIsTaken : Card → List Event → Type 0
 WaitingIsTaken card events =
     (number link tei : ℕ) → number < card.config.lines → link < link_count card.config → StaysAt number link tei card events →
     IsNotDeactivated number link tei events →
-    most_frames_before card.config + come_first_at number card events < takes_of number events →
+    most_frames_before card.config + priority_added_at number card events < takes_of number events →
     AreAmong (map (control_text card.config link tei) (link_at link (line_at number card)).waiting) (frames_given number (moments card events))
 
 -- Once the line was only called for its next frame, as often as the configuration says, the next call gives none.

@@ -17,8 +17,9 @@
 //!
 //! # Open
 //!
-//! How long a round takes, and so whether a given T200 is timely; that frames get through; that own busy ends; two links
-//! over a line or a card, except what `laws_wire` says of two cards.
+//! How long a round takes, and so how long T200 has to be (of two cards in octets `laws_time` says it). That frames get
+//! through, and that a busy end comes to be ready again (these laws suppose both). Two links over a line or a card,
+//! except what `laws_wire` says of two cards.
 
 mod any_order;
 mod laws;

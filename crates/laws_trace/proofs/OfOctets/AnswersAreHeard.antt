@@ -8,7 +8,7 @@ use Rattle.model_card.specs.Run as runs
 use Rattle.model_card.specs.ports.Pulls.{most_pulls_behind, pulls_of}
 use Rattle.model_card.specs.ports.Run.{IsAtLine}
 use Rattle.model_card.proofs.OfPorts.Reaching.{after_all_append, reached_fresh, reached_after_all}
-use Rattle.laws_line.specs.card.PromisesOfTakes.{StaysAt, IsNotDeactivated, come_first_at}
+use Rattle.laws_line.specs.card.PromisesOfTakes.{StaysAt, IsNotDeactivated, priority_added_at}
 use Rattle.laws_line.specs.card.WaitingIsHeard.{AreHeardSince}
 use Rattle.laws_line.proofs.OfCard.GoingOut.{waiting_heard}
 use Rattle.laws_trace.specs.AnswersAreGiven.{texts}
@@ -51,7 +51,7 @@ module _ (c : Config) (before behind : List Event) (number : ℕ) (ranged : IsIn
   Heard : Card → Config → Type 0
   Heard k d =
       number < d.lines → link < link_count d → StaysAt number link tei k rest → IsNotDeactivated number link tei rest
-      → most_pulls_behind d.n201 (most_frames_before d + come_first_at number k rest + 1) ≤ pulls_of number behind
+      → most_pulls_behind d.n201 (most_frames_before d + priority_added_at number k rest + 1) ≤ pulls_of number behind
       → AreHeardSince d.n201 (port_at number m).given (port_at number (after_all m behind)).given (map (control_text d link tei) (link_at link (line_at number k)).waiting)
 
   heard : Heard m.card m.card.config
@@ -62,7 +62,7 @@ module _ (c : Config) (before behind : List Event) (number : ℕ) (ranged : IsIn
   unfolding Heard
   since =
       let so : Heard there c = subst (λ k. Heard k c) same (subst (Heard m.card) kept heard) in
-      let enough : most_pulls_behind c.n201 (most_frames_before c + come_first_at number there rest + 1) ≤ pulls_of number behind =
+      let enough : most_pulls_behind c.n201 (most_frames_before c + priority_added_at number there rest + 1) ≤ pulls_of number behind =
       subst (λ n. most_pulls_behind c.n201 (most_frames_before c + n + 1) ≤ pulls_of number behind) (given.come-so c number ranged within first rest these) h.enough in
       let before-is = octets_are c before number ranged before-lines within in
       let after-is = ap (λ m. (port_at number m).given) (sym (after_all_append (fresh c) before behind)) ∙ octets_are c (before ++ behind) number ranged all within in

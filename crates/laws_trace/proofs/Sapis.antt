@@ -5,7 +5,7 @@ use Rattle.std.proofs.lemmas.Bool.Decides.{eqb_tells}
 use Rattle.lapd_frame.specs.declared.faults.ReadFault.TheVariants.{BadExtension, Undefined, WrongSize, Short}
 use Rattle.lapd_frame.specs.declared.overlong.Long.{Long}
 use Rattle.lapd_frame.specs.declared.overlong.Long.TheVariants as long
-use Rattle.lapd_frame.specs.Reading.{long_of_header, long_kind, long_reading as side_long_reading}
+use Rattle.lapd_frame.specs.Reading.{long_of_header, long_reading as side_long_reading}
 use Rattle.lapd_frame.specs.Senders.{packet_sapi, long_reading, long_named}
 use Rattle.laws_trace.specs.Sapis.{sapi_in, address_in, address_of_long, IsNamed, ServicesHaveTheirSapis}
 

@@ -1,11 +1,15 @@
 -- Which SAPI a service has on a line: the law.
-use Rattle.laws_trace.proofs.Vocabulary.{arith, ◌≡◌, ℕ, ◌≤◌, ◌==◌, cond, List, slice_index, Result, Ok, sym, ap, ◌∙◌, subst, IfOk, Address, Side, Sender, ReadFault, Parts, Control, refl, header_of, completed, exchanged, side_reading, reading, parts_named, named-ok, Config, IsInRange, heard_side, own_side, le-leb, ranges_of}
+use Rattle.laws_trace.proofs.Vocabulary.{arith, ◌≡◌, ℕ, ◌≤◌, ◌==◌, cond, List, slice_index, Result, Ok, Err, sym, ap, ◌∙◌, subst, IfOk, IfSome, Address, Side, Sender, ReadFault, Parts, Control, refl, header_of, completed, exchanged, exchanged-back, side_reading, reading, named_by, parts_named, renamed, Config, IsInRange, heard_side, own_side, le-leb, ranges_of}
 use Rattle.std.proofs.lemmas.Bool.{eq-eqb, ne_eqb}
 use Rattle.std.proofs.lemmas.Bool.Decides.{eqb_tells}
-use Rattle.lapd_frame.specs.Senders.{packet_sapi}
-use Rattle.laws_trace.specs.Sapis.{sapi_in, IsNamed, ServicesHaveTheirSapis}
+use Rattle.lapd_frame.specs.declared.faults.ReadFault.TheVariants.{BadExtension, Undefined, WrongSize, Short}
+use Rattle.lapd_frame.specs.declared.overlong.Long.{Long}
+use Rattle.lapd_frame.specs.declared.overlong.Long.TheVariants as long
+use Rattle.lapd_frame.specs.Reading.{long_of_header, long_reading as side_long_reading}
+use Rattle.lapd_frame.specs.Senders.{packet_sapi, long_reading, long_named}
+use Rattle.laws_trace.specs.Sapis.{sapi_in, address_in, address_of_long, IsNamed, ServicesHaveTheirSapis}
 
--- A frame that is read has the SAPI of its first octet.
+-- An address that is read has the SAPI of the first octet.
 module _ (side : Side) (octets : List ℕ) where
   abbrev first : ℕ
   first = slice_index octets 0
@@ -13,11 +17,16 @@ module _ (side : Side) (octets : List ℕ) where
   abbrev Has : Address → Type 0
   Has a = a.sapi ≡ sapi_in octets
 
+  abbrev Faulty : ReadFault → Type 0
+  Faulty fault = IfSome (address_in fault) Has
+
   abbrev Reads : Result Parts ReadFault → Type 0
-  Reads r = IfOk r (λ frame. Has frame.address)
+  Reads (Ok frame) = Has frame.address
+  Reads (Err fault) = Faulty fault
 
   abbrev Begins : Result (Address × Control) ReadFault → Type 0
-  Begins r = IfOk r (λ h. Has h.0)
+  Begins (Ok h) = Has h.0
+  Begins (Err fault) = Faulty fault
 
   whole : (r : Result (Address × Control) ReadFault) → Begins r → Reads (completed octets r)
   whole r told = grind arith
@@ -26,12 +35,18 @@ module _ (side : Side) (octets : List ℕ) where
   unfolding header_of
   header-has second third fourth = grind arith
 
-  has : Reads (side_reading side octets)
+  pub has : Reads (side_reading side octets)
   unfolding side_reading
   has = grind (arith, slice_index, whole, header-has)
 
-  pub by-octet : (frame : Parts) → side_reading side octets ≡ Ok frame → frame.address.sapi ≡ sapi_in octets
-  by-octet frame read = subst Reads read has
+  abbrev IsLong : Result Long ReadFault → Type 0
+  IsLong r = IfSome (address_of_long r) Has
+
+  long-has : (r : Result (Address × Control) ReadFault) → Begins r → IsLong (long_of_header r)
+  long-has r told = grind arith
+
+  pub has-long : IsLong (side_long_reading side octets)
+  has-long = long-has (header_of side first (slice_index octets 1) (slice_index octets 2) (slice_index octets 3)) (header-has (slice_index octets 1) (slice_index octets 2) (slice_index octets 3))
 
 -- Two numbers that change places, of which the one is in range.
 abbrev swapped : ℕ → ℕ → ℕ
@@ -52,22 +67,56 @@ named-so p s least most = record {
 in-range : (own : ℕ) → 1 ≤ own → own ≤ 62 → packet_sapi own ≡ own
 in-range own least most = grind (arith, le-leb)
 
-by-sender : (sender : Sender) (c : Config) → sender.sapi ≡ c.sapi → IsInRange c → (octets : List ℕ) (frame : Parts) → reading sender octets ≡ Ok frame → IsNamed c octets frame
-unfolding reading exchanged
-by-sender sender c same ranged octets frame read =
-    let range = (ranges_of c ranged).sapi in
-    let sapi : swapped c.sapi frame.address.sapi ≡ sapi_in octets =
-    ap (λ p. swapped p frame.address.sapi) (sym (in-range c.sapi range.least range.most) ∙ ap packet_sapi (sym same))
-    ∙ by-octet sender.side octets (parts_named sender.sapi frame) (named-ok sender.sapi (side_reading sender.side octets) frame read) in
-    let x = named-so c.sapi frame.address.sapi range.least range.most in
-    record {
-      call = x.call ∙ ap (λ n. n == 0) sapi;
-      packet = x.packet ∙ ap (λ n. n == c.sapi) sapi;
-      management = x.management ∙ ap (λ n. n == 63) sapi;
-    }
+-- So an address is named by its service, in whatever it stands.
+module _ (c : Config) (ranged : IsInRange c) (octets : List ℕ) where
+  address : (a : Address) → a.sapi ≡ sapi_in octets → IsNamed c octets (renamed c.sapi a)
+  unfolding exchanged
+  address a has =
+      let range = (ranges_of c ranged).sapi in
+      let s = exchanged c.sapi a.sapi in
+      let sapi : swapped c.sapi s ≡ sapi_in octets =
+      ap (λ p. swapped p s) (sym (in-range c.sapi range.least range.most)) ∙ exchanged-back c.sapi a.sapi ∙ has in
+      let x = named-so c.sapi s range.least range.most in
+      record {
+        call = x.call ∙ ap (λ n. n == 0) sapi;
+        packet = x.packet ∙ ap (λ n. n == c.sapi) sapi;
+        management = x.management ∙ ap (λ n. n == 63) sapi;
+      }
+
+  abbrev IsFrame : Result Parts ReadFault → Type 0
+  IsFrame (Ok frame) = IsNamed c octets frame.address
+  IsFrame (Err fault) = IfSome (address_in fault) (IsNamed c octets)
+
+  frames : (side : Side) (r : Result Parts ReadFault) → Reads side octets r → IsFrame (named_by c.sapi r)
+  frames side (Ok frame) told = address frame.address told
+  frames side (Err BadExtension) has = tt
+  frames side (Err (Undefined a)) has = address a has
+  frames side (Err (WrongSize a)) has = address a has
+  frames side (Err Short) has = tt
+
+  frame-read : (sender : Sender) → sender.sapi ≡ c.sapi → IsFrame (reading sender octets)
+  unfolding reading
+  frame-read sender same =
+      subst (λ own. IsFrame (named_by own (side_reading sender.side octets))) (sym same) (frames sender.side (side_reading sender.side octets) (has sender.side octets))
+
+  abbrev IsLongFrame : Result Long ReadFault → Type 0
+  IsLongFrame r = IfSome (address_of_long r) (IsNamed c octets)
+
+  longs : (side : Side) (r : Result Long ReadFault) → IsLong side octets r → IsLongFrame (long_named c.sapi r)
+  longs side (Ok (long.Information a)) has = address a has
+  longs side (Ok (long.Unnumbered a)) has = address a has
+  longs side (Err BadExtension) has = tt
+  longs side (Err (Undefined a)) has = address a has
+  longs side (Err (WrongSize a)) has = address a has
+  longs side (Err Short) has = tt
+
+  long-read : IsLongFrame (long_reading (heard_side c) octets)
+  long-read = longs (heard_side c).side (side_long_reading (heard_side c).side octets) (has-long (heard_side c).side octets)
 
 pub services-have-their-sapis : ServicesHaveTheirSapis
 services-have-their-sapis = record {
-  heard = λ c octets frame ranged read. by-sender (heard_side c) c refl ranged octets frame read;
-  sent = λ c octets frame ranged read. by-sender (own_side c) c refl ranged octets frame read;
+  heard = λ c octets frame ranged read. subst (IsFrame c ranged octets) read (frame-read c ranged octets (heard_side c) refl);
+  sent = λ c octets frame ranged read. subst (IsFrame c ranged octets) read (frame-read c ranged octets (own_side c) refl);
+  malformed = λ c octets fault ranged read. subst (IsFrame c ranged octets) read (frame-read c ranged octets (heard_side c) refl);
+  long = λ c head ranged. long-read c ranged head;
 }

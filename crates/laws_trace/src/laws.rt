@@ -40,7 +40,7 @@ pub fn the_other_side_is_heard()
 
 /// Services have their SAPIs. As the other laws read frames, a frame is one of call control, of the second service, or of
 /// layer 2 management, exactly if its first octet has SAPI 0, the SAPI of the configuration, or 63 (Q.921 clause 3.3.3, and
-/// profile). This holds of what a card hears, and of what begins on its lines.
+/// profile). This holds of what begins on a card's lines, and of what it hears, also if that is malformed or too long.
 pub fn services_have_their_sapis()
     ensures { ServicesHaveTheirSapis }
 {}

@@ -6,7 +6,7 @@ use Rattle.lapd_frame.specs.declared.addresses.Side.TheVariants.{Network}
 use Rattle.model_line.specs.Line.{is_terminal, seed_of}
 use Rattle.model_line.specs.Sound.{IsInRange}
 use Rattle.laws_wire.specs.Arriving.{SendsOrReceives}
-use Rattle.laws_wire.specs.Terminals.{asking, assigned_told, IsTold, CallsComeThroughThen, TerminalsComeThrough}
+use Rattle.laws_wire.specs.Terminals.{asking, assigned_told, AreToldWithin, CallsComeThroughThen, TerminalsComeThrough}
 unfoldable use Rattle.laws_wire.specs.Wire.{doing_all, turns}
 unfoldable use Rattle.laws_wire.specs.Call.{both_call}
 use Rattle.laws_wire.proofs.Beginning.{none-on, free-is, frees}
@@ -84,7 +84,7 @@ four-more false before b g few less = omega (arith, few, less)
 -- what a call tells comes after it
 abbrev Then : Service → ℕ → Bool → Wire → Type 0
 Then service taken both w =
-    IsTold taken ((if both then 12 else 8) + 4 * granted_of w) (note ∷ all_told service 64 (confirmed service 64) w.far) (note ∷ all_told service 64 (told_first service 64 both) w.near) w
+    AreToldWithin taken ((if both then 12 else 8) + 4 * granted_of w) (note ∷ all_told service 64 (confirmed service 64) w.far) (note ∷ all_told service 64 (told_first service 64 both) w.near) w
 
 then-told : (service : Service) (before taken : ℕ) (both : Bool) (w : Wire) → before ≤ 4 → ComesThrough service 64 taken both w → Then service (before + taken) both (with_past (note ∷ []) (note ∷ []) w)
 then-told service before taken both w few x = record {
@@ -195,7 +195,7 @@ module _ (c d : Config) (line other : ℕ) (can : CanCall c line d other 64) (ow
   first-phase = record { near = asks c can.near.0 line can.near.1 own; far = begins d can.far.0 other can.far.1 }
 
   comes : (ds : List StepAt) → All SendsOrReceives ds
-      → IsTold (turns ds w0) 4 (note ∷ []) (note ∷ []) (doing_all ds w0)
+      → AreToldWithin (turns ds w0) 4 (note ∷ []) (note ∷ []) (doing_all ds w0)
       × ((doing_all ds w0).near.told ≡ note ∷ [] → CallsComeThroughThen (turns ds w0) (doing_all ds w0) × CallsComeThroughThen (turns ds w0) (turned (doing_all ds w0)))
   comes ds all =
       let w = doing_all ds w0 in

@@ -3,7 +3,7 @@ use Rattle.laws_wire.proofs.Vocabulary.{◌≡◌, ◌+◌, ◌*◌, false, if�
 use Rattle.model_line.specs.Config.{sapi_fault}
 unfoldable use Rattle.lapd_terminal.specs.Events.{course as terminal_course}
 use Rattle.laws_wire.specs.Arriving.{SendsOrReceives}
-use Rattle.laws_wire.specs.Terminals.{assigned_told, IsTold}
+use Rattle.laws_wire.specs.Terminals.{assigned_told, AreToldWithin}
 use Rattle.laws_wire.specs.WorkedTerminals.{terminal, asks, gets_tei, has_tei, near_has, talks, called, one_calls}
 use Rattle.laws_wire.proofs.PremisesMet.{all-of}
 use Rattle.laws_wire.proofs.TerminalCalls.{terminals-come-through}
@@ -16,7 +16,7 @@ turning : All SendsOrReceives gets_tei
 turning = all-of SendsOrReceives gets_tei (tt, (tt, (tt, (tt, (tt, (tt, tt))))))
 
 -- each is told of the TEI once
-pub told : IsTold (turns gets_tei asks) 4 (assigned_told ∷ []) (assigned_told ∷ []) has_tei
+pub told : AreToldWithin (turns gets_tei asks) 4 (assigned_told ∷ []) (assigned_told ∷ []) has_tei
 told = (terminals-come-through terminal network 0 0 gets_tei can refl turning).0
 
 still : IsStill has_tei
@@ -30,11 +30,11 @@ told_terminal = told.near.1 still
 talk : All (IsCall Call 64) talks
 talk = grind (arith, all-of)
 
-pub comes : IsTold (turns gets_tei asks + turns talks called) (8 + 4 * granted_of (doing_all talks called))
+pub comes : AreToldWithin (turns gets_tei asks + turns talks called) (8 + 4 * granted_of (doing_all talks called))
     (assigned_told ∷ all_told Call 64 (confirmed Call 64) (doing_all talks called).far)
     (assigned_told ∷ all_told Call 64 (told_first Call 64 false) (doing_all talks called).near) (doing_all talks called)
 comes =
     let last = doing_all talks called in
-    subst (λ both. IsTold (turns gets_tei asks + turns talks called) ((if both then 12 else 8) + 4 * granted_of last)
+    subst (λ both. AreToldWithin (turns gets_tei asks + turns talks called) ((if both then 12 else 8) + 4 * granted_of last)
     (assigned_told ∷ all_told Call 64 (confirmed Call 64) last.far) (assigned_told ∷ all_told Call 64 (told_first Call 64 both) last.near) last)
     one_calls (((terminals-come-through terminal network 0 0 gets_tei can refl turning).1 near_has).1 Call talks talk)

@@ -19,7 +19,7 @@ abbrev pub assigned_told : LineTold
 assigned_told = record nothing { notes = notes.Assigned 64 ∷ [] }
 
 -- There are at most so many turns. At any time each end is told a beginning of this, and all of it if no turn is left.
-pub record IsTold (taken most : ℕ) (to_near to_far : List LineTold) (w : Wire) : Type 0 where
+pub record AreToldWithin (taken most : ℕ) (to_near to_far : List LineTold) (w : Wire) : Type 0 where
   pub turns : taken ≤ most
   pub near : ToldInOrder (IsStill w) to_near w.near.told
   pub far : ToldInOrder (IsStill w) to_far w.far.told
@@ -30,7 +30,7 @@ abbrev pub CallsComeThroughThen : ℕ → Wire → Type 0
 CallsComeThroughThen before w =
     (service : Service) (ds : List StepAt) → All (IsCall service 64) ds →
     let v = acting (requests (Establish service 64)) w in let both = both_call ds v in let last = doing_all ds v in
-    IsTold (before + turns ds v) ((if both then 12 else 8) + 4 * (length last.near.granted + length last.far.granted))
+    AreToldWithin (before + turns ds v) ((if both then 12 else 8) + 4 * (length last.near.granted + length last.far.granted))
     (assigned_told ∷ all_told service 64 (confirmed service 64) last.far) (assigned_told ∷ all_told service 64 (told_first service 64 both) last.near) last
 
 -- Each end is told of its TEI, once. As soon as the terminal's is told, either end may call: the near one of this wire, or of the wire
@@ -39,5 +39,5 @@ abbrev pub TerminalsComeThrough : Type 0
 TerminalsComeThrough =
     (c d : Config) (line other : ℕ) (ds : List StepAt) → CanCall c line d other 64 → is_terminal c ≡ true → All SendsOrReceives ds →
     let w = asking c line d other in let now = doing_all ds w in
-    IsTold (turns ds w) 4 (assigned_told ∷ []) (assigned_told ∷ []) now
+    AreToldWithin (turns ds w) 4 (assigned_told ∷ []) (assigned_told ∷ []) now
     × (now.near.told ≡ assigned_told ∷ [] → CallsComeThroughThen (turns ds w) now × CallsComeThroughThen (turns ds w) (turned now))

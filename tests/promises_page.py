@@ -62,7 +62,7 @@ RUNS = {
 # The law that the pages print whole, and the most lines that it may need.
 HEADLINE, MOST_LINES = 'a_call_comes_through', 200
 # How many wrong machines the page names at a promise; tests/wrong-machines --page has all.
-MOST_ROWS = 4
+MOST_ROWS = 2
 # Premises that many laws of two cards have: what the page calls them.
 SHARED = {'a call': ['CanCall c line d other tei'], 'talk': ['All (IsTalk service tei) ds'],
           'rough talk': ['All (IsRoughTalk service tei) ds'], 'full talk': ['All (IsFullTalk service tei) ds'],
@@ -176,7 +176,7 @@ class Statement:
 def some_of(rows):
     """The first rows of wrong machines, and how many more there are."""
     shown = ', '.join('`%s`' % it for it in rows[:MOST_ROWS])
-    return (shown + ', and %d more' % len(rows[MOST_ROWS:]) * (len(rows) > MOST_ROWS)) or 'none'
+    return (shown + ' (+%d)' % len(rows[MOST_ROWS:]) * (len(rows) > MOST_ROWS)) or 'none'
 
 
 def quoted(premises):

@@ -23,14 +23,15 @@ ghost use Rattle.laws_trace.specs.RoomsAreTold.{NoRoomIsTold, RoomsAreTold};
 /// **Of unit data** they are those of a link, except the state. From the network's side its TEI may be the group's, 127.
 /// Its queue is what waits, as [`units_go_out`] has it.
 ///
-/// **Of management** they are
+/// **Of management** they are, in this order:
 ///
 /// - the side. A trunk's end removes no TEI. The network's side alone checks and disowns one. A terminal alone asks for
 ///   one, or has one verified;
 /// - the TEI. It is over 126, or to be disowned over 127. It is not on the line; or it is, if it is to be assigned, or is
 ///   to be disowned. All TEIs are on the line while any is;
-/// - that no place is left for a TEI. A check runs, or a procedure of a terminal; or the network's side owes four
-///   messages, as [`teis_are_managed`] has all this.
+/// - to assign a TEI, or to ask for one, that no place is left; to check one, that a check runs; to ask for one, or to
+///   have one verified, that a procedure of the terminal runs;
+/// - to remove, check or disown a TEI, that the network's side owes four messages, as [`teis_are_managed`] has all this.
 ///
 /// That the line is down is never refused (Q.921 clauses 5.2.2, 5.3.1 to 5.3.5, 5.5.1.1, 5.5.3.1, 5.5.3.2, 5.6.1, 5.6.6
 /// and 5.9.3, annex B and profile).

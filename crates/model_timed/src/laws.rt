@@ -6,7 +6,7 @@ ghost use Rattle.model_timed.specs.RunTheSame.{OctetTimersRunTheSame, TimersRunT
 ghost use Rattle.model_timed.specs.TimersAreTrue.{TimersAreTrue};
 
 /// Timers are true. After any steps of a card of either kind its clock is at the moment to which time went on last. Let
-/// the steps be prompt to so many milliseconds. Then each timer that is due was started, and neither stopped nor
+/// the steps be prompt to so many milliseconds. Then the timer that is due first was started, and neither stopped nor
 /// expired since. Its own length, T200, T203, T201 or T202, has passed since then, and at most so many milliseconds more. So
 /// if the steps are prompt to the millisecond, each expiry comes exactly its length after the last start. And none is
 /// passed over. The next moment that the clock tells is the first at which a timer that runs falls due.

@@ -98,3 +98,8 @@ pub mod CaughtUp
 pub mod CaughtMirror
 pub mod CaughtMet
 pub mod CaughtAll
+pub mod AgainText
+pub mod AgainRan
+pub mod AgainLaw
+pub mod AgainExact
+pub mod AgainKept

@@ -103,3 +103,6 @@ pub mod AgainRan
 pub mod AgainLaw
 pub mod AgainExact
 pub mod AgainKept
+pub mod FreeLinks
+pub mod FreeWire
+pub mod FreeOften

@@ -108,3 +108,4 @@ pub mod FreeLinks
 pub mod FreeWire
 pub mod FreeOften
 pub mod FreeLaw
+pub mod FreeMoves

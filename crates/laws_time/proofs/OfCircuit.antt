@@ -108,4 +108,5 @@ pub mod FreeLinks
 pub mod FreeWire
 pub mod FreeOften
 pub mod FreeLaw
+pub mod FreeBegun
 pub mod FreeMoves

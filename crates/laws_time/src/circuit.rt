@@ -21,6 +21,7 @@
 ghost use Rattle.laws_time.specs.circuit.AfterNoise.{FramesComeAfterNoise, NoiseMakesNoFrameAfter};
 ghost use Rattle.laws_time.specs.circuit.Answered.{AnEnquiryIsAnswered, CommandsAreAnswered, NoNoiseIsClear, OneEnquiryIsEnough};
 ghost use Rattle.laws_time.specs.circuit.Arriving.{CallsBearNoise};
+ghost use Rattle.laws_time.specs.circuit.Begun.{FramesComeToAnEnd};
 ghost use Rattle.laws_time.specs.circuit.CaughtUp.{AllPlacesAreFree, AnEnquiryCatchesUp, AnswersTellWhatCame};
 ghost use Rattle.laws_time.specs.circuit.Ends.{EndsAreTimedCards};
 ghost use Rattle.laws_time.specs.circuit.InBeats.{ACallComesInTime, ACallTakesBeats, AShortCallTakesBeats, FramesComeInBeats, MessagesComeInTime, MessagesTakeBeats, ShortMessagesTakeBeats, T203FallsDueFirst, T203FallsDueFirstSince};
@@ -130,6 +131,17 @@ pub fn an_answer_tells_what_came()
 /// told, T200 falls due once at most at that end.
 pub fn t200_falls_due_seldom()
     ensures { T200FallsDueSeldom }
+{}
+
+/// Frames come to an end after noise. A call is as [`t200_falls_due_seldom`] has it, and L + 1 octet times after noise has
+/// ended nothing more is granted. Then so many frames begin at most, at both ends together, in whatever time. Let at most k
+/// I-frames be outstanding at either end, and let u contents be missing then: granted at one end, and not told at the other.
+/// Let x be the control frames that find a place at the two ends, and 2 (D + 1) more for what is in transit. Then it is
+/// 2 (2 (k + 2) + (k + 2) (4 + x) + (k + 3) u), and 2 k + 4 for each timer that falls due (Q.921 clauses 5.6.4 and 5.6.7).
+///
+/// So if T203 does not fall due, the line falls silent: T200 falls due u + 2 times at most, as that law has it.
+pub fn frames_come_to_an_end()
+    ensures { FramesComeToAnEnd }
 {}
 
 /// Without noise from the start on, noise makes no frame (`clear`): each frame that is heard stood at that place in what

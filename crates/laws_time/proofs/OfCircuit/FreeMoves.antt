@@ -1,6 +1,5 @@
 -- From a time on nothing is lost on a wire, and data alone is asked for: how many frames are given and taken since, if nothing more is granted.
-use Rattle.laws_wire.proofs.Vocabulary.{◌≡◌, ℕ, ◌+◌, ◌*◌, ◌==◌, ◌&&◌, not, ◌≤◌, Bool, true, false, cond, List, [], ◌∷◌, ◌++◌, length, map, refl, sym, ap, subst, ◌∙◌, arith, All, All-nil, All-cons, All-head, All-tail, append-nil, list_any, Note, is_some, Service, LinkEndpoint, Config, LineTold, line_of, Endpoint, Wire, confirmed, indicated, data_told, heard_in, for_layer_3, is_error, HasNoError, IsRoughTalk, doing_all, granted_of, expiries, moves, most_left, terms}
-use Rattle.std.proofs.lemmas.List.Elements.{All-append}
+use Rattle.laws_wire.proofs.Vocabulary.{◌≡◌, ℕ, ◌+◌, ◌*◌, ◌==◌, ◌&&◌, not, ◌≤◌, Bool, true, false, cond, List, [], ◌∷◌, ◌++◌, length, map, refl, sym, ap, subst, ◌∙◌, arith, All, All-nil, All-cons, All-head, All-tail, append-nil, list_any, Note, is_some, Service, LinkEndpoint, Config, LineTold, line_of, Endpoint, Wire, confirmed, indicated, data_told, for_layer_3, is_error, HasNoError, IsRoughTalk, doing_all, granted_of, expiries, moves, most_left, terms}
 use Rattle.laws_wire.proofs.Joint.{shown}
 use Rattle.laws_wire.proofs.LeftToDo.{weighs-left}
 use Rattle.laws_wire.proofs.Held.{Held}
@@ -74,13 +73,13 @@ held-fine c service tei p first fine s n h =
 
 module _ (service : Service) (tei k : ℕ) (c d : Config) (face : Face c d) (back : Face d c) (rt : IsInRange (terms c service tei)) (ru : IsInRange (terms d service tei))
     (few : (terms c service tei).k ≤ k) (few_far : (terms d service tei).k ≤ k) (wide_c : 3 ≤ c.control) (wide_d : 3 ≤ d.control) (f : Wire)
-    (h : LooseUp service tei c d 0 0 (confirmed service tei ∷ []) (indicated service tei ∷ []) f) (free : FreeBoth service tei c d f) (i j m : ℕ) (g : Wire) (p : Path of_whole service tei i j m f g) where
+    (h : LooseUp service tei c d 0 0 (confirmed service tei ∷ []) (indicated service tei ∷ []) f) (free : FreeBoth service tei c d f) (i j m r : ℕ) (g : Wire) (p : Path of_whole service tei i j m r f g) where
   up-first : BothUp service tei c d 0 0 (confirmed service tei ∷ []) (indicated service tei ∷ []) f h.n h.m
   up-first = record { near = h.near; far = h.far; firm = firm-at service tei c d face back wide_c wide_d f h free }
 
   fair : HasNoError (doing_all p.steps f).near × HasNoError (doing_all p.steps f).far
   fair =
-      let x = last service tei c d face back wide_c wide_d f h free i j m g p in
+      let x = last service tei c d face back wide_c wide_d f h free i j m r g p in
       subst (λ g. HasNoError g.near × HasNoError g.far) (sym p.leads)
       (held-fine c service tei 0 (confirmed service tei) refl g.near x.n x.up.near, held-fine d service tei 0 (indicated service tei) refl g.far x.m x.up.far)
 

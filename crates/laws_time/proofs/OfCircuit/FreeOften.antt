@@ -55,7 +55,7 @@ module _ (service : Service) (tei : ℕ) where
   whole-kept (at_far sends) is = tt
   whole-kept (at_far receives) is = tt
 
-  pub rough-of : (w v : Wire) → {i j k : ℕ} → (p : Path of_data service tei i j k w v) → All (IsRoughTalk service tei) p.steps
+  pub rough-of : (w v : Wire) → {i j k n : ℕ} → (p : Path of_data service tei i j k n w v) → All (IsRoughTalk service tei) p.steps
   rough-of w v p = all-done (IsDone of_data service tei) (IsRoughTalk service tei) data-rough p.steps p.done
 
   spared : (act : EndStep) (w : Wire) → (heard_in w.near ≡ [] → ⊥) → IsSpared act w
@@ -122,7 +122,7 @@ module _ (service : Service) (tei : ℕ) (c d : Config) (face : Face c d) (back 
     some-told none = cc (sym h.near.heard ∙ none)
 
     -- In what is done then T200 of an end runs out once more at most than the other end is still to be told.
-    module _ (i j m : ℕ) (g : Wire) (p : Path of_whole service tei i j m f g) where
+    module _ (i j m r : ℕ) (g : Wire) (p : Path of_whole service tei i j m r f g) where
       pub last : Up h.m.link.r (0 + i) h.n.link.r (0 + j) g
       last =
           subst (λ e. Up h.m.link.r (0 + e) h.n.link.r (0 + j) g) p.near

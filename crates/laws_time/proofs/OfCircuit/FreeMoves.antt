@@ -1,5 +1,6 @@
 -- From a time on nothing is lost on a wire, and data alone is asked for: how many frames are given and taken since, if nothing more is granted.
-use Rattle.laws_wire.proofs.Vocabulary.{◌≡◌, ℕ, ◌+◌, ◌*◌, ◌==◌, ◌&&◌, not, ◌≤◌, Bool, true, false, cond, List, [], ◌∷◌, ◌++◌, length, map, refl, sym, ap, subst, ◌∙◌, arith, All, All-nil, All-cons, All-head, All-tail, append-nil, list_any, Note, is_some, Service, LinkEndpoint, Config, LineTold, line_of, Endpoint, Wire, confirmed, indicated, data_told, for_layer_3, is_error, HasNoError, IsRoughTalk, doing_all, granted_of, expiries, moves, most_left, terms}
+use Rattle.laws_wire.proofs.Vocabulary.{◌≡◌, ℕ, ◌+◌, ◌*◌, ◌==◌, ◌&&◌, not, ◌≤◌, Bool, true, false, cond, List, [], ◌∷◌, ◌++◌, length, map, refl, sym, ap, subst, ◌∙◌, arith, All, All-nil, All-cons, All-head, All-tail, append-nil, list_any, Note, is_some, Service, LinkEndpoint, Config, LineTold, line_of, Endpoint, Wire, confirmed, indicated, data_told, for_layer_3, is_error, HasNoError, IsRoughTalk}
+use Rattle.laws_wire.proofs.Vocabulary.{doing_all, granted_of, expiries, moves, most_left, terms}
 use Rattle.laws_wire.proofs.Joint.{shown}
 use Rattle.laws_wire.proofs.LeftToDo.{weighs-left}
 use Rattle.laws_wire.proofs.Held.{Held}

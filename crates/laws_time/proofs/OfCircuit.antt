@@ -110,3 +110,4 @@ pub mod FreeOften
 pub mod FreeLaw
 pub mod FreeBegun
 pub mod FreeMoves
+pub mod FreeMet

@@ -16,6 +16,7 @@ pub mod AfterNoise
 pub mod WorkedAfterNoise
 pub mod Seldom
 pub mod Begun
+pub mod WorkedSeldom
 pub mod WorkedInBeats
 pub mod WorkedInTime
 pub mod CaughtUp

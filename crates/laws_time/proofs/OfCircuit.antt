@@ -98,3 +98,7 @@ pub mod CaughtUp
 pub mod CaughtMirror
 pub mod CaughtMet
 pub mod CaughtAll
+pub mod QuietPorts
+pub mod QuietCards
+pub mod QuietBeats
+pub mod QuietLine

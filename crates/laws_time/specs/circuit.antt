@@ -16,3 +16,4 @@ pub mod WorkedInBeats
 pub mod WorkedInTime
 pub mod CaughtUp
 pub mod WorkedCaughtUp
+pub mod Quiet

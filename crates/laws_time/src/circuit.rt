@@ -25,6 +25,7 @@ ghost use Rattle.laws_time.specs.circuit.Ends.{EndsAreTimedCards};
 ghost use Rattle.laws_time.specs.circuit.InBeats.{ACallComesInTime, ACallTakesBeats, AShortCallTakesBeats, FramesComeInBeats, MessagesComeInTime, MessagesTakeBeats, ShortMessagesTakeBeats, T203FallsDueFirst, T203FallsDueFirstSince};
 ghost use Rattle.laws_time.specs.circuit.InCall.{ACallOutlastsNoise, N200LastsInACall};
 ghost use Rattle.laws_time.specs.circuit.LongEnough.{AnswersComeInTime};
+ghost use Rattle.laws_time.specs.circuit.Quiet.{AQuietLineHasToldAll};
 ghost use Rattle.laws_time.specs.circuit.WorkedAnswered.{AnEnquiryIsMet};
 ghost use Rattle.laws_time.specs.circuit.WorkedCaughtUp.{AnEnquiryMeetsIt};
 
@@ -115,6 +116,21 @@ pub fn an_answer_tells_what_came()
     ensures in_time { AnEnquiryCatchesUp }
     ensures all { AllPlacesAreFree }
     ensures met { AnEnquiryMeetsIt }
+{}
+
+/// A quiet line has told all. A call is as [`calls_bear_noise`] has it, with any noise that makes no frame, and with data and
+/// busy requests at any time. N200 is not used up, and the end that is called tells no error F (of a lost UA).
+///
+/// Then let there be no noise, let nothing be asked for, let no timer fall due, and let neither end begin a frame: flags
+/// alone go. For L + D octet times and T200 of each end it stays so. Then each end was told one establishment, and all data
+/// that the other was granted to send: in order, each once, and nothing else, except what was dropped. All of it is
+/// acknowledged: each place of the queue is free at both ends (`Card::room`). L is the longest frame in octets, and D octets
+/// are in transit.
+///
+/// So as long as anything that was granted is missing, whatever noise took before, the line does not fall silent: in each
+/// stretch of that length a frame begins, or a timer falls due.
+pub fn a_quiet_line_has_told_all()
+    ensures { AQuietLineHasToldAll }
 {}
 
 /// Without noise from the start on, noise makes no frame (`clear`): each frame that is heard stood at that place in what

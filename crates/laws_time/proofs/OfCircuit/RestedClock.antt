@@ -12,7 +12,6 @@ use Rattle.lapd_frame.specs.declared.services.Service.{Service}
 use Rattle.lapd_frame.specs.declared.timers.Timer.{Timer}
 use Rattle.lapd_frame.specs.declared.timers.Timer.TheVariants as timers
 use Rattle.model_link.specs.declared.states.State.TheVariants.{Established}
-use Rattle.model_link.specs.declared.timers.LinkTimer.{LinkTimer}
 use Rattle.model_link.specs.declared.timers.LinkTimer.TheVariants.{T200, T203}
 use Rattle.model_link.specs.Link.{Link, fresh}
 use Rattle.model_link.specs.Told.{runs}
@@ -77,7 +76,7 @@ module _ (c : Config) (ranged : IsInRange c) (service : Service) (tei : ℕ) (ls
   run-as timer =
       let all = subst (λ (t : TimedOctetCard). RunAs as_they_are t.card.card t.clock) timed.2 (octet_timers_run_the_same c ls 0 timed.0 ranged timed.1) in all a.at.line timer within
 
-  runs-t200 : is_some (moment_of a.at.line (timers.T200 service tei) a.clock.running) ≡ runs T200 (link_of service tei (line_at a.at.line a.at.card.card)).running
+  pub runs-t200 : is_some (moment_of a.at.line (timers.T200 service tei) a.clock.running) ≡ runs T200 (link_of service tei (line_at a.at.line a.at.card.card)).running
   runs-t200 =
       sym (held-is a.at.line (timers.T200 service tei) running) ∙ run-as (timers.T200 service tei) ∙ ap (λ o. runs_at service T200 o line) on ∙ ap (λ (x : Link). runs T200 x.running) link-is
 
@@ -98,7 +97,7 @@ module _ (c : Config) (ranged : IsInRange c) (service : Service) (tei : ℕ) (ls
     t203-some = some-some (moment_of a.at.line (timers.T203 service tei) running) (runs-t203 ∙ ap (runs T203) needs)
 
 -- What holds of all that runs holds of the moment of a timer.
-moment-keeps : (P : Timer → ℕ → Type 0) (number : ℕ) (its : Timer) (es : List Expiry) (m : ℕ) → AllByRecursion (λ x. P x.timer x.moment) es → moment_of number its es ≡ Some m → P its m
+pub moment-keeps : (P : Timer → ℕ → Type 0) (number : ℕ) (its : Timer) (es : List Expiry) (m : ℕ) → AllByRecursion (λ x. P x.timer x.moment) es → moment_of number its es ≡ Some m → P its m
 moment-keeps P number its [] m all is = absurd (cc is)
 moment-keeps P number its (e ∷ es) m all is = go (moment-keeps P number its es m all.1) (is_of number its e) refl is
   where

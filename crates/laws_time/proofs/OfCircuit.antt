@@ -102,3 +102,11 @@ pub mod QuietPorts
 pub mod QuietCards
 pub mod QuietBeats
 pub mod QuietLine
+pub mod AgainText
+pub mod AgainRan
+pub mod AgainLaw
+pub mod AgainExact
+pub mod AgainKept
+pub mod FreeLinks
+pub mod FreeWire
+pub mod FreeOften

@@ -12,6 +12,8 @@ pub mod WorkedArriving
 pub mod InCall
 pub mod WorkedInCall
 pub mod InBeats
+pub mod AfterNoise
+pub mod WorkedAfterNoise
 pub mod WorkedInBeats
 pub mod WorkedInTime
 pub mod CaughtUp

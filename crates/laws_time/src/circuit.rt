@@ -10,7 +10,7 @@
 //! call through noise tells is in `Arriving`, and a run that meets its premises in `WorkedArriving`. How soon it comes
 //! through is in `InCall` and `WorkedInCall`. How many beats a call without noise takes is in `InBeats` and
 //! `WorkedInBeats`, and with which T200 no timer falls due in it in `WorkedInTime`. What the answer to an enquiry
-//! brings is in `CaughtUp` and `WorkedCaughtUp`. Random and chosen runs broke nothing of what is open, if layer 3 asks
+//! brings is in `CaughtUp` and `WorkedCaughtUp`. What comes after noise is in `AfterNoise` and `WorkedAfterNoise`. Random and chosen runs broke nothing of what is open, if layer 3 asks
 //! for no unit data and is not busy, T200 is at least as long as an answer takes, and noise makes no frame.
 //!
 //! # Open
@@ -18,6 +18,7 @@
 //! That each command and each answer finds a place in its queue of control frames (these laws suppose that none is told
 //! as lost). How soon what was granted arrives after noise, or as timers fall due.
 
+ghost use Rattle.laws_time.specs.circuit.AfterNoise.{FramesComeAfterNoise, NoiseMakesNoFrameAfter};
 ghost use Rattle.laws_time.specs.circuit.Answered.{AnEnquiryIsAnswered, CommandsAreAnswered, NoNoiseIsClear, OneEnquiryIsEnough};
 ghost use Rattle.laws_time.specs.circuit.Arriving.{CallsBearNoise};
 ghost use Rattle.laws_time.specs.circuit.CaughtUp.{AllPlacesAreFree, AnEnquiryCatchesUp, AnswersTellWhatCame};
@@ -169,6 +170,19 @@ pub fn a_call_takes_beats()
 /// then, in octets with flag, check and stuffed 0s, and D octets are in transit.
 pub fn frames_come_in_beats()
     ensures { FramesComeInBeats }
+{}
+
+/// Frames come after noise. Any noise may have come before, of any length, even such as makes frames. Then there is none.
+/// Each frame that an end puts on its line after the first octet time without noise is received whole L + D octet times
+/// later, as in [`frames_come_in_beats`]. They are received in order, and nothing is heard between them. So noise takes
+/// no frame that is put there after it (`come`). It holds whatever layer 3 of either end asks for of the link except unit
+/// data and deactivation, and whichever timers fall due.
+///
+/// L + 1 octet times after noise has ended no noise is left in what is heard: each frame that is heard from then on stood at
+/// that place in what the other end gave (`clear`). So [`answers_come_in_time`] supposes this of the time before alone.
+pub fn frames_come_after_noise()
+    ensures come { FramesComeAfterNoise }
+    ensures clear { NoiseMakesNoFrameAfter }
 {}
 
 /// A call comes in time. Two cards begin, one end calls, layer 3 of either end asks to send octets, and there is no noise,

@@ -23,7 +23,6 @@ use Rattle.model_card.specs.ports.Port as port
 use Rattle.model_timed.specs.Clock.{due, without_first}
 use Rattle.laws_link.specs.two.Timely.{HasNo}
 use Rattle.laws_trace.specs.TimersAreTimely.{is_timer_of}
-use Rattle.laws_wire.specs.Answering.{IsAsked}
 use Rattle.laws_wire.specs.Timely.{bit_of, is_poll, is_final, awaits_in, awaits_reply, IsLongEnough}
 use Rattle.laws_wire.specs.Wire as wire
 use Rattle.laws_wire.specs.Wire.{Endpoint as FrameEndpoint, Wire, requests, expires}
@@ -37,7 +36,7 @@ use Rattle.laws_time.proofs.OfCircuit.Acts.{Goes, asks-goes, fell-goes, soon-the
 use Rattle.laws_time.proofs.OfCircuit.ArrivAs.{station, heard_of, Becomes, asked-becomes, expired-becomes, expired-as}
 use Rattle.laws_time.proofs.OfCircuit.ArrivFair.{IsFair, fair-parts, fair-may}
 use Rattle.laws_time.proofs.OfCircuit.ArrivOpen.{parts, are-own, stands, has-none}
-use Rattle.laws_time.proofs.OfCircuit.ArrivPath.{Path, path-none, path-both, path-one}
+use Rattle.laws_time.proofs.OfCircuit.ArrivPath.{Manner, MayAsk, Path, path-none, path-both, path-one}
 use Rattle.laws_time.proofs.OfCircuit.ArrivWay.{Going, going-with, before-long}
 use Rattle.laws_time.proofs.OfCircuit.Ends.{first-of}
 use Rattle.laws_time.proofs.OfCircuit.Kinds.{asks as asks_frame, is_command}
@@ -100,7 +99,7 @@ same-waits k = by (k == 5) (k == 6) (k == 8)
     by true b x = refl
     by false b x = refl
 
-module _ (service : Service) (tei : ℕ) (c : Config) (ranged : IsInRange c) (d : Config) (lengths : Lengths) (rate transit total n moment : ℕ)
+module _ (how : Manner) (service : Service) (tei : ℕ) (c : Config) (ranged : IsInRange c) (d : Config) (lengths : Lengths) (rate transit total n moment : ℕ)
     (ago : (S m : ℕ) → S + lengths.t200 * rate ≤ (m + 1) * rate → m ≤ moment → S + total ≤ n)
     (wide : (S : ℕ) → transit + (S + half c service tei 0 ranged) < S + total)
     (low M : ℕ) (y : FrameEndpoint) (m : LinkEndpoint) (y_stands : StationStands d service tei 0 y m)
@@ -123,16 +122,16 @@ module _ (service : Service) (tei : ℕ) (c : Config) (ranged : IsInRange c) (d 
     pub S : ℕ
     pub x' : FrameEndpoint
     pub stood : Stood S u x'
-    pub path : Path service tei (record { near = x; far = y }) (record { near = x'; far = y })
+    pub path : Path how service tei (record { near = x; far = y }) (record { near = x'; far = y })
 
   abbrev with : FrameEndpoint → Wire
   with x = record { near = x; far = y }
 
   after-none : (S : ℕ) (a : TimedEndpoint) (x : FrameEndpoint) → Stood S a x → After x a
-  after-none S a x h = record { S = S; x' = x; stood = h; path = path-none service tei (with x) (with x) refl }
+  after-none S a x h = record { S = S; x' = x; stood = h; path = path-none how service tei (with x) (with x) refl }
 
   after-both : (x : FrameEndpoint) (u v : TimedEndpoint) (g : After x u) → After g.x' v → After x v
-  after-both x u v g k = record { S = k.S; x' = k.x'; stood = k.stood; path = path-both service tei (with x) (with g.x') (with k.x') g.path k.path }
+  after-both x u v g k = record { S = k.S; x' = k.x'; stood = k.stood; path = path-both how service tei (with x) (with g.x') (with k.x') g.path k.path }
 
   -- An event at both.
   pub stood-then : (S : ℕ) (a u : TimedEndpoint) (x : FrameEndpoint) (h : Stood S a x) (e : line.Event) (g : Goes c service tei 0 ranged lengths rate S M a u)
@@ -152,18 +151,18 @@ module _ (service : Service) (tei : ℕ) (c : Config) (ranged : IsInRange c) (d 
   }
 
   -- Layer 3 asks.
-  asks-one : (S : ℕ) (a : TimedEndpoint) (x : FrameEndpoint) (h : Stood S a x) (r : Request) → IsOfLink service tei r → IsAsked service tei r → After x (happens (port.request r) a)
+  asks-one : (S : ℕ) (a : TimedEndpoint) (x : FrameEndpoint) (h : Stood S a x) (r : Request) → IsOfLink service tei r → MayAsk how service tei r → After x (happens (port.request r) a)
   asks-one S a x h r of_link asked =
       let g = asks-goes c service tei 0 ranged lengths rate a S M h.ok h.soon r of_link in
       record {
         S = g.S';
         x' = wire.happens (line.request r) x;
         stood = stood-then S a (happens (port.request r) a) x h (line.request r) g (asked-becomes r h.there a.at h.ts h.heard);
-        path = path-one service tei (requests r) asked (with x) (with (wire.happens (line.request r) x)) tt refl;
+        path = path-one how service tei (requests r) asked (with x) (with (wire.happens (line.request r) x)) tt refl;
       }
 
   abbrev pub IsBoth : Request → Type 0
-  IsBoth r = IsOfLink service tei r × IsAsked service tei r
+  IsBoth r = IsOfLink service tei r × MayAsk how service tei r
 
   pub all-asks : (rs : List Request) (S : ℕ) (a : TimedEndpoint) (x : FrameEndpoint) → Stood S a x → All IsBoth rs → After x (fold asks a rs)
   all-asks [] S a x h all = after-none S a x h
@@ -213,7 +212,7 @@ module _ (service : Service) (tei : ℕ) (c : Config) (ranged : IsInRange c) (d 
           S = g.S';
           x' = wire.happens (line.expiry timer) x;
           stood = stood-then S a (falls_so timer) x h (line.expiry timer) g (expired-becomes timer h.there a.at h.ts h.heard);
-          path = path-one service tei (expires timer) own (with x) (with (wire.happens (line.expiry timer) x)) (subst (λ x. Rattle.laws_wire.specs.Timely.IsTimelyOf (expires timer) (with x)) (sym h.is) timely) refl;
+          path = path-one how service tei (expires timer) own (with x) (with (wire.happens (line.expiry timer) x)) (subst (λ x. Rattle.laws_wire.specs.Timely.IsTimelyOf (expires timer) (with x)) (sym h.is) timely) refl;
         }
 
     t200-fell : e.timer ≡ timers.T200 service tei → IsFair (falls_so (timers.T200 service tei)).at.told → After x (falls_so (timers.T200 service tei))

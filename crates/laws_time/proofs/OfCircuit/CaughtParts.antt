@@ -13,7 +13,7 @@ use Rattle.laws_wire.specs.Wire.{Wire}
 use Rattle.laws_wire.proofs.LooseUp.{LooseUp}
 use Rattle.laws_time.proofs.OfCircuit.ArrivBegan.{reached, clear-parts}
 use Rattle.laws_time.proofs.OfCircuit.ArrivFair.{codes, codes-append, neither}
-use Rattle.laws_time.proofs.OfCircuit.ArrivPath.{path-none}
+use Rattle.laws_time.proofs.OfCircuit.ArrivPath.{of_call, path-none, talk-of}
 use Rattle.laws_time.proofs.OfCircuit.ArrivRun.{Reached, IsFairBoth, all-beats, all-of-link, fair-all}
 use Rattle.laws_time.proofs.OfCircuit.ArrivTold.{codes-heard}
 use Rattle.laws_time.proofs.OfCircuit.CaughtBegun.{both-up}
@@ -113,7 +113,7 @@ module _ (l : Line) (before bs more : List Beat) (b : Beat) (h : GoesWell l befo
   pub both-are-up : IsUp l w.near → LooseUp l.service l.tei l.near l.far 0 0 (near_past l h.fit) (far_past l h.fit) reached-w.f
   both-are-up up =
       subst (λ f. codes (heard_in f.far) ≡ [] → (heard_in f.near ≡ [] → ⊥) → LooseUp l.service l.tei l.near l.far 0 0 (near_past l h.fit) (far_past l h.fit) f) reached-w.path.leads
-      (both-up l.service l.near l.far l.near_line l.far_line l.tei reached-w.path.steps h.fit.call reached-w.path.talk reached-w.path.patient) quiet some
+      (both-up l.service l.near l.far l.near_line l.far_line l.tei reached-w.path.steps h.fit.call (talk-of of_call l.service l.tei start reached-w.f reached-w.path) reached-w.path.patient) quiet some
     where
       not-5 : (o : Option ℕ) → (o ≡ Some 7) ⊎ (o ≡ Some 8) → o ≡ Some 5 → ⊥
       not-5 o (inl seven) five = cc (sym seven ∙ five)
@@ -154,9 +154,9 @@ module _ (l : Line) (before bs more : List Beat) (b : Beat) (h : GoesWell l befo
     pub r-done : Reached l h.fit reached-w.f (after l.rate done (in_call l before b bs))
     r-done =
         all-beats l h.fit reached-w.f done w pair-w asked-done parts.0 (fair-all l.rate rest (after l.rate done w) fair-rest)
-        (record { f = reached-w.f; path = path-none l.service l.tei reached-w.f reached-w.f refl; same = reached-w.same })
+        (record { f = reached-w.f; path = path-none of_call l.service l.tei reached-w.f reached-w.f refl; same = reached-w.same })
 
     pub r-rest : Reached l h.fit r-done.f (after l.rate rest (after l.rate done (in_call l before b bs)))
     r-rest =
         all-beats l h.fit r-done.f rest (after l.rate done w) pair-done asked-rest parts.1 fair-rest
-        (record { f = r-done.f; path = path-none l.service l.tei r-done.f r-done.f refl; same = r-done.same })
+        (record { f = r-done.f; path = path-none of_call l.service l.tei r-done.f r-done.f refl; same = r-done.same })

@@ -110,3 +110,5 @@ pub mod AgainKept
 pub mod FreeLinks
 pub mod FreeWire
 pub mod FreeOften
+pub mod QuietSteps
+pub mod QuietOn

@@ -86,30 +86,30 @@ module _ (l : Line) (fit : IsFit l) where
         let far = ap (happens port.pull) (undue-stays (length z.clock.running) z undue_far) in
         λ i. record w { near = near i; far = far i }
 
-    near-is : (beat l.rate w plain).near ≡ without_first_octet (hears None (happens port.pull (at_time (w.beats / l.rate) w.far)).at.way (happens port.pull (at_time (w.beats / l.rate) w.near)))
+    pub near-is : (beat l.rate w plain).near ≡ without_first_octet (hears None (happens port.pull (at_time (w.beats / l.rate) w.far)).at.way (happens port.pull (at_time (w.beats / l.rate) w.near)))
     near-is = ap (λ (v : Clocked). without_first_octet (hears None v.far.at.way v.near)) gone-is
 
-    far-is : (beat l.rate w plain).far ≡ without_first_octet (hears None (happens port.pull (at_time (w.beats / l.rate) w.near)).at.way (happens port.pull (at_time (w.beats / l.rate) w.far)))
+    pub far-is : (beat l.rate w plain).far ≡ without_first_octet (hears None (happens port.pull (at_time (w.beats / l.rate) w.near)).at.way (happens port.pull (at_time (w.beats / l.rate) w.far)))
     far-is = ap (λ (v : Clocked). without_first_octet (hears None v.near.at.way v.far)) gone-is
 
-    ran : Ran l.near w.near.at
+    pub ran : Ran l.near w.near.at
     ran = p.near_ok.but.ends.ran
 
-    ran-far : Ran l.far w.far.at
+    pub ran-far : Ran l.far w.far.at
     ran-far = p.far_ok.but.ends.ran
 
-    ran-pulled : Ran l.near (circuit.happens port.pull w.near.at)
+    pub ran-pulled : Ran l.near (circuit.happens port.pull w.near.at)
     ran-pulled = goes-on l.near w.near.at port.pull tt ran
 
-    ran-pulled-far : Ran l.far (circuit.happens port.pull w.far.at)
+    pub ran-pulled-far : Ran l.far (circuit.happens port.pull w.far.at)
     ran-pulled-far = goes-on l.far w.far.at port.pull tt ran-far
 
     -- what an end has put there is what its pull left
-    near-put : frames_put (beat l.rate w plain).near ≡ frames_among (port_of (circuit.happens port.pull w.near.at)).items
+    pub near-put : frames_put (beat l.rate w plain).near ≡ frames_among (port_of (circuit.happens port.pull w.near.at)).items
     near-put =
         ap frames_put near-is ∙ ap frames_among (heard-port l.near fit.call.near.0 (happens port.pull a) ran-pulled None (happens port.pull z).at.way).0
 
-    far-put : frames_put (beat l.rate w plain).far ≡ frames_among (port_of (circuit.happens port.pull w.far.at)).items
+    pub far-put : frames_put (beat l.rate w plain).far ≡ frames_among (port_of (circuit.happens port.pull w.far.at)).items
     far-put =
         ap frames_put far-is ∙ ap frames_among (heard-port l.far fit.call.far.0 (happens port.pull z) ran-pulled-far None (happens port.pull a).at.way).0
 
@@ -120,10 +120,10 @@ module _ (l : Line) (fit : IsFit l) where
     far-more = let x = pull-more l.near.n201 l.far fits-far w.far.at ran-far in (x.0, far-put ∙ x.1)
 
     -- the ports
-    long : length (circuit.happens port.pull w.near.at).way ≡ l.way + 1
+    pub long : length (circuit.happens port.pull w.near.at).way ≡ l.way + 1
     long = pulled-longer w.near.at ∙ ap (λ k. k + 1) p.near_counts.way
 
-    long-far : length (circuit.happens port.pull w.far.at).way ≡ l.way + 1
+    pub long-far : length (circuit.happens port.pull w.far.at).way ≡ l.way + 1
     long-far = pulled-longer w.far.at ∙ ap (λ k. k + 1) p.far_counts.way
 
     near-port : port_of (beat l.rate w plain).near.at ≡ port_of (with_first_of (circuit.happens port.pull w.far.at).way (circuit.happens port.pull w.near.at))

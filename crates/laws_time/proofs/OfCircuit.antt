@@ -34,6 +34,7 @@ pub mod ArrivWay
 pub mod ArrivOpen
 pub mod ArrivPath
 pub mod ArrivFair
+pub mod ArrivRuns
 pub mod ArrivSide
 pub mod ArrivHeard
 pub mod ArrivBeat
@@ -110,5 +111,6 @@ pub mod AgainKept
 pub mod FreeLinks
 pub mod FreeWire
 pub mod FreeOften
+pub mod FreeLaw
 pub mod QuietSteps
 pub mod QuietOn

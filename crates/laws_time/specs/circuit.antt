@@ -14,6 +14,7 @@ pub mod WorkedInCall
 pub mod InBeats
 pub mod AfterNoise
 pub mod WorkedAfterNoise
+pub mod Seldom
 pub mod WorkedInBeats
 pub mod WorkedInTime
 pub mod CaughtUp

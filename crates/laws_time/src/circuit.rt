@@ -27,6 +27,7 @@ ghost use Rattle.laws_time.specs.circuit.InBeats.{ACallComesInTime, ACallTakesBe
 ghost use Rattle.laws_time.specs.circuit.InCall.{ACallOutlastsNoise, N200LastsInACall};
 ghost use Rattle.laws_time.specs.circuit.LongEnough.{AnswersComeInTime};
 ghost use Rattle.laws_time.specs.circuit.Quiet.{AQuietLineHasToldAll};
+ghost use Rattle.laws_time.specs.circuit.Seldom.{T200FallsDueSeldom};
 ghost use Rattle.laws_time.specs.circuit.WorkedAnswered.{AnEnquiryIsMet};
 ghost use Rattle.laws_time.specs.circuit.WorkedCaughtUp.{AnEnquiryMeetsIt};
 
@@ -132,6 +133,19 @@ pub fn an_answer_tells_what_came()
 /// stretch of that length a frame begins, or a timer falls due.
 pub fn a_quiet_line_has_told_all()
     ensures { AQuietLineHasToldAll }
+{}
+
+/// T200 falls due seldom once noise has ended. A call is as [`calls_bear_noise`] has it, and layer 3 of either end asks for
+/// data alone. N200 is not used up, and the end that is called tells no error F. Three control frames may wait at either
+/// end. Any noise came that made no frame. L + 1 octet times after its end, the end that calls is up.
+///
+/// From there on T200 of an end falls due once more at most than contents are missing at the other end. Those are the
+/// contents that are granted in the end, and were not told there by then. It falls due for the first time for what noise
+/// took, or for whatever runs then. After each enquiry all that was sent before it is acknowledged (Q.921 clauses 5.6.3 and
+/// 5.6.7). It holds of any number of octet times, also while more is asked for. So if nothing more is granted and all was
+/// told, T200 falls due once at most at that end.
+pub fn t200_falls_due_seldom()
+    ensures { T200FallsDueSeldom }
 {}
 
 /// Without noise from the start on, noise makes no frame (`clear`): each frame that is heard stood at that place in what

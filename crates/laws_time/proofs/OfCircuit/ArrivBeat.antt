@@ -13,7 +13,9 @@ use Rattle.model_line.specs.Taken.{own_side}
 use Rattle.model_line.specs.declared.config.Config.{Config}
 use Rattle.model_card.specs.ports.Port as port
 use Rattle.model_card.specs.ports.Port.{Port, gained, is_due}
-use Rattle.model_timed.specs.Octets.{TimedOctetCard}
+use Rattle.model_timed.specs.Octets.{TimedOctetCard, fresh}
+use Rattle.laws_time.specs.circuit.Ends.{card_of}
+use Rattle.laws_time.specs.circuit.Seldom.{is_t200, is_t203, fallen}
 use Rattle.laws_link.specs.two.Timely.{HasNo}
 use Rattle.laws_wire.specs.Timely.{is_final}
 use Rattle.laws_wire.specs.Wire as wire
@@ -29,11 +31,11 @@ use Rattle.laws_time.proofs.OfCircuit.ArrivAs.{station, heard_of, due-becomes, u
 use Rattle.laws_time.proofs.OfCircuit.ArrivFair.{IsFair}
 use Rattle.laws_time.proofs.OfCircuit.ArrivHeard.{IsKeptAt, Hears, hears-so}
 use Rattle.laws_time.proofs.OfCircuit.ArrivOpen.{parts, are-own, stands, has-none}
-use Rattle.laws_time.proofs.OfCircuit.ArrivPath.{Manner, Path, path-none, path-both, path-one, path-turned}
+use Rattle.laws_time.proofs.OfCircuit.ArrivPath.{Manner, Path, path-as, path-none, path-both, path-on, path-one, path-turned}
 use Rattle.laws_time.proofs.OfCircuit.ArrivSide.{Stood, After, all-comes, fair-happens}
 use Rattle.laws_time.proofs.OfCircuit.ArrivWay.{Going, going-with, before-long, pulled-way}
 use Rattle.laws_time.proofs.OfCircuit.Beats.{at-moment, Gone}
-use Rattle.laws_time.proofs.OfCircuit.Ends.{at_time}
+use Rattle.laws_time.proofs.OfCircuit.Ends.{Leads, leads-both, at_time, time-comes}
 use Rattle.laws_time.proofs.OfCircuit.LongEnough.{Pair, by_now, long-ago, near-in-all, far-in-all, in-all, near-low, near-high, far-low, far-high, soon, near-gone, far-gone}
 use Rattle.laws_time.proofs.OfCircuit.Standing.{bare}
 use Rattle.laws_time.proofs.OfCircuit.Under.{EndOk}
@@ -46,7 +48,7 @@ module _ (how : Manner) (service : Service) (tei : ℕ) (c : Config) (ranged : I
     pub goes' : Going c.n201 (port_of (happens port.pull a).at) (happens port.pull a).at.way there'
     pub ts' : List LineTold
     pub heard' : heard_of ts' ≡ heard_of (happens port.pull a).at.told
-    pub path : Path how service tei (record { near = station there ts a.at; far = y }) (record { near = station there' ts' (happens port.pull a).at; far = y })
+    pub path : Path how service tei 0 0 0 (record { near = station there ts a.at; far = y }) (record { near = station there' ts' (happens port.pull a).at; far = y })
 
   pub pulls-to : PulledTo
   pulls-to = go (is_due (port_of a.at)) refl
@@ -62,8 +64,8 @@ module _ (how : Manner) (service : Service) (tei : ℕ) (c : Config) (ranged : I
             goes' = pulled-way c ranged a.at ran there true due goes;
             ts' = b.ts;
             heard' = b.heard;
-            path = path-one how service tei sends tt (record { near = station there ts a.at; far = y })
-                (record { near = station (wire.happens line.next (as_endpoint there a.at)).way b.ts (happens port.pull a).at; far = y }) tt (λ i. record { near = b.is i; far = y });
+            path = path-one how service tei sends tt 0 0 (record { near = station there ts a.at; far = y })
+                (record { near = station (wire.happens line.next (as_endpoint there a.at)).way b.ts (happens port.pull a).at; far = y }) refl refl tt (λ i. record { near = b.is i; far = y });
           }
       go false due =
           let b = undue-becomes there a.at ts heard due in
@@ -102,11 +104,11 @@ module _ (l : Line) (some : 1 ≤ l.rate) (near : IsInRange l.near) (far : IsInR
     pub far_heard : heard_of us ≡ heard_of w.far.at.told
 
 module _ (how : Manner) (l : Line) (some : 1 ≤ l.rate) (near : IsInRange l.near) (far : IsInRange l.far) (opposite : own_side l.far ≡ heard_side l.near) (size : l.near.n201 ≡ l.far.n201)
-    (t200 : RunsLong l l.lengths × RunsLong l l.far_lengths) (t u : TimedOctetCard) where
+    (t200 : RunsLong l l.lengths × RunsLong l l.far_lengths) (t u : TimedOctetCard) (starts : t ≡ fresh l.near l.lengths) (starts_far : u ≡ fresh l.far l.far_lengths) where
   -- A beat leads there.
-  pub record Led (w : Clocked) (b : Beat) (x y : FrameEndpoint) : Type 0 where
+  pub record Led (i j k : ℕ) (w : Clocked) (b : Beat) (x y : FrameEndpoint) : Type 0 where
     pub f : Wire
-    pub path : Path how l.service l.tei (record { near = x; far = y }) f
+    pub path : Path how l.service l.tei i j k (record { near = x; far = y }) f
     pub same : Same l some near far opposite size t200 t u (beat l.rate w b) f
 
   abbrev its_by_now : ℕ → ℕ
@@ -153,10 +155,10 @@ module _ (how : Manner) (l : Line) (some : 1 ≤ l.rate) (near : IsInRange l.nea
           Stood how l.service l.tei l.near near l.far l.lengths l.rate l.way (answered_in l.near l.far l.way) w.beats (w.beats / l.rate) ago (near-in-all l some near far opposite size t200 t u)
           p.S (its_by_now p.S2) (station back us w.far.at) far_end far-stands far-finals S a x
 
-      abbrev NearAfter : FrameEndpoint → TimedEndpoint → Type 0
-      NearAfter x v =
+      abbrev NearAfter : ℕ → ℕ → FrameEndpoint → TimedEndpoint → Type 0
+      NearAfter i k x v =
           After how l.service l.tei l.near near l.far l.lengths l.rate l.way (answered_in l.near l.far l.way) w.beats (w.beats / l.rate) ago (near-in-all l some near far opposite size t200 t u)
-          p.S (its_by_now p.S2) (station back us w.far.at) far_end far-stands far-finals x v
+          p.S (its_by_now p.S2) (station back us w.far.at) far_end far-stands far-finals i k x v
 
       -- The near end as its moment comes.
       pub near-stood : (there : List (List ℕ)) → Going l.near.n201 (port_of w.near.at) w.near.at.way there → (ts : List LineTold) → heard_of ts ≡ heard_of w.near.at.told
@@ -174,6 +176,8 @@ module _ (how : Manner) (l : Line) (some : 1 ≤ l.rate) (near : IsInRange l.nea
         ts = ts;
         is = refl;
         heard = heard;
+        timed = leads-both (fresh l.near l.lengths) (card_of w.near) (card_of (at_time (w.beats / l.rate) w.near)) (subst (λ t. Leads t (card_of w.near)) starts p.both.near_leads)
+            (time-comes (w.beats / l.rate) w.near p.both.near (near-low l some near far opposite size t200 t u w p b talk) (near-high l some near far opposite size t200 t u w p b talk)).1;
       }
 
       module _ (S : ℕ) (a : TimedEndpoint) (x : FrameEndpoint) (stood : NearStood S a x) (rs : List Request)
@@ -184,9 +188,18 @@ module _ (how : Manner) (l : Line) (some : 1 ≤ l.rate) (near : IsInRange l.nea
         near_came : TimedEndpoint
         near_came = comes_to (w.beats / l.rate) b.near_asks w.near
 
-        g : NearAfter x (comes_to (w.beats / l.rate) b.near_asks w.near)
+        abbrev pub asked_near : TimedEndpoint
+        asked_near = fold asks a rs
+
+        abbrev pub t200s : ℕ
+        t200s = fallen is_t200 (length (fold asks a rs).clock.running) (fold asks a rs)
+
+        abbrev pub t203s : ℕ
+        t203s = fallen is_t203 (length (fold asks a rs).clock.running) (fold asks a rs)
+
+        g : NearAfter t200s t203s x (comes_to (w.beats / l.rate) b.near_asks w.near)
         g =
-            subst (NearAfter x) (sym is)
+            subst (NearAfter t200s t203s x) (sym is)
             (all-comes how l.service l.tei l.near near l.far l.lengths l.rate l.way (answered_in l.near l.far l.way) w.beats (w.beats / l.rate) ago (near-in-all l some near far opposite size t200 t u)
             p.S (its_by_now p.S2) (station back us w.far.at) far_end far-stands far-finals rs (length (fold asks a rs).clock.running) S a x stood both
             (subst (λ (v : TimedEndpoint). IsFair v.at.told) is (fair-happens port.pull (comes_to (w.beats / l.rate) b.near_asks w.near) fair)))
@@ -217,10 +230,10 @@ module _ (how : Manner) (l : Line) (some : 1 ≤ l.rate) (near : IsInRange l.nea
             Stood how l.service l.tei l.far far l.near l.far_lengths l.rate l.way (answered_in l.near l.far l.way) w.beats (w.beats / l.rate) far-ago (far-in-all l some near far opposite size t200 t u)
             p.S2 (its_by_now p.S) near_now near_end near-stands near-finals S a x
 
-        abbrev FarAfter : FrameEndpoint → TimedEndpoint → Type 0
-        FarAfter x v =
+        abbrev FarAfter : ℕ → ℕ → FrameEndpoint → TimedEndpoint → Type 0
+        FarAfter i k x v =
             After how l.service l.tei l.far far l.near l.far_lengths l.rate l.way (answered_in l.near l.far l.way) w.beats (w.beats / l.rate) far-ago (far-in-all l some near far opposite size t200 t u)
-            p.S2 (its_by_now p.S) near_now near_end near-stands near-finals x v
+            p.S2 (its_by_now p.S) near_now near_end near-stands near-finals i k x v
 
         far-stood : FarStood p.S2 (at_time (w.beats / l.rate) w.far) (station back us w.far.at)
         far-stood = record {
@@ -236,12 +249,20 @@ module _ (how : Manner) (l : Line) (some : 1 ≤ l.rate) (near : IsInRange l.nea
           ts = us;
           is = refl;
           heard = far_heard;
+          timed = leads-both (fresh l.far l.far_lengths) (card_of w.far) (card_of (at_time (w.beats / l.rate) w.far)) (subst (λ t. Leads t (card_of w.far)) starts_far p.both.far_leads)
+              (time-comes (w.beats / l.rate) w.far p.both.far (far-low l some near far opposite size t200 t u w p b talk) (far-high l some near far opposite size t200 t u w p b talk)).1;
         }
 
         abbrev far_asked : TimedEndpoint
         far_asked = fold asks (at_time (w.beats / l.rate) w.far) b.far_asks
 
-        k : FarAfter (station back us w.far.at) (comes_to (w.beats / l.rate) b.far_asks w.far)
+        abbrev pub far_t200s : ℕ
+        far_t200s = fallen is_t200 (length far_asked.clock.running) far_asked
+
+        abbrev pub far_t203s : ℕ
+        far_t203s = fallen is_t203 (length far_asked.clock.running) far_asked
+
+        k : FarAfter far_t200s far_t203s (station back us w.far.at) (comes_to (w.beats / l.rate) b.far_asks w.far)
         k =
             all-comes how l.service l.tei l.far far l.near l.far_lengths l.rate l.way (answered_in l.near l.far l.way) w.beats (w.beats / l.rate) far-ago (far-in-all l some near far opposite size t200 t u)
             p.S2 (its_by_now p.S) near_now near_end near-stands near-finals b.far_asks (length far_asked.clock.running) p.S2 (at_time (w.beats / l.rate) w.far) (station back us w.far.at) far-stood far_both
@@ -272,17 +293,30 @@ module _ (how : Manner) (l : Line) (some : 1 ≤ l.rate) (near : IsInRange l.nea
         abbrev both_now : FrameEndpoint → FrameEndpoint → Wire
         both_now x y = record { near = x; far = y }
 
-        to-pulled : Path how l.service l.tei (both_now x (station back us w.far.at)) (both_now near_pulled far_pulled)
+        abbrev first_far : FrameEndpoint
+        first_far = station back us w.far.at
+
+        near-came-path : Path how l.service l.tei t200s 0 t203s (both_now x first_far) (both_now near_now first_far)
+        near-came-path =
+            path-on how l.service l.tei (both_now x first_far) (both_now g.x' first_far) (both_now near_now first_far) g.path
+            (path-none how l.service l.tei (both_now g.x' first_far) (both_now near_now first_far) (ap (λ z. both_now z first_far) g.stood.is))
+
+        far-came-path : Path how l.service l.tei 0 far_t200s far_t203s (both_now near_now first_far) (both_now near_now far_now)
+        far-came-path =
+            path-turned how l.service l.tei (both_now first_far near_now) (both_now far_now near_now)
+            (path-on how l.service l.tei (both_now first_far near_now) (both_now k.x' near_now) (both_now far_now near_now) k.path
+            (path-none how l.service l.tei (both_now k.x' near_now) (both_now far_now near_now) (ap (λ z. both_now z near_now) k.stood.is)))
+
+        pulled-path : Path how l.service l.tei 0 0 0 (both_now near_now far_now) (both_now near_pulled far_pulled)
+        pulled-path =
+            path-both how l.service l.tei (both_now near_now far_now) (both_now near_pulled far_now) (both_now near_pulled far_pulled) np.path
+            (path-turned how l.service l.tei (both_now far_now near_pulled) (both_now far_pulled near_pulled) kp.path)
+
+        to-pulled : Path how l.service l.tei t200s far_t200s (t203s + far_t203s) (both_now x first_far) (both_now near_pulled far_pulled)
         to-pulled =
-            path-both how l.service l.tei (both_now x (station back us w.far.at)) (both_now near_now (station back us w.far.at)) (both_now near_pulled far_pulled)
-            (path-both how l.service l.tei (both_now x (station back us w.far.at)) (both_now g.x' (station back us w.far.at)) (both_now near_now (station back us w.far.at)) g.path
-            (path-none how l.service l.tei (both_now g.x' (station back us w.far.at)) (both_now near_now (station back us w.far.at)) (ap (λ z. both_now z (station back us w.far.at)) g.stood.is)))
-            (path-both how l.service l.tei (both_now near_now (station back us w.far.at)) (both_now near_now far_now) (both_now near_pulled far_pulled)
-            (path-turned how l.service l.tei (both_now (station back us w.far.at) near_now) (both_now far_now near_now)
-            (path-both how l.service l.tei (both_now (station back us w.far.at) near_now) (both_now k.x' near_now) (both_now far_now near_now) k.path
-            (path-none how l.service l.tei (both_now k.x' near_now) (both_now far_now near_now) (ap (λ z. both_now z near_now) k.stood.is))))
-            (path-both how l.service l.tei (both_now near_now far_now) (both_now near_pulled far_now) (both_now near_pulled far_pulled) np.path
-            (path-turned how l.service l.tei (both_now far_now near_pulled) (both_now far_pulled near_pulled) kp.path)))
+            path-on how l.service l.tei (both_now x first_far) (both_now near_now far_now) (both_now near_pulled far_pulled)
+            (path-as how l.service l.tei (t200s + 0) (0 + far_t200s) (t203s + far_t203s) t200s far_t200s (t203s + far_t203s) (both_now x first_far) (both_now near_now far_now) (omega arith) (omega arith) refl
+            (path-both how l.service l.tei (both_now x first_far) (both_now near_now first_far) (both_now near_now far_now) near-came-path far-came-path)) pulled-path
 
         -- Both hear.
         module _ (clear_near : IsClearAt l.near.n201 b.near_noise (gone l.rate b w).near (gone l.rate b w).far) (clear_far : IsClearAt l.near.n201 b.far_noise (gone l.rate b w).far (gone l.rate b w).near)
@@ -331,9 +365,9 @@ module _ (how : Manner) (l : Line) (some : 1 ≤ l.rate) (near : IsInRange l.nea
           far-port : SamePort vf far_heard_now
           far-port = heard-port l.far far vf far_has.ok.but.ends.ran b.far_noise vn.at.way
 
-          beat-path : Path how l.service l.tei (both_now x (station back us w.far.at)) last
+          beat-path : Path how l.service l.tei t200s far_t200s (t203s + far_t203s) (both_now x (station back us w.far.at)) last
           beat-path =
-              path-both how l.service l.tei (both_now x (station back us w.far.at)) (both_now near_pulled far_pulled) last to-pulled
+              path-on how l.service l.tei (both_now x (station back us w.far.at)) (both_now near_pulled far_pulled) last to-pulled
               (path-both how l.service l.tei (both_now near_pulled far_pulled) (both_now near_told (station nh.left kp.ts' vf.at)) last nh.path
               (path-turned how l.service l.tei (both_now (station nh.left kp.ts' vf.at) near_told) (both_now (station nh.left fh.ts' far_heard_now.at) (station fh.left nh.ts' near_heard.at)) fh.path))
 
@@ -355,5 +389,5 @@ module _ (how : Manner) (l : Line) (some : 1 ≤ l.rate) (near : IsInRange l.nea
             far_heard = fh.heard';
           }
 
-          pub beat-on : Led w b x (station back us w.far.at)
+          pub beat-on : Led t200s far_t200s (t203s + far_t203s) w b x (station back us w.far.at)
           beat-on = record { f = last; path = beat-path; same = beat-same }

@@ -1,12 +1,16 @@
 -- From one wire of two cards to another, by what is done in a call with losses, where T200 is long enough.
-use Rattle.std.proofs.Common.{◌≡◌, ℕ, List, [], ◌∷◌, ◌++◌, refl, sym, ap, ◌∙◌, subst, All}
+use Rattle.std.proofs.Common.{arith, ◌≡◌, ℕ, ◌+◌, ◌&&◌, Bool, cond, List, [], ◌∷◌, ◌++◌, refl, sym, ap, ◌∙◌, subst, All}
 use Rattle.std.proofs.lemmas.List.Elements.{All-nil, All-cons, All-append, All-head, All-tail}
 use Rattle.lapd_frame.specs.declared.services.Service.{Service}
 use Rattle.model_line.specs.Request.{Request, Data}
 use Rattle.laws_wire.specs.Answering.{IsAsked, IsFullTalk, IsFullTalkOf}
 unfoldable use Rattle.laws_wire.specs.Answering.{StayPatient}
+use Rattle.laws_wire.specs.Arriving.{near_asks, far_asks, is_t200, runs_t200}
 use Rattle.laws_wire.specs.Call.{IsData}
+unfoldable use Rattle.laws_wire.specs.Expiring.{how_often}
 use Rattle.laws_wire.specs.Losing.{IsOfLink}
+use Rattle.laws_wire.specs.Resting.{expiries_of}
+unfoldable use Rattle.laws_wire.specs.Resting.{expiries}
 use Rattle.laws_wire.specs.Timely.{IsTimelyOf}
 use Rattle.laws_wire.specs.Wire.{Wire, Step, requests, expires, sends, receives, loses, StepAt, at_near, at_far, acting, turned, doing}
 unfoldable use Rattle.laws_wire.specs.Wire.{doing_all}
@@ -72,36 +76,92 @@ pub all-done : (P Q : StepAt → Type 0) → ((d : StepAt) → P d → Q d) → 
 all-done P Q so [] all = All-nil Q
 all-done P Q so (d ∷ ds) all = All-cons Q d ds (so d (All-head P d ds all)) (all-done P Q so ds (All-tail P d ds all))
 
+-- How often a timer expires in what is done in turn.
+abbrev pub count : Bool → ℕ
+count b = cond b 1 0
+
+how-append : (asks : StepAt → Wire → Bool) (ds es : List StepAt) (w : Wire) → how_often asks (ds ++ es) w ≡ how_often asks ds w + how_often asks es (doing_all ds w)
+unfolding how_often doing_all
+how-append asks [] es w = omega arith
+how-append asks (d ∷ ds) es w = let rest = how-append asks ds es (doing d w) in omega (arith, rest)
+
+expiries-append : (ds es : List StepAt) → expiries (ds ++ es) ≡ expiries ds + expiries es
+unfolding expiries
+expiries-append [] es = omega arith
+expiries-append (d ∷ ds) es = let rest = expiries-append ds es in omega (arith, rest)
+
+module _ (service : Service) (tei : ℕ) where
+  swap-near : (ds : List StepAt) (w : Wire) → how_often (near_asks service tei) (all-swapped ds) (turned w) ≡ how_often (far_asks service tei) ds w
+  unfolding how_often all-swapped swapped
+  swap-near [] w = refl
+  swap-near (at_near act ∷ ds) w = ap (λ n. 0 + n) (swap-near ds (acting act w))
+  swap-near (at_far act ∷ ds) w = ap (λ n. count (is_t200 act && runs_t200 service tei w.far) + n) (swap-near ds (turned (acting act (turned w))))
+
+  swap-far : (ds : List StepAt) (w : Wire) → how_often (far_asks service tei) (all-swapped ds) (turned w) ≡ how_often (near_asks service tei) ds w
+  unfolding how_often all-swapped swapped
+  swap-far [] w = refl
+  swap-far (at_near act ∷ ds) w = ap (λ n. count (is_t200 act && runs_t200 service tei w.near) + n) (swap-far ds (acting act w))
+  swap-far (at_far act ∷ ds) w = ap (λ n. 0 + n) (swap-far ds (turned (acting act (turned w))))
+
+swap-expiries : (ds : List StepAt) → expiries (all-swapped ds) ≡ expiries ds
+unfolding expiries all-swapped swapped
+swap-expiries [] = refl
+swap-expiries (at_near act ∷ ds) = ap (λ n. expiries_of act + n) (swap-expiries ds)
+swap-expiries (at_far act ∷ ds) = ap (λ n. expiries_of act + n) (swap-expiries ds)
+
 module _ (how : Manner) (service : Service) (tei : ℕ) where
   full-one : (d : StepAt) → IsDone how service tei d → IsFullTalk service tei d
   full-one (at_near act) is = full-of service tei how act is
   full-one (at_far act) is = full-of service tei how act is
 
-  pub record Path (w v : Wire) : Type 0 where
+  -- From one wire to another. In it T200 expires so often at either end while it runs there, and another timer so often.
+  pub record Path (near_falls far_falls others : ℕ) (w v : Wire) : Type 0 where
     pub steps : List StepAt
     pub done : All (IsDone how service tei) steps
     pub patient : StayPatient steps w
     pub leads : doing_all steps w ≡ v
+    pub near : how_often (near_asks service tei) steps w ≡ near_falls
+    pub far : how_often (far_asks service tei) steps w ≡ far_falls
+    pub all : expiries steps ≡ near_falls + far_falls + others
 
-  pub path-none : (w v : Wire) → w ≡ v → Path w v
-  unfolding StayPatient doing_all
-  path-none w v same = record { steps = []; done = All-nil (IsDone how service tei); patient = tt; leads = same }
+  pub path-none : (w v : Wire) → w ≡ v → Path 0 0 0 w v
+  unfolding StayPatient doing_all how_often expiries
+  path-none w v same = record { steps = []; done = All-nil (IsDone how service tei); patient = tt; leads = same; near = refl; far = refl; all = refl }
 
-  pub path-both : (w v x : Wire) → Path w v → Path v x → Path w x
-  path-both w v x p q = record {
+  -- It counts as many.
+  pub path-as : (i j k i' j' k' : ℕ) (w v : Wire) → i ≡ i' → j ≡ j' → k ≡ k' → Path i j k w v → Path i' j' k' w v
+  path-as i j k i' j' k' w v x y z p = record {
+    steps = p.steps;
+    done = p.done;
+    patient = p.patient;
+    leads = p.leads;
+    near = p.near ∙ x;
+    far = p.far ∙ y;
+    all = p.all ∙ (λ t. x t + y t + z t);
+  }
+
+  pub path-both : (w v x : Wire) → {i j k i' j' k' : ℕ} → Path i j k w v → Path i' j' k' v x → Path (i + i') (j + j') (k + k') w x
+  path-both w v x {i} {j} {k} {i'} {j'} {k'} p q = record {
     steps = p.steps ++ q.steps;
     done = All-append (IsDone how service tei) p.steps q.steps p.done q.done;
     patient = patient-append p.steps q.steps w p.patient (subst (StayPatient q.steps) (sym p.leads) q.patient);
     leads = doing-append p.steps q.steps w ∙ ap (doing_all q.steps) p.leads ∙ q.leads;
+    near = how-append (near_asks service tei) p.steps q.steps w ∙ (λ t. p.near t + how_often (near_asks service tei) q.steps (p.leads t)) ∙ ap (λ n. i + n) q.near;
+    far = how-append (far_asks service tei) p.steps q.steps w ∙ (λ t. p.far t + how_often (far_asks service tei) q.steps (p.leads t)) ∙ ap (λ n. j + n) q.far;
+    all = let a = expiries-append p.steps q.steps in let b = p.all in let c = q.all in omega (arith, a, b, c);
   }
 
-  pub path-one : (act : Step) → IsDoneOf how service tei act → (w v : Wire) → IsTimelyOf act w → acting act w ≡ v → Path w v
-  unfolding StayPatient doing_all
-  path-one act is w v timely same = record {
+  pub path-one : (act : Step) → IsDoneOf how service tei act → (i k : ℕ) (w v : Wire) → count (is_t200 act && runs_t200 service tei w.near) ≡ i → expiries_of act ≡ i + k → IsTimelyOf act w → acting act w ≡ v
+      → Path i 0 k w v
+  unfolding StayPatient doing_all how_often expiries
+  path-one act is i k w v falls all timely same = record {
     steps = at_near act ∷ [];
     done = All-cons (IsDone how service tei) (at_near act) [] is (All-nil (IsDone how service tei));
     patient = (timely, tt);
     leads = same;
+    near = (let sum : count (is_t200 act && runs_t200 service tei w.near) + 0 ≡ i = omega (arith, falls) in sum);
+    far = refl;
+    all = (let sum : expiries_of act + 0 ≡ i + 0 + k = omega (arith, all) in sum);
   }
 
   swap-done : (ds : List StepAt) → All (IsDone how service tei) ds → All (IsDone how service tei) (all-swapped ds)
@@ -124,14 +184,49 @@ module _ (how : Manner) (service : Service) (tei : ℕ) where
   swap-leads (at_near act ∷ ds) w = swap-leads ds (acting act w)
   swap-leads (at_far act ∷ ds) w = swap-leads ds (turned (acting act (turned w)))
 
-  pub path-turned : (w v : Wire) → Path w v → Path (turned w) (turned v)
-  path-turned w v p = record {
+  -- Before or after what counts none.
+  pub path-on : (w v x : Wire) → {i j k : ℕ} → Path i j k w v → Path 0 0 0 v x → Path i j k w x
+  path-on w v x {i} {j} {k} p q = path-as (i + 0) (j + 0) (k + 0) i j k w x (omega arith) (omega arith) (omega arith) (path-both w v x p q)
+
+  pub path-from : (w v x : Wire) → {i j k : ℕ} → Path 0 0 0 w v → Path i j k v x → Path i j k w x
+  path-from w v x {i} {j} {k} p q = path-as (0 + i) (0 + j) (0 + k) i j k w x (omega arith) (omega arith) (omega arith) (path-both w v x p q)
+
+  pub path-turned : (w v : Wire) → {i j k : ℕ} → Path i j k w v → Path j i k (turned w) (turned v)
+  path-turned w v {i} {j} {k} p = record {
     steps = all-swapped p.steps;
     done = swap-done p.steps p.done;
     patient = swap-patient p.steps w p.patient;
     leads = swap-leads p.steps w ∙ ap turned p.leads;
+    near = swap-near service tei p.steps w ∙ p.far;
+    far = swap-far service tei p.steps w ∙ p.near;
+    all = let a = swap-expiries p.steps in let b = p.all in omega (arith, a, b);
   }
 
   -- So all is of a full talk.
-  pub talk-of : (w v : Wire) (p : Path w v) → All (IsFullTalk service tei) p.steps
+  pub talk-of : (w v : Wire) → {i j k : ℕ} → (p : Path i j k w v) → All (IsFullTalk service tei) p.steps
   talk-of w v p = all-done (IsDone how service tei) (IsFullTalk service tei) full-one p.steps p.done
+
+-- Data alone is asked for: so it is anything of a call.
+module _ (service : Service) (tei : ℕ) where
+  data-call : (d : StepAt) → IsDone of_data service tei d → IsDone of_call service tei d
+  data-call (at_near (requests r)) is = is-asked service tei r is
+  data-call (at_near (expires timer)) is = is
+  data-call (at_near sends) is = tt
+  data-call (at_near receives) is = tt
+  data-call (at_near loses) is = tt
+  data-call (at_far (requests r)) is = is-asked service tei r is
+  data-call (at_far (expires timer)) is = is
+  data-call (at_far sends) is = tt
+  data-call (at_far receives) is = tt
+  data-call (at_far loses) is = tt
+
+  pub path-call : (w v : Wire) → {i j k : ℕ} → Path of_data service tei i j k w v → Path of_call service tei i j k w v
+  path-call w v p = record {
+    steps = p.steps;
+    done = all-done (IsDone of_data service tei) (IsDone of_call service tei) data-call p.steps p.done;
+    patient = p.patient;
+    leads = p.leads;
+    near = p.near;
+    far = p.far;
+    all = p.all;
+  }

@@ -1,5 +1,5 @@
 -- A call of the clocked circuit is one on a wire of frames, where T200 is long enough.
-use Rattle.std.proofs.Common.{◌≡◌, ℕ, ◌/◌, List, [], ◌∷◌, length, Option, refl, sym, ◌∙◌, subst, All, inl, append-nil}
+use Rattle.std.proofs.Common.{arith, ◌≡◌, ℕ, ◌+◌, ◌/◌, Bool, List, [], ◌∷◌, length, Option, refl, sym, ◌∙◌, subst, All, inl, append-nil}
 use Rattle.std.proofs.lemmas.List.Elements.{All-nil, All-cons, All-head, All-tail}
 use Rattle.model_bits.specs.StuffingLaws.{AreOctets}
 use Rattle.model_line.specs.Event as line
@@ -14,6 +14,9 @@ use Rattle.laws_order.proofs.OfCircuit.OneWay.{Carries}
 use Rattle.laws_time.specs.circuit.Arriving.{calls, IsAsked, AreAsked}
 use Rattle.laws_time.specs.circuit.InBeats.{IsDataOf}
 use Rattle.laws_time.specs.circuit.Clocked.{TimedEndpoint, Clocked, Beat, asks, hears, comes_to, gone, beat, after, flags}
+use Rattle.lapd_frame.specs.declared.timers.Timer.{Timer}
+use Rattle.laws_time.specs.circuit.Seldom.{is_t200, is_t203, fallen_in}
+unfoldable use Rattle.laws_time.specs.circuit.Seldom.{near_fallen, far_fallen}
 use Rattle.laws_time.specs.circuit.LongEnough.{Line, IsFit, IsTalk, IsOfLink, asked, answered_in}
 unfoldable use Rattle.laws_time.specs.circuit.LongEnough.{AreClear}
 use Rattle.laws_time.proofs.OfCircuit.Acts.{Goes, asks-goes}
@@ -21,10 +24,12 @@ use Rattle.laws_time.proofs.OfCircuit.ArrivAs.{station, heard_of, asked-becomes}
 use Rattle.laws_time.proofs.OfCircuit.ArrivBeat.{Same, Led, near-stood, beat-on, NearStood, ago, far_end, far-stands, far-finals}
 use Rattle.laws_time.proofs.OfCircuit.ArrivHeard.{IsKeptAt}
 use Rattle.laws_time.proofs.OfCircuit.ArrivFair.{IsFair}
-use Rattle.laws_time.proofs.OfCircuit.ArrivPath.{Manner, of_call, of_data, of_whole, MayAsk, Path, path-none, path-both}
+use Rattle.laws_time.proofs.OfCircuit.ArrivPath.{Manner, of_call, of_data, of_whole, MayAsk, Path, path-as, path-none, path-both, path-on}
 use Rattle.laws_time.proofs.OfCircuit.ArrivSide.{fair-happens, fair-asks, fair-falls, stood-then}
 use Rattle.laws_time.proofs.OfCircuit.ArrivWay.{Going}
-use Rattle.laws_time.proofs.OfCircuit.Ends.{at_time}
+use Rattle.laws_time.proofs.OfCircuit.Ends.{Leads, at_time}
+use Rattle.laws_time.proofs.OfCircuit.InCallWalk.{event-walks}
+use Rattle.laws_time.specs.circuit.Ends.{card_of}
 use Rattle.laws_time.proofs.OfCircuit.InTime.{PairNow, near_card, far_card}
 use Rattle.laws_time.proofs.OfCircuit.LongEnough.{by_now, near-in-all, pair-then}
 use Rattle.std.specs.Option.{unwrap_or}
@@ -134,19 +139,29 @@ module _ (how : Manner) (l : Line) (fit : IsFit l) where
   its-of-link [] all = All-nil (IsOfLink l.service l.tei)
   its-of-link (r ∷ rs) all = All-cons (IsOfLink l.service l.tei) r rs (both-of how r (All-head (MayBeAsked how l) r rs all)).0 (its-of-link rs (All-tail (MayBeAsked how l) r rs all))
 
-  -- It leads there from a wire.
-  pub record ReachedBy (start : Wire) (w : Clocked) : Type 0 where
+  -- It leads there from a wire, and T200 of either end has fallen due so often, and T203 of both.
+  pub record ReachedBy (i j k : ℕ) (start : Wire) (w : Clocked) : Type 0 where
     pub f : Wire
-    pub path : Path how l.service l.tei start f
+    pub path : Path how l.service l.tei i j k start f
     pub same : SameNow l fit w f
 
-  abbrev LedTo : Clocked → Beat → FrameEndpoint → FrameEndpoint → Type 0
-  LedTo w b x y = Led how l fit.some fit.call.near.0 fit.call.far.0 fit.call.opposite.0 fit.call.opposite.1 fit.t200 (near_card l fit) (far_card l fit) w b x y
+  abbrev LedTo : ℕ → ℕ → ℕ → Clocked → Beat → FrameEndpoint → FrameEndpoint → Type 0
+  LedTo i j k w b x y = Led how l fit.some fit.call.near.0 fit.call.far.0 fit.call.opposite.0 fit.call.opposite.1 fit.t200 (near_card l fit) (far_card l fit) refl refl i j k w b x y
 
-  led-on : (start : Wire) (w : Clocked) (b : Beat) (x y : FrameEndpoint) → Path how l.service l.tei start (record { near = x; far = y }) → LedTo w b x y → ReachedBy start (beat l.rate w b)
+  led-on : (start : Wire) (w : Clocked) (b : Beat) (x y : FrameEndpoint) → {i j k i' j' k' : ℕ} → Path how l.service l.tei i j k start (record { near = x; far = y }) → LedTo i' j' k' w b x y
+      → ReachedBy (i + i') (j + j') (k + k') start (beat l.rate w b)
   led-on start w b x y path led = record { f = led.f; path = path-both how l.service l.tei start (record { near = x; far = y }) led.f path led.path; same = led.same }
 
-  one-beat : (start : Wire) (w : Clocked) (b : Beat) → PairNow l fit w → AreAskedSo how l b → AreClear l (b ∷ []) w → AreKept how l (b ∷ []) w → IsFairBoth (beat l.rate w b) → ReachedBy start w → ReachedBy start (beat l.rate w b)
+  -- What falls due in a beat.
+  abbrev Near : (Timer → Bool) → Clocked → Beat → ℕ
+  Near of w b = fallen_in of (w.beats / l.rate) b.near_asks w.near
+
+  abbrev Far : (Timer → Bool) → Clocked → Beat → ℕ
+  Far of w b = fallen_in of (w.beats / l.rate) b.far_asks w.far
+
+  one-beat : (start : Wire) (w : Clocked) (b : Beat) → {i j k : ℕ} → PairNow l fit w → AreAskedSo how l b → AreClear l (b ∷ []) w → AreKept how l (b ∷ []) w → IsFairBoth (beat l.rate w b) → ReachedBy i j k start w
+      → ReachedBy (i + fallen_in is_t200 (w.beats / l.rate) b.near_asks w.near) (j + fallen_in is_t200 (w.beats / l.rate) b.far_asks w.far)
+      (k + (fallen_in is_t203 (w.beats / l.rate) b.near_asks w.near + fallen_in is_t203 (w.beats / l.rate) b.far_asks w.far)) start (beat l.rate w b)
   unfolding AreClear AreKept
   one-beat start w b p are_asked clear kept fair h =
       let c = fit.call in let s = h.same in
@@ -155,24 +170,44 @@ module _ (how : Manner) (l : Line) (fit : IsFit l) where
       let x = station s.there s.ts w.near.at in
       let y = station s.back s.us w.far.at in
       led-on start w b x y
-      (path-both how l.service l.tei start h.f (record { near = x; far = y }) h.path
+      (path-on how l.service l.tei start h.f (record { near = x; far = y }) h.path
       (path-none how l.service l.tei h.f (record { near = x; far = y }) (λ i. record { near = s.near_is i; far = s.far_is i })))
-      (beat-on how l fit.some c.near.0 c.far.0 c.opposite.0 c.opposite.1 fit.t200 (near_card l fit) (far_card l fit) w p b talk s.back s.comes s.us s.far_heard
+      (beat-on how l fit.some c.near.0 c.far.0 c.opposite.0 c.opposite.1 fit.t200 (near_card l fit) (far_card l fit) refl refl w p b talk s.back s.comes s.us s.far_heard
       p.S (at_time (w.beats / l.rate) w.near) x
-      (near-stood how l fit.some c.near.0 c.far.0 c.opposite.0 c.opposite.1 fit.t200 (near_card l fit) (far_card l fit) w p b talk s.back s.comes s.us s.far_heard s.there s.goes s.ts s.near_heard)
+      (near-stood how l fit.some c.near.0 c.far.0 c.opposite.0 c.opposite.1 fit.t200 (near_card l fit) (far_card l fit) refl refl w p b talk s.back s.comes s.us s.far_heard s.there s.goes s.ts s.near_heard)
       b.near_asks refl (all-both b.near_asks are_asked.0) (all-both b.far_asks are_asked.1) now.0 now.1 clear.0 clear.1 kept.0 kept.1)
 
-  pub beats-by : (start : Wire) (bs : List Beat) (w : Clocked) → PairNow l fit w → All (AreAskedSo how l) bs → AreClear l bs w → AreKept how l bs w → IsFairBoth (after l.rate bs w) → ReachedBy start w → ReachedBy start (after l.rate bs w)
-  unfolding AreClear AreKept
-  beats-by start [] w p all clear kept fair h = h
-  beats-by start (b ∷ bs) w p all clear kept fair h =
+  reached-as : (start : Wire) (w : Clocked) (i j k i' j' k' : ℕ) → i ≡ i' → j ≡ j' → k ≡ k' → ReachedBy i j k start w → ReachedBy i' j' k' start w
+  reached-as start w i j k i' j' k' x y z h = record { f = h.f; path = path-as how l.service l.tei i j k i' j' k' start h.f x y z h.path; same = h.same }
+
+  pub beats-by : (start : Wire) (bs : List Beat) (w : Clocked) → {i j k : ℕ} → PairNow l fit w → All (AreAskedSo how l) bs → AreClear l bs w → AreKept how l bs w → IsFairBoth (after l.rate bs w) → ReachedBy i j k start w
+      → ReachedBy (i + near_fallen is_t200 l.rate bs w) (j + far_fallen is_t200 l.rate bs w) (k + (near_fallen is_t203 l.rate bs w + far_fallen is_t203 l.rate bs w)) start (after l.rate bs w)
+  unfolding AreClear AreKept near_fallen far_fallen
+  beats-by start [] w {i} {j} {k} p all clear kept fair h = reached-as start w i j k (i + 0) (j + 0) (k + (0 + 0)) (omega arith) (omega arith) (omega arith) h
+  beats-by start (b ∷ bs) w {i} {j} {k} p all clear kept fair h =
       let c = fit.call in
       let now = All-head (AreAskedSo how l) b bs all in
       let talk : IsTalk l b = (its-of-link b.near_asks now.0, its-of-link b.far_asks now.1) in
-      beats-by start bs (beat l.rate w b)
+      let u = beat l.rate w b in
+      let a = Near is_t200 w b in let d = Far is_t200 w b in let e = Near is_t203 w b in let g = Far is_t203 w b in
+      let a' = near_fallen is_t200 l.rate bs u in let d' = far_fallen is_t200 l.rate bs u in let e' = near_fallen is_t203 l.rate bs u in let g' = far_fallen is_t203 l.rate bs u in
+      reached-as start (after l.rate bs u) ((i + a) + a') ((j + d) + d') ((k + (e + g)) + (e' + g')) (i + (a + a')) (j + (d + d')) (k + ((e + e') + (g + g'))) (omega arith) (omega arith) (omega arith)
+      (beats-by start bs u
       (pair-then l fit.some c.near.0 c.far.0 c.opposite.0 c.opposite.1 fit.t200 (near_card l fit) (far_card l fit) w p b talk clear.0 clear.1)
       (All-tail (AreAskedSo how l) b bs all) clear.2 kept.2 fair
-      (one-beat start w b p now (clear.0, clear.1, tt) (kept.0, kept.1, tt) (fair-all l.rate bs (beat l.rate w b) fair) h)
+      (one-beat start w b p now (clear.0, clear.1, tt) (kept.0, kept.1, tt) (fair-all l.rate bs u fair) h))
+
+  -- However often they fell due.
+  pub record ReachedSome (start : Wire) (w : Clocked) : Type 0 where
+    pub i : ℕ
+    pub j : ℕ
+    pub k : ℕ
+    pub f : Wire
+    pub path : Path how l.service l.tei i j k start f
+    pub same : SameNow l fit w f
+
+  pub as-some : (start : Wire) (w : Clocked) → {i j k : ℕ} → ReachedBy i j k start w → ReachedSome start w
+  as-some start w {i} {j} {k} h = record { i = i; j = j; k = k; f = h.f; path = h.path; same = h.same }
 
   -- The first beat, in which layer 3 asks for the establishment first of all.
   module _ (w : Clocked) (p : PairNow l fit w) (goes : Going l.near.n201 (port_of w.near.at) w.near.at.way []) (comes : Going l.far.n201 (port_of w.far.at) w.far.at.way [])
@@ -197,11 +232,11 @@ module _ (how : Manner) (l : Line) (fit : IsFit l) where
 
     abbrev StoodNow : ℕ → TimedEndpoint → FrameEndpoint → Type 0
     StoodNow S v z =
-        NearStood how l fit.some fit.call.near.0 fit.call.far.0 fit.call.opposite.0 fit.call.opposite.1 fit.t200 (near_card l fit) (far_card l fit) w p (calls l b) first-talk [] comes us far_heard S v z
+        NearStood how l fit.some fit.call.near.0 fit.call.far.0 fit.call.opposite.0 fit.call.opposite.1 fit.t200 (near_card l fit) (far_card l fit) refl refl w p (calls l b) first-talk [] comes us far_heard S v z
 
     stood : StoodNow p.S (at_time (w.beats / l.rate) w.near) x
     stood =
-        near-stood how l fit.some fit.call.near.0 fit.call.far.0 fit.call.opposite.0 fit.call.opposite.1 fit.t200 (near_card l fit) (far_card l fit) w p (calls l b) first-talk [] comes us far_heard
+        near-stood how l fit.some fit.call.near.0 fit.call.far.0 fit.call.opposite.0 fit.call.opposite.1 fit.t200 (near_card l fit) (far_card l fit) refl refl w p (calls l b) first-talk [] comes us far_heard
         [] goes ts near_heard
 
     abbrev most : ℕ
@@ -213,35 +248,40 @@ module _ (how : Manner) (l : Line) (fit : IsFit l) where
     then : StoodNow g.S' (asks a ask) (wire.happens (line.request ask) x)
     then =
         let t = near_card l fit in let u = far_card l fit in let c = fit.call in
+        let walk = event-walks l.service l.tei l.near c.near.0 l.lengths l.rate (port.request ask) a p.S most stood.ok tt in
+        let leads : Leads (card_of a) (card_of (asks a ask)) = record { steps = walk.steps; leads = walk.leads; prompt = walk.prompt } in
         stood-then how l.service l.tei l.near c.near.0 l.far l.lengths l.rate l.way (answered_in l.near l.far l.way) w.beats (w.beats / l.rate)
-        (ago how l fit.some c.near.0 c.far.0 c.opposite.0 c.opposite.1 fit.t200 t u w p (calls l b) first-talk)
+        (ago how l fit.some c.near.0 c.far.0 c.opposite.0 c.opposite.1 fit.t200 t u refl refl w p (calls l b) first-talk)
         (near-in-all l fit.some c.near.0 c.far.0 c.opposite.0 c.opposite.1 fit.t200 t u) p.S most y
-        (far_end how l fit.some c.near.0 c.far.0 c.opposite.0 c.opposite.1 fit.t200 t u w p (calls l b) first-talk [] comes us far_heard)
-        (far-stands how l fit.some c.near.0 c.far.0 c.opposite.0 c.opposite.1 fit.t200 t u w p (calls l b) first-talk [] comes us far_heard)
-        (far-finals how l fit.some c.near.0 c.far.0 c.opposite.0 c.opposite.1 fit.t200 t u w p (calls l b) first-talk [] comes us far_heard)
-        p.S a (asks a ask) x stood (line.request ask) g (asked-becomes ask stood.there a.at stood.ts stood.heard)
+        (far_end how l fit.some c.near.0 c.far.0 c.opposite.0 c.opposite.1 fit.t200 t u refl refl w p (calls l b) first-talk [] comes us far_heard)
+        (far-stands how l fit.some c.near.0 c.far.0 c.opposite.0 c.opposite.1 fit.t200 t u refl refl w p (calls l b) first-talk [] comes us far_heard)
+        (far-finals how l fit.some c.near.0 c.far.0 c.opposite.0 c.opposite.1 fit.t200 t u refl refl w p (calls l b) first-talk [] comes us far_heard)
+        p.S a (asks a ask) x stood (line.request ask) g leads (asked-becomes ask stood.there a.at stood.ts stood.heard)
 
-    first-beat : AreClear l (calls l b ∷ []) w → AreKept how l (calls l b ∷ []) w → IsFairBoth (beat l.rate w (calls l b)) → ReachedBy start (beat l.rate w (calls l b))
+    first-beat : AreClear l (calls l b ∷ []) w → AreKept how l (calls l b ∷ []) w → IsFairBoth (beat l.rate w (calls l b)) → ReachedSome start (beat l.rate w (calls l b))
     unfolding AreClear AreKept
     first-beat clear kept fair =
         let c = fit.call in
         let now = fair-gone l.rate (calls l b) w fair in
-        led-on start w (calls l b) (wire.happens (line.request ask) x) y (path-none how l.service l.tei start start refl)
-        (beat-on how l fit.some c.near.0 c.far.0 c.opposite.0 c.opposite.1 fit.t200 (near_card l fit) (far_card l fit) w p (calls l b) first-talk [] comes us far_heard
-        g.S' (asks a ask) (wire.happens (line.request ask) x) then b.near_asks refl (all-both b.near_asks are_asked.0) (all-both b.far_asks are_asked.1) now.0 now.1 clear.0 clear.1 kept.0 kept.1)
+        as-some start (beat l.rate w (calls l b)) (led-on start w (calls l b) (wire.happens (line.request ask) x) y (path-none how l.service l.tei start start refl)
+        (beat-on how l fit.some c.near.0 c.far.0 c.opposite.0 c.opposite.1 fit.t200 (near_card l fit) (far_card l fit) refl refl w p (calls l b) first-talk [] comes us far_heard
+        g.S' (asks a ask) (wire.happens (line.request ask) x) then b.near_asks refl (all-both b.near_asks are_asked.0) (all-both b.far_asks are_asked.1) now.0 now.1 clear.0 clear.1 kept.0 kept.1))
 
-    pub reached-by-from : (bs : List Beat) → All (AreAskedSo how l) bs → AreClear l (calls l b ∷ bs) w → AreKept how l (calls l b ∷ bs) w → IsFairBoth (after l.rate (calls l b ∷ bs) w) → ReachedBy start (after l.rate (calls l b ∷ bs) w)
+    pub reached-by-from : (bs : List Beat) → All (AreAskedSo how l) bs → AreClear l (calls l b ∷ bs) w → AreKept how l (calls l b ∷ bs) w → IsFairBoth (after l.rate (calls l b ∷ bs) w) → ReachedSome start (after l.rate (calls l b ∷ bs) w)
     unfolding AreClear AreKept
     reached-by-from bs all clear kept fair =
         let c = fit.call in
-        beats-by start bs (beat l.rate w (calls l b))
+        let u = beat l.rate w (calls l b) in
+        let h = first-beat (clear.0, clear.1, tt) (kept.0, kept.1, tt) (fair-all l.rate bs u fair) in
+        as-some start (after l.rate bs u) (beats-by start bs u
         (pair-then l fit.some c.near.0 c.far.0 c.opposite.0 c.opposite.1 fit.t200 (near_card l fit) (far_card l fit) w p (calls l b) first-talk clear.0 clear.1)
-        all clear.2 kept.2 fair (first-beat (clear.0, clear.1, tt) (kept.0, kept.1, tt) (fair-all l.rate bs (beat l.rate w (calls l b)) fair))
+        all clear.2 kept.2 fair (record { f = h.f; path = h.path; same = h.same }))
 
 -- Anything may be done.
 module _ (l : Line) (fit : IsFit l) where
   abbrev pub Reached : Wire → Clocked → Type 0
-  Reached start w = ReachedBy of_call l fit start w
+  Reached start w = ReachedSome of_call l fit start w
 
   pub all-beats : (start : Wire) (bs : List Beat) (w : Clocked) → PairNow l fit w → All (AreAsked l) bs → AreClear l bs w → IsFairBoth (after l.rate bs w) → Reached start w → Reached start (after l.rate bs w)
-  all-beats start bs w p all clear fair h = beats-by of_call l fit start bs w p all clear (call-kept l bs w) fair h
+  all-beats start bs w p all clear fair h =
+      as-some of_call l fit start (after l.rate bs w) (beats-by of_call l fit start bs w p all clear (call-kept l bs w) fair (record { f = h.f; path = h.path; same = h.same }))

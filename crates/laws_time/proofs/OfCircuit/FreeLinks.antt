@@ -1,16 +1,15 @@
 -- An end that is never asked to be busy, facing one that is not: whatever happens it is not busy, and sends no RNR.
-use Rattle.laws_wire.proofs.Vocabulary.{arith, ◌≡◌, ℕ, ◌+◌, Bool, true, false, cond, not, ◌&&◌, ◌||◌, List, [], ◌∷◌, ◌++◌, take, drop, refl, sym, ap, subst, ◌∙◌, ◌⊎◌, inl, inr, true≢false, All, All-nil, All-cons, All-head, All-append, All-take, All-drop, seq, Control, Parts, State, ControlFrame, Terms, Link, is_multiple_frame, undefined, wrong_size, received, expired, requested, offer, cleared}
-use Rattle.laws_wire.proofs.Vocabulary.{given_of, begun, LinkEndpoint, with_link, with_sent, frame_given, busy_heard, as_heard, is_overlong, as_response, answers_to, command_in, is_time, room, waiting_left, event-follows, Kind, alien, kind_of, after, Course, has_next_number}
+use Rattle.laws_wire.proofs.Vocabulary.{arith, ◌≡◌, ℕ, ◌+◌, Bool, true, false, cond, not, ◌&&◌, ◌||◌, List, [], ◌∷◌, ◌++◌, take, refl, sym, subst, ◌⊎◌, inl, inr, true≢false, All, All-nil, All-cons, All-head, All-append, All-take, All-drop, seq, Control, Parts, State, ControlFrame, Terms, Link, is_multiple_frame, undefined, wrong_size, received, expired, requested, offer, cleared}
+use Rattle.laws_wire.proofs.Vocabulary.{given_of, begun, LinkEndpoint, with_link, with_sent, frame_given, busy_heard, as_heard, is_overlong, as_response, answers_to, command_in, is_time, room, waiting_left, event-follows, alien, kind_of, after, Course, has_next_number}
 use Rattle.std.proofs.lemmas.List.Elements.{All-tail}
 use Rattle.lapd_frame.specs.declared.controls.Control.TheVariants as control
-use Rattle.lapd_seq.specs.declared.numbers.Seq.{Seq}
 use Rattle.model_link.specs.declared.states.State.TheVariants as state
 use Rattle.model_link.specs.Events.{Event, frame, overlong, Data}
 use Rattle.model_link.specs.Offers
 use Rattle.model_link.specs.TwoEnds.{with_first_of, without_first}
 use Rattle.laws_link.specs.Flags.{busy_asked}
 use Rattle.laws_link.specs.States.{moves}
-use Rattle.laws_link.specs.Waiting.{as_command, answers_up, command_in as command_for, receipt_as, to_disc, to_information, to_sabme, to_supervisory}
+use Rattle.laws_link.specs.Waiting.{receipt_as, to_disc, to_information, to_sabme, to_supervisory}
 use Rattle.laws_wire.proofs.Tame.{IsFree, IsFreeFrame, Tame, WaitsSo, counts, off}
 
 -- A frame that waits says nothing of being busy, and two links that are up send it, or it is none of theirs.

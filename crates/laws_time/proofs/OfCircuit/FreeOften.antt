@@ -1,23 +1,22 @@
 -- From a time on nothing is lost on a wire, and data alone is asked for: how often T200 of either end runs out since.
-use Rattle.laws_wire.proofs.Vocabulary.{◌≡◌, ℕ, ◌+◌, ◌≤◌, List, [], ◌∷◌, length, refl, sym, ap, subst, ◌∙◌, ◌⊎◌, inl, inr, arith, All, All-head, All-tail, Service, LinkEndpoint, Config, LineTold, line_of, rising-low, flows-low, Wire, EndStep, requests, expires, sends, receives, loses, acting, turned, StepAt, at_near, at_far, doing, confirmed, indicated, heard_in, IsRoughTalk, IsRoughTalkOf, LosesNothing, near_asks, far_asks}
-use Rattle.model_line.specs.Request.{Request}
-use Rattle.laws_wire.specs.Answering as answering
+use Rattle.laws_wire.proofs.Vocabulary.{◌≡◌, ℕ, ◌+◌, ◌≤◌, List, [], ◌∷◌, length, refl, sym, ap, subst, ◌∙◌, ◌⊎◌, inl, inr, arith, All, Service, LinkEndpoint, Config, LineTold, line_of, rising-low, flows-low, Wire, EndStep, requests, expires, sends, receives, loses, acting, turned, StepAt, at_near, at_far, confirmed, indicated, heard_in, IsRoughTalk, IsRoughTalkOf, LosesNothing, near_asks}
+use Rattle.laws_wire.proofs.Vocabulary.{far_asks}
 unfoldable use Rattle.laws_wire.specs.Answering.{StayPatient}
 unfoldable use Rattle.laws_wire.specs.Expiring.{how_often}
 use Rattle.laws_wire.specs.Timely.{IsSpared}
 unfoldable use Rattle.laws_wire.specs.Timely.{StayTimely}
 unfoldable use Rattle.laws_wire.specs.Wire.{doing_all}
-use Rattle.laws_wire.proofs.Firm.{Firm}
-use Rattle.laws_wire.proofs.LooseUp.{LooseUp}
+use Rattle.laws_wire.proofs.Firm.{Firm, firm-turned}
+use Rattle.laws_wire.proofs.LooseUp.{LooseUp, at-turned}
 use Rattle.laws_wire.proofs.Often.{Often, In7, In8}
 use Rattle.laws_wire.proofs.OftenRun.{OftenUp, often-runs}
 use Rattle.laws_wire.proofs.Sure.{Sure}
 use Rattle.laws_wire.proofs.Talking.{Face}
 use Rattle.laws_wire.proofs.UnderwayRounds.{told-still}
-use Rattle.laws_time.proofs.OfCircuit.ArrivPath.{Manner, of_data, of_whole, IsDone, IsDoneOf, Path, all-done}
+use Rattle.laws_time.proofs.OfCircuit.ArrivPath.{of_data, of_whole, IsDone, IsDoneOf, Path, all-done}
 use Rattle.laws_time.proofs.OfCircuit.ArrivTold.{contents_of}
 use Rattle.laws_time.proofs.OfCircuit.CaughtEnds.{told-as-many}
-use Rattle.laws_time.proofs.OfCircuit.FreeWire.{FreeAt, FreeBoth, free-same, as-firm}
+use Rattle.laws_time.proofs.OfCircuit.FreeWire.{FreeBoth, free-same, as-firm}
 
 -- ---- what is done
 
@@ -56,7 +55,7 @@ module _ (service : Service) (tei : ℕ) where
   whole-kept (at_far sends) is = tt
   whole-kept (at_far receives) is = tt
 
-  pub rough-of : (w v : Wire) (p : Path of_data service tei w v) → All (IsRoughTalk service tei) p.steps
+  pub rough-of : (w v : Wire) → {i j k : ℕ} → (p : Path of_data service tei i j k w v) → All (IsRoughTalk service tei) p.steps
   rough-of w v p = all-done (IsDone of_data service tei) (IsRoughTalk service tei) data-rough p.steps p.done
 
   spared : (act : EndStep) (w : Wire) → (heard_in w.near ≡ [] → ⊥) → IsSpared act w
@@ -123,17 +122,27 @@ module _ (service : Service) (tei : ℕ) (c d : Config) (face : Face c d) (back 
     some-told none = cc (sym h.near.heard ∙ none)
 
     -- In what is done then T200 of an end runs out once more at most than the other end is still to be told.
-    module _ (g : Wire) (p : Path of_whole service tei f g) where
-      last : Up h.m.link.r (0 + how_often (near_asks service tei) p.steps f) h.n.link.r (0 + how_often (far_asks service tei) p.steps f) g
+    module _ (i j m : ℕ) (g : Wire) (p : Path of_whole service tei i j m f g) where
+      last : Up h.m.link.r (0 + i) h.n.link.r (0 + j) g
       last =
-          subst (Up h.m.link.r (0 + how_often (near_asks service tei) p.steps f) h.n.link.r (0 + how_often (far_asks service tei) p.steps f)) p.leads
+          subst (λ e. Up h.m.link.r (0 + e) h.n.link.r (0 + j) g) p.near
+          (subst (λ e. Up h.m.link.r (0 + how_often (near_asks service tei) p.steps f) h.n.link.r (0 + e) g) p.far
+          (subst (Up h.m.link.r (0 + how_often (near_asks service tei) p.steps f) h.n.link.r (0 + how_often (far_asks service tei) p.steps f)) p.leads
           (often-runs service tei c d 0 0 face back wide_c wide_d h.m.link.r 0 h.n.link.r 0 p.steps f
           (all-done (IsDone of_whole service tei) (IsRoughTalk service tei) (whole-rough service tei) p.steps p.done)
-          (all-done (IsDone of_whole service tei) LosesNothing (whole-kept service tei) p.steps p.done) (timely-all service tei p.steps f p.patient some-told) begins)
+          (all-done (IsDone of_whole service tei) LosesNothing (whole-kept service tei) p.steps p.done) (timely-all service tei p.steps f p.patient some-told) begins)))
 
-      pub near-seldom : length (contents_of (heard_in f.far)) + how_often (near_asks service tei) p.steps f ≤ length g.near.granted + 1
+      pub near-seldom : length (contents_of (heard_in f.far)) + i ≤ length g.near.granted + 1
       near-seldom =
           let x = last in
           let told = told-as-many service tei c d 0 0 past other f h.n h.m (record { near = h.near; far = h.far; loose = h.loose }) refl in
-          let most = often-most h.m.link.r (0 + how_often (near_asks service tei) p.steps f) x.n x.m x.up.firm x.there in
+          let most = often-most h.m.link.r (0 + i) x.n x.m x.up.firm x.there in
           let granted = ap (λ xs. length xs) x.up.near.granted in omega (arith, told, most, granted)
+
+      pub far-seldom : length (contents_of (heard_in f.near)) + j ≤ length g.far.granted + 1
+      far-seldom =
+          let x = last in
+          let at = at-turned service tei c d 0 0 past other f h.n h.m (record { near = h.near; far = h.far; loose = h.loose }) in
+          let told = told-as-many service tei d c 0 0 other past (turned f) h.m h.n at refl in
+          let most = often-most h.n.link.r (0 + j) x.m x.n (firm-turned x.n x.m x.up.firm) x.back in
+          let granted = ap (λ xs. length xs) x.up.far.granted in omega (arith, told, most, granted)

@@ -1,5 +1,5 @@
 -- A call on a wire in which data alone is asked for: neither end is ever busy. So two links that are up are firm.
-use Rattle.laws_wire.proofs.Vocabulary.{◌≡◌, ℕ, Bool, true, false, List, [], ◌∷◌, ◌++◌, drop, map, Ok, refl, sym, ap, subst, ◌∙◌, ◌⊎◌, inl, inr, All, All-nil, All-cons, All-head, All-tail, Service, Timer, Parts, ControlFrame, spelling, Terms, Link, LinkTimer, T200, T203, LinkEndpoint, with_link, with_sent, frame_of, frames_of, Config, request, next, expiry, requested, received, expired, frame, own_side}
+use Rattle.laws_wire.proofs.Vocabulary.{◌≡◌, ℕ, Bool, true, false, List, [], ◌∷◌, drop, map, refl, sym, ap, subst, ◌∙◌, ◌⊎◌, inl, inr, All, All-nil, All-cons, All-head, All-tail, Service, Timer, Parts, ControlFrame, spelling, Terms, Link, LinkTimer, T200, T203, LinkEndpoint, with_link, with_sent, Config, request, next, expiry, requested, received, expired, frame, own_side}
 use Rattle.laws_wire.proofs.Vocabulary.{Data, LinkData, Endpoint, Wire, happens, without_first, with_first_of, EndStep, requests, expires, sends, receives, loses, acting, turned, StepAt, at_near, at_far, doing, IsRoughTalk, IsRoughTalkOf, timer_T200, timer_T203, is_recovering, line, Kind, kind_of, alien, is-no-alien, NoAlien, Flow, calling, fresh, terms}
 use Rattle.lapd_frame.specs.Senders.{reading}
 use Rattle.model_link.specs.TwoEnds as two_ends

@@ -18,7 +18,7 @@ use Rattle.laws_time.specs.circuit.InBeats.{IsUndue}
 unfoldable use Rattle.laws_time.specs.circuit.InBeats.{NoneFallsDue}
 use Rattle.laws_time.specs.circuit.LongEnough.{Line, IsFit, IsTalk, IsOfLink, IsClearAt}
 unfoldable use Rattle.laws_time.specs.circuit.LongEnough.{AreClear}
-use Rattle.laws_time.specs.circuit.Quiet.{frames_put, IsQuiet}
+use Rattle.laws_time.specs.circuit.Quiet.{frames_put, IsSilent}
 use Rattle.laws_time.proofs.OfCircuit.ArrivBeat.{heard-port}
 use Rattle.laws_time.proofs.OfCircuit.ArrivWay.{Going, going-with}
 use Rattle.laws_time.proofs.OfCircuit.Ends.{at_time}
@@ -61,7 +61,7 @@ module _ (l : Line) (fit : IsFit l) where
   pub record Quiet (n : ℕ) (w : Clocked) : Type 0 where
     pub pair : PairNow l fit w
     pub clear : AreClear l (replicate n plain) w
-    pub quiet : IsQuiet l n w
+    pub quiet : IsSilent l n w
 
   -- No frame is in transit.
   pub record Calm (w : Clocked) : Type 0 where

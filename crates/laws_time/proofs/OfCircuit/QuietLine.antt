@@ -41,7 +41,7 @@ use Rattle.laws_time.specs.circuit.Clocked.{TimedEndpoint, Clocked, Beat, plain,
 use Rattle.laws_time.specs.circuit.Ends.{IsTimedCard}
 use Rattle.laws_time.specs.circuit.InCall.{IsUp}
 use Rattle.laws_time.specs.circuit.LongEnough.{Line, IsFit, AreClear, begins}
-use Rattle.laws_time.specs.circuit.Quiet.{frames_put, IsQuiet, HasToldAll, AQuietLineHasToldAll}
+use Rattle.laws_time.specs.circuit.Quiet.{frames_put, IsSilent, HasToldAll, AQuietLineHasToldAll}
 use Rattle.laws_time.proofs.OfCircuit.Answered.{beats-then}
 use Rattle.laws_time.proofs.OfCircuit.ArrivAs.{station}
 use Rattle.laws_time.proofs.OfCircuit.ArrivRun.{Reached, SameNow}
@@ -146,7 +146,7 @@ module _ (l : Line) (before bs : List Beat) (b : Beat) (n : ℕ) (h : GoesWell l
       let r = reached-w l before xs (replicate k plain) b (well xs (replicate k plain) (parts-at j k sum)) in
       subst Transit (world-at j) (of-same (in_call l before b xs) r.f r.same)
 
-  module _ (quiet : IsQuiet l n (in_call l before b bs)) (rest : ℕ) (sum : longest l.near.n201 + (l.way + rest) ≡ n) where
+  module _ (quiet : IsSilent l n (in_call l before b bs)) (rest : ℕ) (sum : longest l.near.n201 + (l.way + rest) ≡ n) where
     abbrev L : ℕ
     L = longest l.near.n201
 
@@ -338,8 +338,10 @@ module _ (l : Line) (before bs : List Beat) (b : Beat) (n : ℕ) (h : GoesWell l
             let near_rests = loose-rests l.service l.tei l.near l.far 0 0 face (near_past l h.fit) (far_past l h.fit) r.f up still stops in
             let far_rests = loose-rests l.service l.tei l.far l.near 0 0 back (far_past l h.fit) (near_past l h.fit) (turned r.f) back_up still-back stops-far in
             record {
+              told = record {
               near = sym (near-heard l h.fit u pair r.f r.same) ∙ near_told ∙ ap (λ (x : FrameEndpoint). confirmed l.service l.tei ∷ map (data_told l.service l.tei) x.granted) r.same.far_is;
               far = sym (far-heard l h.fit u pair r.f r.same) ∙ far_told ∙ ap (λ (x : FrameEndpoint). indicated l.service l.tei ∷ map (data_told l.service l.tei) x.granted) r.same.near_is;
+              };
               near_acknowledged = subst Places r.same.near_is (near_rests.1, near_rests.2, near_rests.3);
               far_acknowledged = subst Places r.same.far_is (far_rests.1, far_rests.2, far_rests.3);
             }

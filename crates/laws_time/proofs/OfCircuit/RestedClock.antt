@@ -59,14 +59,14 @@ module _ (c : Config) (ranged : IsInRange c) (service : Service) (tei : ℕ) (ls
   within : a.at.line < a.at.card.card.config.lines
   within = subst (λ (k : Config). a.at.line < k.lines) (sym (config c ranged a.at ran)) ran.within
 
-  link-is : link_in (line_at a.at.line a.at.card.card) service 0 ≡ link_of service tei (line_at a.at.line a.at.card.card)
+  pub link-is : link_in (line_at a.at.line a.at.card.card) service 0 ≡ link_of service tei (line_at a.at.line a.at.card.card)
   link-is = sym (ap (λ o. option_map_or (link_in line service) o fresh) on)
 
   here-is : frame_runs.after_all (cards.fresh c) (meant_all (fresh_card c) ran.events) ≡ a.at.card.card
   here-is = sym (ap (λ (m : OctetCard). m.card) ran.is ∙ refined_card (fresh_card c) ran.events)
 
   -- The link runs the timer that it needs, and so does the clock.
-  has-timer : HasItsTimer (link_of service tei (line_at a.at.line a.at.card.card))
+  pub has-timer : HasItsTimer (link_of service tei (line_at a.at.line a.at.card.card))
   has-timer =
       let all = meant_at_lines (fresh_card c) ran.events ran.at_lines in
       let timely = subst AllHaveTheirTimers here-is (timely-now c (meant_all (fresh_card c) ran.events) a.at.line ranged all ran.within service tei) in

@@ -17,16 +17,20 @@ abbrev pub frames_put : TimedEndpoint → List (List ℕ)
 frames_put s = frames_among (port_of s.at).items
 
 -- For so many octet times there is no noise, nothing is asked for, no timer falls due, and neither end begins a frame: flags alone go.
-pub record IsQuiet (l : Line) (n : ℕ) (w : Clocked) : Type 0 where
+pub record IsSilent (l : Line) (n : ℕ) (w : Clocked) : Type 0 where
   pub undue : NoneFallsDue l.rate (replicate n plain) w
   pub near : frames_put (clean l.rate n w).near ≡ frames_put w.near
   pub far : frames_put (clean l.rate n w).far ≡ frames_put w.far
 
 -- Each end was told one establishment and then all data that the other was granted to send: in order, each once, and nothing else, except
--- what was dropped. All of it is acknowledged.
-pub record HasToldAll (l : Line) (w : Clocked) : Type 0 where
+-- what was dropped.
+pub record IsAllTold (l : Line) (w : Clocked) : Type 0 where
   pub near : flat_map for_layer_3 w.near.at.told ≡ confirmed l.service l.tei ∷ map (data_told l.service l.tei) w.far.at.granted
   pub far : flat_map for_layer_3 w.far.at.told ≡ indicated l.service l.tei ∷ map (data_told l.service l.tei) w.near.at.granted
+
+-- And all of it is acknowledged.
+pub record HasToldAll (l : Line) (w : Clocked) : Type 0 where
+  pub told : IsAllTold l w
   pub near_acknowledged : HasAllPlaces l w.near
   pub far_acknowledged : HasAllPlaces l w.far
 
@@ -36,5 +40,5 @@ IsLongFor l lengths n = longest l.near.n201 + l.way + lengths.t200 * l.rate ≤ 
 
 abbrev pub AQuietLineHasToldAll : Type 0
 AQuietLineHasToldAll =
-    (l : Line) (before bs : List Beat) (b : Beat) (n : ℕ) → GoesWell l before b (bs ++ replicate n plain) → IsQuiet l n (in_call l before b bs) →
+    (l : Line) (before bs : List Beat) (b : Beat) (n : ℕ) → GoesWell l before b (bs ++ replicate n plain) → IsSilent l n (in_call l before b bs) →
     IsLongFor l l.lengths n → IsLongFor l l.far_lengths n → HasToldAll l (clean l.rate n (in_call l before b bs))

@@ -114,3 +114,6 @@ pub mod FreeOften
 pub mod FreeLaw
 pub mod QuietSteps
 pub mod QuietOn
+pub mod QuietSearch
+pub mod QuietFound
+pub mod QuietLaw

@@ -20,3 +20,4 @@ pub mod WorkedInTime
 pub mod CaughtUp
 pub mod WorkedCaughtUp
 pub mod Quiet
+pub mod ToldInTime

@@ -28,6 +28,7 @@ ghost use Rattle.laws_time.specs.circuit.InCall.{ACallOutlastsNoise, N200LastsIn
 ghost use Rattle.laws_time.specs.circuit.LongEnough.{AnswersComeInTime};
 ghost use Rattle.laws_time.specs.circuit.Quiet.{AQuietLineHasToldAll};
 ghost use Rattle.laws_time.specs.circuit.Seldom.{T200FallsDueSeldom};
+ghost use Rattle.laws_time.specs.circuit.ToldInTime.{AllIsToldAfterNoise, AllIsToldInTime};
 ghost use Rattle.laws_time.specs.circuit.WorkedAnswered.{AnEnquiryIsMet};
 ghost use Rattle.laws_time.specs.circuit.WorkedCaughtUp.{AnEnquiryMeetsIt};
 
@@ -146,6 +147,25 @@ pub fn a_quiet_line_has_told_all()
 /// told, T200 falls due once at most at that end.
 pub fn t200_falls_due_seldom()
     ensures { T200FallsDueSeldom }
+{}
+
+/// All is told in time after noise, while timers fall due. A call is as [`calls_bear_noise`] has it. Any noise came that made
+/// no frame, and then there is none. The end that calls is up, nothing more is asked for, and u contents are missing at
+/// most: granted at an end, and not told at the other. N200 is not used up, and no error F is told.
+///
+/// Let timers fall due e times at both ends together in so many octet times: (M + (2 k + 4) e) (2 L + D) + (e + 1) (L + D +
+/// T200). Then each end was told one establishment, and all data that the other was granted to send: in order, each once,
+/// and nothing else, except what was dropped (`counted`). L is the longest frame in octets, D octets are in transit, T200
+/// is in octet times, that of either end, and k is the greater window. M counts moves as
+/// [`laws_wire::turns_come_to_an_end`] has them: 2 (2 (k + 2) + (k + 2) (6 + c + c' + 2 D) + (k + 3) u), where c and c'
+/// control frames may wait at the ends.
+///
+/// If layer 3 asked for data alone, and three control frames may wait at either end, T200 falls due u + 2 times at most
+/// (see [`t200_falls_due_seldom`]). So e is u + 2, and the number of times that T203 falls due in these octet times
+/// (`seldom`). That is none if T203 runs as long.
+pub fn all_is_told_in_time()
+    ensures counted { AllIsToldInTime }
+    ensures seldom { AllIsToldAfterNoise }
 {}
 
 /// Without noise from the start on, noise makes no frame (`clear`): each frame that is heard stood at that place in what

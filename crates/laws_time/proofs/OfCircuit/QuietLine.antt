@@ -107,7 +107,7 @@ module _ (l : Line) (before bs : List Beat) (b : Beat) (n : ℕ) (h : GoesWell l
   abbrev w0 : Clocked
   w0 = in_call l before b bs
 
-  abbrev well : (xs more : List Beat) → xs ++ more ≡ bs ++ replicate n plain → GoesWell l before b (xs ++ more)
+  abbrev pub well : (xs more : List Beat) → xs ++ more ≡ bs ++ replicate n plain → GoesWell l before b (xs ++ more)
   well xs more same = record {
     fit = h.fit;
     idle = h.idle;
@@ -118,10 +118,10 @@ module _ (l : Line) (before bs : List Beat) (b : Beat) (n : ℕ) (h : GoesWell l
   }
 
   -- After so many of these beats.
-  parts-at : (j k : ℕ) → j + k ≡ n → (bs ++ replicate j plain) ++ replicate k plain ≡ bs ++ replicate n plain
+  pub parts-at : (j k : ℕ) → j + k ≡ n → (bs ++ replicate j plain) ++ replicate k plain ≡ bs ++ replicate n plain
   parts-at j k sum = append_assoc bs (replicate j plain) (replicate k plain) ∙ ap (λ zs. bs ++ zs) (replicate-append-replicate j k plain ∙ ap (λ i. replicate i plain) sum)
 
-  world-at : (j : ℕ) → in_call l before b (bs ++ replicate j plain) ≡ clean l.rate j (in_call l before b bs)
+  pub world-at : (j : ℕ) → in_call l before b (bs ++ replicate j plain) ≡ clean l.rate j (in_call l before b bs)
   world-at j =
       ap (λ zs. after l.rate zs (begins l)) (sym (append_assoc before (calls l b ∷ bs) (replicate j plain))) ∙ fold-append (beat l.rate) (begins l) (before ++ calls l b ∷ bs) (replicate j plain)
 
@@ -256,13 +256,18 @@ module _ (l : Line) (before bs : List Beat) (b : Beat) (n : ℕ) (h : GoesWell l
         none-then (D + rest) (omega arith) u pair g near far (of-same u r.f r.same)
 
     module _ (long : longest l.near.n201 ≤ rest) where
-      still : IsStill r.f
-      still =
+      -- Neither end has anything to give.
+      pub nothing-left : (answer_of u.near ≡ line.gave None) × (answer_of u.far ≡ line.gave None)
+      nothing-left =
           let near = waits-out (port_of w2.near.at).items l.near.n201 (0 + rest) (answer_of w3.near) (port_of w3.near.at) (omega (arith, long)) stay.near_waits in
           let far = waits-out (port_of w2.far.at).items l.near.n201 (0 + rest) (answer_of w3.far) (port_of w3.far.at) (omega (arith, long)) stay.far_waits in
+          (ap (λ (v : Clocked). answer_of v.near) u-is ∙ near, ap (λ (v : Clocked). answer_of v.far) u-is ∙ far)
+
+      still : IsStill r.f
+      still =
           record {
-            near = ap (wire.answered line.next) r.same.near_is ∙ ap (λ (v : Clocked). answer_of v.near) u-is ∙ near;
-            far = ap (wire.answered line.next) r.same.far_is ∙ ap (λ (v : Clocked). answer_of v.far) u-is ∙ far;
+            near = ap (wire.answered line.next) r.same.near_is ∙ nothing-left.0;
+            far = ap (wire.answered line.next) r.same.far_is ∙ nothing-left.1;
             near_way = ap (λ (x : FrameEndpoint). x.way) r.same.near_is ∙ no-way.0;
             far_way = ap (λ (x : FrameEndpoint). x.way) r.same.far_is ∙ no-way.1;
           }
@@ -339,8 +344,8 @@ module _ (l : Line) (before bs : List Beat) (b : Beat) (n : ℕ) (h : GoesWell l
             let far_rests = loose-rests l.service l.tei l.far l.near 0 0 back (far_past l h.fit) (near_past l h.fit) (turned r.f) back_up still-back stops-far in
             record {
               told = record {
-              near = sym (near-heard l h.fit u pair r.f r.same) ∙ near_told ∙ ap (λ (x : FrameEndpoint). confirmed l.service l.tei ∷ map (data_told l.service l.tei) x.granted) r.same.far_is;
-              far = sym (far-heard l h.fit u pair r.f r.same) ∙ far_told ∙ ap (λ (x : FrameEndpoint). indicated l.service l.tei ∷ map (data_told l.service l.tei) x.granted) r.same.near_is;
+                near = sym (near-heard l h.fit u pair r.f r.same) ∙ near_told ∙ ap (λ (x : FrameEndpoint). confirmed l.service l.tei ∷ map (data_told l.service l.tei) x.granted) r.same.far_is;
+                far = sym (far-heard l h.fit u pair r.f r.same) ∙ far_told ∙ ap (λ (x : FrameEndpoint). indicated l.service l.tei ∷ map (data_told l.service l.tei) x.granted) r.same.near_is;
               };
               near_acknowledged = subst Places r.same.near_is (near_rests.1, near_rests.2, near_rests.3);
               far_acknowledged = subst Places r.same.far_is (far_rests.1, far_rests.2, far_rests.3);

@@ -1,5 +1,5 @@
 -- Beats in which no timer falls due, on a wire on which both links are up: so many moves are made at most.
-use Rattle.std.proofs.Common.{arith, ◌≡◌, ℕ, suc, ◌+◌, ◌*◌, ◌-◌, ◌/◌, ◌≤◌, Bool, true, false, IsTrue, List, [], ◌∷◌, ◌++◌, length, map, drop, Option, None, Some, refl, sym, ap, ◌∙◌, subst, All, ◌⊎◌, inl, inr, append-nil, append_assoc, length-append}
+use Rattle.std.proofs.Common.{arith, ◌≡◌, ℕ, ◌+◌, ◌*◌, ◌/◌, ◌≤◌, false, List, [], ◌∷◌, ◌++◌, length, map, drop, Option, None, Some, refl, sym, ap, ◌∙◌, subst, All, ◌⊎◌, inl, inr, append-nil, append_assoc, length-append}
 use Rattle.std.specs.List.{list_any}
 use Rattle.std.specs.Prelude.{flat_map, option_to_list}
 use Rattle.model_card.proofs.OfPorts.Gains.{heard_with}
@@ -10,7 +10,7 @@ use Rattle.lapd_frame.specs.declared.notes.Note.{Note}
 use Rattle.lapd_frame.specs.declared.services.Service.{Service}
 use Rattle.model_bits.specs.Stream as stream
 use Rattle.model_bits.specs.Stream.{heard_in as text_heard_in}
-use Rattle.model_link.specs.Link.{Link, is_multiple_frame}
+use Rattle.model_link.specs.Link.{Link}
 use Rattle.model_link.specs.TwoEnds.{Endpoint as LinkEndpoint}
 use Rattle.model_link.specs.Sound.{IsInRange}
 use Rattle.model_link.proofs.Direction.{Direction, line_of}
@@ -22,41 +22,41 @@ use Rattle.model_card.specs.ports.Codec.{frames_among}
 use Rattle.model_card.specs.ports.Port as port
 use Rattle.model_card.specs.ports.Port.{Port, gained}
 use Rattle.model_card.specs.ports.Sound.{IsSoundPort}
-use Rattle.laws_order.specs.circuit.Circuit as circuit
 use Rattle.laws_order.specs.circuit.Circuit.{Endpoint as OctetEndpoint, port_of}
-use Rattle.laws_order.proofs.OfCircuit.OneWay.{Carries, framed, heard-beyond, out}
+use Rattle.laws_order.proofs.OfCircuit.OneWay.{framed, out}
 use Rattle.laws_order.proofs.OfCircuit.Projected.{Fits}
 use Rattle.laws_order.proofs.OfCircuit.Ran.{Ran, sound-port, on-line}
 use Rattle.laws_wire.specs.Arriving.{frames_left, notes_left, most_left}
 use Rattle.laws_wire.specs.Call.{confirmed, indicated, data_told}
-use Rattle.laws_wire.specs.Facing.{granted_of, own_link}
+use Rattle.laws_wire.specs.Facing.{granted_of}
 use Rattle.laws_wire.specs.Losing.{for_layer_3, heard_in, is_error, TellNoError, HasNoError}
-use Rattle.laws_wire.specs.Resting.{most_frames, moves, expiries}
-use Rattle.laws_wire.specs.Wire.{Endpoint as FrameEndpoint, Wire, turned, doing_all}
+use Rattle.laws_wire.specs.Resting.{most_frames, moves}
+use Rattle.laws_wire.specs.Wire.{Endpoint as FrameEndpoint, Wire, turned}
 use Rattle.laws_wire.proofs.Awaited.{link-is}
-use Rattle.laws_wire.proofs.Held.{Held}
-use Rattle.laws_wire.proofs.Joint.{shown, Joint}
+use Rattle.laws_wire.proofs.Joint.{shown}
 use Rattle.laws_wire.proofs.LeftToDo.{weighs-left}
+use Rattle.laws_wire.proofs.Loose.{loose-turned}
 use Rattle.laws_wire.proofs.LooseUp.{LooseUp}
 use Rattle.laws_wire.proofs.LossyPhases.{IsUp}
-use Rattle.laws_wire.proofs.LossyRun.{Setting, setting}
-use Rattle.laws_wire.proofs.RestedRun.{from-up, twice}
+use Rattle.laws_wire.proofs.RestedRun.{from-up-on, twice}
 use Rattle.laws_wire.proofs.Ringing.{IsSabme}
 use Rattle.laws_wire.proofs.Standing.{StationStands, link-sound}
 use Rattle.laws_wire.proofs.Talking.{Face}
 use Rattle.laws_wire.proofs.Weighing.{weigh}
-use Rattle.laws_time.specs.circuit.Clocked.{TimedEndpoint, Clocked, Beat, plain, happens, hears, gone, heard, beat, without_first_octet}
+use Rattle.laws_time.specs.circuit.Clocked.{TimedEndpoint, Clocked, plain, happens, hears, gone, heard, beat}
 use Rattle.laws_time.specs.circuit.InBeats.{IsUndue}
 use Rattle.laws_time.specs.circuit.LongEnough.{Line, IsFit, IsClearAt}
 use Rattle.laws_time.specs.circuit.Quiet.{frames_put}
-use Rattle.laws_time.proofs.OfCircuit.ArrivAs.{station, heard_of}
+use Rattle.laws_time.proofs.OfCircuit.ArrivAs.{station}
 use Rattle.laws_time.proofs.OfCircuit.ArrivBeat.{heard-port}
 use Rattle.laws_time.proofs.OfCircuit.ArrivRun.{SameNow}
+use Rattle.laws_time.proofs.OfCircuit.ArrivTold.{contents_of, contents-append, contents-data}
 use Rattle.laws_time.proofs.OfCircuit.ArrivWay.{Going, going-with}
+use Rattle.laws_time.proofs.OfCircuit.CaughtEnds.{told-as-many}
 use Rattle.laws_time.proofs.OfCircuit.Ends.{at_time}
 use Rattle.laws_time.proofs.OfCircuit.InTime.{PairNow}
 use Rattle.laws_time.proofs.OfCircuit.QuietBeats.{fits, fits-far, gone-is, near-put, far-put, ran, ran-far, ran-pulled, ran-pulled-far, long, long-far}
-use Rattle.laws_time.proofs.OfCircuit.QuietSteps.{Done, done-none, done-both, done-turned, Pulls, pulls, Takes, takes}
+use Rattle.laws_time.proofs.OfCircuit.QuietSteps.{Run, Done, done-none, done-both, done-turned, Pulls, pulls, Takes, takes}
 
 -- ---- a beat
 
@@ -215,7 +215,7 @@ module _ (n201 : ℕ) (c : Config) (fits_c : Fits n201 c) (s : OctetEndpoint) (r
 -- ---- so many moves
 
 -- What layer 3 hears has all errors.
-abbrev Errless : LineTold → Type 0
+abbrev pub Errless : LineTold → Type 0
 Errless t = list_any is_error t.notes ≡ false
 
 abbrev as_heard : List Note → Option (List ℕ) → List LineTold
@@ -260,28 +260,48 @@ module _ (service : Service) (tei : ℕ) (c d : Config) (face : Face c d) (back 
         far = record { held = h.far; up = h.loose.joined.far_up; line = refl; joint = record { there = here; back = there } };
       }
 
-  pub near-errless : HasNoError w.near
-  near-errless =
-      no-error w.near.told
-      (subst (All Errless) (sym h.near.heard) (All-cons Errless (confirmed service tei) (map (data_told service tei) h.n.delivered) refl (data-errless service tei h.n.delivered)))
+  pub near-errless : All Errless (heard_in w.near)
+  near-errless = subst (All Errless) (sym h.near.heard) (All-cons Errless (confirmed service tei) (map (data_told service tei) h.n.delivered) refl (data-errless service tei h.n.delivered))
 
-  pub far-errless : HasNoError w.far
-  far-errless =
-      no-error w.far.told
-      (subst (All Errless) (sym h.far.heard) (All-cons Errless (indicated service tei) (map (data_told service tei) h.m.delivered) refl (data-errless service tei h.m.delivered)))
+  pub far-errless : All Errless (heard_in w.far)
+  far-errless = subst (All Errless) (sym h.far.heard) (All-cons Errless (indicated service tei) (map (data_told service tei) h.m.delivered) refl (data-errless service tei h.m.delivered))
 
-  pub few-moves : (m k : ℕ) (g : Wire) → Done service tei m w g → granted_of g ≡ granted_of w → HasNoError g.near → HasNoError g.far → (terms c service tei).k ≤ k → (terms d service tei).k ≤ k → m ≤ most_left service tei k w
+  pub few-moves : (m e k : ℕ) (g : Wire) → Run service tei m e w g → granted_of g ≡ granted_of w → All Errless (heard_in g.near) → All Errless (heard_in g.far) → (terms c service tei).k ≤ k → (terms d service tei).k ≤ k
+      → m ≤ most_left service tei k w + (2 * k + 4) * e
   unfolding up-of
-  few-moves m k g x same fair fair_far wide wide' =
+  few-moves m e k g x same fair fair_far wide wide' =
       let up = up-of in
-      let all = from-up service tei c d 0 0 face back rt ru (2 * k) (twice (terms c service tei).k k wide) (twice (terms d service tei).k k wide') x.steps x.rough w up x.none
-      (subst (λ g. granted_of g ≡ granted_of w) (sym x.leads) same) (subst (λ (g : Wire). HasNoError g.near) (sym x.leads) fair) (subst (λ (g : Wire). HasNoError g.far) (sym x.leads) fair_far) in
+      let all = from-up-on service tei c d 0 0 face back rt ru (2 * k) (twice (terms c service tei).k k wide) (twice (terms d service tei).k k wide') x.steps x.rough w up
+      (subst (λ g. granted_of g ≡ granted_of w) (sym x.leads) same) (subst (λ (g : Wire). HasNoError g.near) (sym x.leads) (no-error g.near.told fair))
+      (subst (λ (g : Wire). HasNoError g.far) (sym x.leads) (no-error g.far.told fair_far)) in
+      let all_e = subst (λ e. moves x.steps w ≤ weigh (2 * k) up.n up.m + (2 * k + 4) * e) x.expired all in
       let two = weighs-left service tei c d 0 0 k w up (subst (λ t. t.k ≤ k) (sym h.near.stands.terms) wide) (subst (λ t. t.k ≤ k) (sym h.far.stands.terms) wide') in
       let moved = x.moved in
-      add m (moves x.steps w) (weigh (2 * k) up.n up.m) (most_left service tei k w) moved all two
+      add m (moves x.steps w) (weigh (2 * k) up.n up.m) (most_left service tei k w) ((2 * k + 4) * e) moved all_e two
     where
-      add : (m x y e : ℕ) → m ≤ x → x ≤ y → y ≤ e → m ≤ e
-      add m x y e p q r = omega (arith, p, q, r)
+      add : (m x y z c : ℕ) → m ≤ x → x ≤ y + c → y ≤ z → m ≤ z + c
+      add m x y z c p q r = omega (arith, p, q, r)
+
+  -- What is still to be told.
+  pub notes-few : (u : ℕ) → length w.near.granted + length w.far.granted ≤ length (contents_of (heard_in w.near)) + length (contents_of (heard_in w.far)) + u → notes_left service tei w ≤ u
+  notes-few u few =
+      let n = h.n in let m = h.m in
+      let one = told-contents (confirmed service tei) (heard_in w.near) n.delivered h.near.heard refl in
+      let two = told-contents (indicated service tei) (heard_in w.far) m.delivered h.far.heard refl in
+      let due = length-map w.far.granted (data_told service tei) in
+      let due_far = length-map w.near.granted (data_told service tei) in
+      let a = ap length h.near.granted in let b = ap length h.far.granted in
+      let x = told-as-many service tei c d 0 0 (confirmed service tei ∷ []) (indicated service tei ∷ []) w n m (record { near = h.near; far = h.far; loose = h.loose }) refl in
+      let v = turned w in
+      let y = told-as-many service tei d c 0 0 (indicated service tei ∷ []) (confirmed service tei ∷ []) v m n (record { near = h.far; far = h.near; loose = loose-turned n m h.loose }) refl in
+      let high = h.loose.joined.there.accepted in let high_far = h.loose.joined.back.accepted in
+      omega (arith, few, one, two, due, due_far, a, b, x, y, high, high_far)
+    where
+      told-contents : (first : LineTold) (heard : List LineTold) (xs : List (List ℕ)) → heard ≡ (first ∷ []) ++ map (data_told service tei) xs → contents_of (first ∷ []) ≡ [] → length heard ≡ 1 + length (contents_of heard)
+      told-contents first heard xs is none =
+          let cs = ap contents_of is ∙ contents-append (first ∷ []) (map (data_told service tei) xs) ∙ ap (λ cs. cs ++ contents_of (map (data_told service tei) xs)) none ∙ contents-data service tei xs in
+          let one = ap length is in let two = length-map xs (data_told service tei) in let three = ap length cs in
+          omega (arith, one, two, three)
 
 -- So many frames are left at an end.
 pub frames-few : (service : Service) (tei : ℕ) (c : Config) (s : FrameEndpoint) (n : LinkEndpoint) → StationStands c service tei 0 s n → (under : ℕ) → length s.way ≤ under → frames_left service tei s ≤ c.control + under

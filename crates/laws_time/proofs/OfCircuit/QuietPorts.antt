@@ -73,6 +73,16 @@ module _ (n201 : ℕ) (c : Config) (fits : Fits n201 c) (s : Endpoint) (ran : Ra
       go : (o : Option NextFrame) → next_of_card s.line s.card.card ≡ line.gave o → given_in (next_of_card s.line s.card.card) ≡ None → next_of_card s.line s.card.card ≡ line.gave None
       go o is none = is ∙ ap line.gave (sym (ap given_in is) ∙ none)
 
+  -- If none is to be given, none is put there.
+  pub none-put : next_of_card s.line s.card.card ≡ line.gave None → frames_among (port_of (circuit.happens port.pull s)).items ≡ frames_among (port_of s).items
+  none-put none = go (is_due (port_of s)) refl
+    where
+      go : (b : Bool) → is_due (port_of s) ≡ b → frames_among (port_of (circuit.happens port.pull s)).items ≡ frames_among (port_of s).items
+      go false e = ap frames_among (pull-between n201 c fits s ran e).1
+      go true e =
+          ap frames_among (pull-put n201 c fits s ran e ∙ ap (λ answer. (port_of s).items ++ item_of (given_in answer) ∷ []) none) ∙ frames_among-append (port_of s).items (item_of None ∷ [])
+          ∙ append-nil (frames_among (port_of s).items)
+
 -- An end has nothing to give, or so few bits are left of what it put.
 abbrev pub Waits : List Item → ℕ → ℕ → line.Answer → Port → Type 0
 Waits items most n answer p = (answer ≡ line.gave None) ⊎ ((p.items ≡ items) × (length (left_of p) + 8 * n ≤ most))

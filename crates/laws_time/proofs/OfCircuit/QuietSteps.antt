@@ -1,7 +1,6 @@
 -- A beat in which nothing is asked for and no timer falls due is done on a wire of frames: frames go, and come. If one begins, that is a move.
 use Rattle.std.proofs.Common.{arith, ◌≡◌, ℕ, ◌+◌, ◌≤◌, Bool, true, false, cond, List, [], ◌∷◌, ◌++◌, length, drop, Option, Some, None, refl, sym, ap, ◌∙◌, subst, All, ◌⊎◌, inl, inr}
 use Rattle.std.proofs.lemmas.List.Elements.{All-nil, All-cons, All-append, All-head, All-tail}
-use Rattle.std.specs.Option.{unwrap_or}
 use Rattle.lapd_frame.specs.declared.services.Service.{Service}
 use Rattle.model_bits.specs.Stream as stream
 use Rattle.model_line.specs.Came.{came}
@@ -14,7 +13,7 @@ use Rattle.model_card.specs.ports.Codec.{frames_among}
 use Rattle.model_card.specs.ports.Port as port
 use Rattle.model_card.specs.ports.Port.{gained, is_due}
 use Rattle.laws_wire.specs.Losing.{IsRoughTalk, IsRoughTalkOf}
-use Rattle.laws_wire.specs.Resting.{expiries_in, is_move, is_move_of}
+use Rattle.laws_wire.specs.Resting.{expiries_in, is_move_of}
 unfoldable use Rattle.laws_wire.specs.Resting.{moves, expiries}
 use Rattle.laws_wire.specs.Wire as wire
 use Rattle.laws_wire.specs.Wire.{Endpoint as FrameEndpoint, Wire, Step, sends, receives, loses, StepAt, at_near, at_far, acting, turned, doing}
@@ -27,7 +26,7 @@ use Rattle.laws_order.proofs.OfCircuit.AsFrames.{as_endpoint}
 use Rattle.laws_order.proofs.OfCircuit.AtPort.{next_of_card, pull-between, pull-put}
 use Rattle.laws_order.proofs.OfCircuit.OneWay.{frames_among-append}
 use Rattle.laws_order.proofs.OfCircuit.Projected.{Fits}
-use Rattle.laws_order.proofs.OfCircuit.Ran.{Ran, config, goes-on}
+use Rattle.laws_order.proofs.OfCircuit.Ran.{Ran, config}
 use Rattle.laws_time.specs.circuit.Clocked.{TimedEndpoint, happens, hears}
 use Rattle.laws_time.specs.circuit.LongEnough.{IsFrame, IsClearAt}
 use Rattle.laws_time.proofs.OfCircuit.ArrivAs.{station, heard_of, Becomes, due-becomes, undue-becomes, none-becomes, dropped-becomes, frame-becomes}
@@ -45,6 +44,27 @@ all-swap [] = []
 all-swap (d ∷ ds) = swap d ∷ all-swap ds
 
 module _ (service : Service) (tei : ℕ) where
+  -- So often a timer expires in it, and there are so many moves at least.
+  pub record Run (m e : ℕ) (f g : Wire) : Type 0 where
+    pub steps : List StepAt
+    pub rough : All (IsRoughTalk service tei) steps
+    pub expired : expiries steps ≡ e
+    pub leads : doing_all steps f ≡ g
+    pub moved : m ≤ moves steps f
+
+  pub run-both : (m e m' e' : ℕ) (f g x : Wire) → Run m e f g → Run m' e' g x → Run (m + m') (e + e') f x
+  run-both m e m' e' f g x p q = record {
+    steps = p.steps ++ q.steps;
+    rough = All-append (IsRoughTalk service tei) p.steps q.steps p.rough q.rough;
+    expired = (let sum = expiries-append p.steps q.steps in let one = p.expired in let two = q.expired in omega (arith, sum, one, two));
+    leads = doing-append p.steps q.steps f ∙ ap (doing_all q.steps) p.leads ∙ q.leads;
+    moved = (let sum = moves-append p.steps q.steps f in let one = p.moved in let two = subst (λ h. m' ≤ moves q.steps h) (sym p.leads) q.moved in omega (arith, sum, one, two));
+  }
+
+  pub run-none : (f : Wire) → Run 0 0 f f
+  unfolding doing_all moves expiries
+  run-none f = record { steps = []; rough = All-nil (IsRoughTalk service tei); expired = refl; leads = refl; moved = omega arith }
+
   -- No timer expires in it, and there are so many moves at least.
   pub record Done (m : ℕ) (f g : Wire) : Type 0 where
     pub steps : List StepAt
@@ -52,6 +72,9 @@ module _ (service : Service) (tei : ℕ) where
     pub none : expiries steps ≡ 0
     pub leads : doing_all steps f ≡ g
     pub moved : m ≤ moves steps f
+
+  pub as-run : (m : ℕ) (f g : Wire) → Done m f g → Run m 0 f g
+  as-run m f g p = record { steps = p.steps; rough = p.rough; expired = p.none; leads = p.leads; moved = p.moved }
 
   pub done-none : (f g : Wire) → f ≡ g → Done 0 f g
   unfolding doing_all moves expiries

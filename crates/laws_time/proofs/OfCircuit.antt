@@ -99,6 +99,10 @@ pub mod CaughtUp
 pub mod CaughtMirror
 pub mod CaughtMet
 pub mod CaughtAll
+pub mod QuietPorts
+pub mod QuietCards
+pub mod QuietBeats
+pub mod QuietLine
 pub mod AgainText
 pub mod AgainRan
 pub mod AgainLaw
@@ -109,5 +113,9 @@ pub mod FreeWire
 pub mod FreeOften
 pub mod FreeLaw
 pub mod FreeBegun
-pub mod FreeMoves
 pub mod FreeMet
+pub mod QuietSteps
+pub mod QuietOn
+pub mod QuietSearch
+pub mod QuietFound
+pub mod QuietLaw

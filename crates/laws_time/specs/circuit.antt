@@ -21,3 +21,5 @@ pub mod WorkedInBeats
 pub mod WorkedInTime
 pub mod CaughtUp
 pub mod WorkedCaughtUp
+pub mod Quiet
+pub mod ToldInTime

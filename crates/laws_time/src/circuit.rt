@@ -29,7 +29,9 @@ ghost use Rattle.laws_time.specs.circuit.Ends.{EndsAreTimedCards};
 ghost use Rattle.laws_time.specs.circuit.InBeats.{ACallComesInTime, ACallTakesBeats, AShortCallTakesBeats, FramesComeInBeats, MessagesComeInTime, MessagesTakeBeats, ShortMessagesTakeBeats, T203FallsDueFirst, T203FallsDueFirstSince};
 ghost use Rattle.laws_time.specs.circuit.InCall.{ACallOutlastsNoise, N200LastsInACall};
 ghost use Rattle.laws_time.specs.circuit.LongEnough.{AnswersComeInTime};
+ghost use Rattle.laws_time.specs.circuit.Quiet.{AQuietLineHasToldAll};
 ghost use Rattle.laws_time.specs.circuit.Seldom.{T200FallsDueSeldom};
+ghost use Rattle.laws_time.specs.circuit.ToldInTime.{AllIsToldAfterNoise, AllIsToldInTime};
 ghost use Rattle.laws_time.specs.circuit.WorkedAnswered.{AnEnquiryIsMet};
 ghost use Rattle.laws_time.specs.circuit.WorkedCaughtUp.{AnEnquiryMeetsIt};
 ghost use Rattle.laws_time.specs.circuit.WorkedSeldom.{ASeldomRunMeetsIt};
@@ -123,6 +125,21 @@ pub fn an_answer_tells_what_came()
     ensures met { AnEnquiryMeetsIt }
 {}
 
+/// A quiet line has told all. A call is as [`calls_bear_noise`] has it, with any noise that makes no frame, and with data and
+/// busy requests at any time. N200 is not used up, and the end that is called tells no error F (of a lost UA).
+///
+/// Then let there be no noise, let nothing be asked for, let no timer fall due, and let neither end begin a frame: flags
+/// alone go. For L + D octet times and T200 of each end it stays so. Then each end was told one establishment, and all data
+/// that the other was granted to send: in order, each once, and nothing else, except what was dropped. All of it is
+/// acknowledged: each place of the queue is free at both ends (`Card::room`). L is the longest frame in octets, and D octets
+/// are in transit.
+///
+/// So as long as anything that was granted is missing, whatever noise took before, the line does not fall silent: in each
+/// stretch of that length a frame begins, or a timer falls due.
+pub fn a_quiet_line_has_told_all()
+    ensures { AQuietLineHasToldAll }
+{}
+
 /// T200 falls due seldom once noise has ended. A call is as [`calls_bear_noise`] has it, and layer 3 of either end asks for
 /// data alone. N200 is not used up, and the end that is called tells no error F. Three control frames may wait at either
 /// end. Any noise came that made no frame. L + 1 octet times after its end, the end that calls is up.
@@ -137,13 +154,30 @@ pub fn t200_falls_due_seldom()
     ensures met { ASeldomRunMeetsIt }
 {}
 
-/// Frames come to an end after noise. A call is as [`t200_falls_due_seldom`] has it, and L + 1 octet times after noise has
-/// ended nothing more is granted. Then so many frames begin at most, at both ends together, in whatever time. Let at most k
-/// I-frames be outstanding at either end, and let u contents be missing then: granted at one end, and not told at the other.
-/// Let x be the control frames that find a place at the two ends, and 2 (D + 1) more for what is in transit. Then it is
-/// 2 (2 (k + 2) + (k + 2) (4 + x) + (k + 3) u), and 2 k + 4 for each timer that falls due (Q.921 clauses 5.6.4 and 5.6.7).
+/// All is told in time after noise, while timers fall due. A call is as [`calls_bear_noise`] has it. Any noise came that made
+/// no frame, and then there is none. The end that calls is up, nothing more is asked for, and u contents are missing at
+/// most: granted at an end, and not told at the other. N200 is not used up, and no error F is told.
 ///
-/// So if T203 does not fall due, the line falls silent: T200 falls due u + 2 times at most, as that law has it.
+/// Let timers fall due e times at both ends together in so many octet times: (M + (2 k + 4) e) (2 L + D) + (e + 1) (L + D +
+/// T200). Then each end was told one establishment, and all data that the other was granted to send: in order, each once,
+/// and nothing else, except what was dropped (`counted`). L is the longest frame in octets, D octets are in transit, T200
+/// is in octet times, that of either end, and k is the greater window. M counts moves as
+/// [`laws_wire::turns_come_to_an_end`] has them: 2 (2 (k + 2) + (k + 2) (6 + c + c' + 2 D) + (k + 3) u), where c and c'
+/// control frames may wait at the ends.
+///
+/// If layer 3 asked for data alone, and three control frames may wait at either end, T200 falls due u + 2 times at most
+/// (see [`t200_falls_due_seldom`]). So e is u + 2, and the number of times that T203 falls due in these octet times
+/// (`seldom`). That is none if T203 runs as long.
+pub fn all_is_told_in_time()
+    ensures counted { AllIsToldInTime }
+    ensures seldom { AllIsToldAfterNoise }
+{}
+
+/// Frames come to an end after noise. A call is as [`t200_falls_due_seldom`] has it, and L + 1 octet times after noise has
+/// ended nothing more is granted. Then so many frames begin at most, at both ends together, in whatever time: the M of
+/// [`all_is_told_in_time`], and 2 k + 4 for each timer that falls due. u contents are missing then at most.
+///
+/// So if T203 does not fall due, frames come to an end by themselves: T200 falls due u + 2 times at most.
 pub fn frames_come_to_an_end()
     ensures { FramesComeToAnEnd }
 {}

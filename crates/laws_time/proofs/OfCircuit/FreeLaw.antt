@@ -93,7 +93,7 @@ module _ (l : Line) (before noisy quiet bs : List Beat) (b : Beat) (h : IsQuiet 
   kept : AreClear l bs (in_call l before b (noisy ++ quiet)) × AreKept of_whole l bs (in_call l before b (noisy ++ quiet))
   kept = subst (λ bs'. AreClear l bs (after l.rate bs' (begins l)) × AreKept of_whole l bs (after l.rate bs' (begins l))) same-list (kept-again l its_begins noise quiet bs talk h.are_clean h.long)
 
-  well : GoesWell l before b ((noisy ++ quiet) ++ bs)
+  pub well : GoesWell l before b ((noisy ++ quiet) ++ bs)
   well = record {
     fit = h.fit;
     idle = h.idle;

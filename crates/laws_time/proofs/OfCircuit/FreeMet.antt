@@ -1,5 +1,5 @@
 -- The run of `WorkedSeldom` meets all premises.
-use Rattle.std.proofs.Common.{arith, ◌≡◌, ◌<◌, ℕ, zero, suc, [], ◌∷◌, ◌++◌, refl, inl, All}
+use Rattle.std.proofs.Common.{arith, ◌≡◌, ◌<◌, ℕ, zero, suc, [], ◌∷◌, ◌++◌, length, refl, inl, All}
 use Rattle.std.specs.Prelude.{replicate}
 use Rattle.std.proofs.lemmas.List.Elements.{All-nil, All-cons, All-append}
 use Rattle.lapd_frame.specs.declared.services.Service.TheVariants.{Call}
@@ -20,7 +20,7 @@ use Rattle.laws_time.specs.circuit.Arriving.{IsIdle, calls}
 use Rattle.laws_time.specs.circuit.Clocked.{Beat, plain, fall_due}
 use Rattle.laws_time.specs.circuit.InBeats.{IsDataOf, AsksData}
 use Rattle.laws_time.specs.circuit.LongEnough.{IsFit, IsOfLink, IsTalk, AreClear, begins}
-use Rattle.laws_time.specs.circuit.Begun.{frames_at}
+use Rattle.laws_time.specs.circuit.Quiet.{frames_put}
 use Rattle.laws_time.specs.circuit.Seldom.{IsQuiet, is_t203}
 unfoldable use Rattle.laws_time.specs.circuit.Seldom.{fallen, near_fallen}
 use Rattle.laws_time.specs.circuit.WorkedSeldom.{ASeldomRunMeetsIt, its_line, last, rested, sends, talks}
@@ -84,11 +84,11 @@ fell : near_fallen is_t203 1 (plain ∷ []) rested ≡ 1
 unfolding lines.after lines.answer lines.takes_slot exchanged read_by reading header_of control_of unnumbered_of supervisory_of teis.course teis.refusal seq distance_of named low_bits ports.after ports.answer ports.meant fall_due fallen near_fallen
 fell = refl
 
-went : frames_at rested.near ≡ 2
+went : length (frames_put rested.near) ≡ 2
 unfolding lines.after lines.answer lines.takes_slot exchanged read_by reading header_of control_of unnumbered_of supervisory_of teis.course teis.refusal seq distance_of named low_bits ports.after ports.answer ports.meant fall_due
 went = refl
 
-enquired : frames_at last.near ≡ 3
+enquired : length (frames_put last.near) ≡ 3
 unfolding lines.after lines.answer lines.takes_slot exchanged read_by reading header_of control_of unnumbered_of supervisory_of teis.course teis.refusal seq distance_of named low_bits ports.after ports.answer ports.meant fall_due
 enquired = refl
 

@@ -149,7 +149,7 @@ pub record Beaten (size : ℕ) (p q : Port) : Type 0 where
   pub received : length q.received ≡ length p.received + 1
   pub on : (items : List Item) (most a : ℕ) → On size items most p a → On size items most q (a + 1)
 
-hear-port : (c : Config) (ranged : IsInRange c) (way : List ℕ) (k : ℕ) → length way ≡ k + 1 → (x : Endpoint) → Ran c x
+pub hear-port : (c : Config) (ranged : IsInRange c) (way : List ℕ) (k : ℕ) → length way ≡ k + 1 → (x : Endpoint) → Ran c x
     → (value : ℕ) × (port_of (with_first_of way x) ≡ record (port_of x) { received = (port_of x).received ++ value ∷ [] })
 hear-port c ranged [] k long x ran = absurd (omega (arith, long))
 hear-port c ranged (value ∷ more) k long x ran = (value, port-after x (port.octet value) (within-ports c ranged x ran))

@@ -97,7 +97,7 @@ module _ (c : Config) (ranged : IsInRange c) (service : Service) (tei : ℕ) (ls
     t203-some = some-some (moment_of a.at.line (timers.T203 service tei) running) (runs-t203 ∙ ap (runs T203) needs)
 
 -- What holds of all that runs holds of the moment of a timer.
-moment-keeps : (P : Timer → ℕ → Type 0) (number : ℕ) (its : Timer) (es : List Expiry) (m : ℕ) → AllByRecursion (λ x. P x.timer x.moment) es → moment_of number its es ≡ Some m → P its m
+pub moment-keeps : (P : Timer → ℕ → Type 0) (number : ℕ) (its : Timer) (es : List Expiry) (m : ℕ) → AllByRecursion (λ x. P x.timer x.moment) es → moment_of number its es ≡ Some m → P its m
 moment-keeps P number its [] m all is = absurd (cc is)
 moment-keeps P number its (e ∷ es) m all is = go (moment-keeps P number its es m all.1) (is_of number its e) refl is
   where

@@ -1,15 +1,16 @@
 -- Worked values: T203 falls due once noise has ended, and an enquiry begins. The run meets all premises.
-use Rattle.std.specs.Prelude.{◌≡◌, List, [], ◌∷◌, ◌++◌, replicate, refl}
+use Rattle.std.specs.Prelude.{◌≡◌, List, [], ◌∷◌, ◌++◌, length, replicate, refl}
 use Rattle.lapd_frame.specs.declared.services.Service.TheVariants.{Call}
 use Rattle.model_line.specs.declared.config.Config.{Config}
 use Rattle.model_line.specs.Request.{Data}
 use Rattle.laws_wire.specs.Worked as wire
 use Rattle.laws_order.specs.circuit.Beats.{longest}
-use Rattle.laws_time.specs.circuit.Begun.{frames_at, most_begun}
 use Rattle.laws_time.specs.circuit.CaughtUp.{in_call}
 use Rattle.laws_time.specs.circuit.Clocked.{Clocked, Beat, plain, after}
 use Rattle.laws_time.specs.circuit.LongEnough.{Line, answered_in}
+use Rattle.laws_time.specs.circuit.Quiet.{frames_put}
 use Rattle.laws_time.specs.circuit.Seldom.{IsQuiet, is_t203, near_fallen}
+use Rattle.laws_time.specs.circuit.ToldInTime.{moves_left}
 
 -- An octet a millisecond, none in transit, eight octets in a content at most and three control frames: an answer takes 90 octet times at most, and the
 -- longest frame 18. T203 of the end that calls runs for 20 milliseconds.
@@ -53,12 +54,12 @@ last = after 1 (replicate 18 plain) rested
 pub record Meets : Type 0 where
   pub quiet : IsQuiet its_line [] [] talks (replicate 18 plain) plain
   pub fell : near_fallen is_t203 1 (plain ∷ []) rested ≡ 1
-  pub went : frames_at rested.near ≡ 2
-  pub enquired : frames_at last.near ≡ 3
+  pub went : length (frames_put rested.near) ≡ 2
+  pub enquired : length (frames_put last.near) ≡ 3
 
 abbrev pub ASeldomRunMeetsIt : Type 0
 ASeldomRunMeetsIt = Meets
 
 -- The bound is far above that.
-its_bound : most_begun its_line 1 0 1 ≡ 90
+its_bound : moves_left its_line 1 0 1 ≡ 90
 its_bound = refl

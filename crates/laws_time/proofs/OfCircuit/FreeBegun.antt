@@ -1,5 +1,5 @@
 -- How many frames begin on the circuit once noise has ended, if data alone is asked for and nothing more is granted.
-use Rattle.std.proofs.Common.{arith, ◌≡◌, ℕ, ◌+◌, ◌*◌, ◌≤◌, List, [], ◌∷◌, ◌++◌, length, refl, sym, ap, ◌∙◌, subst, All}
+use Rattle.std.proofs.Common.{arith, ◌≡◌, ℕ, ◌+◌, ◌*◌, ◌≤◌, List, [], ◌∷◌, ◌++◌, length, sym, ap, subst}
 use Rattle.laws_wire.specs.Arriving.{most_left}
 use Rattle.laws_wire.specs.Facing.{granted_of}
 use Rattle.laws_wire.specs.Losing.{IsRoughTalk}
@@ -14,7 +14,7 @@ use Rattle.laws_time.specs.circuit.InBeats.{granted_in}
 use Rattle.laws_time.specs.circuit.LongEnough.{Line}
 use Rattle.laws_time.specs.circuit.Seldom.{IsQuiet, is_t200, is_t203, near_fallen, far_fallen}
 use Rattle.laws_time.specs.circuit.ToldInTime.{AreMissing, moves_left, frames_there}
-use Rattle.laws_time.proofs.OfCircuit.ArrivPath.{of_whole, IsDone, Path, all-done, count, is_gift_of}
+use Rattle.laws_time.proofs.OfCircuit.ArrivPath.{of_whole, IsDone, all-done, count, is_gift_of}
 unfoldable use Rattle.laws_time.proofs.OfCircuit.ArrivPath.{gifts}
 use Rattle.laws_time.proofs.OfCircuit.ArrivWay.{Going}
 use Rattle.laws_time.proofs.OfCircuit.CaughtLaw.{its, near-contents, far-contents}

@@ -1,7 +1,7 @@
 -- How many frames begin once noise has ended, if layer 3 asks for data alone and nothing more is granted.
 use Rattle.std.specs.Prelude.{◌≡◌, ◌≤◌, ℕ, ◌+◌, List, ◌++◌, length}
 use Rattle.laws_time.specs.circuit.CaughtUp.{in_call}
-use Rattle.laws_time.specs.circuit.Clocked.{TimedEndpoint, Clocked, Beat, after}
+use Rattle.laws_time.specs.circuit.Clocked.{Clocked, Beat, after}
 use Rattle.laws_time.specs.circuit.InBeats.{granted_in}
 use Rattle.laws_time.specs.circuit.LongEnough.{Line}
 use Rattle.laws_time.specs.circuit.Quiet.{frames_put}

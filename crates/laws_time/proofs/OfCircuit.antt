@@ -37,6 +37,7 @@ pub mod ArrivFair
 pub mod ArrivRuns
 pub mod ArrivSide
 pub mod ArrivHeard
+pub mod ArrivPulls
 pub mod ArrivBeat
 pub mod ArrivRun
 pub mod ArrivBegan

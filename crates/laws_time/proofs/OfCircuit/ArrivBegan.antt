@@ -23,7 +23,7 @@ use Rattle.laws_time.specs.circuit.Clocked.{TimedEndpoint, Clocked, Beat, hears,
 use Rattle.laws_time.specs.circuit.LongEnough.{Line, IsFit, IsTalk, IsOfLink, IsClearAt, begins, asked}
 unfoldable use Rattle.laws_time.specs.circuit.LongEnough.{AreClear}
 use Rattle.laws_time.proofs.OfCircuit.ArrivAs.{station, heard_of}
-use Rattle.laws_time.proofs.OfCircuit.ArrivBeat.{heard-port}
+use Rattle.laws_time.proofs.OfCircuit.ArrivPulls.{heard-port}
 use Rattle.laws_time.proofs.OfCircuit.ArrivIdle.{IsIdle, comes-none, idle-at, pulls-idle, hears-idle}
 use Rattle.laws_time.proofs.OfCircuit.ArrivRun.{Reached, ReachedSome, AreAskedSo, AreKept, call-kept, IsFairBoth, first-going, reached-by-from}
 use Rattle.laws_time.proofs.OfCircuit.ArrivPath.{Manner, of_call}

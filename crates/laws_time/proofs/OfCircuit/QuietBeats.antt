@@ -19,7 +19,7 @@ unfoldable use Rattle.laws_time.specs.circuit.InBeats.{NoneFallsDue}
 use Rattle.laws_time.specs.circuit.LongEnough.{Line, IsFit, IsTalk, IsOfLink, IsClearAt}
 unfoldable use Rattle.laws_time.specs.circuit.LongEnough.{AreClear}
 use Rattle.laws_time.specs.circuit.Quiet.{frames_put, IsSilent}
-use Rattle.laws_time.proofs.OfCircuit.ArrivBeat.{heard-port}
+use Rattle.laws_time.proofs.OfCircuit.ArrivPulls.{heard-port}
 use Rattle.laws_time.proofs.OfCircuit.ArrivWay.{Going, going-with}
 use Rattle.laws_time.proofs.OfCircuit.Ends.{at_time}
 use Rattle.laws_time.proofs.OfCircuit.InBeatsFrames.{Grown, grown-none, grown-one}

@@ -48,7 +48,7 @@ use Rattle.laws_time.specs.circuit.InBeats.{IsUndue}
 use Rattle.laws_time.specs.circuit.LongEnough.{Line, IsFit, IsClearAt}
 use Rattle.laws_time.specs.circuit.Quiet.{frames_put}
 use Rattle.laws_time.proofs.OfCircuit.ArrivAs.{station}
-use Rattle.laws_time.proofs.OfCircuit.ArrivBeat.{heard-port}
+use Rattle.laws_time.proofs.OfCircuit.ArrivPulls.{heard-port}
 use Rattle.laws_time.proofs.OfCircuit.ArrivRun.{SameNow}
 use Rattle.laws_time.proofs.OfCircuit.ArrivTold.{contents_of, contents-append, contents-data}
 use Rattle.laws_time.proofs.OfCircuit.ArrivWay.{Going, going-with}

@@ -116,4 +116,6 @@ pub mod QuietSteps
 pub mod QuietOn
 pub mod QuietSearch
 pub mod QuietFound
+pub mod QuietT203
 pub mod QuietLaw
+pub mod QuietNumbers

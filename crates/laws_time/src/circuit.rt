@@ -28,7 +28,7 @@ ghost use Rattle.laws_time.specs.circuit.InCall.{ACallOutlastsNoise, N200LastsIn
 ghost use Rattle.laws_time.specs.circuit.LongEnough.{AnswersComeInTime};
 ghost use Rattle.laws_time.specs.circuit.Quiet.{AQuietLineHasToldAll};
 ghost use Rattle.laws_time.specs.circuit.Seldom.{T200FallsDueSeldom};
-ghost use Rattle.laws_time.specs.circuit.ToldInTime.{AllIsToldAfterNoise, AllIsToldInTime};
+ghost use Rattle.laws_time.specs.circuit.ToldInTime.{AllIsToldAfterNoise, AllIsToldByNumbers, AllIsToldInTime};
 ghost use Rattle.laws_time.specs.circuit.WorkedAnswered.{AnEnquiryIsMet};
 ghost use Rattle.laws_time.specs.circuit.WorkedCaughtUp.{AnEnquiryMeetsIt};
 
@@ -161,11 +161,17 @@ pub fn t200_falls_due_seldom()
 /// control frames may wait at the ends.
 ///
 /// If layer 3 asked for data alone, and three control frames may wait at either end, T200 falls due u + 2 times at most
-/// (see [`t200_falls_due_seldom`]). So e is u + 2, and the number of times that T203 falls due in these octet times
-/// (`seldom`). That is none if T203 runs as long.
+/// ([`t200_falls_due_seldom`]). So e is u + 2, and the number of times that T203 falls due in these octet times
+/// (`seldom`). That is q times at either end at most, if q times T203, less a millisecond each, are as long. So numbers
+/// alone say how soon all is told, with e of u + 2 + 2 q (`numbers`).
+///
+/// The bound is far from what runs take, since each move is given 2 L + D octet times. At 16 kbit/s with N201 of 260, D of
+/// 4, k of 1, T200 of 1 s and T203 of 10 s one message that noise took is told within 160 s
+/// (`specs/circuit/WorkedToldInTime`).
 pub fn all_is_told_in_time()
     ensures counted { AllIsToldInTime }
     ensures seldom { AllIsToldAfterNoise }
+    ensures numbers { AllIsToldByNumbers }
 {}
 
 /// Without noise from the start on, noise makes no frame (`clear`): each frame that is heard stood at that place in what

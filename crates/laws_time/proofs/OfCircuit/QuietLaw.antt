@@ -137,7 +137,7 @@ granted-all : (rate n : ℕ) (w : Clocked) → ((clean rate n w).near.at.granted
 granted-all rate zero w = (refl, refl)
 granted-all rate (suc n) w = let rest = granted-all rate n (beat rate w plain) in (rest.0 ∙ near-granted rate w, rest.1 ∙ far-granted rate w)
 
-time-rises : (l : Line) (lengths : Lengths) (k u e d : ℕ) → e ≤ d → in_time l lengths k u e ≤ in_time l lengths k u d
+pub time-rises : (l : Line) (lengths : Lengths) (k u e d : ℕ) → e ≤ d → in_time l lengths k u e ≤ in_time l lengths k u d
 time-rises l lengths k u e d more =
     let L = longest l.near.n201 in
     let c = mul-le (2 * k + 4) e (2 * k + 4) d (omega arith) more in

@@ -112,6 +112,8 @@ pub mod FreeLinks
 pub mod FreeWire
 pub mod FreeOften
 pub mod FreeLaw
+pub mod FreeBegun
+pub mod FreeMet
 pub mod QuietSteps
 pub mod QuietOn
 pub mod QuietSearch

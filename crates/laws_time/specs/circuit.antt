@@ -15,6 +15,8 @@ pub mod InBeats
 pub mod AfterNoise
 pub mod WorkedAfterNoise
 pub mod Seldom
+pub mod Begun
+pub mod WorkedSeldom
 pub mod WorkedInBeats
 pub mod WorkedInTime
 pub mod CaughtUp

@@ -10,8 +10,10 @@
 //! call through noise tells is in `Arriving`, and a run that meets its premises in `WorkedArriving`. How soon it comes
 //! through is in `InCall` and `WorkedInCall`. How many beats a call without noise takes is in `InBeats` and
 //! `WorkedInBeats`, and with which T200 no timer falls due in it in `WorkedInTime`. What the answer to an enquiry
-//! brings is in `CaughtUp` and `WorkedCaughtUp`. What comes after noise is in `AfterNoise` and `WorkedAfterNoise`. Random and chosen runs broke nothing of what is open, if layer 3 asks
-//! for no unit data and is not busy, T200 is at least as long as an answer takes, and noise makes no frame.
+//! brings is in `CaughtUp` and `WorkedCaughtUp`. What comes after noise is in `AfterNoise` and `WorkedAfterNoise`. How
+//! often T200 falls due after noise, and how many frames begin, is in `Seldom`, `Begun` and `WorkedSeldom`. Random and
+//! chosen runs broke nothing of what is open, if layer 3 asks for no unit data and is not busy, T200 is at least as long as
+//! an answer takes, and noise makes no frame.
 //!
 //! # Open
 //!
@@ -21,6 +23,7 @@
 ghost use Rattle.laws_time.specs.circuit.AfterNoise.{FramesComeAfterNoise, NoiseMakesNoFrameAfter};
 ghost use Rattle.laws_time.specs.circuit.Answered.{AnEnquiryIsAnswered, CommandsAreAnswered, NoNoiseIsClear, OneEnquiryIsEnough};
 ghost use Rattle.laws_time.specs.circuit.Arriving.{CallsBearNoise};
+ghost use Rattle.laws_time.specs.circuit.Begun.{FramesComeToAnEnd};
 ghost use Rattle.laws_time.specs.circuit.CaughtUp.{AllPlacesAreFree, AnEnquiryCatchesUp, AnswersTellWhatCame};
 ghost use Rattle.laws_time.specs.circuit.Ends.{EndsAreTimedCards};
 ghost use Rattle.laws_time.specs.circuit.InBeats.{ACallComesInTime, ACallTakesBeats, AShortCallTakesBeats, FramesComeInBeats, MessagesComeInTime, MessagesTakeBeats, ShortMessagesTakeBeats, T203FallsDueFirst, T203FallsDueFirstSince};
@@ -31,6 +34,7 @@ ghost use Rattle.laws_time.specs.circuit.Seldom.{T200FallsDueSeldom};
 ghost use Rattle.laws_time.specs.circuit.ToldInTime.{AllIsToldAfterNoise, AllIsToldByNumbers, AllIsToldInTime};
 ghost use Rattle.laws_time.specs.circuit.WorkedAnswered.{AnEnquiryIsMet};
 ghost use Rattle.laws_time.specs.circuit.WorkedCaughtUp.{AnEnquiryMeetsIt};
+ghost use Rattle.laws_time.specs.circuit.WorkedSeldom.{ASeldomRunMeetsIt};
 
 /// Each end of the clocked circuit is a timed card of octets, as `model_timed` has it. Anything may be asked for at
 /// either end, with any noise, and any number of beats may have passed. Then the card at an end and its clock came
@@ -140,13 +144,14 @@ pub fn a_quiet_line_has_told_all()
 /// data alone. N200 is not used up, and the end that is called tells no error F. Three control frames may wait at either
 /// end. Any noise came that made no frame. L + 1 octet times after its end, the end that calls is up.
 ///
-/// From there on T200 of an end falls due once more at most than contents are missing at the other end. Those are the
-/// contents that are granted in the end, and were not told there by then. It falls due for the first time for what noise
+/// From there on T200 of an end falls due once more at most than contents are missing at the other end (`seldom`). Those are
+/// the contents that are granted in the end, and were not told there by then. It falls due for the first time for what noise
 /// took, or for whatever runs then. After each enquiry all that was sent before it is acknowledged (Q.921 clauses 5.6.3 and
 /// 5.6.7). It holds of any number of octet times, also while more is asked for. So if nothing more is granted and all was
-/// told, T200 falls due once at most at that end.
+/// told, T200 falls due once at most at that end. A worked run meets all premises (`met`).
 pub fn t200_falls_due_seldom()
-    ensures { T200FallsDueSeldom }
+    ensures seldom { T200FallsDueSeldom }
+    ensures met { ASeldomRunMeetsIt }
 {}
 
 /// All is told in time after noise, while timers fall due. A call is as [`calls_bear_noise`] has it. Any noise came that made
@@ -172,6 +177,15 @@ pub fn all_is_told_in_time()
     ensures counted { AllIsToldInTime }
     ensures seldom { AllIsToldAfterNoise }
     ensures numbers { AllIsToldByNumbers }
+{}
+
+/// Frames come to an end after noise. A call is as [`t200_falls_due_seldom`] has it, and L + 1 octet times after noise has
+/// ended nothing more is granted. Then so many frames begin at most, at both ends together, in whatever time: the M of
+/// [`all_is_told_in_time`], and 2 k + 4 for each timer that falls due. u contents are missing then at most.
+///
+/// So if T203 does not fall due, frames come to an end by themselves: T200 falls due u + 2 times at most.
+pub fn frames_come_to_an_end()
+    ensures { FramesComeToAnEnd }
 {}
 
 /// Without noise from the start on, noise makes no frame (`clear`): each frame that is heard stood at that place in what

@@ -1,25 +1,29 @@
 -- A beat of the clocked circuit is done on a wire of frames, and T200 is long enough there.
-use Rattle.std.proofs.Common.{arith, ◌≡◌, ℕ, ◌+◌, ◌*◌, ◌/◌, ◌≤◌, Bool, true, false, List, [], ◌∷◌, length, drop, Option, refl, sym, ap, subst, All}
+use Rattle.std.proofs.Common.{arith, ◌≡◌, ℕ, ◌+◌, ◌*◌, ◌/◌, ◌≤◌, Bool, true, false, List, [], ◌∷◌, length, drop, Option, None, Some, refl, sym, ap, ◌∙◌, subst, All, length-append}
 use Rattle.std.specs.Prelude.{fold}
 use Rattle.std.specs.Option.{unwrap_or}
 use Rattle.lapd_frame.specs.declared.services.Service.{Service}
 use Rattle.model_link.specs.TwoEnds.{Endpoint as LinkEndpoint}
 use Rattle.model_line.specs.Event as line
-use Rattle.model_line.specs.Event.{LineTold}
+use Rattle.model_line.specs.Event.{LineTold, given_in}
 use Rattle.model_line.specs.Heard.{heard_side}
 use Rattle.model_line.specs.Request.{Request}
 use Rattle.model_line.specs.Sound.{IsInRange}
 use Rattle.model_line.specs.Taken.{own_side}
 use Rattle.model_line.specs.declared.config.Config.{Config}
 use Rattle.model_card.specs.ports.Port as port
-use Rattle.model_card.specs.ports.Port.{Port, gained, is_due}
+use Rattle.model_card.specs.ports.Codec.{frames_among}
+use Rattle.model_card.specs.ports.Port.{Port, gained, is_due, item_of}
+use Rattle.laws_order.proofs.OfCircuit.AtPort.{next_of_card, pull-between, pull-put}
+use Rattle.laws_order.proofs.OfCircuit.OneWay.{frames_among-append}
+use Rattle.laws_order.proofs.OfCircuit.Projected.{Fits}
 use Rattle.model_timed.specs.Octets.{TimedOctetCard, fresh}
 use Rattle.laws_time.specs.circuit.Ends.{card_of}
 use Rattle.laws_time.specs.circuit.Seldom.{is_t200, is_t203, fallen}
 use Rattle.laws_link.specs.two.Timely.{HasNo}
 use Rattle.laws_wire.specs.Timely.{is_final}
 use Rattle.laws_wire.specs.Wire as wire
-use Rattle.laws_wire.specs.Wire.{Endpoint as FrameEndpoint, Wire, sends, turned}
+use Rattle.laws_wire.specs.Wire.{Endpoint as FrameEndpoint, Wire, sends, turned, is_any}
 use Rattle.laws_wire.proofs.Standing.{StationStands}
 use Rattle.laws_order.specs.circuit.Circuit.{port_of}
 use Rattle.laws_order.proofs.OfCircuit.AsFrames.{as_endpoint}
@@ -31,14 +35,21 @@ use Rattle.laws_time.proofs.OfCircuit.ArrivAs.{station, heard_of, due-becomes, u
 use Rattle.laws_time.proofs.OfCircuit.ArrivFair.{IsFair}
 use Rattle.laws_time.proofs.OfCircuit.ArrivHeard.{IsKeptAt, Hears, hears-so}
 use Rattle.laws_time.proofs.OfCircuit.ArrivOpen.{parts, are-own, stands, has-none}
-use Rattle.laws_time.proofs.OfCircuit.ArrivPath.{Manner, Path, path-as, path-none, path-both, path-on, path-one, path-turned}
+use Rattle.laws_time.proofs.OfCircuit.ArrivPath.{Manner, Path, count, path-as, path-none, path-both, path-on, path-one, path-turned}
 use Rattle.laws_time.proofs.OfCircuit.ArrivSide.{Stood, After, all-comes, fair-happens}
 use Rattle.laws_time.proofs.OfCircuit.ArrivWay.{Going, going-with, before-long, pulled-way}
 use Rattle.laws_time.proofs.OfCircuit.Beats.{at-moment, Gone}
 use Rattle.laws_time.proofs.OfCircuit.Ends.{Leads, leads-both, at_time, time-comes}
-use Rattle.laws_time.proofs.OfCircuit.LongEnough.{Pair, by_now, long-ago, near-in-all, far-in-all, in-all, near-low, near-high, far-low, far-high, soon, near-gone, far-gone}
+use Rattle.laws_time.proofs.OfCircuit.LongEnough.{Pair, by_now, long-ago, near-in-all, far-in-all, in-all, near-low, near-high, far-low, far-high, soon, near-comes, far-comes, near-gone, far-gone}
 use Rattle.laws_time.proofs.OfCircuit.Standing.{bare}
 use Rattle.laws_time.proofs.OfCircuit.Under.{EndOk}
+
+-- A frame is put on the line if one is given.
+one-put : (a : line.Answer) → length (frames_among (item_of (given_in a) ∷ [])) ≡ count (is_any (wire.frames_by a))
+one-put (line.gave None) = refl
+one-put (line.gave (Some f)) = refl
+one-put (line.told t) = refl
+one-put (line.refused why) = refl
 
 -- A pull, at an end and at its station.
 module _ (how : Manner) (service : Service) (tei : ℕ) (c : Config) (ranged : IsInRange c) (a : TimedEndpoint) (ran : Ran c a.at) (there : List (List ℕ)) (goes : Going c.n201 (port_of a.at) a.at.way there)
@@ -48,13 +59,29 @@ module _ (how : Manner) (service : Service) (tei : ℕ) (c : Config) (ranged : I
     pub goes' : Going c.n201 (port_of (happens port.pull a).at) (happens port.pull a).at.way there'
     pub ts' : List LineTold
     pub heard' : heard_of ts' ≡ heard_of (happens port.pull a).at.told
-    pub path : Path how service tei 0 0 0 (record { near = station there ts a.at; far = y }) (record { near = station there' ts' (happens port.pull a).at; far = y })
+    pub n : ℕ
+    pub puts : length (frames_among (port_of (happens port.pull a).at).items) ≡ length (frames_among (port_of a.at).items) + n
+    pub path : Path how service tei 0 0 0 n (record { near = station there ts a.at; far = y }) (record { near = station there' ts' (happens port.pull a).at; far = y })
 
   pub pulls-to : PulledTo
   pulls-to = go (is_due (port_of a.at)) refl
     where
       with : FrameEndpoint → Wire
       with x = record { near = x; far = y }
+
+      fits : Fits c.n201 c
+      fits = record { ranged = ranged; size = refl }
+
+      none-now : is_due (port_of a.at) ≡ false → length (frames_among (port_of (happens port.pull a).at).items) ≡ length (frames_among (port_of a.at).items) + 0
+      none-now due = ap (λ is. length (frames_among is)) (pull-between c.n201 c fits a.at ran due).1 ∙ omega arith
+
+      put-now : is_due (port_of a.at) ≡ true
+          → length (frames_among (port_of (happens port.pull a).at).items) ≡ length (frames_among (port_of a.at).items) + count (is_any (wire.frames_by (wire.answered line.next (station there ts a.at))))
+      put-now due =
+          let next = next_of_card a.at.line a.at.card.card in
+          let old = (port_of a.at).items in
+          ap (λ is. length (frames_among is)) (pull-put c.n201 c fits a.at ran due) ∙ ap (λ fs. length fs) (frames_among-append old (item_of (given_in next) ∷ []))
+          ∙ length-append (frames_among old) (frames_among (item_of (given_in next) ∷ [])) ∙ ap (λ n. length (frames_among old) + n) (one-put next)
 
       go : (b : Bool) → is_due (port_of a.at) ≡ b → PulledTo
       go true due =
@@ -64,8 +91,10 @@ module _ (how : Manner) (service : Service) (tei : ℕ) (c : Config) (ranged : I
             goes' = pulled-way c ranged a.at ran there true due goes;
             ts' = b.ts;
             heard' = b.heard;
-            path = path-one how service tei sends tt 0 0 (record { near = station there ts a.at; far = y })
-                (record { near = station (wire.happens line.next (as_endpoint there a.at)).way b.ts (happens port.pull a).at; far = y }) refl refl tt (λ i. record { near = b.is i; far = y });
+            n = count (is_any (wire.frames_by (wire.answered line.next (station there ts a.at))));
+            puts = put-now due;
+            path = path-one how service tei sends tt 0 0 (count (is_any (wire.frames_by (wire.answered line.next (station there ts a.at))))) (record { near = station there ts a.at; far = y })
+                (record { near = station (wire.happens line.next (as_endpoint there a.at)).way b.ts (happens port.pull a).at; far = y }) refl refl refl tt (λ i. record { near = b.is i; far = y });
           }
       go false due =
           let b = undue-becomes there a.at ts heard due in
@@ -74,6 +103,8 @@ module _ (how : Manner) (service : Service) (tei : ℕ) (c : Config) (ranged : I
             goes' = pulled-way c ranged a.at ran there false due goes;
             ts' = b.ts;
             heard' = b.heard;
+            n = 0;
+            puts = none-now due;
             path = path-none how service tei (record { near = station there ts a.at; far = y }) (record { near = station there b.ts (happens port.pull a).at; far = y }) (λ i. record { near = b.is i; far = y });
           }
 
@@ -103,12 +134,18 @@ module _ (l : Line) (some : 1 ≤ l.rate) (near : IsInRange l.near) (far : IsInR
     pub near_heard : heard_of ts ≡ heard_of w.near.at.told
     pub far_heard : heard_of us ≡ heard_of w.far.at.told
 
+-- So many frames both ends have put on their lines.
+abbrev pub put_at : Clocked → ℕ
+put_at w = length (frames_among (port_of w.near.at).items) + length (frames_among (port_of w.far.at).items)
+
 module _ (how : Manner) (l : Line) (some : 1 ≤ l.rate) (near : IsInRange l.near) (far : IsInRange l.far) (opposite : own_side l.far ≡ heard_side l.near) (size : l.near.n201 ≡ l.far.n201)
     (t200 : RunsLong l l.lengths × RunsLong l l.far_lengths) (t u : TimedOctetCard) (starts : t ≡ fresh l.near l.lengths) (starts_far : u ≡ fresh l.far l.far_lengths) where
   -- A beat leads there.
   pub record Led (i j k : ℕ) (w : Clocked) (b : Beat) (x y : FrameEndpoint) : Type 0 where
     pub f : Wire
-    pub path : Path how l.service l.tei i j k (record { near = x; far = y }) f
+    pub n : ℕ
+    pub path : Path how l.service l.tei i j k n (record { near = x; far = y }) f
+    pub puts : put_at (beat l.rate w b) ≡ put_at w + n
     pub same : Same l some near far opposite size t200 t u (beat l.rate w b) f
 
   abbrev its_by_now : ℕ → ℕ
@@ -296,27 +333,28 @@ module _ (how : Manner) (l : Line) (some : 1 ≤ l.rate) (near : IsInRange l.nea
         abbrev first_far : FrameEndpoint
         first_far = station back us w.far.at
 
-        near-came-path : Path how l.service l.tei t200s 0 t203s (both_now x first_far) (both_now near_now first_far)
+        near-came-path : Path how l.service l.tei t200s 0 t203s 0 (both_now x first_far) (both_now near_now first_far)
         near-came-path =
             path-on how l.service l.tei (both_now x first_far) (both_now g.x' first_far) (both_now near_now first_far) g.path
             (path-none how l.service l.tei (both_now g.x' first_far) (both_now near_now first_far) (ap (λ z. both_now z first_far) g.stood.is))
 
-        far-came-path : Path how l.service l.tei 0 far_t200s far_t203s (both_now near_now first_far) (both_now near_now far_now)
+        far-came-path : Path how l.service l.tei 0 far_t200s far_t203s 0 (both_now near_now first_far) (both_now near_now far_now)
         far-came-path =
             path-turned how l.service l.tei (both_now first_far near_now) (both_now far_now near_now)
             (path-on how l.service l.tei (both_now first_far near_now) (both_now k.x' near_now) (both_now far_now near_now) k.path
             (path-none how l.service l.tei (both_now k.x' near_now) (both_now far_now near_now) (ap (λ z. both_now z near_now) k.stood.is)))
 
-        pulled-path : Path how l.service l.tei 0 0 0 (both_now near_now far_now) (both_now near_pulled far_pulled)
+        pulled-path : Path how l.service l.tei 0 0 0 (np.n + kp.n) (both_now near_now far_now) (both_now near_pulled far_pulled)
         pulled-path =
             path-both how l.service l.tei (both_now near_now far_now) (both_now near_pulled far_now) (both_now near_pulled far_pulled) np.path
             (path-turned how l.service l.tei (both_now far_now near_pulled) (both_now far_pulled near_pulled) kp.path)
 
-        to-pulled : Path how l.service l.tei t200s far_t200s (t203s + far_t203s) (both_now x first_far) (both_now near_pulled far_pulled)
+        to-pulled : Path how l.service l.tei t200s far_t200s (t203s + far_t203s) (np.n + kp.n) (both_now x first_far) (both_now near_pulled far_pulled)
         to-pulled =
-            path-on how l.service l.tei (both_now x first_far) (both_now near_now far_now) (both_now near_pulled far_pulled)
-            (path-as how l.service l.tei (t200s + 0) (0 + far_t200s) (t203s + far_t203s) t200s far_t200s (t203s + far_t203s) (both_now x first_far) (both_now near_now far_now) (omega arith) (omega arith) refl
-            (path-both how l.service l.tei (both_now x first_far) (both_now near_now first_far) (both_now near_now far_now) near-came-path far-came-path)) pulled-path
+            path-as how l.service l.tei ((t200s + 0) + 0) ((0 + far_t200s) + 0) ((t203s + far_t203s) + 0) ((0 + 0) + (np.n + kp.n)) t200s far_t200s (t203s + far_t203s) (np.n + kp.n)
+            (both_now x first_far) (both_now near_pulled far_pulled) (omega arith) (omega arith) (omega arith) (omega arith)
+            (path-both how l.service l.tei (both_now x first_far) (both_now near_now far_now) (both_now near_pulled far_pulled)
+            (path-both how l.service l.tei (both_now x first_far) (both_now near_now first_far) (both_now near_now far_now) near-came-path far-came-path) pulled-path)
 
         -- Both hear.
         module _ (clear_near : IsClearAt l.near.n201 b.near_noise (gone l.rate b w).near (gone l.rate b w).far) (clear_far : IsClearAt l.near.n201 b.far_noise (gone l.rate b w).far (gone l.rate b w).near)
@@ -365,7 +403,7 @@ module _ (how : Manner) (l : Line) (some : 1 ≤ l.rate) (near : IsInRange l.nea
           far-port : SamePort vf far_heard_now
           far-port = heard-port l.far far vf far_has.ok.but.ends.ran b.far_noise vn.at.way
 
-          beat-path : Path how l.service l.tei t200s far_t200s (t203s + far_t203s) (both_now x (station back us w.far.at)) last
+          beat-path : Path how l.service l.tei t200s far_t200s (t203s + far_t203s) (np.n + kp.n) (both_now x (station back us w.far.at)) last
           beat-path =
               path-on how l.service l.tei (both_now x (station back us w.far.at)) (both_now near_pulled far_pulled) last to-pulled
               (path-both how l.service l.tei (both_now near_pulled far_pulled) (both_now near_told (station nh.left kp.ts' vf.at)) last nh.path
@@ -389,5 +427,17 @@ module _ (how : Manner) (l : Line) (some : 1 ≤ l.rate) (near : IsInRange l.nea
             far_heard = fh.heard';
           }
 
+          near_same : port_of near_gone.at ≡ port_of w.near.at
+          near_same = (near-comes l some near far opposite size t200 t u w p b talk (length (fold asks (at_time (w.beats / l.rate) w.near) b.near_asks).clock.running)).port
+
+          far_same : port_of far_gone.at ≡ port_of w.far.at
+          far_same = (far-comes l some near far opposite size t200 t u w p b talk (length (fold asks (at_time (w.beats / l.rate) w.far) b.far_asks).clock.running)).port
+
+          beat-puts : put_at (beat l.rate w b) ≡ put_at w + (np.n + kp.n)
+          beat-puts =
+              let a = ap (λ is. length (frames_among is)) near-port.0 in let b1 = np.puts in let c1 = ap (λ (p : Port). length (frames_among p.items)) near_same in
+              let d1 = ap (λ is. length (frames_among is)) far-port.0 in let e = kp.puts in let f1 = ap (λ (p : Port). length (frames_among p.items)) far_same in
+              omega (arith, a, b1, c1, d1, e, f1)
+
           pub beat-on : Led t200s far_t200s (t203s + far_t203s) w b x (station back us w.far.at)
-          beat-on = record { f = last; path = beat-path; same = beat-same }
+          beat-on = record { f = last; n = np.n + kp.n; path = beat-path; same = beat-same; puts = beat-puts }

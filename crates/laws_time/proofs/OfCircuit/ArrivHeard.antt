@@ -43,7 +43,7 @@ module _ (how : Manner) (service : Service) (tei : ℕ) (c d : Config) (ranged_f
     pub goes : Going c.n201 (port_of other) (drop 1 way) left
     pub ts' : List LineTold
     pub heard' : heard_of ts' ≡ heard_of (hears noise way a).at.told
-    pub path : Path how service tei 0 0 0 (record { near = station there ts a.at; far = record y { way = back } }) (record { near = station there ts' (hears noise way a).at; far = record y { way = left } })
+    pub path : Path how service tei 0 0 0 0 (record { near = station there ts a.at; far = record y { way = back } }) (record { near = station there ts' (hears noise way a).at; far = record y { way = left } })
 
   module _ (value : ℕ) (more : List ℕ) (goes : Going c.n201 (port_of other) (value ∷ more) back)
       (clear : (e : stream.Event) → gained c.n201 (port_of a.at).received (unwrap_or noise value) ≡ Some e → IsFrame e
@@ -105,7 +105,7 @@ module _ (how : Manner) (service : Service) (tei : ℕ) (c d : Config) (ranged_f
               ts' = b.ts;
               heard' = b.heard;
               path = path-turned how service tei (turned before) (turned (with (station there b.ts u) x.left))
-                  (path-one how service tei loses (may x kept) 0 0 (turned before) (turned (with (station there b.ts u) x.left)) refl refl
+                  (path-one how service tei loses (may x kept) 0 0 0 (turned before) (turned (with (station there b.ts u) x.left)) refl refl refl
                   tt (λ i. record { near = record y { way = drop 1 (x.are i) }; far = b.is i }));
             }
         go (inr (inr x)) =
@@ -117,7 +117,7 @@ module _ (how : Manner) (service : Service) (tei : ℕ) (c d : Config) (ranged_f
               goes = x.goes;
               ts' = b.ts;
               heard' = b.heard;
-              path = path-one how service tei receives tt 0 0 before (with (station there b.ts u) x.left) refl refl tt
+              path = path-one how service tei receives tt 0 0 0 before (with (station there b.ts u) x.left) refl refl refl tt
                   ((λ i. record { near = wire.with_first_of (x.are i) (station there ts a.at); far = record y { way = drop 1 (x.are i) } })
                   ∙ ap (λ s. with s x.left) (ap (λ e. wire.happens (line.hears e) (station there ts a.at)) whole ∙ b.is));
             }

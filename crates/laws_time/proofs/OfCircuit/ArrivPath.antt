@@ -1,5 +1,5 @@
 -- From one wire of two cards to another, by what is done in a call with losses, where T200 is long enough.
-use Rattle.std.proofs.Common.{arith, ◌≡◌, ℕ, ◌+◌, ◌&&◌, Bool, cond, List, [], ◌∷◌, ◌++◌, refl, sym, ap, ◌∙◌, subst, All}
+use Rattle.std.proofs.Common.{arith, ◌≡◌, ℕ, ◌+◌, ◌&&◌, Bool, false, cond, List, [], ◌∷◌, ◌++◌, refl, sym, ap, ◌∙◌, subst, All}
 use Rattle.std.proofs.lemmas.List.Elements.{All-nil, All-cons, All-append, All-head, All-tail}
 use Rattle.lapd_frame.specs.declared.services.Service.{Service}
 use Rattle.model_line.specs.Request.{Request, Data}
@@ -10,6 +10,7 @@ use Rattle.laws_wire.specs.Call.{IsData}
 unfoldable use Rattle.laws_wire.specs.Expiring.{how_often}
 use Rattle.laws_wire.specs.Losing.{IsOfLink}
 use Rattle.laws_wire.specs.Resting.{expiries_of}
+use Rattle.laws_wire.specs.Wire.{is_turn_of}
 unfoldable use Rattle.laws_wire.specs.Resting.{expiries}
 use Rattle.laws_wire.specs.Timely.{IsTimelyOf}
 use Rattle.laws_wire.specs.Wire.{Wire, Step, requests, expires, sends, receives, loses, StepAt, at_near, at_far, acting, turned, doing}
@@ -103,6 +104,33 @@ module _ (service : Service) (tei : ℕ) where
   swap-far (at_near act ∷ ds) w = ap (λ n. count (is_t200 act && runs_t200 service tei w.near) + n) (swap-far ds (acting act w))
   swap-far (at_far act ∷ ds) w = ap (λ n. 0 + n) (swap-far ds (turned (acting act (turned w))))
 
+-- How often an end gives a frame.
+abbrev pub is_gift_of : Step → Wire → Bool
+is_gift_of (requests r) w = false
+is_gift_of (expires timer) w = false
+is_gift_of sends w = is_turn_of sends w
+is_gift_of receives w = false
+is_gift_of loses w = false
+
+abbrev pub is_gift : StepAt → Wire → Bool
+is_gift (at_near act) w = is_gift_of act w
+is_gift (at_far act) w = is_gift_of act (turned w)
+
+unfoldable pub gifts : List StepAt → Wire → ℕ
+gifts [] w = 0
+gifts (d ∷ ds) w = count (is_gift d w) + gifts ds (doing d w)
+
+gifts-append : (ds es : List StepAt) (w : Wire) → gifts (ds ++ es) w ≡ gifts ds w + gifts es (doing_all ds w)
+unfolding gifts doing_all
+gifts-append [] es w = omega arith
+gifts-append (d ∷ ds) es w = let rest = gifts-append ds es (doing d w) in omega (arith, rest)
+
+swap-gifts : (ds : List StepAt) (w : Wire) → gifts (all-swapped ds) (turned w) ≡ gifts ds w
+unfolding gifts all-swapped swapped
+swap-gifts [] w = refl
+swap-gifts (at_near act ∷ ds) w = ap (λ n. count (is_gift_of act w) + n) (swap-gifts ds (acting act w))
+swap-gifts (at_far act ∷ ds) w = ap (λ n. count (is_gift_of act (turned w)) + n) (swap-gifts ds (turned (acting act (turned w))))
+
 swap-expiries : (ds : List StepAt) → expiries (all-swapped ds) ≡ expiries ds
 unfolding expiries all-swapped swapped
 swap-expiries [] = refl
@@ -114,8 +142,8 @@ module _ (how : Manner) (service : Service) (tei : ℕ) where
   full-one (at_near act) is = full-of service tei how act is
   full-one (at_far act) is = full-of service tei how act is
 
-  -- From one wire to another. In it T200 expires so often at either end while it runs there, and another timer so often.
-  pub record Path (near_falls far_falls others : ℕ) (w v : Wire) : Type 0 where
+  -- From one wire to another. In it T200 expires so often at either end while it runs there, and another timer so often; and so many frames are given.
+  pub record Path (near_falls far_falls others given : ℕ) (w v : Wire) : Type 0 where
     pub steps : List StepAt
     pub done : All (IsDone how service tei) steps
     pub patient : StayPatient steps w
@@ -123,14 +151,15 @@ module _ (how : Manner) (service : Service) (tei : ℕ) where
     pub near : how_often (near_asks service tei) steps w ≡ near_falls
     pub far : how_often (far_asks service tei) steps w ≡ far_falls
     pub all : expiries steps ≡ near_falls + far_falls + others
+    pub gives : gifts steps w ≡ given
 
-  pub path-none : (w v : Wire) → w ≡ v → Path 0 0 0 w v
-  unfolding StayPatient doing_all how_often expiries
-  path-none w v same = record { steps = []; done = All-nil (IsDone how service tei); patient = tt; leads = same; near = refl; far = refl; all = refl }
+  pub path-none : (w v : Wire) → w ≡ v → Path 0 0 0 0 w v
+  unfolding StayPatient doing_all how_often expiries gifts
+  path-none w v same = record { steps = []; done = All-nil (IsDone how service tei); patient = tt; leads = same; near = refl; far = refl; all = refl; gives = refl }
 
   -- It counts as many.
-  pub path-as : (i j k i' j' k' : ℕ) (w v : Wire) → i ≡ i' → j ≡ j' → k ≡ k' → Path i j k w v → Path i' j' k' w v
-  path-as i j k i' j' k' w v x y z p = record {
+  pub path-as : (i j k n i' j' k' n' : ℕ) (w v : Wire) → i ≡ i' → j ≡ j' → k ≡ k' → n ≡ n' → Path i j k n w v → Path i' j' k' n' w v
+  path-as i j k n i' j' k' n' w v x y z g p = record {
     steps = p.steps;
     done = p.done;
     patient = p.patient;
@@ -138,10 +167,11 @@ module _ (how : Manner) (service : Service) (tei : ℕ) where
     near = p.near ∙ x;
     far = p.far ∙ y;
     all = p.all ∙ (λ t. x t + y t + z t);
+    gives = p.gives ∙ g;
   }
 
-  pub path-both : (w v x : Wire) → {i j k i' j' k' : ℕ} → Path i j k w v → Path i' j' k' v x → Path (i + i') (j + j') (k + k') w x
-  path-both w v x {i} {j} {k} {i'} {j'} {k'} p q = record {
+  pub path-both : (w v x : Wire) → {i j k n i' j' k' n' : ℕ} → Path i j k n w v → Path i' j' k' n' v x → Path (i + i') (j + j') (k + k') (n + n') w x
+  path-both w v x {i} {j} {k} {n} {i'} {j'} {k'} {n'} p q = record {
     steps = p.steps ++ q.steps;
     done = All-append (IsDone how service tei) p.steps q.steps p.done q.done;
     patient = patient-append p.steps q.steps w p.patient (subst (StayPatient q.steps) (sym p.leads) q.patient);
@@ -149,12 +179,13 @@ module _ (how : Manner) (service : Service) (tei : ℕ) where
     near = how-append (near_asks service tei) p.steps q.steps w ∙ (λ t. p.near t + how_often (near_asks service tei) q.steps (p.leads t)) ∙ ap (λ n. i + n) q.near;
     far = how-append (far_asks service tei) p.steps q.steps w ∙ (λ t. p.far t + how_often (far_asks service tei) q.steps (p.leads t)) ∙ ap (λ n. j + n) q.far;
     all = let a = expiries-append p.steps q.steps in let b = p.all in let c = q.all in omega (arith, a, b, c);
+    gives = gifts-append p.steps q.steps w ∙ (λ t. p.gives t + gifts q.steps (p.leads t)) ∙ ap (λ m. n + m) q.gives;
   }
 
-  pub path-one : (act : Step) → IsDoneOf how service tei act → (i k : ℕ) (w v : Wire) → count (is_t200 act && runs_t200 service tei w.near) ≡ i → expiries_of act ≡ i + k → IsTimelyOf act w → acting act w ≡ v
-      → Path i 0 k w v
-  unfolding StayPatient doing_all how_often expiries
-  path-one act is i k w v falls all timely same = record {
+  pub path-one : (act : Step) → IsDoneOf how service tei act → (i k n : ℕ) (w v : Wire) → count (is_t200 act && runs_t200 service tei w.near) ≡ i → expiries_of act ≡ i + k → count (is_gift_of act w) ≡ n → IsTimelyOf act w → acting act w ≡ v
+      → Path i 0 k n w v
+  unfolding StayPatient doing_all how_often expiries gifts
+  path-one act is i k n w v falls all gives timely same = record {
     steps = at_near act ∷ [];
     done = All-cons (IsDone how service tei) (at_near act) [] is (All-nil (IsDone how service tei));
     patient = (timely, tt);
@@ -162,6 +193,7 @@ module _ (how : Manner) (service : Service) (tei : ℕ) where
     near = (let sum : count (is_t200 act && runs_t200 service tei w.near) + 0 ≡ i = omega (arith, falls) in sum);
     far = refl;
     all = (let sum : expiries_of act + 0 ≡ i + 0 + k = omega (arith, all) in sum);
+    gives = (let sum : count (is_gift_of act w) + 0 ≡ n = omega (arith, gives) in sum);
   }
 
   swap-done : (ds : List StepAt) → All (IsDone how service tei) ds → All (IsDone how service tei) (all-swapped ds)
@@ -184,15 +216,12 @@ module _ (how : Manner) (service : Service) (tei : ℕ) where
   swap-leads (at_near act ∷ ds) w = swap-leads ds (acting act w)
   swap-leads (at_far act ∷ ds) w = swap-leads ds (turned (acting act (turned w)))
 
-  -- Before or after what counts none.
-  pub path-on : (w v x : Wire) → {i j k : ℕ} → Path i j k w v → Path 0 0 0 v x → Path i j k w x
-  path-on w v x {i} {j} {k} p q = path-as (i + 0) (j + 0) (k + 0) i j k w x (omega arith) (omega arith) (omega arith) (path-both w v x p q)
+  -- Before what counts none.
+  pub path-on : (w v x : Wire) → {i j k n : ℕ} → Path i j k n w v → Path 0 0 0 0 v x → Path i j k n w x
+  path-on w v x {i} {j} {k} {n} p q = path-as (i + 0) (j + 0) (k + 0) (n + 0) i j k n w x (omega arith) (omega arith) (omega arith) (omega arith) (path-both w v x p q)
 
-  pub path-from : (w v x : Wire) → {i j k : ℕ} → Path 0 0 0 w v → Path i j k v x → Path i j k w x
-  path-from w v x {i} {j} {k} p q = path-as (0 + i) (0 + j) (0 + k) i j k w x (omega arith) (omega arith) (omega arith) (path-both w v x p q)
-
-  pub path-turned : (w v : Wire) → {i j k : ℕ} → Path i j k w v → Path j i k (turned w) (turned v)
-  path-turned w v {i} {j} {k} p = record {
+  pub path-turned : (w v : Wire) → {i j k n : ℕ} → Path i j k n w v → Path j i k n (turned w) (turned v)
+  path-turned w v {i} {j} {k} {n} p = record {
     steps = all-swapped p.steps;
     done = swap-done p.steps p.done;
     patient = swap-patient p.steps w p.patient;
@@ -200,10 +229,11 @@ module _ (how : Manner) (service : Service) (tei : ℕ) where
     near = swap-near service tei p.steps w ∙ p.far;
     far = swap-far service tei p.steps w ∙ p.near;
     all = let a = swap-expiries p.steps in let b = p.all in omega (arith, a, b);
+    gives = swap-gifts p.steps w ∙ p.gives;
   }
 
   -- So all is of a full talk.
-  pub talk-of : (w v : Wire) → {i j k : ℕ} → (p : Path i j k w v) → All (IsFullTalk service tei) p.steps
+  pub talk-of : (w v : Wire) → {i j k n : ℕ} → (p : Path i j k n w v) → All (IsFullTalk service tei) p.steps
   talk-of w v p = all-done (IsDone how service tei) (IsFullTalk service tei) full-one p.steps p.done
 
 -- Data alone is asked for: so it is anything of a call.
@@ -220,7 +250,7 @@ module _ (service : Service) (tei : ℕ) where
   data-call (at_far receives) is = tt
   data-call (at_far loses) is = tt
 
-  pub path-call : (w v : Wire) → {i j k : ℕ} → Path of_data service tei i j k w v → Path of_call service tei i j k w v
+  pub path-call : (w v : Wire) → {i j k n : ℕ} → Path of_data service tei i j k n w v → Path of_call service tei i j k n w v
   path-call w v p = record {
     steps = p.steps;
     done = all-done (IsDone of_data service tei) (IsDone of_call service tei) data-call p.steps p.done;
@@ -229,4 +259,5 @@ module _ (service : Service) (tei : ℕ) where
     near = p.near;
     far = p.far;
     all = p.all;
+    gives = p.gives;
   }

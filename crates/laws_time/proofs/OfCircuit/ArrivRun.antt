@@ -21,7 +21,7 @@ use Rattle.laws_time.specs.circuit.LongEnough.{Line, IsFit, IsTalk, IsOfLink, as
 unfoldable use Rattle.laws_time.specs.circuit.LongEnough.{AreClear}
 use Rattle.laws_time.proofs.OfCircuit.Acts.{Goes, asks-goes}
 use Rattle.laws_time.proofs.OfCircuit.ArrivAs.{station, heard_of, asked-becomes}
-use Rattle.laws_time.proofs.OfCircuit.ArrivBeat.{Same, Led, near-stood, beat-on, NearStood, ago, far_end, far-stands, far-finals}
+use Rattle.laws_time.proofs.OfCircuit.ArrivBeat.{Same, Led, put_at, near-stood, beat-on, NearStood, ago, far_end, far-stands, far-finals}
 use Rattle.laws_time.proofs.OfCircuit.ArrivHeard.{IsKeptAt}
 use Rattle.laws_time.proofs.OfCircuit.ArrivFair.{IsFair}
 use Rattle.laws_time.proofs.OfCircuit.ArrivPath.{Manner, of_call, of_data, of_whole, MayAsk, Path, path-as, path-none, path-both, path-on}
@@ -140,17 +140,20 @@ module _ (how : Manner) (l : Line) (fit : IsFit l) where
   its-of-link (r ∷ rs) all = All-cons (IsOfLink l.service l.tei) r rs (both-of how r (All-head (MayBeAsked how l) r rs all)).0 (its-of-link rs (All-tail (MayBeAsked how l) r rs all))
 
   -- It leads there from a wire, and T200 of either end has fallen due so often, and T203 of both.
-  pub record ReachedBy (i j k : ℕ) (start : Wire) (w : Clocked) : Type 0 where
+  -- So many frames had been put on the lines when it began.
+  pub record ReachedBy (i j k first : ℕ) (start : Wire) (w : Clocked) : Type 0 where
     pub f : Wire
-    pub path : Path how l.service l.tei i j k start f
+    pub n : ℕ
+    pub puts : put_at w ≡ first + n
+    pub path : Path how l.service l.tei i j k n start f
     pub same : SameNow l fit w f
 
   abbrev LedTo : ℕ → ℕ → ℕ → Clocked → Beat → FrameEndpoint → FrameEndpoint → Type 0
   LedTo i j k w b x y = Led how l fit.some fit.call.near.0 fit.call.far.0 fit.call.opposite.0 fit.call.opposite.1 fit.t200 (near_card l fit) (far_card l fit) refl refl i j k w b x y
 
-  led-on : (start : Wire) (w : Clocked) (b : Beat) (x y : FrameEndpoint) → {i j k i' j' k' : ℕ} → Path how l.service l.tei i j k start (record { near = x; far = y }) → LedTo i' j' k' w b x y
-      → ReachedBy (i + i') (j + j') (k + k') start (beat l.rate w b)
-  led-on start w b x y path led = record { f = led.f; path = path-both how l.service l.tei start (record { near = x; far = y }) led.f path led.path; same = led.same }
+  led-on : (start : Wire) (w : Clocked) (b : Beat) (x y : FrameEndpoint) → {i j k i' j' k' first n : ℕ} → put_at w ≡ first + n → Path how l.service l.tei i j k n start (record { near = x; far = y }) → LedTo i' j' k' w b x y
+      → ReachedBy (i + i') (j + j') (k + k') first start (beat l.rate w b)
+  led-on start w b x y {i} {j} {k} {i'} {j'} {k'} {first} {n} puts path led = record { f = led.f; n = n + led.n; puts = (let more = led.puts in omega (arith, puts, more)); path = path-both how l.service l.tei start (record { near = x; far = y }) led.f path led.path; same = led.same }
 
   -- What falls due in a beat.
   abbrev Near : (Timer → Bool) → Clocked → Beat → ℕ
@@ -159,9 +162,9 @@ module _ (how : Manner) (l : Line) (fit : IsFit l) where
   abbrev Far : (Timer → Bool) → Clocked → Beat → ℕ
   Far of w b = fallen_in of (w.beats / l.rate) b.far_asks w.far
 
-  one-beat : (start : Wire) (w : Clocked) (b : Beat) → {i j k : ℕ} → PairNow l fit w → AreAskedSo how l b → AreClear l (b ∷ []) w → AreKept how l (b ∷ []) w → IsFairBoth (beat l.rate w b) → ReachedBy i j k start w
+  one-beat : (start : Wire) (w : Clocked) (b : Beat) → {i j k first : ℕ} → PairNow l fit w → AreAskedSo how l b → AreClear l (b ∷ []) w → AreKept how l (b ∷ []) w → IsFairBoth (beat l.rate w b) → ReachedBy i j k first start w
       → ReachedBy (i + fallen_in is_t200 (w.beats / l.rate) b.near_asks w.near) (j + fallen_in is_t200 (w.beats / l.rate) b.far_asks w.far)
-      (k + (fallen_in is_t203 (w.beats / l.rate) b.near_asks w.near + fallen_in is_t203 (w.beats / l.rate) b.far_asks w.far)) start (beat l.rate w b)
+      (k + (fallen_in is_t203 (w.beats / l.rate) b.near_asks w.near + fallen_in is_t203 (w.beats / l.rate) b.far_asks w.far)) first start (beat l.rate w b)
   unfolding AreClear AreKept
   one-beat start w b p are_asked clear kept fair h =
       let c = fit.call in let s = h.same in
@@ -169,7 +172,7 @@ module _ (how : Manner) (l : Line) (fit : IsFit l) where
       let now = fair-gone l.rate b w fair in
       let x = station s.there s.ts w.near.at in
       let y = station s.back s.us w.far.at in
-      led-on start w b x y
+      led-on start w b x y h.puts
       (path-on how l.service l.tei start h.f (record { near = x; far = y }) h.path
       (path-none how l.service l.tei h.f (record { near = x; far = y }) (λ i. record { near = s.near_is i; far = s.far_is i })))
       (beat-on how l fit.some c.near.0 c.far.0 c.opposite.0 c.opposite.1 fit.t200 (near_card l fit) (far_card l fit) refl refl w p b talk s.back s.comes s.us s.far_heard
@@ -177,21 +180,21 @@ module _ (how : Manner) (l : Line) (fit : IsFit l) where
       (near-stood how l fit.some c.near.0 c.far.0 c.opposite.0 c.opposite.1 fit.t200 (near_card l fit) (far_card l fit) refl refl w p b talk s.back s.comes s.us s.far_heard s.there s.goes s.ts s.near_heard)
       b.near_asks refl (all-both b.near_asks are_asked.0) (all-both b.far_asks are_asked.1) now.0 now.1 clear.0 clear.1 kept.0 kept.1)
 
-  reached-as : (start : Wire) (w : Clocked) (i j k i' j' k' : ℕ) → i ≡ i' → j ≡ j' → k ≡ k' → ReachedBy i j k start w → ReachedBy i' j' k' start w
-  reached-as start w i j k i' j' k' x y z h = record { f = h.f; path = path-as how l.service l.tei i j k i' j' k' start h.f x y z h.path; same = h.same }
+  reached-as : (start : Wire) (w : Clocked) (first i j k i' j' k' : ℕ) → i ≡ i' → j ≡ j' → k ≡ k' → ReachedBy i j k first start w → ReachedBy i' j' k' first start w
+  reached-as start w first i j k i' j' k' x y z h = record { f = h.f; n = h.n; puts = h.puts; path = path-as how l.service l.tei i j k h.n i' j' k' h.n start h.f x y z refl h.path; same = h.same }
 
-  pub beats-by : (start : Wire) (bs : List Beat) (w : Clocked) → {i j k : ℕ} → PairNow l fit w → All (AreAskedSo how l) bs → AreClear l bs w → AreKept how l bs w → IsFairBoth (after l.rate bs w) → ReachedBy i j k start w
-      → ReachedBy (i + near_fallen is_t200 l.rate bs w) (j + far_fallen is_t200 l.rate bs w) (k + (near_fallen is_t203 l.rate bs w + far_fallen is_t203 l.rate bs w)) start (after l.rate bs w)
+  pub beats-by : (start : Wire) (bs : List Beat) (w : Clocked) → {i j k first : ℕ} → PairNow l fit w → All (AreAskedSo how l) bs → AreClear l bs w → AreKept how l bs w → IsFairBoth (after l.rate bs w) → ReachedBy i j k first start w
+      → ReachedBy (i + near_fallen is_t200 l.rate bs w) (j + far_fallen is_t200 l.rate bs w) (k + (near_fallen is_t203 l.rate bs w + far_fallen is_t203 l.rate bs w)) first start (after l.rate bs w)
   unfolding AreClear AreKept near_fallen far_fallen
-  beats-by start [] w {i} {j} {k} p all clear kept fair h = reached-as start w i j k (i + 0) (j + 0) (k + (0 + 0)) (omega arith) (omega arith) (omega arith) h
-  beats-by start (b ∷ bs) w {i} {j} {k} p all clear kept fair h =
+  beats-by start [] w {i} {j} {k} {first} p all clear kept fair h = reached-as start w first i j k (i + 0) (j + 0) (k + (0 + 0)) (omega arith) (omega arith) (omega arith) h
+  beats-by start (b ∷ bs) w {i} {j} {k} {first} p all clear kept fair h =
       let c = fit.call in
       let now = All-head (AreAskedSo how l) b bs all in
       let talk : IsTalk l b = (its-of-link b.near_asks now.0, its-of-link b.far_asks now.1) in
       let u = beat l.rate w b in
       let a = Near is_t200 w b in let d = Far is_t200 w b in let e = Near is_t203 w b in let g = Far is_t203 w b in
       let a' = near_fallen is_t200 l.rate bs u in let d' = far_fallen is_t200 l.rate bs u in let e' = near_fallen is_t203 l.rate bs u in let g' = far_fallen is_t203 l.rate bs u in
-      reached-as start (after l.rate bs u) ((i + a) + a') ((j + d) + d') ((k + (e + g)) + (e' + g')) (i + (a + a')) (j + (d + d')) (k + ((e + e') + (g + g'))) (omega arith) (omega arith) (omega arith)
+      reached-as start (after l.rate bs u) first ((i + a) + a') ((j + d) + d') ((k + (e + g)) + (e' + g')) (i + (a + a')) (j + (d + d')) (k + ((e + e') + (g + g'))) (omega arith) (omega arith) (omega arith)
       (beats-by start bs u
       (pair-then l fit.some c.near.0 c.far.0 c.opposite.0 c.opposite.1 fit.t200 (near_card l fit) (far_card l fit) w p b talk clear.0 clear.1)
       (All-tail (AreAskedSo how l) b bs all) clear.2 kept.2 fair
@@ -202,12 +205,15 @@ module _ (how : Manner) (l : Line) (fit : IsFit l) where
     pub i : ℕ
     pub j : ℕ
     pub k : ℕ
+    pub first : ℕ
+    pub n : ℕ
+    pub puts : put_at w ≡ first + n
     pub f : Wire
-    pub path : Path how l.service l.tei i j k start f
+    pub path : Path how l.service l.tei i j k n start f
     pub same : SameNow l fit w f
 
-  pub as-some : (start : Wire) (w : Clocked) → {i j k : ℕ} → ReachedBy i j k start w → ReachedSome start w
-  as-some start w {i} {j} {k} h = record { i = i; j = j; k = k; f = h.f; path = h.path; same = h.same }
+  pub as-some : (start : Wire) (w : Clocked) → {i j k first : ℕ} → ReachedBy i j k first start w → ReachedSome start w
+  as-some start w {i} {j} {k} {first} h = record { i = i; j = j; k = k; first = first; n = h.n; puts = h.puts; f = h.f; path = h.path; same = h.same }
 
   -- The first beat, in which layer 3 asks for the establishment first of all.
   module _ (w : Clocked) (p : PairNow l fit w) (goes : Going l.near.n201 (port_of w.near.at) w.near.at.way []) (comes : Going l.far.n201 (port_of w.far.at) w.far.at.way [])
@@ -263,7 +269,8 @@ module _ (how : Manner) (l : Line) (fit : IsFit l) where
     first-beat clear kept fair =
         let c = fit.call in
         let now = fair-gone l.rate (calls l b) w fair in
-        as-some start (beat l.rate w (calls l b)) (led-on start w (calls l b) (wire.happens (line.request ask) x) y (path-none how l.service l.tei start start refl)
+        let none_yet : put_at w ≡ put_at w + 0 = omega arith in
+        as-some start (beat l.rate w (calls l b)) (led-on start w (calls l b) (wire.happens (line.request ask) x) y none_yet (path-none how l.service l.tei start start refl)
         (beat-on how l fit.some c.near.0 c.far.0 c.opposite.0 c.opposite.1 fit.t200 (near_card l fit) (far_card l fit) refl refl w p (calls l b) first-talk [] comes us far_heard
         g.S' (asks a ask) (wire.happens (line.request ask) x) then b.near_asks refl (all-both b.near_asks are_asked.0) (all-both b.far_asks are_asked.1) now.0 now.1 clear.0 clear.1 kept.0 kept.1))
 
@@ -275,7 +282,7 @@ module _ (how : Manner) (l : Line) (fit : IsFit l) where
         let h = first-beat (clear.0, clear.1, tt) (kept.0, kept.1, tt) (fair-all l.rate bs u fair) in
         as-some start (after l.rate bs u) (beats-by start bs u
         (pair-then l fit.some c.near.0 c.far.0 c.opposite.0 c.opposite.1 fit.t200 (near_card l fit) (far_card l fit) w p (calls l b) first-talk clear.0 clear.1)
-        all clear.2 kept.2 fair (record { f = h.f; path = h.path; same = h.same }))
+        all clear.2 kept.2 fair (record { f = h.f; n = h.n; puts = h.puts; path = h.path; same = h.same }))
 
 -- Anything may be done.
 module _ (l : Line) (fit : IsFit l) where
@@ -284,4 +291,4 @@ module _ (l : Line) (fit : IsFit l) where
 
   pub all-beats : (start : Wire) (bs : List Beat) (w : Clocked) → PairNow l fit w → All (AreAsked l) bs → AreClear l bs w → IsFairBoth (after l.rate bs w) → Reached start w → Reached start (after l.rate bs w)
   all-beats start bs w p all clear fair h =
-      as-some of_call l fit start (after l.rate bs w) (beats-by of_call l fit start bs w p all clear (call-kept l bs w) fair (record { f = h.f; path = h.path; same = h.same }))
+      as-some of_call l fit start (after l.rate bs w) (beats-by of_call l fit start bs w p all clear (call-kept l bs w) fair (record { f = h.f; n = h.n; puts = h.puts; path = h.path; same = h.same }))

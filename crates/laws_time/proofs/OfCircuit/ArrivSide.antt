@@ -131,7 +131,7 @@ module _ (how : Manner) (service : Service) (tei : ℕ) (c : Config) (ranged : I
     pub S : ℕ
     pub x' : FrameEndpoint
     pub stood : Stood S u x'
-    pub path : Path how service tei i 0 k (record { near = x; far = y }) (record { near = x'; far = y })
+    pub path : Path how service tei i 0 k 0 (record { near = x; far = y }) (record { near = x'; far = y })
 
   abbrev with : FrameEndpoint → Wire
   with x = record { near = x; far = y }
@@ -141,7 +141,7 @@ module _ (how : Manner) (service : Service) (tei : ℕ) (c : Config) (ranged : I
 
   after-as : (i k i' k' : ℕ) (x : FrameEndpoint) (u : TimedEndpoint) → i ≡ i' → k ≡ k' → After i k x u → After i' k' x u
   after-as i k i' k' x u same other g =
-      record { S = g.S; x' = g.x'; stood = g.stood; path = path-as how service tei i 0 k i' 0 k' (with x) (with g.x') same refl other g.path }
+      record { S = g.S; x' = g.x'; stood = g.stood; path = path-as how service tei i 0 k 0 i' 0 k' 0 (with x) (with g.x') same refl other refl g.path }
 
   after-both : (x : FrameEndpoint) (u v : TimedEndpoint) → {i k i' k' : ℕ} → (g : After i k x u) → After i' k' g.x' v → After (i + i') (k + k') x v
   after-both x u v g k = record { S = k.S; x' = k.x'; stood = k.stood; path = path-both how service tei (with x) (with g.x') (with k.x') g.path k.path }
@@ -175,7 +175,7 @@ module _ (how : Manner) (service : Service) (tei : ℕ) (c : Config) (ranged : I
         S = g.S';
         x' = wire.happens (line.request r) x;
         stood = stood-then S a (happens (port.request r) a) x h (line.request r) g (walked a (happens (port.request r) a) (event-walks service tei c ranged lengths rate (port.request r) a S M h.ok tt)) (asked-becomes r h.there a.at h.ts h.heard);
-        path = path-one how service tei (requests r) asked 0 0 (with x) (with (wire.happens (line.request r) x)) refl refl tt refl;
+        path = path-one how service tei (requests r) asked 0 0 0 (with x) (with (wire.happens (line.request r) x)) refl refl refl tt refl;
       }
 
   abbrev pub IsBoth : Request → Type 0
@@ -237,7 +237,7 @@ module _ (how : Manner) (service : Service) (tei : ℕ) (c : Config) (ranged : I
           S = g.S';
           x' = wire.happens (line.expiry timer) x;
           stood = stood-then S a (falls_so timer) x h (line.expiry timer) g (walked a (falls_so timer) (subst (λ t. Walks service tei a (falls_so t)) same (due-walks service tei c ranged lengths rate a S M h.ok e falls_now))) (expired-becomes timer h.there a.at h.ts h.heard);
-          path = path-one how service tei (expires timer) own i k (with x) (with (wire.happens (line.expiry timer) x)) often all (subst (λ x. Rattle.laws_wire.specs.Timely.IsTimelyOf (expires timer) (with x)) (sym h.is) timely) refl;
+          path = path-one how service tei (expires timer) own i k 0 (with x) (with (wire.happens (line.expiry timer) x)) often all refl (subst (λ x. Rattle.laws_wire.specs.Timely.IsTimelyOf (expires timer) (with x)) (sym h.is) timely) refl;
         }
 
     t200-fell : e.timer ≡ timers.T200 service tei → IsFair (falls_so (timers.T200 service tei)).at.told → After 1 0 x (falls_so (timers.T200 service tei))

@@ -1,5 +1,5 @@
 -- A call on the circuit up to a time, and from there on, part by part: on a wire of frames both links are up.
-use Rattle.std.proofs.Common.{◌≡◌, ℕ, false, List, [], ◌∷◌, ◌++◌, Option, Some, refl, sym, ap, ◌∙◌, subst, All, ◌⊎◌, inl, inr, append_assoc}
+use Rattle.std.proofs.Common.{arith, ◌≡◌, ℕ, false, List, [], ◌∷◌, ◌++◌, Option, Some, refl, sym, ap, ◌∙◌, subst, All, ◌⊎◌, inl, inr, append_assoc}
 use Rattle.std.specs.List.{list_any}
 use Rattle.std.proofs.lemmas.List.Elements.{All-nil, All-cons, All-append, All-head, All-tail}
 use Rattle.std.proofs.lemmas.List.Folds.{list_any-append}
@@ -11,6 +11,7 @@ use Rattle.laws_wire.specs.Call.{calling}
 use Rattle.laws_wire.specs.Losing.{heard_in}
 use Rattle.laws_wire.specs.Wire.{Wire}
 use Rattle.laws_wire.proofs.LooseUp.{LooseUp}
+use Rattle.laws_time.proofs.OfCircuit.ArrivBeat.{put_at}
 use Rattle.laws_time.proofs.OfCircuit.ArrivBegan.{reached, clear-parts}
 use Rattle.laws_time.proofs.OfCircuit.ArrivFair.{codes, codes-append, neither}
 use Rattle.laws_time.proofs.OfCircuit.ArrivPath.{of_call, path-none, talk-of}
@@ -158,9 +159,9 @@ module _ (l : Line) (before bs more : List Beat) (b : Beat) (h : GoesWell l befo
     pub r-done : Reached l h.fit reached-w.f (after l.rate done (in_call l before b bs))
     r-done =
         all-beats l h.fit reached-w.f done w pair-w asked-done parts.0 (fair-all l.rate rest (after l.rate done w) fair-rest)
-        (record { i = 0; j = 0; k = 0; f = reached-w.f; path = path-none of_call l.service l.tei reached-w.f reached-w.f refl; same = reached-w.same })
+        (record { i = 0; j = 0; k = 0; first = put_at w; n = 0; puts = omega arith; f = reached-w.f; path = path-none of_call l.service l.tei reached-w.f reached-w.f refl; same = reached-w.same })
 
     pub r-rest : Reached l h.fit r-done.f (after l.rate rest (after l.rate done (in_call l before b bs)))
     r-rest =
         all-beats l h.fit r-done.f rest (after l.rate done w) pair-done asked-rest parts.1 fair-rest
-        (record { i = 0; j = 0; k = 0; f = r-done.f; path = path-none of_call l.service l.tei r-done.f r-done.f refl; same = r-done.same })
+        (record { i = 0; j = 0; k = 0; first = put_at (after l.rate done w); n = 0; puts = omega arith; f = r-done.f; path = path-none of_call l.service l.tei r-done.f r-done.f refl; same = r-done.same })

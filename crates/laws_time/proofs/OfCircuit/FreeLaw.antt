@@ -14,6 +14,7 @@ use Rattle.laws_time.specs.circuit.LongEnough.{Line, IsFit, IsOfLink, IsTalk, be
 unfoldable use Rattle.laws_time.specs.circuit.LongEnough.{AreClear}
 use Rattle.laws_time.specs.circuit.Seldom.{IsQuiet, T200FallsDueSeldom, is_t200, near_fallen, far_fallen}
 use Rattle.laws_time.proofs.OfCircuit.AgainKept.{kept-again}
+use Rattle.laws_time.proofs.OfCircuit.ArrivBeat.{put_at}
 use Rattle.laws_time.proofs.OfCircuit.ArrivBegan.{reached-by}
 use Rattle.laws_time.proofs.OfCircuit.ArrivPath.{of_data, of_whole, path-call, path-none}
 use Rattle.laws_time.proofs.OfCircuit.ArrivRun.{Reached, ReachedBy, ReachedSome, AreKept, data-kept, beats-by, fair-all}
@@ -22,6 +23,7 @@ use Rattle.laws_time.proofs.OfCircuit.CaughtParts as parts
 use Rattle.laws_time.proofs.OfCircuit.FreeOften.{rough-of, near-seldom, far-seldom}
 use Rattle.laws_time.proofs.OfCircuit.FreeWire.{FreeBoth, all-free, free-begins}
 use Rattle.laws_time.proofs.OfCircuit.InCallFair.{talk-all}
+use Rattle.laws_time.proofs.OfCircuit.InTime.{PairNow}
 
 -- Data alone is asked for.
 data-asked : (l : Line) (r : Request) → IsDataOf l r → IsAsked l r
@@ -105,35 +107,39 @@ module _ (l : Line) (before noisy quiet bs : List Beat) (b : Beat) (h : IsQuiet 
   start = calling l.service l.tei l.near l.near_line l.far l.far_line
 
   -- The wire at that time, to which data alone leads.
-  reached-data : ReachedSome of_data l h.fit (calling l.service l.tei l.near l.near_line l.far l.far_line) (in_call l before b (noisy ++ quiet))
+  pub reached-data : ReachedSome of_data l h.fit (calling l.service l.tei l.near l.near_line l.far l.far_line) (in_call l before b (noisy ++ quiet))
   reached-data =
       reached-by l h.fit of_data before b first h.idle data-b (all-left (AsksData l) first bs data-rest) h.clear (data-kept l (calls l b ∷ first) (after l.rate before (begins l)))
       (fair-all l.rate bs w (parts.fair-u l before first bs b well))
 
-  abbrev f : Wire
+  abbrev pub f : Wire
   f = reached-data.f
 
   as-call : Reached l h.fit (calling l.service l.tei l.near l.near_line l.far l.far_line) (in_call l before b (noisy ++ quiet))
-  as-call = record { i = reached-data.i; j = reached-data.j; k = reached-data.k; f = reached-data.f; path = path-call l.service l.tei start reached-data.f reached-data.path; same = reached-data.same }
+  as-call = record { i = reached-data.i; j = reached-data.j; k = reached-data.k; first = reached-data.first; n = reached-data.n; puts = reached-data.puts; f = reached-data.f; path = path-call l.service l.tei start reached-data.f reached-data.path; same = reached-data.same }
 
-  up : Rattle.laws_wire.proofs.LooseUp.LooseUp l.service l.tei l.near l.far 0 0 (near_past l h.fit) (far_past l h.fit) reached-data.f
+  pub up : Rattle.laws_wire.proofs.LooseUp.LooseUp l.service l.tei l.near l.far 0 0 (near_past l h.fit) (far_past l h.fit) reached-data.f
   unfolding as-call well
   up = parts.up-there l before first bs b well as-call h.up
 
-  free : FreeBoth l.service l.tei l.near l.far reached-data.f
+  pub free : FreeBoth l.service l.tei l.near l.far reached-data.f
   free =
       subst (FreeBoth l.service l.tei l.near l.far) reached-data.path.leads
       (all-free l.service l.tei l.near l.far (its l h.fit).face (its l h.fit).back reached-data.path.steps start (rough-of l.service l.tei start reached-data.f reached-data.path)
       (free-begins l.service l.near l.far l.near_line l.far_line l.tei h.fit.call))
 
+  pub pair-there : PairNow l h.fit (in_call l before b (noisy ++ quiet))
+  unfolding well
+  pair-there = parts.pair-w l before first bs b well
+
   -- From there on nothing is lost.
-  whole : ReachedBy of_whole l h.fit (0 + near_fallen is_t200 l.rate bs (in_call l before b (noisy ++ quiet))) (0 + far_fallen is_t200 l.rate bs (in_call l before b (noisy ++ quiet)))
+  pub whole : ReachedBy of_whole l h.fit (0 + near_fallen is_t200 l.rate bs (in_call l before b (noisy ++ quiet))) (0 + far_fallen is_t200 l.rate bs (in_call l before b (noisy ++ quiet)))
       (0 + (near_fallen Rattle.laws_time.specs.circuit.Seldom.is_t203 l.rate bs (in_call l before b (noisy ++ quiet)) + far_fallen Rattle.laws_time.specs.circuit.Seldom.is_t203 l.rate bs (in_call l before b (noisy ++ quiet))))
-      reached-data.f (after l.rate bs (in_call l before b (noisy ++ quiet)))
+      (put_at (in_call l before b (noisy ++ quiet))) reached-data.f (after l.rate bs (in_call l before b (noisy ++ quiet)))
   unfolding well
   whole =
       beats-by of_whole l h.fit f bs w (parts.pair-w l before first bs b well) (all-right (AsksData l) first bs data-rest) kept.0 kept.1 (parts.fair-u l before first bs b well)
-      (record { f = f; path = path-none of_whole l.service l.tei f f refl; same = reached-data.same })
+      (record { f = f; n = 0; puts = omega arith; path = path-none of_whole l.service l.tei f f refl; same = reached-data.same })
 
   pub seldom : (length (Rattle.laws_time.specs.circuit.Clocked.contents_at (in_call l before b (noisy ++ quiet)).far) + near_fallen is_t200 l.rate bs (in_call l before b (noisy ++ quiet))
       ≤ length (after l.rate bs (in_call l before b (noisy ++ quiet))).near.at.granted + 1)
@@ -146,8 +152,8 @@ module _ (l : Line) (before noisy quiet bs : List Beat) (b : Beat) (h : IsQuiet 
       let j = far_fallen is_t200 l.rate bs w in
       let s = its l h.fit in
       let m = 0 + (near_fallen Rattle.laws_time.specs.circuit.Seldom.is_t203 l.rate bs w + far_fallen Rattle.laws_time.specs.circuit.Seldom.is_t203 l.rate bs w) in
-      let near = near-seldom l.service l.tei l.near l.far s.face s.back h.wide.0 h.wide.1 f up free (0 + i) (0 + j) m whole.f whole.path in
-      let far = far-seldom l.service l.tei l.near l.far s.face s.back h.wide.0 h.wide.1 f up free (0 + i) (0 + j) m whole.f whole.path in
+      let near = near-seldom l.service l.tei l.near l.far s.face s.back h.wide.0 h.wide.1 f up free (0 + i) (0 + j) m whole.n whole.f whole.path in
+      let far = far-seldom l.service l.tei l.near l.far s.face s.back h.wide.0 h.wide.1 f up free (0 + i) (0 + j) m whole.n whole.f whole.path in
       let told = ap (λ xs. length xs) (far-contents l h.fit w pair f reached-data.same) in
       let told_near = ap (λ xs. length xs) (near-contents l h.fit w pair f reached-data.same) in
       let granted = ap (λ (z : Rattle.laws_wire.specs.Wire.Endpoint). length z.granted) whole.same.near_is in

@@ -28,7 +28,7 @@ module _ (service : Service) (tei : ℕ) where
   whole-rough-of receives is = tt
   whole-rough-of loses is = tt
 
-  whole-rough : (d : StepAt) → IsDone of_whole service tei d → IsRoughTalk service tei d
+  pub whole-rough : (d : StepAt) → IsDone of_whole service tei d → IsRoughTalk service tei d
   whole-rough (at_near act) is = whole-rough-of act is
   whole-rough (at_far act) is = whole-rough-of act is
 
@@ -55,7 +55,7 @@ module _ (service : Service) (tei : ℕ) where
   whole-kept (at_far sends) is = tt
   whole-kept (at_far receives) is = tt
 
-  pub rough-of : (w v : Wire) → {i j k : ℕ} → (p : Path of_data service tei i j k w v) → All (IsRoughTalk service tei) p.steps
+  pub rough-of : (w v : Wire) → {i j k n : ℕ} → (p : Path of_data service tei i j k n w v) → All (IsRoughTalk service tei) p.steps
   rough-of w v p = all-done (IsDone of_data service tei) (IsRoughTalk service tei) data-rough p.steps p.done
 
   spared : (act : EndStep) (w : Wire) → (heard_in w.near ≡ [] → ⊥) → IsSpared act w
@@ -122,8 +122,8 @@ module _ (service : Service) (tei : ℕ) (c d : Config) (face : Face c d) (back 
     some-told none = cc (sym h.near.heard ∙ none)
 
     -- In what is done then T200 of an end runs out once more at most than the other end is still to be told.
-    module _ (i j m : ℕ) (g : Wire) (p : Path of_whole service tei i j m f g) where
-      last : Up h.m.link.r (0 + i) h.n.link.r (0 + j) g
+    module _ (i j m r : ℕ) (g : Wire) (p : Path of_whole service tei i j m r f g) where
+      pub last : Up h.m.link.r (0 + i) h.n.link.r (0 + j) g
       last =
           subst (λ e. Up h.m.link.r (0 + e) h.n.link.r (0 + j) g) p.near
           (subst (λ e. Up h.m.link.r (0 + how_often (near_asks service tei) p.steps f) h.n.link.r (0 + e) g) p.far

@@ -32,6 +32,7 @@ use Rattle.laws_time.specs.circuit.Quiet.{frames_put, IsSilent}
 unfoldable use Rattle.laws_time.specs.circuit.Seldom.{near_fallen, far_fallen}
 use Rattle.laws_time.proofs.OfCircuit.ArrivAs.{heard_of}
 use Rattle.laws_time.proofs.OfCircuit.ArrivFair.{codes, codes-append}
+use Rattle.laws_time.proofs.OfCircuit.ArrivBeat.{put_at}
 use Rattle.laws_time.proofs.OfCircuit.ArrivPath.{of_data, path-none}
 use Rattle.laws_time.proofs.OfCircuit.ArrivRun.{ReachedBy, SameNow, IsFairBoth, fair-all, beats-by, data-kept}
 use Rattle.laws_time.proofs.OfCircuit.CaughtLaw.{its, near_past, far_past, near-heard, far-heard}
@@ -247,9 +248,10 @@ module _ (l : Line) (before bs : List Beat) (b : Beat) (N : ℕ) (h : GoesWell l
       due-beat : (t left m e : ℕ) (sum : t + suc left ≡ N) → State t m e → State (suc t) m (e + now_fallen l.rate (in_call l before b (bs ++ replicate t plain)))
       due-beat t left m e sum x =
           let w = V t in
+          let first : ReachedBy of_data l h.fit 0 0 0 (put_at w) x.g w = record { f = x.g; n = 0; puts = omega arith; path = path-none of_data l.service l.tei x.g x.g refl; same = x.same } in
           let r = beats-by of_data l h.fit x.g (plain ∷ []) w (pair-at l before bs b N h t (suc left) sum)
           (All-cons (λ c. All (IsDataOf l) c.near_asks × All (IsDataOf l) c.far_asks) plain [] (All-nil (IsDataOf l), All-nil (IsDataOf l)) (All-nil (λ c. All (IsDataOf l) c.near_asks × All (IsDataOf l) c.far_asks)))
-          (clear-one t left sum) (data-kept l (plain ∷ []) w) (fair-then t left sum) (record { f = x.g; path = path-none of_data l.service l.tei x.g x.g refl; same = x.same }) in
+          (clear-one t left sum) (data-kept l (plain ∷ []) w) (fair-then t left sum) first in
           let one = all-suc l.rate 0 w in
           let none = zero-in l.rate (beat l.rate w plain) in
           let all = r.path.all in

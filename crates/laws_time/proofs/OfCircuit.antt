@@ -117,6 +117,7 @@ pub mod FreeMet
 pub mod QuietSteps
 pub mod QuietOn
 pub mod QuietSearch
+pub mod QuietCall
 pub mod QuietFound
 pub mod QuietT203
 pub mod QuietLaw

@@ -11,14 +11,16 @@
 //! through is in `InCall` and `WorkedInCall`. How many beats a call without noise takes is in `InBeats` and
 //! `WorkedInBeats`, and with which T200 no timer falls due in it in `WorkedInTime`. What the answer to an enquiry
 //! brings is in `CaughtUp` and `WorkedCaughtUp`. What comes after noise is in `AfterNoise` and `WorkedAfterNoise`. How
-//! often T200 falls due after noise, and how many frames begin, is in `Seldom`, `Begun` and `WorkedSeldom`. Random and
-//! chosen runs broke nothing of what is open, if layer 3 asks for no unit data and is not busy, T200 is at least as long as
-//! an answer takes, and noise makes no frame.
+//! often T200 falls due after noise, and how many frames begin, is in `Seldom`, `Begun` and `WorkedSeldom`. What a line
+//! that was quiet for so long has told is in `Quiet`, and how soon all is told after noise in `ToldInTime` and
+//! `WorkedToldInTime`. Random and chosen runs broke nothing of what is open, if layer 3 asks for no unit data and is not
+//! busy, T200 is at least as long as an answer takes, and noise makes no frame.
 //!
 //! # Open
 //!
-//! That each command and each answer finds a place in its queue of control frames (these laws suppose that none is told
-//! as lost). How soon what was granted arrives after noise, or as timers fall due.
+//! That each command and each answer finds a place in its queue of control frames (some of these laws suppose that none is
+//! told as lost). That all is told sooner after noise than `all_is_told_in_time` says, and how soon if layer 3 is or was
+//! busy, if more is asked for meanwhile, or if a UA was lost (error F).
 
 ghost use Rattle.laws_time.specs.circuit.AfterNoise.{FramesComeAfterNoise, NoiseMakesNoFrameAfter};
 ghost use Rattle.laws_time.specs.circuit.Answered.{AnEnquiryIsAnswered, CommandsAreAnswered, NoNoiseIsClear, OneEnquiryIsEnough};

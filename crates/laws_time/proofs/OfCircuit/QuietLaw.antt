@@ -23,7 +23,8 @@ use Rattle.laws_time.proofs.OfCircuit.CaughtLaw.{its, near-contents, far-content
 use Rattle.laws_time.proofs.OfCircuit.FreeLaw.{well, t200-falls-due-seldom}
 use Rattle.laws_time.proofs.OfCircuit.InBeatsTold.{front-is-all}
 use Rattle.laws_time.proofs.OfCircuit.QuietBeats.{fits, fits-far}
-use Rattle.laws_time.proofs.OfCircuit.QuietFound.{pair-at, told-on, told-on-far, granted-on, f0, loose-first, first-same, first-state, zero-sum, Found, search, clean-to, well-to}
+use Rattle.laws_time.proofs.OfCircuit.QuietCall.{pair-at, told-on, told-on-far}
+use Rattle.laws_time.proofs.OfCircuit.QuietFound.{granted-on, f0, loose-first, first-same, first-state, zero-sum, Found, search, clean-to, well-to}
 use Rattle.laws_time.proofs.OfCircuit.QuietLine.{world-at, a-quiet-line-has-told-all}
 use Rattle.laws_time.proofs.OfCircuit.QuietOn.{few-under, frames-few, notes-few, most-rises}
 use Rattle.laws_time.proofs.OfCircuit.QuietSearch.{near-granted, far-granted, silent-none}

@@ -14,7 +14,7 @@ use Rattle.laws_time.specs.circuit.Seldom.{is_t203}
 unfoldable use Rattle.laws_time.specs.circuit.Seldom.{near_fallen, far_fallen}
 use Rattle.laws_time.specs.circuit.ToldInTime.{t203_fallen, AllIsToldByNumbers}
 use Rattle.laws_time.proofs.OfCircuit.FreeLaw.{well}
-use Rattle.laws_time.proofs.OfCircuit.QuietFound.{pair-at}
+use Rattle.laws_time.proofs.OfCircuit.QuietCall.{pair-at}
 use Rattle.laws_time.proofs.OfCircuit.QuietLaw.{time-rises, all-is-told-after-noise}
 use Rattle.laws_time.proofs.OfCircuit.QuietLine.{world-at}
 use Rattle.laws_time.proofs.OfCircuit.QuietT203.{near-few, far-few, old-once, once-all, once-begins}

@@ -118,5 +118,8 @@ pub mod FreeMet
 pub mod QuietSteps
 pub mod QuietOn
 pub mod QuietSearch
+pub mod QuietCall
 pub mod QuietFound
+pub mod QuietT203
 pub mod QuietLaw
+pub mod QuietNumbers

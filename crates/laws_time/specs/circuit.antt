@@ -23,3 +23,4 @@ pub mod CaughtUp
 pub mod WorkedCaughtUp
 pub mod Quiet
 pub mod ToldInTime
+pub mod WorkedToldInTime

@@ -11,14 +11,16 @@
 //! through is in `InCall` and `WorkedInCall`. How many beats a call without noise takes is in `InBeats` and
 //! `WorkedInBeats`, and with which T200 no timer falls due in it in `WorkedInTime`. What the answer to an enquiry
 //! brings is in `CaughtUp` and `WorkedCaughtUp`. What comes after noise is in `AfterNoise` and `WorkedAfterNoise`. How
-//! often T200 falls due after noise, and how many frames begin, is in `Seldom`, `Begun` and `WorkedSeldom`. Random and
-//! chosen runs broke nothing of what is open, if layer 3 asks for no unit data and is not busy, T200 is at least as long as
-//! an answer takes, and noise makes no frame.
+//! often T200 falls due after noise, and how many frames begin, is in `Seldom`, `Begun` and `WorkedSeldom`. What a line
+//! that was quiet for so long has told is in `Quiet`, and how soon all is told after noise in `ToldInTime` and
+//! `WorkedToldInTime`. Random and chosen runs broke nothing of what is open, if layer 3 asks for no unit data and is not
+//! busy, T200 is at least as long as an answer takes, and noise makes no frame.
 //!
 //! # Open
 //!
-//! That each command and each answer finds a place in its queue of control frames (these laws suppose that none is told
-//! as lost). How soon what was granted arrives after noise, or as timers fall due.
+//! That each command and each answer finds a place in its queue of control frames (some of these laws suppose that none is
+//! told as lost). That all is told sooner after noise than `all_is_told_in_time` says, and how soon if layer 3 is or was
+//! busy, if more is asked for meanwhile, or if a UA was lost (error F).
 
 ghost use Rattle.laws_time.specs.circuit.AfterNoise.{FramesComeAfterNoise, NoiseMakesNoFrameAfter};
 ghost use Rattle.laws_time.specs.circuit.Answered.{AnEnquiryIsAnswered, CommandsAreAnswered, NoNoiseIsClear, OneEnquiryIsEnough};
@@ -31,7 +33,7 @@ ghost use Rattle.laws_time.specs.circuit.InCall.{ACallOutlastsNoise, N200LastsIn
 ghost use Rattle.laws_time.specs.circuit.LongEnough.{AnswersComeInTime};
 ghost use Rattle.laws_time.specs.circuit.Quiet.{AQuietLineHasToldAll};
 ghost use Rattle.laws_time.specs.circuit.Seldom.{T200FallsDueSeldom};
-ghost use Rattle.laws_time.specs.circuit.ToldInTime.{AllIsToldAfterNoise, AllIsToldInTime};
+ghost use Rattle.laws_time.specs.circuit.ToldInTime.{AllIsToldAfterNoise, AllIsToldByNumbers, AllIsToldInTime};
 ghost use Rattle.laws_time.specs.circuit.WorkedAnswered.{AnEnquiryIsMet};
 ghost use Rattle.laws_time.specs.circuit.WorkedCaughtUp.{AnEnquiryMeetsIt};
 ghost use Rattle.laws_time.specs.circuit.WorkedSeldom.{ASeldomRunMeetsIt};
@@ -166,11 +168,17 @@ pub fn t200_falls_due_seldom()
 /// control frames may wait at the ends.
 ///
 /// If layer 3 asked for data alone, and three control frames may wait at either end, T200 falls due u + 2 times at most
-/// (see [`t200_falls_due_seldom`]). So e is u + 2, and the number of times that T203 falls due in these octet times
-/// (`seldom`). That is none if T203 runs as long.
+/// ([`t200_falls_due_seldom`]). So e is u + 2, and the number of times that T203 falls due in these octet times
+/// (`seldom`). That is q times at either end at most, if q times T203, less a millisecond each, are as long. So numbers
+/// alone say how soon all is told, with e of u + 2 + 2 q (`numbers`).
+///
+/// The bound is far from what runs take, since each move is given 2 L + D octet times. At 16 kbit/s with N201 of 260, D of
+/// 4, k of 1, T200 of 1 s and T203 of 10 s one message that noise took is told within 160 s
+/// (`specs/circuit/WorkedToldInTime`).
 pub fn all_is_told_in_time()
     ensures counted { AllIsToldInTime }
     ensures seldom { AllIsToldAfterNoise }
+    ensures numbers { AllIsToldByNumbers }
 {}
 
 /// Frames come to an end after noise. A call is as [`t200_falls_due_seldom`] has it, and L + 1 octet times after noise has

@@ -23,7 +23,8 @@ use Rattle.laws_time.proofs.OfCircuit.CaughtLaw.{its, near-contents, far-content
 use Rattle.laws_time.proofs.OfCircuit.FreeLaw.{well, t200-falls-due-seldom}
 use Rattle.laws_time.proofs.OfCircuit.InBeatsTold.{front-is-all}
 use Rattle.laws_time.proofs.OfCircuit.QuietBeats.{fits, fits-far}
-use Rattle.laws_time.proofs.OfCircuit.QuietFound.{pair-at, told-on, told-on-far, granted-on, f0, loose-first, first-same, first-state, zero-sum, Found, search, clean-to, well-to}
+use Rattle.laws_time.proofs.OfCircuit.QuietCall.{pair-at, told-on, told-on-far}
+use Rattle.laws_time.proofs.OfCircuit.QuietFound.{granted-on, f0, loose-first, first-same, first-state, zero-sum, Found, search, clean-to, well-to}
 use Rattle.laws_time.proofs.OfCircuit.QuietLine.{world-at, a-quiet-line-has-told-all}
 use Rattle.laws_time.proofs.OfCircuit.QuietOn.{few-under, frames-few, notes-few, most-rises}
 use Rattle.laws_time.proofs.OfCircuit.QuietSearch.{near-granted, far-granted, silent-none}
@@ -137,7 +138,7 @@ granted-all : (rate n : ℕ) (w : Clocked) → ((clean rate n w).near.at.granted
 granted-all rate zero w = (refl, refl)
 granted-all rate (suc n) w = let rest = granted-all rate n (beat rate w plain) in (rest.0 ∙ near-granted rate w, rest.1 ∙ far-granted rate w)
 
-time-rises : (l : Line) (lengths : Lengths) (k u e d : ℕ) → e ≤ d → in_time l lengths k u e ≤ in_time l lengths k u d
+pub time-rises : (l : Line) (lengths : Lengths) (k u e d : ℕ) → e ≤ d → in_time l lengths k u e ≤ in_time l lengths k u d
 time-rises l lengths k u e d more =
     let L = longest l.near.n201 in
     let c = mul-le (2 * k + 4) e (2 * k + 4) d (omega arith) more in

@@ -51,3 +51,14 @@ AllIsToldAfterNoise =
     (l : Line) (before noisy quiet : List Beat) (b : Beat) (n k u : ℕ) → IsQuiet l before noisy quiet (replicate n plain) b → let w = in_call l before b (noisy ++ quiet) in
     AreMissing l k u w → let e = u + 2 + t203_fallen l.rate n w in
     in_time l l.lengths k u e ≤ n → in_time l l.far_lengths k u e ≤ n → IsAllTold l (clean l.rate n w)
+
+-- T203 runs for so long that it falls due q times at most in so many octet times: each time is a millisecond less, as moments are whole.
+abbrev pub FallsDueFew : Line → Lengths → ℕ → ℕ → Type 0
+FallsDueFew l lengths n q = n + q * l.rate ≤ q * (lengths.t203 * l.rate)
+
+-- So numbers alone say how soon all is told.
+abbrev pub AllIsToldByNumbers : Type 0
+AllIsToldByNumbers =
+    (l : Line) (before noisy quiet : List Beat) (b : Beat) (n k u q : ℕ) → IsQuiet l before noisy quiet (replicate n plain) b → AreMissing l k u (in_call l before b (noisy ++ quiet)) →
+    FallsDueFew l l.lengths n q → FallsDueFew l l.far_lengths n q → in_time l l.lengths k u (u + 2 + 2 * q) ≤ n → in_time l l.far_lengths k u (u + 2 + 2 * q) ≤ n →
+    IsAllTold l (clean l.rate n (in_call l before b (noisy ++ quiet)))

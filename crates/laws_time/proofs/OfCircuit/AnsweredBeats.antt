@@ -35,7 +35,7 @@ given-with : (o : Option line.Answer) (p : Port) → (with_octet (with_item o p)
 given-with None p = refl
 given-with (Some a) p = refl
 
-pull-sends : (s t : OctetEndpoint) → port_of t ≡ port_of s → t.way ≡ s.way → t.line < length t.card.ports → Sent s (circuit.happens port.pull t)
+pub pull-sends : (s t : OctetEndpoint) → port_of t ≡ port_of s → t.way ≡ s.way → t.line < length t.card.ports → Sent s (circuit.happens port.pull t)
 unfolding ports_answer
 pull-sends s t port_is way_is within =
     let o = said (octet_at t.line port.pull) t.card in
@@ -47,7 +47,7 @@ pull-sends s t port_is way_is within =
       received = ap (λ (p : Port). p.received) after_it ∙ same-received o (port_of t) ∙ ap (λ (p : Port). p.received) port_is;
     }
 
-first-of : (xs : List ℕ) (v : ℕ) → (value : ℕ) × (more : List ℕ) × (xs ++ v ∷ [] ≡ value ∷ more)
+pub first-of : (xs : List ℕ) (v : ℕ) → (value : ℕ) × (more : List ℕ) × (xs ++ v ∷ [] ≡ value ∷ more)
 first-of [] v = (v, [], refl)
 first-of (x ∷ xs) v = (x, xs ++ v ∷ [], refl)
 
@@ -60,7 +60,7 @@ pub record Came (s u other : TimedEndpoint) (noise : Option ℕ) : Type 0 where
   pub port : port_of u.at ≡ record (port_of s.at) { received = (port_of s.at).received ++ unwrap_or noise value ∷ [] }
   pub way : u.at.way ≡ drop 1 s.at.way
 
-comes-then : (s other : TimedEndpoint) (noise : Option ℕ) (value : ℕ) (more : List ℕ) → other.at.way ≡ value ∷ more → s.at.line < length s.at.card.ports
+pub comes-then : (s other : TimedEndpoint) (noise : Option ℕ) (value : ℕ) (more : List ℕ) → other.at.way ≡ value ∷ more → s.at.line < length s.at.card.ports
     → Came s (without_first_octet (hears noise other.at.way s)) other noise
 comes-then s other noise value more comes within =
     let is = ap (λ way. without_first_octet (hears noise way s)) comes in

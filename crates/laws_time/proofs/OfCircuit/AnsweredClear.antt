@@ -57,14 +57,14 @@ heard-same room b w P Q =
     ap (λ t. cond t (option_and_then (closed_by_flag room) (since_flag (w ++ after_flag P))) (option_and_then (λ g. given_up (b ∷ g)) (since_flag (w ++ after_flag P)))) (flag-same b w P Q)
     ∙ ap (λ o. cond (ends_flag (b ∷ (w ++ after_flag Q))) (option_and_then (closed_by_flag room) o) (option_and_then (λ g. given_up (b ∷ g)) o)) (since-same w P Q)
 
-hears-same : (room : ℕ) (y w P Q : List Bool) → hears room (w ++ after_flag P) y ≡ hears room (w ++ after_flag Q) y
+pub hears-same : (room : ℕ) (y w P Q : List Bool) → hears room (w ++ after_flag P) y ≡ hears room (w ++ after_flag Q) y
 hears-same room [] w P Q = refl
 hears-same room (b ∷ y) w P Q =
     ap (λ o. option_to_list o ++ hears room (b ∷ (w ++ after_flag P)) y) (heard-same room b w P Q)
     ∙ ap (λ l. option_to_list (heard_at room (b ∷ (w ++ after_flag Q))) ++ l) (hears-same room y (b ∷ w) P Q)
 
 -- Flags before a text are not heard.
-bits-flags : (n : ℕ) → bits (replicate n 0x7E) ≡ flat_map item_text (replicate n idle)
+pub bits-flags : (n : ℕ) → bits (replicate n 0x7E) ≡ flat_map item_text (replicate n idle)
 unfolding low_bits
 bits-flags zero = refl
 bits-flags (suc n) = ap (λ b. flag ++ b) (bits-flags n)
@@ -108,10 +108,10 @@ module _ (n201 : ℕ) where
       sym (append-nil (heard_until (room_for n201) (after_flag (reverse_aux (bits (replicate n 0x7E)) [])))) ∙ sym (text-heard n (0x7E ∷ []) [] (bits-flags 1))
       ∙ ap (heard_in n201) (flag-last n) ∙ flags-silent (suc n)
 
-  abbrev Begins : List ℕ → Type 0
+  abbrev pub Begins : List ℕ → Type 0
   Begins x = (x ≡ []) ⊎ ((y : List Bool) × (bits x ≡ flag ++ y))
 
-  flags-before : (n : ℕ) (x : List ℕ) → Begins x → heard_in n201 (replicate n 0x7E ++ x) ≡ heard_in n201 x
+  pub flags-before : (n : ℕ) (x : List ℕ) → Begins x → heard_in n201 (replicate n 0x7E ++ x) ≡ heard_in n201 x
   flags-before n x (inl none) =
       ap (λ x. heard_in n201 (replicate n 0x7E ++ x)) none ∙ ap (heard_in n201) (append-nil (replicate n 0x7E)) ∙ flags-silent n ∙ ap (heard_in n201) (sym none)
   flags-before n x (inr y) =
@@ -120,7 +120,7 @@ module _ (n201 : ℕ) where
       ∙ ap (λ l. l ++ hears (room_for n201) (after_flag []) y.0) (sym (silent-place 0)) ∙ sym (text-heard 0 x y.0 y.1)
 
   -- Of what was given, first a flag.
-  begins-so : (g x more : List ℕ) (left t : List Bool) → bits g ++ left ≡ flag ++ t → g ≡ x ++ more → Begins x
+  pub begins-so : (g x more : List ℕ) (left t : List Bool) → bits g ++ left ≡ flag ++ t → g ≡ x ++ more → Begins x
   begins-so g [] more left t text is = inl refl
   begins-so g (a ∷ x) more left t text is =
       let all : bits (a ∷ x) ++ (bits more ++ left) ≡ flag ++ t =

@@ -33,7 +33,7 @@ pub record Comes (way clean : ℕ) (p : Port) (transit : List ℕ) (q : Port) : 
   pub sent : all_sent way p ≡ (before ++ as_sent) ++ transit
   pub few : length before ≤ clean
 
-ends-flag : (items : List Item) (before : List Bool) → (z : List Bool) × (before ++ (flag ++ flat_map item_text items) ≡ z ++ flag)
+pub ends-flag : (items : List Item) (before : List Bool) → (z : List Bool) × (before ++ (flag ++ flat_map item_text items) ≡ z ++ flag)
 ends-flag [] before = (before, refl)
 ends-flag (idle ∷ items) before = let x = ends-flag items (before ++ flag) in (x.0, sym (append_assoc before flag (flag ++ flat_map item_text items)) ∙ x.1)
 ends-flag (frame o ∷ items) before =

@@ -1,87 +1,38 @@
 -- A beat of the clocked circuit is done on a wire of frames, and T200 is long enough there.
-use Rattle.std.proofs.Common.{arith, ◌≡◌, ℕ, ◌+◌, ◌*◌, ◌/◌, ◌≤◌, Bool, true, false, List, [], ◌∷◌, length, drop, Option, refl, sym, ap, subst, All}
+use Rattle.std.proofs.Common.{arith, ◌≡◌, ℕ, ◌+◌, ◌*◌, ◌/◌, ◌≤◌, List, length, drop, refl, sym, ap, subst, All}
 use Rattle.std.specs.Prelude.{fold}
-use Rattle.std.specs.Option.{unwrap_or}
-use Rattle.lapd_frame.specs.declared.services.Service.{Service}
 use Rattle.model_link.specs.TwoEnds.{Endpoint as LinkEndpoint}
-use Rattle.model_line.specs.Event as line
 use Rattle.model_line.specs.Event.{LineTold}
 use Rattle.model_line.specs.Heard.{heard_side}
 use Rattle.model_line.specs.Request.{Request}
 use Rattle.model_line.specs.Sound.{IsInRange}
 use Rattle.model_line.specs.Taken.{own_side}
-use Rattle.model_line.specs.declared.config.Config.{Config}
 use Rattle.model_card.specs.ports.Port as port
-use Rattle.model_card.specs.ports.Port.{Port, gained, is_due}
-use Rattle.model_timed.specs.Octets.{TimedOctetCard}
+use Rattle.model_card.specs.ports.Codec.{frames_among}
+use Rattle.model_card.specs.ports.Port.{Port, gained, is_due, item_of}
+use Rattle.model_timed.specs.Octets.{TimedOctetCard, fresh}
+use Rattle.laws_time.specs.circuit.Ends.{card_of}
+use Rattle.laws_time.specs.circuit.Seldom.{is_t200, is_t203, fallen}
 use Rattle.laws_link.specs.two.Timely.{HasNo}
 use Rattle.laws_wire.specs.Timely.{is_final}
-use Rattle.laws_wire.specs.Wire as wire
-use Rattle.laws_wire.specs.Wire.{Endpoint as FrameEndpoint, Wire, sends, turned}
+use Rattle.laws_wire.specs.Wire.{Endpoint as FrameEndpoint, Wire}
 use Rattle.laws_wire.proofs.Standing.{StationStands}
 use Rattle.laws_order.specs.circuit.Circuit.{port_of}
-use Rattle.laws_order.proofs.OfCircuit.AsFrames.{as_endpoint}
-use Rattle.laws_order.proofs.OfCircuit.Projected.{port-after, heard-way}
-use Rattle.laws_order.proofs.OfCircuit.Ran.{Ran, within-ports}
 use Rattle.laws_time.specs.circuit.Clocked.{TimedEndpoint, Clocked, Beat, happens, asks, hears, comes_to, gone, beat, fall_due}
 use Rattle.laws_time.specs.circuit.LongEnough.{Line, RunsLong, IsTalk, IsClearAt, IsFrame, answered_in}
-use Rattle.laws_time.proofs.OfCircuit.ArrivAs.{station, heard_of, due-becomes, undue-becomes}
+use Rattle.laws_time.proofs.OfCircuit.ArrivAs.{station, heard_of}
 use Rattle.laws_time.proofs.OfCircuit.ArrivFair.{IsFair}
-use Rattle.laws_time.proofs.OfCircuit.ArrivHeard.{Hears, hears-so}
+use Rattle.laws_time.proofs.OfCircuit.ArrivHeard.{IsKeptAt, Hears, hears-so}
 use Rattle.laws_time.proofs.OfCircuit.ArrivOpen.{parts, are-own, stands, has-none}
-use Rattle.laws_time.proofs.OfCircuit.ArrivPath.{Path, path-none, path-both, path-one, path-turned}
+use Rattle.laws_time.proofs.OfCircuit.ArrivPath.{Manner, Path, count, path-as, path-none, path-both, path-on, path-one, path-turned}
+use Rattle.laws_time.proofs.OfCircuit.ArrivPulls.{PulledTo, pulls-to, heard-port}
 use Rattle.laws_time.proofs.OfCircuit.ArrivSide.{Stood, After, all-comes, fair-happens}
-use Rattle.laws_time.proofs.OfCircuit.ArrivWay.{Going, going-with, before-long, pulled-way}
+use Rattle.laws_time.proofs.OfCircuit.ArrivWay.{Going, going-with, before-long}
 use Rattle.laws_time.proofs.OfCircuit.Beats.{at-moment, Gone}
-use Rattle.laws_time.proofs.OfCircuit.Ends.{at_time}
-use Rattle.laws_time.proofs.OfCircuit.LongEnough.{Pair, by_now, long-ago, near-in-all, far-in-all, in-all, near-low, near-high, far-low, far-high, soon, near-gone, far-gone}
+use Rattle.laws_time.proofs.OfCircuit.Ends.{Leads, leads-both, at_time, time-comes}
+use Rattle.laws_time.proofs.OfCircuit.LongEnough.{Pair, by_now, long-ago, near-in-all, far-in-all, in-all, near-low, near-high, far-low, far-high, soon, near-comes, far-comes, near-gone, far-gone}
 use Rattle.laws_time.proofs.OfCircuit.Standing.{bare}
 use Rattle.laws_time.proofs.OfCircuit.Under.{EndOk}
-
--- A pull, at an end and at its station.
-module _ (service : Service) (tei : ℕ) (c : Config) (ranged : IsInRange c) (a : TimedEndpoint) (ran : Ran c a.at) (there : List (List ℕ)) (goes : Going c.n201 (port_of a.at) a.at.way there)
-    (ts : List LineTold) (heard : heard_of ts ≡ heard_of a.at.told) (y : FrameEndpoint) where
-  pub record PulledTo : Type 0 where
-    pub there' : List (List ℕ)
-    pub goes' : Going c.n201 (port_of (happens port.pull a).at) (happens port.pull a).at.way there'
-    pub ts' : List LineTold
-    pub heard' : heard_of ts' ≡ heard_of (happens port.pull a).at.told
-    pub path : Path service tei (record { near = station there ts a.at; far = y }) (record { near = station there' ts' (happens port.pull a).at; far = y })
-
-  pub pulls-to : PulledTo
-  pulls-to = go (is_due (port_of a.at)) refl
-    where
-      with : FrameEndpoint → Wire
-      with x = record { near = x; far = y }
-
-      go : (b : Bool) → is_due (port_of a.at) ≡ b → PulledTo
-      go true due =
-          let b = due-becomes there a.at ts heard due in
-          record {
-            there' = (wire.happens line.next (as_endpoint there a.at)).way;
-            goes' = pulled-way c ranged a.at ran there true due goes;
-            ts' = b.ts;
-            heard' = b.heard;
-            path = path-one service tei sends tt (record { near = station there ts a.at; far = y })
-                (record { near = station (wire.happens line.next (as_endpoint there a.at)).way b.ts (happens port.pull a).at; far = y }) tt (λ i. record { near = b.is i; far = y });
-          }
-      go false due =
-          let b = undue-becomes there a.at ts heard due in
-          record {
-            there' = there;
-            goes' = pulled-way c ranged a.at ran there false due goes;
-            ts' = b.ts;
-            heard' = b.heard;
-            path = path-none service tei (record { near = station there ts a.at; far = y }) (record { near = station there b.ts (happens port.pull a).at; far = y }) (λ i. record { near = b.is i; far = y });
-          }
-
--- What is heard leaves what was put on the line.
-pub heard-port : (c : Config) (ranged : IsInRange c) (a : TimedEndpoint) (ran : Ran c a.at) (noise : Option ℕ) (way : List ℕ)
-    → ((port_of (hears noise way a).at).items ≡ (port_of a.at).items) × ((port_of (hears noise way a).at).given ≡ (port_of a.at).given) × ((hears noise way a).at.way ≡ a.at.way)
-heard-port c ranged a ran noise [] = (refl, refl, refl)
-heard-port c ranged a ran noise (value ∷ more) =
-    let same = port-after a.at (port.octet (unwrap_or noise value)) (within-ports c ranged a.at ran) in
-    (ap (λ (p : Port). p.items) same, ap (λ (p : Port). p.given) same, heard-way (unwrap_or noise value) a.at)
 
 module _ (l : Line) (some : 1 ≤ l.rate) (near : IsInRange l.near) (far : IsInRange l.far) (opposite : own_side l.far ≡ heard_side l.near) (size : l.near.n201 ≡ l.far.n201)
     (t200 : RunsLong l l.lengths × RunsLong l l.far_lengths) (t u : TimedOctetCard) where
@@ -101,11 +52,19 @@ module _ (l : Line) (some : 1 ≤ l.rate) (near : IsInRange l.near) (far : IsInR
     pub near_heard : heard_of ts ≡ heard_of w.near.at.told
     pub far_heard : heard_of us ≡ heard_of w.far.at.told
 
+-- So many frames both ends have put on their lines.
+abbrev pub put_at : Clocked → ℕ
+put_at w = length (frames_among (port_of w.near.at).items) + length (frames_among (port_of w.far.at).items)
+
+module _ (how : Manner) (l : Line) (some : 1 ≤ l.rate) (near : IsInRange l.near) (far : IsInRange l.far) (opposite : own_side l.far ≡ heard_side l.near) (size : l.near.n201 ≡ l.far.n201)
+    (t200 : RunsLong l l.lengths × RunsLong l l.far_lengths) (t u : TimedOctetCard) (starts : t ≡ fresh l.near l.lengths) (starts_far : u ≡ fresh l.far l.far_lengths) where
   -- A beat leads there.
-  pub record Led (w : Clocked) (b : Beat) (x y : FrameEndpoint) : Type 0 where
+  pub record Led (i j k : ℕ) (w : Clocked) (b : Beat) (x y : FrameEndpoint) : Type 0 where
     pub f : Wire
-    pub path : Path l.service l.tei (record { near = x; far = y }) f
-    pub same : Same (beat l.rate w b) f
+    pub n : ℕ
+    pub path : Path how l.service l.tei i j k n (record { near = x; far = y }) f
+    pub puts : put_at (beat l.rate w b) ≡ put_at w + n
+    pub same : Same l some near far opposite size t200 t u (beat l.rate w b) f
 
   abbrev its_by_now : ℕ → ℕ
   its_by_now S = by_now l some near far opposite size t200 t u S
@@ -116,7 +75,7 @@ module _ (l : Line) (some : 1 ≤ l.rate) (near : IsInRange l.near) (far : IsInR
   abbrev FarOk : ℕ → ℕ → TimedEndpoint → Type 0
   FarOk S M a = EndOk l.far l.service l.tei 0 far l.far_lengths l.rate S M a
 
-  module _ (w : Clocked) (p : PairNow w) (b : Beat) (talk : IsTalk l b) where
+  module _ (w : Clocked) (p : PairNow l some near far opposite size t200 t u w) (b : Beat) (talk : IsTalk l b) where
     abbrev n : ℕ
     n = w.beats
 
@@ -148,13 +107,13 @@ module _ (l : Line) (some : 1 ≤ l.rate) (near : IsInRange l.near) (far : IsInR
 
       abbrev pub NearStood : ℕ → TimedEndpoint → FrameEndpoint → Type 0
       NearStood S a x =
-          Stood l.service l.tei l.near near l.far l.lengths l.rate l.way (answered_in l.near l.far l.way) w.beats (w.beats / l.rate) ago (near-in-all l some near far opposite size t200 t u)
+          Stood how l.service l.tei l.near near l.far l.lengths l.rate l.way (answered_in l.near l.far l.way) w.beats (w.beats / l.rate) ago (near-in-all l some near far opposite size t200 t u)
           p.S (its_by_now p.S2) (station back us w.far.at) far_end far-stands far-finals S a x
 
-      abbrev NearAfter : FrameEndpoint → TimedEndpoint → Type 0
-      NearAfter x v =
-          After l.service l.tei l.near near l.far l.lengths l.rate l.way (answered_in l.near l.far l.way) w.beats (w.beats / l.rate) ago (near-in-all l some near far opposite size t200 t u)
-          p.S (its_by_now p.S2) (station back us w.far.at) far_end far-stands far-finals x v
+      abbrev NearAfter : ℕ → ℕ → FrameEndpoint → TimedEndpoint → Type 0
+      NearAfter i k x v =
+          After how l.service l.tei l.near near l.far l.lengths l.rate l.way (answered_in l.near l.far l.way) w.beats (w.beats / l.rate) ago (near-in-all l some near far opposite size t200 t u)
+          p.S (its_by_now p.S2) (station back us w.far.at) far_end far-stands far-finals i k x v
 
       -- The near end as its moment comes.
       pub near-stood : (there : List (List ℕ)) → Going l.near.n201 (port_of w.near.at) w.near.at.way there → (ts : List LineTold) → heard_of ts ≡ heard_of w.near.at.told
@@ -172,20 +131,31 @@ module _ (l : Line) (some : 1 ≤ l.rate) (near : IsInRange l.near) (far : IsInR
         ts = ts;
         is = refl;
         heard = heard;
+        timed = leads-both (fresh l.near l.lengths) (card_of w.near) (card_of (at_time (w.beats / l.rate) w.near)) (subst (λ t. Leads t (card_of w.near)) starts p.both.near_leads)
+            (time-comes (w.beats / l.rate) w.near p.both.near (near-low l some near far opposite size t200 t u w p b talk) (near-high l some near far opposite size t200 t u w p b talk)).1;
       }
 
       module _ (S : ℕ) (a : TimedEndpoint) (x : FrameEndpoint) (stood : NearStood S a x) (rs : List Request)
           (is : comes_to (w.beats / l.rate) b.near_asks w.near ≡ fall_due (length (fold asks a rs).clock.running) (fold asks a rs))
-          (both : All (λ r. Rattle.laws_time.specs.circuit.LongEnough.IsOfLink l.service l.tei r × Rattle.laws_wire.specs.Answering.IsAsked l.service l.tei r) rs)
-          (far_both : All (λ r. Rattle.laws_time.specs.circuit.LongEnough.IsOfLink l.service l.tei r × Rattle.laws_wire.specs.Answering.IsAsked l.service l.tei r) b.far_asks)
+          (both : All (λ r. Rattle.laws_time.specs.circuit.LongEnough.IsOfLink l.service l.tei r × Rattle.laws_time.proofs.OfCircuit.ArrivPath.MayAsk how l.service l.tei r) rs)
+          (far_both : All (λ r. Rattle.laws_time.specs.circuit.LongEnough.IsOfLink l.service l.tei r × Rattle.laws_time.proofs.OfCircuit.ArrivPath.MayAsk how l.service l.tei r) b.far_asks)
           (fair : IsFair (gone l.rate b w).near.at.told) (far_fair : IsFair (gone l.rate b w).far.at.told) where
         near_came : TimedEndpoint
         near_came = comes_to (w.beats / l.rate) b.near_asks w.near
 
-        g : NearAfter x (comes_to (w.beats / l.rate) b.near_asks w.near)
+        abbrev pub asked_near : TimedEndpoint
+        asked_near = fold asks a rs
+
+        abbrev pub t200s : ℕ
+        t200s = fallen is_t200 (length (fold asks a rs).clock.running) (fold asks a rs)
+
+        abbrev pub t203s : ℕ
+        t203s = fallen is_t203 (length (fold asks a rs).clock.running) (fold asks a rs)
+
+        g : NearAfter t200s t203s x (comes_to (w.beats / l.rate) b.near_asks w.near)
         g =
-            subst (NearAfter x) (sym is)
-            (all-comes l.service l.tei l.near near l.far l.lengths l.rate l.way (answered_in l.near l.far l.way) w.beats (w.beats / l.rate) ago (near-in-all l some near far opposite size t200 t u)
+            subst (NearAfter t200s t203s x) (sym is)
+            (all-comes how l.service l.tei l.near near l.far l.lengths l.rate l.way (answered_in l.near l.far l.way) w.beats (w.beats / l.rate) ago (near-in-all l some near far opposite size t200 t u)
             p.S (its_by_now p.S2) (station back us w.far.at) far_end far-stands far-finals rs (length (fold asks a rs).clock.running) S a x stood both
             (subst (λ (v : TimedEndpoint). IsFair v.at.told) is (fair-happens port.pull (comes_to (w.beats / l.rate) b.near_asks w.near) fair)))
 
@@ -212,13 +182,13 @@ module _ (l : Line) (some : 1 ≤ l.rate) (near : IsInRange l.near) (far : IsInR
 
         abbrev FarStood : ℕ → TimedEndpoint → FrameEndpoint → Type 0
         FarStood S a x =
-            Stood l.service l.tei l.far far l.near l.far_lengths l.rate l.way (answered_in l.near l.far l.way) w.beats (w.beats / l.rate) far-ago (far-in-all l some near far opposite size t200 t u)
+            Stood how l.service l.tei l.far far l.near l.far_lengths l.rate l.way (answered_in l.near l.far l.way) w.beats (w.beats / l.rate) far-ago (far-in-all l some near far opposite size t200 t u)
             p.S2 (its_by_now p.S) near_now near_end near-stands near-finals S a x
 
-        abbrev FarAfter : FrameEndpoint → TimedEndpoint → Type 0
-        FarAfter x v =
-            After l.service l.tei l.far far l.near l.far_lengths l.rate l.way (answered_in l.near l.far l.way) w.beats (w.beats / l.rate) far-ago (far-in-all l some near far opposite size t200 t u)
-            p.S2 (its_by_now p.S) near_now near_end near-stands near-finals x v
+        abbrev FarAfter : ℕ → ℕ → FrameEndpoint → TimedEndpoint → Type 0
+        FarAfter i k x v =
+            After how l.service l.tei l.far far l.near l.far_lengths l.rate l.way (answered_in l.near l.far l.way) w.beats (w.beats / l.rate) far-ago (far-in-all l some near far opposite size t200 t u)
+            p.S2 (its_by_now p.S) near_now near_end near-stands near-finals i k x v
 
         far-stood : FarStood p.S2 (at_time (w.beats / l.rate) w.far) (station back us w.far.at)
         far-stood = record {
@@ -234,14 +204,22 @@ module _ (l : Line) (some : 1 ≤ l.rate) (near : IsInRange l.near) (far : IsInR
           ts = us;
           is = refl;
           heard = far_heard;
+          timed = leads-both (fresh l.far l.far_lengths) (card_of w.far) (card_of (at_time (w.beats / l.rate) w.far)) (subst (λ t. Leads t (card_of w.far)) starts_far p.both.far_leads)
+              (time-comes (w.beats / l.rate) w.far p.both.far (far-low l some near far opposite size t200 t u w p b talk) (far-high l some near far opposite size t200 t u w p b talk)).1;
         }
 
         abbrev far_asked : TimedEndpoint
         far_asked = fold asks (at_time (w.beats / l.rate) w.far) b.far_asks
 
-        k : FarAfter (station back us w.far.at) (comes_to (w.beats / l.rate) b.far_asks w.far)
+        abbrev pub far_t200s : ℕ
+        far_t200s = fallen is_t200 (length far_asked.clock.running) far_asked
+
+        abbrev pub far_t203s : ℕ
+        far_t203s = fallen is_t203 (length far_asked.clock.running) far_asked
+
+        k : FarAfter far_t200s far_t203s (station back us w.far.at) (comes_to (w.beats / l.rate) b.far_asks w.far)
         k =
-            all-comes l.service l.tei l.far far l.near l.far_lengths l.rate l.way (answered_in l.near l.far l.way) w.beats (w.beats / l.rate) far-ago (far-in-all l some near far opposite size t200 t u)
+            all-comes how l.service l.tei l.far far l.near l.far_lengths l.rate l.way (answered_in l.near l.far l.way) w.beats (w.beats / l.rate) far-ago (far-in-all l some near far opposite size t200 t u)
             p.S2 (its_by_now p.S) near_now near_end near-stands near-finals b.far_asks (length far_asked.clock.running) p.S2 (at_time (w.beats / l.rate) w.far) (station back us w.far.at) far-stood far_both
             (fair-happens port.pull (comes_to (w.beats / l.rate) b.far_asks w.far) far_fair)
 
@@ -255,14 +233,14 @@ module _ (l : Line) (some : 1 ≤ l.rate) (near : IsInRange l.near) (far : IsInR
         abbrev far_now : FrameEndpoint
         far_now = station k.stood.there k.stood.ts (comes_to (w.beats / l.rate) b.far_asks w.far).at
 
-        np : PulledTo l.service l.tei l.near near near_gone g.stood.ok.but.ends.ran g.stood.there g.stood.goes g.stood.ts g.stood.heard far_now
-        np = pulls-to l.service l.tei l.near near near_gone g.stood.ok.but.ends.ran g.stood.there g.stood.goes g.stood.ts g.stood.heard far_now
+        np : PulledTo how l.service l.tei l.near near near_gone g.stood.ok.but.ends.ran g.stood.there g.stood.goes g.stood.ts g.stood.heard far_now
+        np = pulls-to how l.service l.tei l.near near near_gone g.stood.ok.but.ends.ran g.stood.there g.stood.goes g.stood.ts g.stood.heard far_now
 
         abbrev near_pulled : FrameEndpoint
         near_pulled = station np.there' np.ts' (happens port.pull near_gone).at
 
-        kp : PulledTo l.service l.tei l.far far far_gone k.stood.ok.but.ends.ran k.stood.there k.stood.goes k.stood.ts k.stood.heard near_pulled
-        kp = pulls-to l.service l.tei l.far far far_gone k.stood.ok.but.ends.ran k.stood.there k.stood.goes k.stood.ts k.stood.heard near_pulled
+        kp : PulledTo how l.service l.tei l.far far far_gone k.stood.ok.but.ends.ran k.stood.there k.stood.goes k.stood.ts k.stood.heard near_pulled
+        kp = pulls-to how l.service l.tei l.far far far_gone k.stood.ok.but.ends.ran k.stood.there k.stood.goes k.stood.ts k.stood.heard near_pulled
 
         abbrev far_pulled : FrameEndpoint
         far_pulled = station kp.there' kp.ts' (happens port.pull far_gone).at
@@ -270,20 +248,35 @@ module _ (l : Line) (some : 1 ≤ l.rate) (near : IsInRange l.near) (far : IsInR
         abbrev both_now : FrameEndpoint → FrameEndpoint → Wire
         both_now x y = record { near = x; far = y }
 
-        to-pulled : Path l.service l.tei (both_now x (station back us w.far.at)) (both_now near_pulled far_pulled)
+        abbrev first_far : FrameEndpoint
+        first_far = station back us w.far.at
+
+        near-came-path : Path how l.service l.tei t200s 0 t203s 0 (both_now x first_far) (both_now near_now first_far)
+        near-came-path =
+            path-on how l.service l.tei (both_now x first_far) (both_now g.x' first_far) (both_now near_now first_far) g.path
+            (path-none how l.service l.tei (both_now g.x' first_far) (both_now near_now first_far) (ap (λ z. both_now z first_far) g.stood.is))
+
+        far-came-path : Path how l.service l.tei 0 far_t200s far_t203s 0 (both_now near_now first_far) (both_now near_now far_now)
+        far-came-path =
+            path-turned how l.service l.tei (both_now first_far near_now) (both_now far_now near_now)
+            (path-on how l.service l.tei (both_now first_far near_now) (both_now k.x' near_now) (both_now far_now near_now) k.path
+            (path-none how l.service l.tei (both_now k.x' near_now) (both_now far_now near_now) (ap (λ z. both_now z near_now) k.stood.is)))
+
+        pulled-path : Path how l.service l.tei 0 0 0 (np.n + kp.n) (both_now near_now far_now) (both_now near_pulled far_pulled)
+        pulled-path =
+            path-both how l.service l.tei (both_now near_now far_now) (both_now near_pulled far_now) (both_now near_pulled far_pulled) np.path
+            (path-turned how l.service l.tei (both_now far_now near_pulled) (both_now far_pulled near_pulled) kp.path)
+
+        to-pulled : Path how l.service l.tei t200s far_t200s (t203s + far_t203s) (np.n + kp.n) (both_now x first_far) (both_now near_pulled far_pulled)
         to-pulled =
-            path-both l.service l.tei (both_now x (station back us w.far.at)) (both_now near_now (station back us w.far.at)) (both_now near_pulled far_pulled)
-            (path-both l.service l.tei (both_now x (station back us w.far.at)) (both_now g.x' (station back us w.far.at)) (both_now near_now (station back us w.far.at)) g.path
-            (path-none l.service l.tei (both_now g.x' (station back us w.far.at)) (both_now near_now (station back us w.far.at)) (ap (λ z. both_now z (station back us w.far.at)) g.stood.is)))
-            (path-both l.service l.tei (both_now near_now (station back us w.far.at)) (both_now near_now far_now) (both_now near_pulled far_pulled)
-            (path-turned l.service l.tei (both_now (station back us w.far.at) near_now) (both_now far_now near_now)
-            (path-both l.service l.tei (both_now (station back us w.far.at) near_now) (both_now k.x' near_now) (both_now far_now near_now) k.path
-            (path-none l.service l.tei (both_now k.x' near_now) (both_now far_now near_now) (ap (λ z. both_now z near_now) k.stood.is))))
-            (path-both l.service l.tei (both_now near_now far_now) (both_now near_pulled far_now) (both_now near_pulled far_pulled) np.path
-            (path-turned l.service l.tei (both_now far_now near_pulled) (both_now far_pulled near_pulled) kp.path)))
+            path-as how l.service l.tei ((t200s + 0) + 0) ((0 + far_t200s) + 0) ((t203s + far_t203s) + 0) ((0 + 0) + (np.n + kp.n)) t200s far_t200s (t203s + far_t203s) (np.n + kp.n)
+            (both_now x first_far) (both_now near_pulled far_pulled) (omega arith) (omega arith) (omega arith) (omega arith)
+            (path-both how l.service l.tei (both_now x first_far) (both_now near_now far_now) (both_now near_pulled far_pulled)
+            (path-both how l.service l.tei (both_now x first_far) (both_now near_now first_far) (both_now near_now far_now) near-came-path far-came-path) pulled-path)
 
         -- Both hear.
-        module _ (clear_near : IsClearAt l.near.n201 b.near_noise (gone l.rate b w).near (gone l.rate b w).far) (clear_far : IsClearAt l.near.n201 b.far_noise (gone l.rate b w).far (gone l.rate b w).near) where
+        module _ (clear_near : IsClearAt l.near.n201 b.near_noise (gone l.rate b w).near (gone l.rate b w).far) (clear_far : IsClearAt l.near.n201 b.far_noise (gone l.rate b w).far (gone l.rate b w).near)
+            (kept_near : IsKeptAt how l.near.n201 b.near_noise (gone l.rate b w).near (gone l.rate b w).far.at) (kept_far : IsKeptAt how l.near.n201 b.far_noise (gone l.rate b w).far (gone l.rate b w).near.at) where
           abbrev vn : TimedEndpoint
           vn = (gone l.rate b w).near
 
@@ -296,10 +289,10 @@ module _ (l : Line) (some : 1 ≤ l.rate) (near : IsInRange l.near) (far : IsInR
           far_has : Gone l.service l.tei l.way l.far_lengths l.rate l.far far (w.beats / l.rate) w.beats p.S2 (its_by_now p.S) (gone l.rate b w).far
           far_has = far-gone l some near far opposite size t200 t u w p b talk clear_near clear_far
 
-          nh : Hears l.service l.tei l.near l.far far (sym size) vn near_has.ok.but.ends.stands.config np.there' np.ts' np.heard' vf.at far_has.ok.but.ends.ran far_pulled kp.there' b.near_noise vf.at.way
+          nh : Hears how l.service l.tei l.near l.far far (sym size) vn near_has.ok.but.ends.stands.config np.there' np.ts' np.heard' vf.at far_has.ok.but.ends.ran far_pulled kp.there' b.near_noise vf.at.way
           nh =
-              hears-so l.service l.tei l.near l.far far (sym size) vn near_has.ok.but.ends.stands.config np.there' np.ts' np.heard' vf.at far_has.ok.but.ends.ran far_pulled kp.there' b.near_noise vf.at.way l.way far_has.way
-              (subst (λ n. Going n (port_of vf.at) vf.at.way kp.there') (sym size) kp.goes') clear_near
+              hears-so how l.service l.tei l.near l.far far (sym size) vn near_has.ok.but.ends.stands.config np.there' np.ts' np.heard' vf.at far_has.ok.but.ends.ran far_pulled kp.there' b.near_noise vf.at.way l.way far_has.way
+              (subst (λ n. Going n (port_of vf.at) vf.at.way kp.there') (sym size) kp.goes') clear_near kept_near
 
           abbrev near_heard : TimedEndpoint
           near_heard = hears b.near_noise vf.at.way vn
@@ -307,10 +300,11 @@ module _ (l : Line) (some : 1 ≤ l.rate) (near : IsInRange l.near) (far : IsInR
           abbrev near_told : FrameEndpoint
           near_told = station np.there' nh.ts' near_heard.at
 
-          fh : Hears l.service l.tei l.far l.near near size vf far_has.ok.but.ends.stands.config nh.left kp.ts' kp.heard' vn.at near_has.ok.but.ends.ran near_told np.there' b.far_noise vn.at.way
+          fh : Hears how l.service l.tei l.far l.near near size vf far_has.ok.but.ends.stands.config nh.left kp.ts' kp.heard' vn.at near_has.ok.but.ends.ran near_told np.there' b.far_noise vn.at.way
           fh =
-              hears-so l.service l.tei l.far l.near near size vf far_has.ok.but.ends.stands.config nh.left kp.ts' kp.heard' vn.at near_has.ok.but.ends.ran near_told np.there' b.far_noise vn.at.way l.way near_has.way
+              hears-so how l.service l.tei l.far l.near near size vf far_has.ok.but.ends.stands.config nh.left kp.ts' kp.heard' vn.at near_has.ok.but.ends.ran near_told np.there' b.far_noise vn.at.way l.way near_has.way
               (subst (λ n. Going n (port_of vn.at) vn.at.way np.there') size np.goes') (subst (λ n. IsClearAt n b.far_noise vf vn) size clear_far)
+              (subst (λ n. IsKeptAt how n b.far_noise vf vn.at) size kept_far)
 
           abbrev far_heard_now : TimedEndpoint
           far_heard_now = hears b.far_noise vn.at.way vf
@@ -327,13 +321,13 @@ module _ (l : Line) (some : 1 ≤ l.rate) (near : IsInRange l.near) (far : IsInR
           far-port : SamePort vf far_heard_now
           far-port = heard-port l.far far vf far_has.ok.but.ends.ran b.far_noise vn.at.way
 
-          beat-path : Path l.service l.tei (both_now x (station back us w.far.at)) last
+          beat-path : Path how l.service l.tei t200s far_t200s (t203s + far_t203s) (np.n + kp.n) (both_now x (station back us w.far.at)) last
           beat-path =
-              path-both l.service l.tei (both_now x (station back us w.far.at)) (both_now near_pulled far_pulled) last to-pulled
-              (path-both l.service l.tei (both_now near_pulled far_pulled) (both_now near_told (station nh.left kp.ts' vf.at)) last nh.path
-              (path-turned l.service l.tei (both_now (station nh.left kp.ts' vf.at) near_told) (both_now (station nh.left fh.ts' far_heard_now.at) (station fh.left nh.ts' near_heard.at)) fh.path))
+              path-on how l.service l.tei (both_now x (station back us w.far.at)) (both_now near_pulled far_pulled) last to-pulled
+              (path-both how l.service l.tei (both_now near_pulled far_pulled) (both_now near_told (station nh.left kp.ts' vf.at)) last nh.path
+              (path-turned how l.service l.tei (both_now (station nh.left kp.ts' vf.at) near_told) (both_now (station nh.left fh.ts' far_heard_now.at) (station fh.left nh.ts' near_heard.at)) fh.path))
 
-          beat-same : Same (beat l.rate w b) last
+          beat-same : Same l some near far opposite size t200 t u (beat l.rate w b) last
           beat-same = record {
             there = fh.left;
             back = nh.left;
@@ -351,5 +345,17 @@ module _ (l : Line) (some : 1 ≤ l.rate) (near : IsInRange l.near) (far : IsInR
             far_heard = fh.heard';
           }
 
-          pub beat-on : Led w b x (station back us w.far.at)
-          beat-on = record { f = last; path = beat-path; same = beat-same }
+          near_same : port_of near_gone.at ≡ port_of w.near.at
+          near_same = (near-comes l some near far opposite size t200 t u w p b talk (length (fold asks (at_time (w.beats / l.rate) w.near) b.near_asks).clock.running)).port
+
+          far_same : port_of far_gone.at ≡ port_of w.far.at
+          far_same = (far-comes l some near far opposite size t200 t u w p b talk (length (fold asks (at_time (w.beats / l.rate) w.far) b.far_asks).clock.running)).port
+
+          beat-puts : put_at (beat l.rate w b) ≡ put_at w + (np.n + kp.n)
+          beat-puts =
+              let a = ap (λ is. length (frames_among is)) near-port.0 in let b1 = np.puts in let c1 = ap (λ (p : Port). length (frames_among p.items)) near_same in
+              let d1 = ap (λ is. length (frames_among is)) far-port.0 in let e = kp.puts in let f1 = ap (λ (p : Port). length (frames_among p.items)) far_same in
+              omega (arith, a, b1, c1, d1, e, f1)
+
+          pub beat-on : Led t200s far_t200s (t203s + far_t203s) w b x (station back us w.far.at)
+          beat-on = record { f = last; n = np.n + kp.n; path = beat-path; same = beat-same; puts = beat-puts }

@@ -23,9 +23,10 @@ use Rattle.laws_time.specs.circuit.Clocked.{TimedEndpoint, Clocked, Beat, hears,
 use Rattle.laws_time.specs.circuit.LongEnough.{Line, IsFit, IsTalk, IsOfLink, IsClearAt, begins, asked}
 unfoldable use Rattle.laws_time.specs.circuit.LongEnough.{AreClear}
 use Rattle.laws_time.proofs.OfCircuit.ArrivAs.{station, heard_of}
-use Rattle.laws_time.proofs.OfCircuit.ArrivBeat.{heard-port}
+use Rattle.laws_time.proofs.OfCircuit.ArrivPulls.{heard-port}
 use Rattle.laws_time.proofs.OfCircuit.ArrivIdle.{IsIdle, comes-none, idle-at, pulls-idle, hears-idle}
-use Rattle.laws_time.proofs.OfCircuit.ArrivRun.{Reached, IsFairBoth, first-going, reached-from}
+use Rattle.laws_time.proofs.OfCircuit.ArrivRun.{Reached, ReachedSome, AreAskedSo, AreKept, call-kept, IsFairBoth, first-going, reached-by-from}
+use Rattle.laws_time.proofs.OfCircuit.ArrivPath.{Manner, of_call}
 use Rattle.laws_time.proofs.OfCircuit.ArrivWay.{Going, going-with}
 use Rattle.laws_time.proofs.OfCircuit.Beats.{Gone}
 use Rattle.laws_time.proofs.OfCircuit.Began.{port-is, none-ordered}
@@ -174,16 +175,22 @@ module _ (l : Line) (fit : IsFit l) where
   clear-parts [] rest w clear = (tt, clear)
   clear-parts (b ∷ before) rest w clear = let more = clear-parts before rest (beat l.rate w b) clear.2 in ((clear.0, clear.1, more.0), more.1)
 
-  pub reached : (before : List Beat) (b : Beat) (bs : List Beat) → All AsksNothing before → AreAsked l b → All (AreAsked l) bs → AreClear l (before ++ calls l b ∷ bs) (begins l)
-      → IsFairBoth (after l.rate (before ++ calls l b ∷ bs) (begins l))
-      → Reached l fit (call.calling l.service l.tei l.near l.near_line l.far l.far_line) (after l.rate (before ++ calls l b ∷ bs) (begins l))
-  reached before b bs nothing are_asked all clear fair =
+  pub reached-by : (how : Manner) (before : List Beat) (b : Beat) (bs : List Beat) → All AsksNothing before → AreAskedSo how l b → All (AreAskedSo how l) bs → AreClear l (before ++ calls l b ∷ bs) (begins l)
+      → AreKept how l (calls l b ∷ bs) (after l.rate before (begins l)) → IsFairBoth (after l.rate (before ++ calls l b ∷ bs) (begins l))
+      → ReachedSome how l fit (call.calling l.service l.tei l.near l.near_line l.far l.far_line) (after l.rate (before ++ calls l b ∷ bs) (begins l))
+  reached-by how before b bs nothing are_asked all clear kept fair =
       let v = after l.rate before (begins l) in
       let parts = clear-parts before (calls l b ∷ bs) (begins l) clear in
       let h = all-idle before nothing (begins l) idle-begins parts.0 in
       let both : after l.rate (before ++ calls l b ∷ bs) (begins l) ≡ after l.rate (calls l b ∷ bs) v = fold-append (beat l.rate) (begins l) before (calls l b ∷ bs) in
-      subst (Reached l fit (call.calling l.service l.tei l.near l.near_line l.far l.far_line)) (sym both)
-      (subst (λ w. Reached l fit w (after l.rate (calls l b ∷ bs) v))
+      subst (ReachedSome how l fit (call.calling l.service l.tei l.near l.near_line l.far l.far_line)) (sym both)
+      (subst (λ w. ReachedSome how l fit w (after l.rate (calls l b ∷ bs) v))
       (λ i. record { near = wire.happens (line.request (Establish l.service l.tei)) (h.near.same i); far = h.far.same i })
-      (reached-from l fit v h.pair h.goes h.comes (call.assigned l.near l.near_line l.tei).told (call.assigned l.far l.far_line l.tei).told h.near.heard h.far.heard b are_asked bs all parts.1
-      (subst IsFairBoth both fair)))
+      (reached-by-from how l fit v h.pair h.goes h.comes (call.assigned l.near l.near_line l.tei).told (call.assigned l.far l.far_line l.tei).told h.near.heard h.far.heard b are_asked bs all parts.1
+      kept (subst IsFairBoth both fair)))
+
+  pub reached : (before : List Beat) (b : Beat) (bs : List Beat) → All AsksNothing before → AreAsked l b → All (AreAsked l) bs → AreClear l (before ++ calls l b ∷ bs) (begins l)
+      → IsFairBoth (after l.rate (before ++ calls l b ∷ bs) (begins l))
+      → Reached l fit (call.calling l.service l.tei l.near l.near_line l.far l.far_line) (after l.rate (before ++ calls l b ∷ bs) (begins l))
+  reached before b bs nothing are_asked all clear fair =
+      reached-by of_call before b bs nothing are_asked all clear (call-kept l (calls l b ∷ bs) (after l.rate before (begins l))) fair

@@ -1,5 +1,5 @@
 -- An octet of the other end comes, or noise in its place: at the stations a frame comes, or is lost, or nothing happens.
-use Rattle.std.proofs.Common.{arith, ◌≡◌, ℕ, ◌+◌, List, [], ◌∷◌, ◌++◌, length, drop, Option, Some, None, refl, ap, ◌∙◌, inl, inr}
+use Rattle.std.proofs.Common.{arith, ◌≡◌, ℕ, ◌+◌, List, [], ◌∷◌, ◌++◌, length, drop, Option, Some, None, refl, ap, ◌∙◌, subst, ◌⊎◌, inl, inr}
 use Rattle.std.specs.Option.{unwrap_or}
 use Rattle.lapd_frame.specs.declared.services.Service.{Service}
 use Rattle.model_bits.specs.Stream as stream
@@ -18,10 +18,20 @@ use Rattle.laws_order.proofs.OfCircuit.Ran.{Ran}
 use Rattle.laws_time.specs.circuit.Clocked.{TimedEndpoint, hears}
 use Rattle.laws_time.specs.circuit.LongEnough.{IsFrame}
 use Rattle.laws_time.proofs.OfCircuit.ArrivAs.{station, heard_of, Becomes, none-becomes, frame-becomes, dropped-becomes}
-use Rattle.laws_time.proofs.OfCircuit.ArrivPath.{Path, path-none, path-one, path-turned}
-use Rattle.laws_time.proofs.OfCircuit.ArrivWay.{Going, IsNoFrame, Comes, comes}
+use Rattle.laws_time.proofs.OfCircuit.ArrivPath.{Manner, MayLose, Path, path-none, path-one, path-turned}
+use Rattle.laws_time.proofs.OfCircuit.ArrivWay.{Going, IsNoFrame, Comes, Loses, comes}
 
-module _ (service : Service) (tei : ℕ) (c d : Config) (ranged_far : IsInRange d) (size : d.n201 ≡ c.n201) (a : TimedEndpoint) (config : a.at.card.card.config ≡ c)
+-- What is heard with an octet is what the other end gave.
+abbrev pub IsExactAt : ℕ → Option ℕ → TimedEndpoint → OctetEndpoint → Type 0
+IsExactAt n201 noise s other =
+    (value : ℕ) (more before : List ℕ) → other.way ≡ value ∷ more → (port_of other).given ≡ before ++ value ∷ more →
+    gained n201 (port_of s.at).received (unwrap_or noise value) ≡ gained n201 before value
+
+-- So no frame is lost, if none may be.
+abbrev pub IsKeptAt : Manner → ℕ → Option ℕ → TimedEndpoint → OctetEndpoint → Type 0
+IsKeptAt how n201 noise s other = MayLose how ⊎ IsExactAt n201 noise s other
+
+module _ (how : Manner) (service : Service) (tei : ℕ) (c d : Config) (ranged_far : IsInRange d) (size : d.n201 ≡ c.n201) (a : TimedEndpoint) (config : a.at.card.card.config ≡ c)
     (there : List (List ℕ)) (ts : List LineTold) (heard : heard_of ts ≡ heard_of a.at.told)
     (other : OctetEndpoint) (ran : Ran d other) (y : FrameEndpoint) (back : List (List ℕ)) (noise : Option ℕ) where
   abbrev before : Wire
@@ -33,11 +43,12 @@ module _ (service : Service) (tei : ℕ) (c d : Config) (ranged_far : IsInRange 
     pub goes : Going c.n201 (port_of other) (drop 1 way) left
     pub ts' : List LineTold
     pub heard' : heard_of ts' ≡ heard_of (hears noise way a).at.told
-    pub path : Path service tei (record { near = station there ts a.at; far = record y { way = back } }) (record { near = station there ts' (hears noise way a).at; far = record y { way = left } })
+    pub path : Path how service tei 0 0 0 0 (record { near = station there ts a.at; far = record y { way = back } }) (record { near = station there ts' (hears noise way a).at; far = record y { way = left } })
 
   module _ (value : ℕ) (more : List ℕ) (goes : Going c.n201 (port_of other) (value ∷ more) back)
       (clear : (e : stream.Event) → gained c.n201 (port_of a.at).received (unwrap_or noise value) ≡ Some e → IsFrame e
-      → (before : List ℕ) × ((port_of other).given ≡ before ++ value ∷ more) × (gained c.n201 before value ≡ Some e)) where
+      → (before : List ℕ) × ((port_of other).given ≡ before ++ value ∷ more) × (gained c.n201 before value ≡ Some e))
+      (kept : MayLose how ⊎ ((before : List ℕ) → (port_of other).given ≡ before ++ value ∷ more → gained c.n201 (port_of a.at).received (unwrap_or noise value) ≡ gained c.n201 before value)) where
     abbrev got : ℕ
     got = unwrap_or noise value
 
@@ -63,6 +74,9 @@ module _ (service : Service) (tei : ℕ) (c d : Config) (ranged_far : IsInRange 
     abbrev with : FrameEndpoint → List (List ℕ) → Wire
     with x way = record { near = x; far = record y { way = way } }
 
+    abbrev Lost : Type 0
+    Lost = Loses c.n201 d ranged_far size other ran back value more goes (gained c.n201 (port_of a.at).received (unwrap_or noise value)) clear
+
     pub hears-one : Hears (value ∷ more)
     hears-one = go (comes c.n201 d ranged_far size other ran back value more goes (gained c.n201 (port_of a.at).received (unwrap_or noise value)) clear)
       where
@@ -75,10 +89,14 @@ module _ (service : Service) (tei : ℕ) (c d : Config) (ranged_far : IsInRange 
         no-frame (Some (stream.frame octets)) none e is so = none
         no-frame (Some (stream.overlong head)) none e is so = none
 
+        may : Lost → MayLose how ⊎ ((before : List ℕ) → (port_of other).given ≡ before ++ value ∷ more → gained c.n201 (port_of a.at).received (unwrap_or noise value) ≡ gained c.n201 before value) → MayLose how
+        may x (inl y) = y
+        may x (inr exact) = absurd (subst IsNoFrame (exact x.before x.given ∙ x.stood) x.none)
+
         go : Result → Hears (value ∷ more)
         go (inl x) =
             let b = still o refl (no-frame o x.none) in
-            record { left = back; goes = x.goes; ts' = b.ts; heard' = b.heard; path = path-none service tei before (with (station there b.ts u) back) (ap (λ s. with s back) b.is) }
+            record { left = back; goes = x.goes; ts' = b.ts; heard' = b.heard; path = path-none how service tei before (with (station there b.ts u) back) (ap (λ s. with s back) b.is) }
         go (inr (inl x)) =
             let b = still o refl (no-frame o x.none) in
             record {
@@ -86,8 +104,8 @@ module _ (service : Service) (tei : ℕ) (c d : Config) (ranged_far : IsInRange 
               goes = x.goes;
               ts' = b.ts;
               heard' = b.heard;
-              path = path-turned service tei (turned before) (turned (with (station there b.ts u) x.left))
-                  (path-one service tei loses tt (turned before) (turned (with (station there b.ts u) x.left))
+              path = path-turned how service tei (turned before) (turned (with (station there b.ts u) x.left))
+                  (path-one how service tei loses (may x kept) 0 0 0 (turned before) (turned (with (station there b.ts u) x.left)) refl refl refl
                   tt (λ i. record { near = record y { way = drop 1 (x.are i) }; far = b.is i }));
             }
         go (inr (inr x)) =
@@ -99,13 +117,20 @@ module _ (service : Service) (tei : ℕ) (c d : Config) (ranged_far : IsInRange 
               goes = x.goes;
               ts' = b.ts;
               heard' = b.heard;
-              path = path-one service tei receives tt before (with (station there b.ts u) x.left) tt
+              path = path-one how service tei receives tt 0 0 0 before (with (station there b.ts u) x.left) refl refl refl tt
                   ((λ i. record { near = wire.with_first_of (x.are i) (station there ts a.at); far = record y { way = drop 1 (x.are i) } })
                   ∙ ap (λ s. with s x.left) (ap (λ e. wire.happens (line.hears e) (station there ts a.at)) whole ∙ b.is));
             }
 
   pub hears-so : (way : List ℕ) (n : ℕ) → length way ≡ n + 1 → (goes : Going c.n201 (port_of other) way back)
       → ((value : ℕ) (more : List ℕ) (e : stream.Event) → way ≡ value ∷ more → gained c.n201 (port_of a.at).received (unwrap_or noise value) ≡ Some e → IsFrame e
-      → (before : List ℕ) × ((port_of other).given ≡ before ++ way) × (gained c.n201 before value ≡ Some e)) → Hears way
-  hears-so [] n long goes clear = absurd (omega (arith, long))
-  hears-so (value ∷ more) n long goes clear = hears-one value more goes (λ e gains so. clear value more e refl gains so)
+      → (before : List ℕ) × ((port_of other).given ≡ before ++ way) × (gained c.n201 before value ≡ Some e))
+      → (MayLose how ⊎ ((value : ℕ) (more before : List ℕ) → way ≡ value ∷ more → (port_of other).given ≡ before ++ value ∷ more → gained c.n201 (port_of a.at).received (unwrap_or noise value) ≡ gained c.n201 before value))
+      → Hears way
+  hears-so [] n long goes clear kept = absurd (omega (arith, long))
+  hears-so (value ∷ more) n long goes clear kept = hears-one value more goes (λ e gains so. clear value more e refl gains so) (its kept)
+    where
+      its : (MayLose how ⊎ ((v : ℕ) (vs before : List ℕ) → value ∷ more ≡ v ∷ vs → (port_of other).given ≡ before ++ v ∷ vs → gained c.n201 (port_of a.at).received (unwrap_or noise v) ≡ gained c.n201 before v))
+          → MayLose how ⊎ ((before : List ℕ) → (port_of other).given ≡ before ++ value ∷ more → gained c.n201 (port_of a.at).received (unwrap_or noise value) ≡ gained c.n201 before value)
+      its (inl y) = inl y
+      its (inr exact) = inr (λ before given. exact value more before refl given)

@@ -17,6 +17,7 @@ use Rattle.laws_time.specs.circuit.Clocked.{Clocked, after, contents_at}
 use Rattle.laws_time.specs.circuit.LongEnough.{Line, IsFit, begins}
 use Rattle.laws_time.proofs.OfCircuit.ArrivBegan.{reached}
 use Rattle.laws_time.proofs.OfCircuit.ArrivFair.{codes, neither}
+use Rattle.laws_time.proofs.OfCircuit.ArrivPath.{of_call, talk-of}
 use Rattle.laws_time.proofs.OfCircuit.ArrivRun.{Reached}
 use Rattle.laws_time.proofs.OfCircuit.ArrivTold.{Concluded, IsFree, call-concludes, codes-heard, contents-heard, contents_of}
 
@@ -80,4 +81,4 @@ calls-bear-noise l before bs b fit idle all clear = λ fair.
     let s = setting l.service l.near l.far l.near_line l.far_line l.tei fit.call in
     is-told l fit (calling l.service l.tei l.near l.near_line l.far l.far_line) w r s.face s.back s.near s.far
     (subst (Concluded l.service l.tei l.near l.far 0 0 s.face s.back s.near s.far) r.path.leads
-    (call-concludes l.service l.near l.far l.near_line l.far_line l.tei r.path.steps fit.call r.path.talk r.path.patient))
+    (call-concludes l.service l.near l.far l.near_line l.far_line l.tei r.path.steps fit.call (talk-of of_call l.service l.tei (calling l.service l.tei l.near l.near_line l.far l.far_line) r.f r.path) r.path.patient))

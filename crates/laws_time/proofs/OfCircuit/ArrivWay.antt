@@ -54,7 +54,7 @@ octets-put : (g : Option NextFrame) → ((f : NextFrame) → g ≡ Some f → Ar
 octets-put g h = grind arith
 
 module _ (c : Config) (ranged : IsInRange c) (s : OctetEndpoint) (ran : Ran c s) (there : List (List ℕ)) where
-  pulled-goes : (rest before : List ℕ) → Carries c.n201 (port_of s) rest before there → (due : Bool) → let o : Option line.Event = cond due (Some line.next) None in
+  pub pulled-goes : (rest before : List ℕ) → Carries c.n201 (port_of s) rest before there → (due : Bool) → let o : Option line.Event = cond due (Some line.next) None in
       let q = with_item (option_map (answer_to s.card.card) (option_map (frames.at s.line) o)) (port_of s) in
       Carries c.n201 (with_octet q) (rest ++ next_octet q ∷ []) before (if_meant o (as_endpoint there s)).way
   unfolding line_answer takes_slot
@@ -103,7 +103,10 @@ module _ (n201 : ℕ) (c : Config) (ranged : IsInRange c) (size : c.n201 ≡ n20
 
   pub record Loses : Type 0 where
     pub none : IsNoFrame o
+    pub before : List ℕ
+    pub given : (port_of s).given ≡ before ++ value ∷ more
     pub lost : List ℕ
+    pub stood : gained n201 before value ≡ Some (stream.frame lost)
     pub left : List (List ℕ)
     pub are : there ≡ lost ∷ left
     pub goes : Going n201 (port_of s) more left
@@ -192,10 +195,21 @@ module _ (n201 : ℕ) (c : Config) (ranged : IsInRange c) (size : c.n201 ≡ n20
               its : OneHeard n201 (port_of s) h.rest h.before there h.carries sound (on-line c ranged s ran) value more e → (f : stream.Event) → o ≡ Some f → IsFrame f → f ≡ e
               its x f gains so = let y = clear f gains so in same-event f e (sym y.2 ∙ ap (λ b. gained n201 b value) (same-before y.0 y.1) ∙ some)
 
+              lost-so : OneHeard n201 (port_of s) h.rest h.before there h.carries sound (on-line c ranged s ran) value more e → IsNoFrame o → Loses
+              lost-so x none = record {
+                none = none;
+                before = h.before;
+                given = given_is;
+                lost = x.first;
+                stood = some ∙ ap (λ e. Some e) x.event;
+                left = x.rest;
+                are = x.frames_are;
+                goes = then x.rest x.carries;
+              }
+
               by-gain : OneHeard n201 (port_of s) h.rest h.before there h.carries sound (on-line c ranged s ran) value more e → (g : Option stream.Event) → o ≡ g → Comes
-              by-gain x None is = inr (inl (record { none = subst IsNoFrame (sym is) tt; lost = x.first; left = x.rest; are = x.frames_are; goes = then x.rest x.carries }))
-              by-gain x (Some (stream.dropped cause)) is =
-                  inr (inl (record { none = subst IsNoFrame (sym is) tt; lost = x.first; left = x.rest; are = x.frames_are; goes = then x.rest x.carries }))
+              by-gain x None is = inr (inl (lost-so x (subst IsNoFrame (sym is) tt)))
+              by-gain x (Some (stream.dropped cause)) is = inr (inl (lost-so x (subst IsNoFrame (sym is) tt)))
               by-gain x (Some (stream.frame octets)) is =
                   inr (inr (record { frame_is = x.first; left = x.rest; are = x.frames_are; gains = is ∙ ap (λ e. Some e) (its x (stream.frame octets) is tt ∙ x.event); whole = x.whole; goes = then x.rest x.carries }))
               by-gain x (Some (stream.overlong head)) is = absurd (other head (its x (stream.overlong head) is tt ∙ x.event))

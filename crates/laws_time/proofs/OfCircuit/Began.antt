@@ -131,7 +131,7 @@ module _ (c : Config) (service : Service) (tei number way : ℕ) (ranged : IsInR
   abbrev end : TimedEndpoint
   end = endpoint c number lengths way tei
 
-  ran-start : Ran c (record (octet_endpoint c number) { way = flags way })
+  pub ran-start : Ran c (record (octet_endpoint c number) { way = flags way })
   unfolding after_all meant_all frame_moments
   ran-start = record { within = within; events = []; at_lines = All-nil (IsAtLine (fresh c)); is = refl; exact = All-nil GivesOctets }
 

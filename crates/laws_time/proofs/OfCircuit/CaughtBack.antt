@@ -3,7 +3,7 @@ use Rattle.std.proofs.Common.{◌≡◌, ℕ, Bool, true, false, List, [], ◌�
 use Rattle.std.proofs.lemmas.List.Sums.{fold-append}
 use Rattle.laws_wire.specs.Wire.{Wire, turned}
 use Rattle.laws_wire.proofs.LooseUp.{LooseUp, loose-turned-up}
-use Rattle.laws_time.proofs.OfCircuit.ArrivPath.{path-turned}
+use Rattle.laws_time.proofs.OfCircuit.ArrivPath.{of_call, path-turned}
 use Rattle.laws_time.proofs.OfCircuit.CaughtEnds.{owing, settled, told-as-many}
 use Rattle.laws_time.proofs.OfCircuit.CaughtLaw.{near_past, far_past, its, goes-on, shows, near-number, far-number, far-in-7, far-in-8, far-shows, near-contents}
 use Rattle.laws_time.proofs.OfCircuit.CaughtLinks.{Owes}
@@ -47,7 +47,7 @@ module _ (l : Line) (before bs more : List Beat) (b : Beat) (h : GoesWell l befo
     rr = (r-rest l before bs more b h done rest all).f
 
     at-done : At true (turned (r-done l before bs more b h done rest all).f)
-    at-done = goes-on l.service l.tei l.far l.near (its l h.fit).back (its l h.fit).face (far_past l h.fit) (near_past l h.fit) refl true k (turned (reached-w l before bs more b h).f) (turned rd) (path-turned l.service l.tei (reached-w l before bs more b h).f rd (r-done l before bs more b h done rest all).path) asks-first
+    at-done = goes-on l.service l.tei l.far l.near (its l h.fit).back (its l h.fit).face (far_past l h.fit) (near_past l h.fit) refl true k (turned (reached-w l before bs more b h).f) (turned rd) (path-turned of_call l.service l.tei (reached-w l before bs more b h).f rd (r-done l before bs more b h done rest all).path) asks-first
 
     -- Both are up then.
     far-up : IsUp l (after l.rate done (in_call l before b bs)).far
@@ -61,7 +61,7 @@ module _ (l : Line) (before bs more : List Beat) (b : Beat) (h : GoesWell l befo
         → HasCaughtUp l (in_call l before b bs).near (after l.rate more (in_call l before b bs)).near (after l.rate more (in_call l before b bs)).far
     caught-by-then-back seven =
         let paid_then : At false (turned rd) = settled l.service l.tei l.far l.near 0 0 (far_past l h.fit) (near_past l h.fit) (turned rd) k at-done (far-in-7 l h.fit u (pair-done l before bs more b h done rest all) rd (r-done l before bs more b h done rest all).same seven at-done.n at-done.at.near.stands) in
-        let last : At false (turned rr) = goes-on l.service l.tei l.far l.near (its l h.fit).back (its l h.fit).face (far_past l h.fit) (near_past l h.fit) refl false k (turned rd) (turned rr) (path-turned l.service l.tei rd rr (r-rest l before bs more b h done rest all).path) paid_then in
+        let last : At false (turned rr) = goes-on l.service l.tei l.far l.near (its l h.fit).back (its l h.fit).face (far_past l h.fit) (near_past l h.fit) refl false k (turned rd) (turned rr) (path-turned of_call l.service l.tei rd rr (r-rest l before bs more b h done rest all).path) paid_then in
         let told = told-as-many l.service l.tei l.far l.near 0 0 (far_past l h.fit) (near_past l h.fit) (turned (reached-w l before bs more b h).f) up.n up.m (record { near = up.near; far = up.far; loose = up.loose }) refl in
         let then = sym (ap length (near-contents l h.fit v (pair-w l before bs more b h) (reached-w l before bs more b h).f (reached-w l before bs more b h).same)) ∙ told in
         subst (λ (u : Clocked). HasCaughtUp l v.near u.near u.far) (sym (parts-world l before bs more b h done rest all))

@@ -15,7 +15,7 @@ use Rattle.laws_wire.proofs.LossyRun.{Setting, setting}
 use Rattle.laws_wire.proofs.Standing.{StationStands}
 use Rattle.laws_wire.proofs.Talking.{Face}
 use Rattle.laws_time.proofs.OfCircuit.ArrivAs.{heard_of}
-use Rattle.laws_time.proofs.OfCircuit.ArrivPath.{Path}
+use Rattle.laws_time.proofs.OfCircuit.ArrivPath.{of_call, Path, talk-of}
 use Rattle.laws_time.proofs.OfCircuit.ArrivRun.{SameNow}
 use Rattle.laws_time.proofs.OfCircuit.ArrivTold.{contents-heard, contents_of}
 use Rattle.laws_time.proofs.OfCircuit.CaughtEnds.{Acknowledges, told-as-many, acknowledges-some, no-more, owing, settled, paid}
@@ -49,12 +49,12 @@ module _ (service : Service) (tei : ℕ) (c d : Config) (face : Face c d) (back 
   abbrev Up : Bool → ℕ → Wire → Type 0
   Up asks k w = UpWith service tei c d 0 0 past other (Owes asks k) w
 
-  pub goes-on : (asks : Bool) (k : ℕ) (f g : Wire) → Path service tei f g → UpWith service tei c d 0 0 past other (Owes asks k) f → UpWith service tei c d 0 0 past other (Owes asks k) g
+  pub goes-on : (asks : Bool) (k : ℕ) (f g : Wire) → {i j m n : ℕ} → Path of_call service tei i j m n f g → UpWith service tei c d 0 0 past other (Owes asks k) f → UpWith service tei c d 0 0 past other (Owes asks k) g
   goes-on asks k f g path h =
-      subst (Up asks k) path.leads (all-steps service tei c d 0 0 face back past other (Owes asks k) (owes-keeps asks k) (owed-keeps asks k) path.steps f path.talk path.patient h)
+      subst (Up asks k) path.leads (all-steps service tei c d 0 0 face back past other (Owes asks k) (owes-keeps asks k) (owed-keeps asks k) path.steps f (talk-of of_call service tei f g path) path.patient h)
 
   -- It asks at the first, and does not at the second.
-  pub caught : (f g : Wire) → Path service tei f g → (h : LooseUp service tei c d 0 0 past other f) → h.n.link.state ≡ TimerRecovery
+  pub caught : (f g : Wire) → {i j m n : ℕ} → Path of_call service tei i j m n f g → (h : LooseUp service tei c d 0 0 past other f) → h.n.link.state ≡ TimerRecovery
       → ((n : LinkEndpoint) → StationStands c service tei 0 g.near n → n.link.state ≡ Established) → UpWith service tei c d 0 0 past other (Owes false (length (contents_of (heard_in f.far)))) g
   caught f g path h at seven =
       let k = told-as-many service tei c d 0 0 past other f h.n h.m (record { near = h.near; far = h.far; loose = h.loose }) none in

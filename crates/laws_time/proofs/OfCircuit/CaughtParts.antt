@@ -1,5 +1,5 @@
 -- A call on the circuit up to a time, and from there on, part by part: on a wire of frames both links are up.
-use Rattle.std.proofs.Common.{◌≡◌, ℕ, false, List, [], ◌∷◌, ◌++◌, Option, Some, refl, sym, ap, ◌∙◌, subst, All, ◌⊎◌, inl, inr, append_assoc}
+use Rattle.std.proofs.Common.{arith, ◌≡◌, ℕ, false, List, [], ◌∷◌, ◌++◌, Option, Some, refl, sym, ap, ◌∙◌, subst, All, ◌⊎◌, inl, inr, append_assoc}
 use Rattle.std.specs.List.{list_any}
 use Rattle.std.proofs.lemmas.List.Elements.{All-nil, All-cons, All-append, All-head, All-tail}
 use Rattle.std.proofs.lemmas.List.Folds.{list_any-append}
@@ -11,9 +11,10 @@ use Rattle.laws_wire.specs.Call.{calling}
 use Rattle.laws_wire.specs.Losing.{heard_in}
 use Rattle.laws_wire.specs.Wire.{Wire}
 use Rattle.laws_wire.proofs.LooseUp.{LooseUp}
+use Rattle.laws_time.proofs.OfCircuit.ArrivBeat.{put_at}
 use Rattle.laws_time.proofs.OfCircuit.ArrivBegan.{reached, clear-parts}
 use Rattle.laws_time.proofs.OfCircuit.ArrivFair.{codes, codes-append, neither}
-use Rattle.laws_time.proofs.OfCircuit.ArrivPath.{path-none}
+use Rattle.laws_time.proofs.OfCircuit.ArrivPath.{of_call, path-none, talk-of}
 use Rattle.laws_time.proofs.OfCircuit.ArrivRun.{Reached, IsFairBoth, all-beats, all-of-link, fair-all}
 use Rattle.laws_time.proofs.OfCircuit.ArrivTold.{codes-heard}
 use Rattle.laws_time.proofs.OfCircuit.CaughtBegun.{both-up}
@@ -30,7 +31,7 @@ use Rattle.laws_time.specs.circuit.Clocked.{Clocked, Beat, beat, after}
 use Rattle.laws_time.specs.circuit.InCall.{IsUp}
 use Rattle.laws_time.specs.circuit.LongEnough.{Line, IsFit, IsTalk, IsOfLink, AreClear, begins}
 
-idle-talk : (l : Line) (before : List Beat) → All IsIdle before → All (IsTalk l) before
+pub idle-talk : (l : Line) (before : List Beat) → All IsIdle before → All (IsTalk l) before
 idle-talk l [] all = All-nil (IsTalk l)
 idle-talk l (b ∷ before) all = All-cons (IsTalk l) b before (none b.near_asks (All-head IsIdle b before all).0, none b.far_asks (All-head IsIdle b before all).1) (idle-talk l before (All-tail IsIdle b before all))
   where
@@ -79,7 +80,7 @@ module _ (l : Line) (before bs more : List Beat) (b : Beat) (h : GoesWell l befo
   call-talk : IsTalk l (calls l b)
   call-talk = (All-cons (IsOfLink l.service l.tei) (Establish l.service l.tei) b.near_asks (refl, refl) (all-of-link l h.fit b.near_asks asked-b.0), all-of-link l h.fit b.far_asks asked-b.1)
 
-  first-talk : All (IsTalk l) (before ++ calls l b ∷ bs)
+  pub first-talk : All (IsTalk l) (before ++ calls l b ∷ bs)
   first-talk = All-append (IsTalk l) before (calls l b ∷ bs) (idle-talk l before h.idle) (All-cons (IsTalk l) (calls l b) bs call-talk (talk-all l h.fit bs asked-bs))
 
   pub pair-w : PairNow l h.fit (in_call l before b bs)
@@ -101,29 +102,33 @@ module _ (l : Line) (before bs more : List Beat) (b : Beat) (h : GoesWell l befo
   pub reached-w : Reached l h.fit (calling l.service l.tei l.near l.near_line l.far l.far_line) (in_call l before b bs)
   reached-w = reached l h.fit before b bs h.idle asked-b asked-bs clear.0 (fair-all l.rate more w fair-u)
 
-  -- No error F was told by then.
-  quiet : codes (heard_in reached-w.f.far) ≡ []
-  quiet =
-      let none = subst (λ (u : Clocked). errors_at u.far ≡ []) same-world h.heard in
-      ap codes (far-heard l h.fit w pair-w reached-w.f reached-w.same)
-      ∙ codes-heard w.far.at.told
-      ∙ front-nil (codes w.far.at.told) (codes walk.far.more) (sym (codes-append w.far.at.told walk.far.more) ∙ ap codes (sym walk.far.grows) ∙ none)
+  -- However it was reached: no error F was told by then.
+  module _ (r : Reached l h.fit (calling l.service l.tei l.near l.near_line l.far l.far_line) (in_call l before b bs)) where
+    quiet : codes (heard_in r.f.far) ≡ []
+    quiet =
+        let none = subst (λ (u : Clocked). errors_at u.far ≡ []) same-world h.heard in
+        ap codes (far-heard l h.fit w pair-w r.f r.same)
+        ∙ codes-heard w.far.at.told
+        ∙ front-nil (codes w.far.at.told) (codes walk.far.more) (sym (codes-append w.far.at.told walk.far.more) ∙ ap codes (sym walk.far.grows) ∙ none)
 
-  -- Both links are up, once the end that calls is.
-  pub both-are-up : IsUp l w.near → LooseUp l.service l.tei l.near l.far 0 0 (near_past l h.fit) (far_past l h.fit) reached-w.f
-  both-are-up up =
-      subst (λ f. codes (heard_in f.far) ≡ [] → (heard_in f.near ≡ [] → ⊥) → LooseUp l.service l.tei l.near l.far 0 0 (near_past l h.fit) (far_past l h.fit) f) reached-w.path.leads
-      (both-up l.service l.near l.far l.near_line l.far_line l.tei reached-w.path.steps h.fit.call reached-w.path.talk reached-w.path.patient) quiet some
-    where
-      not-5 : (o : Option ℕ) → (o ≡ Some 7) ⊎ (o ≡ Some 8) → o ≡ Some 5 → ⊥
-      not-5 o (inl seven) five = cc (sym seven ∙ five)
-      not-5 o (inr eight) five = cc (sym eight ∙ five)
+    -- Both links are up, once the end that calls is.
+    pub up-there : IsUp l (in_call l before b bs).near → LooseUp l.service l.tei l.near l.far 0 0 (near_past l h.fit) (far_past l h.fit) r.f
+    up-there up =
+        subst (λ f. codes (heard_in f.far) ≡ [] → (heard_in f.near ≡ [] → ⊥) → LooseUp l.service l.tei l.near l.far 0 0 (near_past l h.fit) (far_past l h.fit) f) r.path.leads
+        (both-up l.service l.near l.far l.near_line l.far_line l.tei r.path.steps h.fit.call (talk-of of_call l.service l.tei start r.f r.path) r.path.patient) quiet some
+      where
+        not-5 : (o : Option ℕ) → (o ≡ Some 7) ⊎ (o ≡ Some 8) → o ≡ Some 5 → ⊥
+        not-5 o (inl seven) five = cc (sym seven ∙ five)
+        not-5 o (inr eight) five = cc (sym eight ∙ five)
 
-      some : heard_in reached-w.f.near ≡ [] → ⊥
-      some none = elim (in-call l h.fit w pair-w reached-w) [
-        | inl x ↦ not-5 (state_at l w.near) up x.0
-        | inr x ↦ x.0 (sym (near-heard l h.fit w pair-w reached-w.f reached-w.same) ∙ none)
-      ]
+        some : heard_in r.f.near ≡ [] → ⊥
+        some none = elim (in-call l h.fit w pair-w r) [
+          | inl x ↦ not-5 (state_at l w.near) up x.0
+          | inr x ↦ x.0 (sym (near-heard l h.fit w pair-w r.f r.same) ∙ none)
+        ]
+
+  pub both-are-up : IsUp l (in_call l before b bs).near → LooseUp l.service l.tei l.near l.far 0 0 (near_past l h.fit) (far_past l h.fit) reached-w.f
+  both-are-up up = up-there reached-w up
 
   -- A part of what comes, and the rest.
   module _ (done rest : List Beat) (all : done ++ rest ≡ more) where
@@ -154,9 +159,9 @@ module _ (l : Line) (before bs more : List Beat) (b : Beat) (h : GoesWell l befo
     pub r-done : Reached l h.fit reached-w.f (after l.rate done (in_call l before b bs))
     r-done =
         all-beats l h.fit reached-w.f done w pair-w asked-done parts.0 (fair-all l.rate rest (after l.rate done w) fair-rest)
-        (record { f = reached-w.f; path = path-none l.service l.tei reached-w.f reached-w.f refl; same = reached-w.same })
+        (record { i = 0; j = 0; k = 0; first = put_at w; n = 0; puts = omega arith; f = reached-w.f; path = path-none of_call l.service l.tei reached-w.f reached-w.f refl; same = reached-w.same })
 
     pub r-rest : Reached l h.fit r-done.f (after l.rate rest (after l.rate done (in_call l before b bs)))
     r-rest =
         all-beats l h.fit r-done.f rest (after l.rate done w) pair-done asked-rest parts.1 fair-rest
-        (record { f = r-done.f; path = path-none l.service l.tei r-done.f r-done.f refl; same = r-done.same })
+        (record { i = 0; j = 0; k = 0; first = put_at (after l.rate done w); n = 0; puts = omega arith; f = r-done.f; path = path-none of_call l.service l.tei r-done.f r-done.f refl; same = r-done.same })

@@ -307,7 +307,7 @@ begins c line tei way lengths within ranged =
 none-yet : (rate : ℕ) → 0 ≡ (0 - 1) / rate
 none-yet rate = let less = div-le_self 0 rate in omega (arith, less)
 
-timed : (c : Config) (lengths : Lengths) (s : TimedEndpoint) → Leads (fresh c lengths) (card_of s) → IsTimedCard c lengths s
+pub timed : (c : Config) (lengths : Lengths) (s : TimedEndpoint) → Leads (fresh c lengths) (card_of s) → IsTimedCard c lengths s
 timed c lengths s h = (h.steps, h.prompt, h.leads)
 
 pub both-begin : (c d : Config) (line other tei way rate : ℕ) (lengths others : Lengths) → line < c.lines → other < d.lines → AreInRange lengths → AreInRange others

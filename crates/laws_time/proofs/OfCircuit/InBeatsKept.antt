@@ -46,7 +46,7 @@ use Rattle.laws_time.proofs.OfCircuit.InBeatsRun.{ask, both_hear, comes-at, undu
 
 -- ---- what is asked for, and what falls due, leaves the port and what is in transit
 
-abbrev IsSilent : port.Event → Type 0
+abbrev pub IsSilent : port.Event → Type 0
 IsSilent (port.request r) = Unit {0}
 IsSilent (port.expiry timer) = Unit {0}
 IsSilent other = ⊥
@@ -54,18 +54,18 @@ IsSilent other = ⊥
 none-pulled : (o : Option line.Answer) → octet_pulled (option_map_or answer_of o (port.told line.nothing)) ≡ []
 none-pulled o = grind arith
 
-silent-way : (e : port.Event) → IsSilent e → (s : Endpoint) → (circuit.happens e s).way ≡ s.way
+pub silent-way : (e : port.Event) → IsSilent e → (s : Endpoint) → (circuit.happens e s).way ≡ s.way
 unfolding answer
 silent-way (port.request r) is s = asked-way r s
 silent-way (port.expiry timer) is s = ap (λ os. s.way ++ os) (none-pulled _) ∙ append-nil s.way
 silent-way other is s = absurd is
 
-silent-port : (e : port.Event) → IsSilent e → (s : Endpoint) → s.line < length s.card.ports → port_of (circuit.happens e s) ≡ port_of s
+pub silent-port : (e : port.Event) → IsSilent e → (s : Endpoint) → s.line < length s.card.ports → port_of (circuit.happens e s) ≡ port_of s
 silent-port (port.request r) is s inside = port-after s (port.request r) inside
 silent-port (port.expiry timer) is s inside = port-after s (port.expiry timer) inside
 silent-port other is s inside = absurd is
 
-of-octets : (service : Service) (tei : ℕ) (r : Request) → IsOfLink service tei r → AsksOctets (port.request r)
+pub of-octets : (service : Service) (tei : ℕ) (r : Request) → IsOfLink service tei r → AsksOctets (port.request r)
 of-octets service tei (Establish s t) is = All-nil (λ octet. octet < 256)
 of-octets service tei (Release s t) is = All-nil (λ octet. octet < 256)
 of-octets service tei (SetBusy s t) is = All-nil (λ octet. octet < 256)
@@ -149,7 +149,7 @@ pub record Beaten (size : ℕ) (p q : Port) : Type 0 where
   pub received : length q.received ≡ length p.received + 1
   pub on : (items : List Item) (most a : ℕ) → On size items most p a → On size items most q (a + 1)
 
-hear-port : (c : Config) (ranged : IsInRange c) (way : List ℕ) (k : ℕ) → length way ≡ k + 1 → (x : Endpoint) → Ran c x
+pub hear-port : (c : Config) (ranged : IsInRange c) (way : List ℕ) (k : ℕ) → length way ≡ k + 1 → (x : Endpoint) → Ran c x
     → (value : ℕ) × (port_of (with_first_of way x) ≡ record (port_of x) { received = (port_of x).received ++ value ∷ [] })
 hear-port c ranged [] k long x ran = absurd (omega (arith, long))
 hear-port c ranged (value ∷ more) k long x ran = (value, port-after x (port.octet value) (within-ports c ranged x ran))

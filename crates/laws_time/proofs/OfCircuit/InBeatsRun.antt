@@ -74,7 +74,7 @@ pub comes-at : (moment : ℕ) (rs : List Request) (a : TimedEndpoint) → IsUndu
 comes-at moment rs a undue =
     ap (λ (x : TimedEndpoint). x.at) (undue-stays (length (asked moment rs a).clock.running) (asked moment rs a) undue) ∙ asked-at rs (at_time moment a)
 
-hears-at : (noise : Option ℕ) → noise ≡ None → (way : List ℕ) (a : TimedEndpoint) → (hears noise way a).at ≡ with_first_of way a.at
+pub hears-at : (noise : Option ℕ) → noise ≡ None → (way : List ℕ) (a : TimedEndpoint) → (hears noise way a).at ≡ with_first_of way a.at
 hears-at noise none [] a = refl
 hears-at noise none (value ∷ more) a = ap (λ o. circuit.happens (port.octet (unwrap_or o value)) a.at) none
 

@@ -33,7 +33,7 @@ use Rattle.laws_time.proofs.OfCircuit.Open.{stuffed-longest}
 
 -- ---- so few bits are left of frames that are so short
 
-text-longest : (m : ℕ) (item : Item) → item_octets item ≤ m + 4 → length (item_text item) ≤ longest_text m
+pub text-longest : (m : ℕ) (item : Item) → item_octets item ≤ m + 4 → length (item_text item) ≤ longest_text m
 text-longest m item few = grind (arith, stuffed-longest, length-append, length-bits, length-check)
 
 line-longer : (front : List Item) (last : Item) → length (line_text (front ++ last ∷ [])) ≡ length (line_text front) + length (item_text last)

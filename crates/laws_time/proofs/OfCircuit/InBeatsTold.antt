@@ -30,7 +30,7 @@ unfoldable use Rattle.laws_order.proofs.OfCircuit.Projected.{doings_meant}
 use Rattle.laws_order.proofs.OfCircuit.Takings.{takings, takings-append, on_ways, all-paid}
 
 -- What was told stays told.
-front-is-all : (all told now more rest : List LineTold) → told ≡ all → now ≡ told ++ more → now ++ rest ≡ all → now ≡ all
+pub front-is-all : (all told now more rest : List LineTold) → told ≡ all → now ≡ told ++ more → now ++ rest ≡ all → now ≡ all
 front-is-all all told now more rest same grown beginning =
     let long : all ++ (more ++ rest) ≡ all ++ [] =
     sym (append_assoc all more rest) ∙ ap (λ l. (l ++ more) ++ rest) (sym same) ∙ ap (λ l. l ++ rest) (sym grown) ∙ beginning ∙ sym (append-nil all) in

@@ -29,6 +29,7 @@ use Rattle.laws_wire.proofs.UaBefore.{regranted}
 use Rattle.laws_wire.proofs.UaLostRun as run
 use Rattle.laws_wire.proofs.UaTold.{patient-goes}
 use Rattle.laws_time.proofs.OfCircuit.ArrivAs.{station, heard_of}
+use Rattle.laws_time.proofs.OfCircuit.ArrivPath.{of_call, talk-of}
 use Rattle.laws_time.proofs.OfCircuit.ArrivRun.{Reached}
 use Rattle.laws_time.proofs.OfCircuit.InTime.{PairNow}
 use Rattle.laws_time.proofs.OfCircuit.Standing.{Ends}
@@ -131,7 +132,7 @@ module _ (l : Line) (fit : IsFit l) (w : Clocked) (pair : PairNow l fit w) (r : 
   GoesTo f = run.Goes l.service l.tei l.near l.far 0 0 (setting l.service l.near l.far l.near_line l.far_line l.tei fit.call).face (setting l.service l.near l.far l.near_line l.far_line l.tei fit.call).back (setting l.service l.near l.far l.near_line l.far_line l.tei fit.call).near (setting l.service l.near l.far l.near_line l.far_line l.tei fit.call).far x f
 
   goes : GoesTo r.f
-  goes = subst GoesTo r.path.leads (patient-goes l.service l.near l.far l.near_line l.far_line l.tei r.path.steps fit.call r.path.talk r.path.patient)
+  goes = subst GoesTo r.path.leads (patient-goes l.service l.near l.far l.near_line l.far_line l.tei r.path.steps fit.call (talk-of of_call l.service l.tei (calling l.service l.tei l.near l.near_line l.far l.far_line) r.f r.path) r.path.patient)
 
   near-heard : heard_in goes.v.near ≡ heard_of w.near.at.told
   near-heard = ap (λ (f : Wire). heard_in f.near) (sym goes.is) ∙ ap heard_in r.same.near_is ∙ r.same.near_heard

@@ -207,7 +207,7 @@ module _ (service : Service) (tei : ℕ) where
         (told-fair a ev S M h.but (λ what is timer same. absurd (none-means a.at.card.card.config.n201 ev (port_of a.at) timer none (is ∙ ap (λ what. Some what) same))))
 
     -- and for what is due, which is its own.
-    due-walks : (a : TimedEndpoint) (S M : ℕ) → EndAt S M a → (x : Expiry) → due a.clock ≡ Some x → Walks a (falls a x)
+    pub due-walks : (a : TimedEndpoint) (S M : ℕ) → EndAt S M a → (x : Expiry) → due a.clock ≡ Some x → Walks a (falls a x)
     due-walks a S M h x is =
         walks-due a x is (first-of (λ x. x.line ≡ a.at.line) a.clock.running a.clock.now x h.but.clock.here is)
         (told-fair a (port.expiry x.timer) S M h.but (λ what means timer same.

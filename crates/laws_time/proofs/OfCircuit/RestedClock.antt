@@ -12,7 +12,6 @@ use Rattle.lapd_frame.specs.declared.services.Service.{Service}
 use Rattle.lapd_frame.specs.declared.timers.Timer.{Timer}
 use Rattle.lapd_frame.specs.declared.timers.Timer.TheVariants as timers
 use Rattle.model_link.specs.declared.states.State.TheVariants.{Established}
-use Rattle.model_link.specs.declared.timers.LinkTimer.{LinkTimer}
 use Rattle.model_link.specs.declared.timers.LinkTimer.TheVariants.{T200, T203}
 use Rattle.model_link.specs.Link.{Link, fresh}
 use Rattle.model_link.specs.Told.{runs}
@@ -60,14 +59,14 @@ module _ (c : Config) (ranged : IsInRange c) (service : Service) (tei : ℕ) (ls
   within : a.at.line < a.at.card.card.config.lines
   within = subst (λ (k : Config). a.at.line < k.lines) (sym (config c ranged a.at ran)) ran.within
 
-  link-is : link_in (line_at a.at.line a.at.card.card) service 0 ≡ link_of service tei (line_at a.at.line a.at.card.card)
+  pub link-is : link_in (line_at a.at.line a.at.card.card) service 0 ≡ link_of service tei (line_at a.at.line a.at.card.card)
   link-is = sym (ap (λ o. option_map_or (link_in line service) o fresh) on)
 
   here-is : frame_runs.after_all (cards.fresh c) (meant_all (fresh_card c) ran.events) ≡ a.at.card.card
   here-is = sym (ap (λ (m : OctetCard). m.card) ran.is ∙ refined_card (fresh_card c) ran.events)
 
   -- The link runs the timer that it needs, and so does the clock.
-  has-timer : HasItsTimer (link_of service tei (line_at a.at.line a.at.card.card))
+  pub has-timer : HasItsTimer (link_of service tei (line_at a.at.line a.at.card.card))
   has-timer =
       let all = meant_at_lines (fresh_card c) ran.events ran.at_lines in
       let timely = subst AllHaveTheirTimers here-is (timely-now c (meant_all (fresh_card c) ran.events) a.at.line ranged all ran.within service tei) in
@@ -77,7 +76,7 @@ module _ (c : Config) (ranged : IsInRange c) (service : Service) (tei : ℕ) (ls
   run-as timer =
       let all = subst (λ (t : TimedOctetCard). RunAs as_they_are t.card.card t.clock) timed.2 (octet_timers_run_the_same c ls 0 timed.0 ranged timed.1) in all a.at.line timer within
 
-  runs-t200 : is_some (moment_of a.at.line (timers.T200 service tei) a.clock.running) ≡ runs T200 (link_of service tei (line_at a.at.line a.at.card.card)).running
+  pub runs-t200 : is_some (moment_of a.at.line (timers.T200 service tei) a.clock.running) ≡ runs T200 (link_of service tei (line_at a.at.line a.at.card.card)).running
   runs-t200 =
       sym (held-is a.at.line (timers.T200 service tei) running) ∙ run-as (timers.T200 service tei) ∙ ap (λ o. runs_at service T200 o line) on ∙ ap (λ (x : Link). runs T200 x.running) link-is
 
@@ -98,7 +97,7 @@ module _ (c : Config) (ranged : IsInRange c) (service : Service) (tei : ℕ) (ls
     t203-some = some-some (moment_of a.at.line (timers.T203 service tei) running) (runs-t203 ∙ ap (runs T203) needs)
 
 -- What holds of all that runs holds of the moment of a timer.
-moment-keeps : (P : Timer → ℕ → Type 0) (number : ℕ) (its : Timer) (es : List Expiry) (m : ℕ) → AllByRecursion (λ x. P x.timer x.moment) es → moment_of number its es ≡ Some m → P its m
+pub moment-keeps : (P : Timer → ℕ → Type 0) (number : ℕ) (its : Timer) (es : List Expiry) (m : ℕ) → AllByRecursion (λ x. P x.timer x.moment) es → moment_of number its es ≡ Some m → P its m
 moment-keeps P number its [] m all is = absurd (cc is)
 moment-keeps P number its (e ∷ es) m all is = go (moment-keeps P number its es m all.1) (is_of number its e) refl is
   where

@@ -1,0 +1,219 @@
+-- After noise an end hears again what the other gave: with each octet just that.
+use Rattle.std.proofs.Common.{arith, ◌≡◌, ℕ, zero, suc, ◌+◌, ◌*◌, ◌≤◌, ◌<◌, Bool, List, [], ◌∷◌, ◌++◌, length, replicate, Option, Some, None, refl, sym, ap, ◌∙◌, subst, All, ◌⊎◌, inl, inr, append_assoc, length-append}
+use Rattle.std.specs.Prelude.{flat_map, option_to_list, slice_get}
+use Rattle.std.proofs.lemmas.Bool.{cases_lt}
+use Rattle.std.proofs.lemmas.List.{append_cancel_left, append_cancel_right, length-replicate}
+use Rattle.std.proofs.lemmas.List.Elements.{All-nil, All-cons, All-head, All-tail}
+use mathlib.Core.List.{reverse_aux}
+use Rattle.model_bits.specs.Bits.{bits, flag}
+use Rattle.model_bits.specs.Framer.{item_octets}
+use Rattle.model_bits.specs.Sent.{Item, idle, frame, frame_text, item_text}
+use Rattle.model_bits.specs.Stream as stream
+use Rattle.model_bits.specs.Stream.{heard_in, heard_until, room_for}
+use Rattle.model_bits.proofs.BitLemmas.{bits-append, length-bits}
+use Rattle.model_bits.proofs.RoundTripPlaces.{hears, heard_until-onto, reverse_aux-append, reverse_aux-onto, after_flag}
+use Rattle.model_card.proofs.OfPorts.Gains.{heard_with}
+use Rattle.model_card.specs.ports.Port.{Port, gained, left_of}
+use Rattle.model_card.specs.ports.Pulls.{longest_text}
+use Rattle.laws_order.specs.circuit.Beats.{longest}
+use Rattle.laws_time.proofs.OfCircuit.AnsweredBits.{longer-begins}
+use Rattle.laws_time.proofs.OfCircuit.AnsweredClear.{hears-same, bits-flags, flags-before, begins-so, gained-there}
+use Rattle.laws_time.proofs.OfCircuit.AnsweredPlace.{Comes, all_sent}
+use Rattle.laws_time.proofs.OfCircuit.InBeatsShort.{text-longest}
+use Rattle.laws_time.proofs.OfCircuit.Sender.{Fine}
+
+-- ---- what came before a flag does not matter
+
+one-of-two : {A : Type 0} (o e : Option A) → option_to_list o ≡ option_to_list e → o ≡ e
+one-of-two None None is = refl
+one-of-two None (Some b) is = absurd (cc is)
+one-of-two (Some a) None is = absurd (cc is)
+one-of-two (Some a) (Some b) is = ap (λ x. Some x) (cc is)
+
+module _ (n201 : ℕ) (S : List ℕ) (value : ℕ) (u part : List Bool) (stands : bits S ≡ u ++ (flag ++ part)) where
+  abbrev place : List ℕ → List Bool
+  place P = after_flag (reverse_aux (bits P ++ u) [])
+
+  abbrev here : List ℕ → List Bool
+  here P = reverse_aux part (place P)
+
+  at-place : (P : List ℕ) → bits (P ++ S) ≡ (bits P ++ u) ++ (flag ++ part)
+  at-place P = bits-append P S ∙ ap (λ b. bits P ++ b) stands ∙ sym (append_assoc (bits P) u (flag ++ part))
+
+  heard-so : (P : List ℕ) → heard_in n201 (P ++ S) ≡ heard_until (room_for n201) (here P)
+  heard-so P =
+      ap (λ b. heard_until (room_for n201) (reverse_aux b [])) (at-place P)
+      ∙ ap (heard_until (room_for n201)) (reverse_aux-append (bits P ++ u) (flag ++ part) [] ∙ reverse_aux-append flag part (reverse_aux (bits P ++ u) []))
+
+  heard-then : (P : List ℕ) → heard_in n201 ((P ++ S) ++ value ∷ []) ≡ heard_until (room_for n201) (here P) ++ hears (room_for n201) (here P) (bits (value ∷ []))
+  heard-then P =
+      ap (λ b. heard_until (room_for n201) (reverse_aux b [])) (bits-append (P ++ S) (value ∷ []) ∙ ap (λ b. b ++ bits (value ∷ [])) (at-place P))
+      ∙ ap (heard_until (room_for n201)) (reverse_aux-append ((bits P ++ u) ++ (flag ++ part)) (bits (value ∷ [])) []
+      ∙ ap (reverse_aux (bits (value ∷ []))) (reverse_aux-append (bits P ++ u) (flag ++ part) [] ∙ reverse_aux-append flag part (reverse_aux (bits P ++ u) [])))
+      ∙ heard_until-onto (room_for n201) (bits (value ∷ [])) (here P)
+
+  gains : (P : List ℕ) → option_to_list (gained n201 (P ++ S) value) ≡ hears (room_for n201) (here P) (bits (value ∷ []))
+  gains P =
+      let H = heard_until (room_for n201) (here P) in
+      append_cancel_left H (option_to_list (gained n201 (P ++ S) value)) (hears (room_for n201) (here P) (bits (value ∷ [])))
+      (ap (λ h. h ++ option_to_list (gained n201 (P ++ S) value)) (sym (heard-so P)) ∙ sym (heard_with n201 (P ++ S) value) ∙ heard-then P)
+
+  onto : (P : List ℕ) → here P ≡ reverse_aux part [] ++ place P
+  onto P = reverse_aux-onto part [] (place P)
+
+  pub same-gained : (P Q : List ℕ) → gained n201 (P ++ S) value ≡ gained n201 (Q ++ S) value
+  same-gained P Q =
+      let room = room_for n201 in
+      let y = bits (value ∷ []) in
+      one-of-two (gained n201 (P ++ S) value) (gained n201 (Q ++ S) value)
+      (gains P ∙ ap (λ p. hears room p y) (onto P) ∙ hears-same room y (reverse_aux part []) (reverse_aux (bits P ++ u) []) (reverse_aux (bits Q ++ u) []) ∙ ap (λ p. hears room p y) (sym (onto Q)) ∙ sym (gains Q))
+
+-- ---- in so many bits of a line a flag stands
+
+pub record FlagAfter (low most : ℕ) (text : List Bool) : Type 0 where
+  pub front : List Bool
+  pub rest : List Bool
+  pub is : text ≡ front ++ (flag ++ rest)
+  pub later : low ≤ length front
+  pub soon : length front < low + most
+
+its-text : (i : Item) → (y : List Bool) × (item_text i ≡ y ++ flag)
+its-text idle = ([], refl)
+its-text (frame o) = (frame_text o, refl)
+
+abbrev FlagIn : ℕ → ℕ → List Bool → List Item → Type 0
+FlagIn low most x items = FlagAfter low most (x ++ (flag ++ flat_map item_text items))
+
+flag-here : (low most : ℕ) (items : List Item) (x : List Bool) → length x < low + most → low ≤ length x → FlagIn low most x items
+flag-here low most items x near late = record { front = x; rest = flat_map item_text items; is = refl; later = late; soon = near }
+
+-- After one item more.
+module _ (low most : ℕ) (i : Item) (items : List Item) (x : List Bool) (few : All (λ item. length (item_text item) ≤ most) (i ∷ items)) (near : length x < low + most)
+    (enough : low ≤ length x + length (flat_map item_text (i ∷ items))) where
+  abbrev t : List Bool
+  t = (its-text i).0
+
+  abbrev next : List Bool
+  next = x ++ (flag ++ (its-text i).0)
+
+  abbrev more : List Bool
+  more = flat_map item_text items
+
+  all : x ++ (flag ++ (item_text i ++ flat_map item_text items)) ≡ (x ++ (flag ++ (its-text i).0)) ++ (flag ++ flat_map item_text items)
+  all =
+      ap (λ b. x ++ (flag ++ (b ++ more))) (its-text i).1 ∙ ap (λ b. x ++ (flag ++ b)) (append_assoc t flag more)
+      ∙ sym (ap (λ b. x ++ b) (append_assoc flag t (flag ++ more))) ∙ sym (append_assoc x (flag ++ t) (flag ++ more))
+
+  flag-on : (length x < low) ⊎ (low ≤ length x) → (length next < low + most → low ≤ length next + length more → FlagIn low most next items) → FlagIn low most x (i ∷ items)
+  flag-on (inr late) rest = flag-here low most (i ∷ items) x near late
+  flag-on (inl less) rest =
+      let one = All-head (λ item. length (item_text item) ≤ most) i items few in
+      let a = length-append x (flag ++ t) in let b = length-append flag t in let c = ap length (its-text i).1 ∙ length-append t flag in let d = length-append (item_text i) more in
+      subst (FlagAfter low most) (sym all) (rest (omega (arith, a, b, c, one, less)) (omega (arith, a, b, c, d, enough)))
+
+flag-after : (low most : ℕ) (items : List Item) (x : List Bool) → All (λ item. length (item_text item) ≤ most) items → length x < low + most → low ≤ length x + length (flat_map item_text items)
+    → FlagAfter low most (x ++ (flag ++ flat_map item_text items))
+flag-after low most [] x few near enough = flag-here low most [] x near (omega (arith, enough))
+flag-after low most (i ∷ items) x few near enough =
+    flag-on low most i items x few near enough (cases_lt (length x) low)
+    (λ near enough. flag-after low most items (x ++ (flag ++ (its-text i).0)) (All-tail (λ item. length (item_text item) ≤ most) i items few) near enough)
+
+-- The flags of the beginning are items, too.
+flags-pass : (n : ℕ) (b : List Bool) → flat_map item_text (replicate n idle) ++ (flag ++ b) ≡ flag ++ (flat_map item_text (replicate n idle) ++ b)
+flags-pass zero b = refl
+flags-pass (suc n) b =
+    let F = flat_map item_text (replicate n idle) in
+    append_assoc flag F (flag ++ b) ∙ ap (λ b. flag ++ b) (flags-pass n b ∙ sym (append_assoc flag F b))
+
+all-flags : (most n : ℕ) → 8 ≤ most → All (λ item. length (item_text item) ≤ most) (replicate n idle)
+all-flags most zero long = All-nil (λ item. length (item_text item) ≤ most)
+all-flags most (suc n) long = All-cons (λ item. length (item_text item) ≤ most) idle (replicate n idle) long (all-flags most n long)
+
+both-parts : (most : ℕ) (xs ys : List Item) → All (λ item. length (item_text item) ≤ most) xs → All (λ item. length (item_text item) ≤ most) ys → All (λ item. length (item_text item) ≤ most) (xs ++ ys)
+both-parts most xs ys = Rattle.std.proofs.lemmas.List.Elements.All-append (λ item. length (item_text item) ≤ most) xs ys
+
+texts : (xs ys : List Item) → flat_map item_text (xs ++ ys) ≡ flat_map item_text xs ++ flat_map item_text ys
+texts [] ys = refl
+texts (x ∷ xs) ys = ap (λ b. item_text x ++ b) (texts xs ys) ∙ sym (append_assoc (item_text x) (flat_map item_text xs) (flat_map item_text ys))
+
+pub all-texts : (m : ℕ) (items : List Item) → All (λ item. item_octets item ≤ m + 4) items → All (λ item. length (item_text item) ≤ longest_text m) items
+all-texts m [] small = All-nil (λ item. length (item_text item) ≤ longest_text m)
+all-texts m (i ∷ items) small =
+    All-cons (λ item. length (item_text item) ≤ longest_text m) i items (text-longest m i (All-head (λ item. item_octets item ≤ m + 4) i items small))
+    (all-texts m items (All-tail (λ item. item_octets item ≤ m + 4) i items small))
+
+-- ---- so what is heard with an octet is what the other gave
+
+module _ (n201 m way k : ℕ) (p : Port) (value : ℕ) (more : List ℕ) (q : Port) (h : Fine n201 p) (c : Comes way k p (value ∷ more) q) (small : All (λ item. item_octets item ≤ m + 4) p.items)
+    (enough : k + (longest m + 1) ≤ length c.before + length c.as_sent) where
+  abbrev F : List Bool
+  F = flat_map item_text (replicate way idle)
+
+  abbrev all_items : List Item
+  all_items = replicate way idle ++ p.items
+
+  abbrev tail : List Bool
+  tail = bits (value ∷ more) ++ left_of p
+
+  text-is : bits (all_sent way p) ++ left_of p ≡ [] ++ (flag ++ flat_map item_text all_items)
+  text-is =
+      ap (λ b. b ++ left_of p) (bits-append (replicate way 0x7E) p.given ∙ ap (λ b. b ++ bits p.given) (bits-flags way)) ∙ append_assoc F (bits p.given) (left_of p)
+      ∙ ap (λ b. F ++ b) (sym h.sound.text.text) ∙ flags-pass way (flat_map item_text p.items) ∙ ap (λ b. flag ++ b) (sym (texts (replicate way idle) p.items))
+
+  came-is : bits (all_sent way p) ++ left_of p ≡ bits c.before ++ (bits c.as_sent ++ tail)
+  came-is =
+      ap (λ os. bits os ++ left_of p) (c.sent ∙ append_assoc c.before c.as_sent (value ∷ more))
+      ∙ ap (λ b. b ++ left_of p) (bits-append c.before (c.as_sent ++ value ∷ more) ∙ ap (λ b. bits c.before ++ b) (bits-append c.as_sent (value ∷ more)))
+      ∙ append_assoc (bits c.before) (bits c.as_sent ++ bits (value ∷ more)) (left_of p)
+      ∙ ap (λ b. bits c.before ++ b) (append_assoc (bits c.as_sent) (bits (value ∷ more)) (left_of p))
+
+  long-enough : 8 ≤ longest_text m
+  long-enough = omega arith
+
+  all-long : 8 * (length c.before + length c.as_sent) + 8 ≤ 8 + length (flat_map item_text all_items)
+  all-long =
+      let a = ap length (sym came-is ∙ text-is) in let b = length-append (bits c.before) (bits c.as_sent ++ tail) in let d = length-append (bits c.as_sent) tail in
+      let e = length-append (bits (value ∷ more)) (left_of p) in let f = length-bits c.before in let g = length-bits c.as_sent in let i = length-bits (value ∷ more) in
+      let j = length-append flag (flat_map item_text all_items) in
+      omega (arith, a, b, d, e, f, g, i, j)
+
+  found : FlagAfter (8 * k) (longest_text m) ([] ++ (flag ++ flat_map item_text all_items))
+  found =
+      let all = all-long in
+      flag-after (8 * k) (longest_text m) all_items [] (both-parts (longest_text m) (replicate way idle) p.items (all-flags (longest_text m) way long-enough) (all-texts m p.items small))
+      (let long = long-enough in omega (arith, long)) (omega (arith, all, enough))
+
+  -- it came as it was sent
+  u : (u : List Bool) × (found.front ≡ bits c.before ++ u) × (bits c.as_sent ++ tail ≡ u ++ (flag ++ found.rest))
+  u =
+      let a = found.later in let few = c.few in let b = length-bits c.before in
+      longer-begins (bits c.before) (bits c.as_sent ++ tail) found.front (flag ++ found.rest) (sym came-is ∙ text-is ∙ found.is) (omega (arith, a, few, b))
+
+  part : (part : List Bool) × (bits c.as_sent ≡ (u.0 ++ flag) ++ part) × (found.rest ≡ part ++ tail)
+  part =
+      let a = found.soon in let b = ap length u.1 ∙ length-append (bits c.before) u.0 in let d = length-bits c.before in let e = length-bits c.as_sent in let f = length-append u.0 flag in
+      longer-begins (u.0 ++ flag) found.rest (bits c.as_sent) tail (append_assoc u.0 flag found.rest ∙ sym u.2) (omega (arith, a, b, d, e, f, enough))
+
+  gained-as-sent : gained n201 q.received value ≡ gained n201 (c.before ++ c.as_sent) value
+  gained-as-sent = ap (λ os. gained n201 os value) c.received ∙ same-gained n201 c.as_sent value u.0 part.0 (part.1 ∙ append_assoc u.0 flag part.0) c.noisy c.before
+
+  all-given : replicate way 0x7E ++ p.given ≡ (c.before ++ c.as_sent) ++ (value ∷ more)
+  all-given = c.sent
+
+  -- What is heard stood in what the other gave.
+  pub heard-was : (e : stream.Event) → gained n201 q.received value ≡ Some e → (before : List ℕ) × (p.given ≡ before ++ value ∷ more) × (gained n201 before value ≡ Some e)
+  heard-was e gains =
+      gained-there n201 way p.given (c.before ++ c.as_sent) value more (left_of p) (flat_map item_text p.items) e (sym h.sound.text.text) all-given (sym gained-as-sent ∙ gains)
+
+  -- And all that stood there is heard.
+  pub heard-so-too : (before : List ℕ) → p.given ≡ before ++ value ∷ more → gained n201 q.received value ≡ gained n201 before value
+  heard-so-too before is =
+      let given : (replicate way 0x7E ++ before) ++ value ∷ more ≡ (c.before ++ c.as_sent) ++ value ∷ more =
+      append_assoc (replicate way 0x7E) before (value ∷ more) ∙ ap (λ g. replicate way 0x7E ++ g) (sym is) ∙ all-given in
+      let same = append_cancel_right (replicate way 0x7E ++ before) (c.before ++ c.as_sent) (value ∷ more) given in
+      let text = sym h.sound.text.text in
+      let now = before ++ value ∷ [] in
+      let first = flags-before n201 way before (begins-so n201 p.given before (value ∷ more) (left_of p) (flat_map item_text p.items) text is) in
+      let then = flags-before n201 way now (begins-so n201 p.given now more (left_of p) (flat_map item_text p.items) text (is ∙ sym (append_assoc before (value ∷ []) more))) in
+      gained-as-sent ∙ ap (λ os. gained n201 os value) (sym same)
+      ∙ (λ i. slice_get ((ap (heard_in n201) (append_assoc (replicate way 0x7E) before (value ∷ [])) ∙ then) i) (length (first i)))

@@ -1,0 +1,111 @@
+-- In beats without noise, so long after noise ended, each end hears what the other gave: no frame is lost, and none is made.
+use Rattle.std.proofs.Common.{arith, ◌≡◌, ℕ, ◌+◌, ◌≤◌, List, [], ◌∷◌, ◌++◌, length, Option, Some, None, sym, ap, ◌∙◌, subst, All, inr, length-append}
+use Rattle.std.specs.Option.{unwrap_or}
+use Rattle.std.proofs.lemmas.List.Elements.{All-head, All-tail}
+use Rattle.std.proofs.lemmas.List.Sums.{fold-append}
+use Rattle.model_card.specs.ports.Port.{Port, gained}
+use Rattle.laws_line.proofs.OfCard.Meanwhile.{all-left, all-right}
+use Rattle.laws_order.specs.circuit.Beats.{longest}
+use Rattle.laws_order.specs.circuit.Circuit.{Endpoint as OctetEndpoint, port_of}
+use Rattle.laws_time.specs.circuit.AfterNoise.{NoiseMakesNoFrameAfter}
+use Rattle.laws_time.specs.circuit.Answered.{IsClean}
+use Rattle.laws_time.specs.circuit.Clocked.{TimedEndpoint, Clocked, Beat, gone, beat, after}
+use Rattle.laws_time.specs.circuit.InBeats.{Begins}
+use Rattle.laws_time.specs.circuit.LongEnough.{Line, IsTalk, IsClearAt, begins}
+unfoldable use Rattle.laws_time.specs.circuit.LongEnough.{AreClear}
+use Rattle.laws_time.proofs.OfCircuit.AgainExact.{heard-was, heard-so-too}
+use Rattle.laws_time.proofs.OfCircuit.AgainLaw.{Since, since-first, since-one, since-all, gone-there, gone-back, many-of}
+use Rattle.laws_time.proofs.OfCircuit.AgainRan.{beaten, both-all, both-begin, beats-all}
+use Rattle.laws_time.proofs.OfCircuit.AnsweredBeats.{Came, Sent}
+use Rattle.laws_time.proofs.OfCircuit.AnsweredPlace.{Comes}
+use Rattle.laws_time.proofs.OfCircuit.ArrivHeard.{IsExactAt}
+use Rattle.laws_time.proofs.OfCircuit.ArrivPath.{of_whole}
+unfoldable use Rattle.laws_time.proofs.OfCircuit.ArrivRun.{AreKept}
+use Rattle.laws_time.proofs.OfCircuit.Sender.{Fine}
+
+-- From one end to the other, without noise.
+module _ (n201 way k : ℕ) (s other u : TimedEndpoint) (noise : Option ℕ) (none : noise ≡ None) (z : Came s u other noise) (fine : Fine n201 (port_of other.at))
+    (c : Comes way k (port_of other.at) (z.value ∷ z.more) (port_of s.at)) (enough : k + (longest n201 + 1) ≤ length c.before + length c.as_sent) where
+  abbrev q : Port
+  q = port_of s.at
+
+  abbrev p : Port
+  p = port_of other.at
+
+  same-value : (value : ℕ) (more : List ℕ) → other.at.way ≡ value ∷ more → z.value ≡ value
+  same-value value more is = cc (sym z.comes ∙ is)
+
+  same-way : (value : ℕ) (more : List ℕ) → other.at.way ≡ value ∷ more → value ∷ more ≡ z.value ∷ z.more
+  same-way value more is = sym is ∙ z.comes
+
+  pub exact-at : IsExactAt n201 noise s other.at
+  exact-at value more before is given =
+      ap (λ o. gained n201 q.received (unwrap_or o value)) none
+      ∙ subst (λ v. gained n201 q.received v ≡ gained n201 before v) (same-value value more is)
+      (heard-so-too n201 n201 way k p z.value z.more q fine c fine.sound.sizes enough before (given ∙ ap (λ w. before ++ w) (same-way value more is)))
+
+  pub clear-at : IsClearAt n201 noise s other
+  clear-at value more e is gains frame =
+      let v = same-value value more is in
+      let here : gained n201 q.received z.value ≡ Some e = ap (gained n201 q.received) v ∙ ap (λ o. gained n201 q.received (unwrap_or o value)) (sym none) ∙ gains in
+      let x = heard-was n201 n201 way k p z.value z.more q fine c fine.sound.sizes enough e here in
+      (x.0, x.1 ∙ ap (λ w. x.0 ++ w) (sym z.comes), sym (ap (gained n201 x.0) v) ∙ x.2)
+
+given-long : (s v : OctetEndpoint) (n : ℕ) → Sent s v → length (port_of s).given ≡ n → length (port_of v).given ≡ n + 1
+given-long s v n x is = ap length x.given ∙ length-append (port_of s).given (x.value ∷ []) ∙ ap (λ k. k + 1) is
+
+way-long : (s v : OctetEndpoint) (n : ℕ) → Sent s v → length s.way ≡ n → length v.way ≡ n + 1
+way-long s v n x is = ap length x.way ∙ length-append s.way (x.value ∷ []) ∙ ap (λ k. k + 1) is
+
+module _ (l : Line) (fit : Begins l) where
+  size : l.near.n201 ≡ l.far.n201
+  size = fit.call.opposite.1
+
+  pub again : (k : ℕ) (bs : List Beat) → All (IsTalk l) bs → All IsClean bs → (w : Clocked) → Since l fit k w → k + (longest l.near.n201 + 1) ≤ w.beats → AreClear l bs w × AreKept of_whole l bs w
+  unfolding AreClear AreKept
+  again k [] talk is_clean w h enough = (tt, tt)
+  again k (b ∷ bs) talk is_clean w h enough =
+      let t = All-head (IsTalk l) b bs talk in
+      let c = All-head IsClean b bs is_clean in
+      let v = gone l.rate b w in
+      let u = beat l.rate w b in
+      let z = beaten l fit w b t h.both in
+      let far_fine = subst (λ n. Fine n (port_of v.far.at)) (sym size) z.far_fine in
+      let x = gone-there l fit k w b h z in
+      let y = gone-back l fit k w b h z in
+      let there = many-of l.way w.beats k (port_of v.near.at) (z.far.value ∷ z.far.more) (port_of v.far.at) x (given-long w.near.at v.near.at w.beats z.near_sent h.both.near.given)
+      (sym (ap length z.far.comes) ∙ way-long w.near.at v.near.at l.way z.near_sent h.both.near.long) in
+      let back = many-of l.way w.beats k (port_of v.far.at) (z.near.value ∷ z.near.more) (port_of v.near.at) y (given-long w.far.at v.far.at w.beats z.far_sent h.both.far.given)
+      (sym (ap length z.near.comes) ∙ way-long w.far.at v.far.at l.way z.far_sent h.both.far.long) in
+      let long : k + (longest l.near.n201 + 1) ≤ length x.before + length x.as_sent = omega (arith, there, enough) in
+      let long_back : k + (longest l.near.n201 + 1) ≤ length y.before + length y.as_sent = omega (arith, back, enough) in
+      let rest = again k bs (All-tail (IsTalk l) b bs talk) (All-tail IsClean b bs is_clean) u (since-one l fit k w b h z c) (omega (arith, enough)) in (
+        (
+          clear-at l.near.n201 l.way k v.near v.far u.near b.near_noise c.0 z.near far_fine y long_back,
+          clear-at l.near.n201 l.way k v.far v.near u.far b.far_noise c.1 z.far z.near_fine x long,
+          rest.0,
+        ),
+        (
+          inr (exact-at l.near.n201 l.way k v.near v.far u.near b.near_noise c.0 z.near far_fine y long_back),
+          inr (exact-at l.near.n201 l.way k v.far v.near u.far b.far_noise c.1 z.far z.near_fine x long),
+          rest.1,
+        ),
+      )
+
+  -- From any beats on, of whatever noise.
+  pub kept-again : (noisy quiet bs : List Beat) → All (IsTalk l) (noisy ++ (quiet ++ bs)) → All IsClean (quiet ++ bs) → longest l.near.n201 + 1 ≤ length quiet
+      → let w = after l.rate (noisy ++ quiet) (begins l) in AreClear l bs w × AreKept of_whole l bs w
+  kept-again noisy quiet bs talk is_clean enough =
+      let rest = quiet ++ bs in
+      let s = after l.rate noisy (begins l) in
+      let k = s.beats in
+      let first = since-first l fit s (both-all l fit noisy (all-left (IsTalk l) noisy rest talk) (begins l) (both-begin l fit)) in
+      let talk_rest = all-right (IsTalk l) noisy rest talk in
+      let w = after l.rate quiet s in
+      let h = since-all l fit k quiet (all-left (IsTalk l) quiet bs talk_rest) (all-left IsClean quiet bs is_clean) s first in
+      let e = beats-all l fit quiet s in
+      subst (λ w. AreClear l bs w × AreKept of_whole l bs w) (sym (fold-append (beat l.rate) (begins l) noisy quiet))
+      (again k bs (all-right (IsTalk l) quiet bs talk_rest) (all-right IsClean quiet bs is_clean) w h (omega (arith, e, enough)))
+
+pub noise-makes-no-frame-after : NoiseMakesNoFrameAfter
+noise-makes-no-frame-after l noisy quiet bs fit talk is_clean enough = (kept-again l fit noisy quiet bs talk is_clean enough).0

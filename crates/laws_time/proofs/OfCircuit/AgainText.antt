@@ -1,0 +1,187 @@
+-- After a flag that came as it was sent each frame is heard, whatever came before: of items that were put on a line since, all.
+use Rattle.std.proofs.Common.{arith, ◌≡◌, ℕ, ◌+◌, ◌*◌, ◌≤◌, Bool, List, [], ◌∷◌, ◌++◌, length, drop, map, replicate, refl, sym, ap, ◌∙◌, subst, All, append-nil, append_assoc, length-append}
+use Rattle.std.specs.Prelude.{flat_map}
+use Rattle.std.proofs.lemmas.List.{length-replicate}
+use Rattle.std.proofs.lemmas.List.Elements.{All-head, All-tail}
+use mathlib.Core.List.{reverse_aux}
+use Rattle.model_bits.specs.Bits.{bits, flag}
+use Rattle.model_bits.specs.RoundTrip.{AreHeardWhole, frames_of}
+use Rattle.model_bits.specs.Sent.{Item, idle, frame, item_text, line_text}
+use Rattle.model_bits.specs.Stream as stream
+use Rattle.model_bits.specs.Stream.{heard_in, heard_until, room_for}
+use Rattle.model_bits.specs.StuffingLaws.{AreOctets}
+use Rattle.model_bits.proofs.BitLemmas.{bits-append, length-bits}
+use Rattle.model_bits.proofs.RoundTripFrame.{hears_items}
+use Rattle.model_bits.proofs.RoundTripPlaces.{hears, heard_until-onto, reverse_aux-append, hears-append, after_flag}
+use Rattle.model_card.proofs.OfPorts.AsOctets.{exact, sent, heard_whole}
+use Rattle.model_card.proofs.OfPorts.PortGoesOn.{frames_among-append}
+use Rattle.model_card.specs.ports.Codec.{frames_among}
+use Rattle.model_card.specs.ports.Port.{Port, left_of}
+use Rattle.model_card.specs.ports.Pulls.{longest_text}
+use Rattle.laws_order.specs.circuit.Beats.{longest}
+use Rattle.laws_order.proofs.OfCircuit.OneWay.{framed}
+use Rattle.laws_time.proofs.OfCircuit.AnsweredBits.{longer-begins}
+use Rattle.laws_time.proofs.OfCircuit.AnsweredPlace.{Comes, all_sent, ends-flag}
+use Rattle.laws_time.proofs.OfCircuit.Sender.{Fine}
+
+-- ---- items as they go out
+
+sent-same : (items : List Item) → All AreOctets (frames_among items) → map sent items ≡ items
+sent-same [] all = refl
+sent-same (idle ∷ items) all = ap (λ is. idle ∷ is) (sent-same items all)
+sent-same (frame o ∷ items) all =
+    let one = exact o (All-head AreOctets o (frames_among items) all) in
+    let rest = sent-same items (All-tail AreOctets o (frames_among items) all) in λ i. frame (one i) ∷ rest i
+
+pub all-whole : (n201 : ℕ) (p : Port) → Fine n201 p → AreHeardWhole n201 p.items
+all-whole n201 p h = subst (AreHeardWhole n201) (sent-same p.items h.octets) (heard_whole n201 p.items h.on.long h.sound.sizes)
+
+whole-right : (n201 : ℕ) (xs ys : List Item) → AreHeardWhole n201 (xs ++ ys) → AreHeardWhole n201 ys
+whole-right n201 [] ys all = all
+whole-right n201 (idle ∷ xs) ys all = whole-right n201 xs ys all
+whole-right n201 (frame o ∷ xs) ys all = whole-right n201 xs ys all.1
+
+whole-left : (n201 : ℕ) (xs ys : List Item) → AreHeardWhole n201 (xs ++ ys) → AreHeardWhole n201 xs
+whole-left n201 [] ys all = tt
+whole-left n201 (idle ∷ xs) ys all = whole-left n201 xs ys all
+whole-left n201 (frame o ∷ xs) ys all = (all.0, whole-left n201 xs ys all.1)
+
+as-framed : (items : List Item) → frames_of items ≡ framed (frames_among items)
+as-framed [] = refl
+as-framed (idle ∷ items) = as-framed items
+as-framed (frame o ∷ items) = ap (λ es. stream.frame o ∷ es) (as-framed items)
+
+texts : (xs ys : List Item) → flat_map item_text (xs ++ ys) ≡ flat_map item_text xs ++ flat_map item_text ys
+texts [] ys = refl
+texts (x ∷ xs) ys = ap (λ b. item_text x ++ b) (texts xs ys) ∙ sym (append_assoc (item_text x) (flat_map item_text xs) (flat_map item_text ys))
+
+drop-front : (xs ys : List (List ℕ)) → drop (length xs) (xs ++ ys) ≡ ys
+drop-front [] ys = refl
+drop-front (x ∷ xs) ys = drop-front xs ys
+
+pub put-later : (old new : List Item) → drop (length (frames_among old)) (frames_among (old ++ new)) ≡ frames_among new
+put-later old new = ap (drop (length (frames_among old))) (frames_among-append old new) ∙ drop-front (frames_among old) (frames_among new)
+
+-- ---- the text that was put since a flag
+
+module _ (n201 way k m : ℕ) (v w u : Port) (transit received : List ℕ) (q : Port) (whole : AreHeardWhole n201 u.items) (c : Comes way k u transit q) (new later : List Item)
+    (items : w.items ≡ v.items ++ new) (items_u : u.items ≡ w.items ++ later) (text_v : line_text v.items ≡ bits v.given ++ left_of v) (text_w : line_text w.items ≡ bits w.given ++ left_of w)
+    (text_u : line_text u.items ≡ bits u.given ++ left_of u) (given : k + 1 ≤ length v.given) (few : length (left_of w) ≤ longest_text m)
+    (heard : way + (length w.given + longest m) ≤ length c.before + length c.as_sent) (noisy_is : length c.before ≡ length c.noisy)
+    (more : List ℕ) (goes_on : q.received ≡ received ++ more) (had : length received ≡ k + 1) where
+  abbrev N : List Bool
+  N = flat_map item_text new
+
+  abbrev M : List Bool
+  M = flat_map item_text later
+
+  abbrev first : List Bool
+  first = bits (replicate way 0x7E)
+
+  abbrev rest : List Bool
+  rest = bits transit ++ left_of u
+
+  z : (z : List Bool) × (line_text v.items ≡ z ++ flag)
+  z = ends-flag v.items []
+
+  text-w : line_text w.items ≡ z.0 ++ (flag ++ N)
+  text-w = ap line_text items ∙ ap (λ b. flag ++ b) (texts v.items new) ∙ ap (λ b. b ++ N) z.1 ∙ append_assoc z.0 flag N
+
+  text-u : line_text u.items ≡ (z.0 ++ (flag ++ N)) ++ M
+  text-u = ap line_text items_u ∙ ap (λ b. flag ++ b) (texts w.items later) ∙ ap (λ b. b ++ M) text-w
+
+  sent-is : bits (all_sent way u) ++ left_of u ≡ (first ++ z.0) ++ ((flag ++ N) ++ M)
+  sent-is =
+      ap (λ b. b ++ left_of u) (bits-append (replicate way 0x7E) u.given) ∙ append_assoc first (bits u.given) (left_of u)
+      ∙ ap (λ b. first ++ b) (sym text_u ∙ text-u ∙ append_assoc z.0 (flag ++ N) M) ∙ sym (append_assoc first z.0 ((flag ++ N) ++ M))
+
+  came-is : bits (all_sent way u) ++ left_of u ≡ bits c.before ++ (bits c.as_sent ++ rest)
+  came-is =
+      ap (λ os. bits os ++ left_of u) (c.sent ∙ append_assoc c.before c.as_sent transit)
+      ∙ ap (λ b. b ++ left_of u) (bits-append c.before (c.as_sent ++ transit) ∙ ap (λ b. bits c.before ++ b) (bits-append c.as_sent transit))
+      ∙ append_assoc (bits c.before) (bits c.as_sent ++ bits transit) (left_of u)
+      ∙ ap (λ b. bits c.before ++ b) (append_assoc (bits c.as_sent) (bits transit) (left_of u))
+
+  first-long : length first ≡ 8 * way
+  first-long = let all = length-bits (replicate way 0x7E) in let n = length-replicate {A = ℕ} way 0x7E in omega (arith, all, n)
+
+  -- the flag comes so late
+  v-long : 8 * (k + 1) ≤ length z.0 + 8
+  v-long = let a = ap length z.1 ∙ length-append z.0 flag in let b = ap length text_v ∙ length-append (bits v.given) (left_of v) in let n = length-bits v.given in omega (arith, a, b, n, given)
+
+  -- and all that was put by then so early
+  w-long : length z.0 + 8 + length N ≤ 8 * length w.given + 8 * longest m
+  w-long =
+      let a = ap length text-w ∙ length-append z.0 (flag ++ N) in let f = length-append flag N in
+      let b = ap length text_w ∙ length-append (bits w.given) (left_of w) in let n = length-bits w.given in omega (arith, a, f, b, n, few)
+
+  before-long : length (bits c.before) ≡ 8 * length c.before
+  before-long = length-bits c.before
+
+  x : (x : List Bool) × (first ++ z.0 ≡ bits c.before ++ x) × (bits c.as_sent ++ rest ≡ x ++ ((flag ++ N) ++ M))
+  x =
+      let a = length-append first z.0 in let late = v-long in let few_before = c.few in let l1 = first-long in let l2 = before-long in
+      longer-begins (bits c.before) (bits c.as_sent ++ rest) (first ++ z.0) ((flag ++ N) ++ M) (sym came-is ∙ sent-is) (omega (arith, a, late, few_before, l1, l2))
+
+  x-long : 8 * way + length z.0 ≡ 8 * length c.before + length x.0
+  x-long = let a = ap length x.1 in let b = length-append first z.0 in let d = length-append (bits c.before) x.0 in let l1 = first-long in let l2 = before-long in omega (arith, a, b, d, l1, l2)
+
+  part : (part : List Bool) × (bits c.as_sent ≡ (x.0 ++ (flag ++ N)) ++ part) × (M ≡ part ++ rest)
+  part =
+      let a = x-long in let b = w-long in let l = length-append x.0 (flag ++ N) in let f = length-append flag N in let s = length-bits c.as_sent in
+      longer-begins (x.0 ++ (flag ++ N)) M (bits c.as_sent) rest (append_assoc x.0 (flag ++ N) M ∙ sym x.2) (omega (arith, a, b, l, f, s, heard))
+
+  abbrev past : List Bool
+  past = reverse_aux (bits c.noisy ++ x.0) []
+
+  abbrev Y : List Bool
+  Y = N ++ part.0
+
+  came : bits q.received ≡ (bits c.noisy ++ x.0) ++ (flag ++ Y)
+  came =
+      ap bits c.received ∙ bits-append c.noisy c.as_sent ∙ ap (λ b. bits c.noisy ++ b) (part.1 ∙ append_assoc x.0 (flag ++ N) part.0)
+      ∙ sym (append_assoc (bits c.noisy) x.0 ((flag ++ N) ++ part.0)) ∙ ap (λ b. (bits c.noisy ++ x.0) ++ b) (append_assoc flag N part.0)
+
+  heard-all : heard_in n201 q.received ≡ heard_until (room_for n201) (after_flag past) ++ hears (room_for n201) (after_flag past) Y
+  heard-all =
+      ap (λ b. heard_until (room_for n201) (reverse_aux b [])) came
+      ∙ ap (heard_until (room_for n201)) (reverse_aux-append (bits c.noisy ++ x.0) (flag ++ Y) [] ∙ reverse_aux-append flag Y past)
+      ∙ heard_until-onto (room_for n201) Y (after_flag past)
+
+  its : AreHeardWhole n201 new
+  its = whole-right n201 v.items new (subst (AreHeardWhole n201) items (whole-left n201 w.items later (subst (AreHeardWhole n201) items_u whole)))
+
+  heard-new : hears (room_for n201) (after_flag past) N ≡ framed (frames_among new)
+  heard-new = ap (hears (room_for n201) (after_flag past)) (sym (append-nil N)) ∙ hears_items n201 past new 0 (omega arith) its ∙ as-framed new
+
+  -- What had been received before goes before the flag.
+  front : (front : List Bool) × (bits c.noisy ++ (x.0 ++ flag) ≡ bits received ++ front) × (bits more ≡ front ++ Y)
+  front =
+      let a = x-long in let b = v-long in let l = length-append (bits c.noisy) (x.0 ++ flag) in let f = length-append x.0 flag in
+      let n = length-bits c.noisy in let r = length-bits received in
+      longer-begins (bits received) (bits more) (bits c.noisy ++ (x.0 ++ flag)) Y
+      (sym (bits-append received more) ∙ ap bits (sym goes_on) ∙ came ∙ sym (append_assoc (bits c.noisy ++ x.0) flag Y) ∙ ap (λ b. b ++ Y) (append_assoc (bits c.noisy) x.0 flag))
+      (omega (arith, a, b, l, f, n, r, had, noisy_is))
+
+  place-is : after_flag past ≡ reverse_aux front.0 (reverse_aux (bits received) [])
+  place-is =
+      sym (reverse_aux-append (bits c.noisy ++ x.0) flag []) ∙ ap (λ b. reverse_aux b []) (append_assoc (bits c.noisy) x.0 flag ∙ front.1) ∙ reverse_aux-append (bits received) front.0 []
+
+  heard-before : heard_until (room_for n201) (after_flag past) ≡ heard_in n201 received ++ hears (room_for n201) (reverse_aux (bits received) []) front.0
+  heard-before = ap (heard_until (room_for n201)) place-is ∙ heard_until-onto (room_for n201) front.0 (reverse_aux (bits received) [])
+
+  -- So they are heard, in order, and nothing between.
+  pub heard-since : (first rest : List stream.Event) × (heard_in n201 q.received ≡ heard_in n201 received ++ (first ++ (framed (drop (length (frames_among v.items)) (frames_among w.items)) ++ rest)))
+  heard-since =
+      let room = room_for n201 in
+      let H = heard_in n201 received in
+      let A = hears room (reverse_aux (bits received) []) front.0 in
+      let B = hears room (reverse_aux N (after_flag past)) part.0 in
+      let put : framed (frames_among new) ≡ framed (drop (length (frames_among v.items)) (frames_among w.items)) =
+      sym (ap framed (ap (λ is. drop (length (frames_among v.items)) (frames_among is)) items ∙ put-later v.items new)) in (
+        A,
+        B,
+        heard-all ∙ ap (λ l. l ++ hears room (after_flag past) Y) heard-before
+            ∙ ap (λ l. (H ++ A) ++ l) (hears-append room N part.0 (after_flag past) ∙ ap (λ l. l ++ B) (heard-new ∙ put))
+            ∙ append_assoc H A (framed (drop (length (frames_among v.items)) (frames_among w.items)) ++ B),
+      )

@@ -1,9 +1,9 @@
 //! Laws of two cards of octets on one circuit, with their clocks. Each is the contract of a call that does nothing.
 //!
 //! `specs/circuit` has that world (`Clocked`): both lines run at one rate, so many octets are in transit to each end,
-//! and nothing else is in it except requests and noise. In an octet time layer 3 asks before what is due falls due. (A
-//! caller that asks after it, as `lapd.h` has it, asks in the next octet time. That is of the same millisecond if more
-//! than one octet goes in it.) Its worked runs (`Worked`) compute. There are a call from
+//! and nothing else is in it except requests and noise. In an octet time layer 3 asks, then what is due falls due, and then
+//! each end gives an octet and takes one. (A caller that asks after it, as `lapd.h` has it, does the same if nothing falls
+//! due there.) Both ends count milliseconds in octets from one start. Its worked runs (`Worked`) compute. There are a call from
 //! nothing, calls that cross, an I-frame that is lost and goes again, and SABME that is heard just before N200 is used
 //! up. There are a dead line, too, and noise that makes a frame of another link. How long an answer takes at most is in
 //! `LongEnough`, and worked out in `WorkedLongEnough`. Answers that come are in `Answered` and `WorkedAnswered`. What a
@@ -207,7 +207,7 @@ pub fn no_noise_makes_no_frame()
 ///
 /// The same holds of a link at rest (`since`). Without noise anything of the link was asked for except unit data and
 /// deactivation, and timers fell due. Then both ends are in state 7, neither side is busy, all that was sent is
-/// acknowledged, and no frame is in transit. From there on only data is asked for, and no timer falls due. Let u requests
+/// acknowledged, and no frame waits or is in transit. From there on only data is asked for, and no timer falls due. Let u requests
 /// be granted since. Then 2 u (2 L + D) octet times after the last each end was told all that the other was granted since,
 /// and nothing else. After (1 + 2 u) (2 L + D) it is so if L is the longest frame that went by then (`short_since`).
 ///
@@ -250,8 +250,8 @@ pub fn frames_come_after_noise()
 /// so until then that law holds. For whatever an end has sent is received L + D octet times later. In the next L a frame of
 /// the other end begins that acknowledges it, and L + D later that is received. With N201 of 260, at 16 kbit/s with 4 octets
 /// in transit, T200 of 487 ms is long enough, and at 64 kbit/s with 16 one of 126 ms. (One some octet times shorter may fall
-/// due though nothing is lost, and may bring error C. A short T203 falls due, and so does T200 if noise takes SABME:
-/// `specs/circuit/WorkedInTime`.)
+/// due though nothing is lost; one that SABME and its UA outlast may bring error C. A short T203 falls due, and so does T200
+/// if noise takes SABME: `specs/circuit/WorkedInTime`.)
 ///
 /// The same holds of a link at rest, as [`a_call_takes_beats`] has it, with that T200. Only data is asked for since, without
 /// noise. T203 runs at each end then: if no timer that runs there falls due in so many octet times, none does. So 2 u (2 L

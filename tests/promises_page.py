@@ -151,7 +151,7 @@ class Statement:
         for name, them in own.items():
             parts += ['*%s*: %s' % (name, shortest(them, said))] * bool(them)
             said[name] = them
-        return '. '.join(parts) or 'none'
+        return '. '.join(parts)
 
     def sentence_of(self, place, row):
         """The words of a promise. Each must have some."""
@@ -165,24 +165,23 @@ class Statement:
         broken = sorted({it for name in row.names for it in self.refuted[(place, name)]})
         files = self.statements_of(row) or [row.file.relative_to(ROOT).as_posix()]
         run = self.run_of(row)
+        told = {'Premises': self.premises_of(row), 'Lines': '%d: %s' % (self.lines([row], read), ', '.join('`%s`' % it for it in files)),
+                'Run': run and '`%s`' % run, 'Refutes': some_of(broken)}
         return ['', '|%s|%s|' % (', '.join('`%s`' % it for it in row.names), self.sentence_of(place, row)), '|---|---|',
-                '|Premises|%s|' % self.premises_of(row),
-                '|Lines|%d: %s|' % (self.lines([row], read), ', '.join('`%s`' % it for it in files)),
-                '|Run|%s|' % ('`%s`' % run if run else 'none'),
-                '|Refutes|%s|' % some_of(broken)]
+                *('|%s|%s|' % it for it in told.items() if it[1])]
 
 
 def some_of(rows):
     """The first rows of wrong machines, and how many more there are."""
     shown = ', '.join('`%s`' % it for it in rows[:MOST_ROWS])
-    return (shown + ' (+%d)' % len(rows[MOST_ROWS:]) * (len(rows) > MOST_ROWS)) or 'none'
+    return shown + ' (+%d)' % len(rows[MOST_ROWS:]) * (len(rows) > MOST_ROWS)
 
 
 def quoted(premises):
     """Premises as a list of code; those of SHARED by their names."""
     named = {name: them for name, them in SHARED.items() if all(it in premises for it in them)}
     rest = [it for it in premises if not any(it in them for them in named.values())]
-    return '; '.join([*named] + ['`%s`' % it for it in rest]) or 'none'
+    return '; '.join([*named] + ['`%s`' % it for it in rest])
 
 
 def shortest(premises, said):

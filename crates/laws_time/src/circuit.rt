@@ -18,9 +18,9 @@
 //!
 //! # Open
 //!
-//! That each command and each answer finds a place in its queue of control frames (some of these laws suppose that none is
-//! told as lost). That all is told sooner after noise than `all_is_told_in_time` says, and how soon if layer 3 is or was
-//! busy, if more is asked for meanwhile, or if a UA was lost (error F).
+//! That each command and each answer finds a place in its queue of control frames (these laws suppose that none is told
+//! as lost). That all is told sooner after noise than `all_is_told_in_time` says, or with a busy end, more requests or a
+//! lost UA.
 
 ghost use Rattle.laws_time.specs.circuit.AfterNoise.{FramesComeAfterNoise, NoiseMakesNoFrameAfter};
 ghost use Rattle.laws_time.specs.circuit.Answered.{AnEnquiryIsAnswered, CommandsAreAnswered, NoNoiseIsClear, OneEnquiryIsEnough};

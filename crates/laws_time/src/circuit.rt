@@ -19,8 +19,7 @@
 //! # Open
 //!
 //! That each command and each answer finds a place in its queue of control frames (these laws suppose that none is told
-//! as lost). That all is told sooner after noise than `all_is_told_in_time` says, or with a busy end, more requests or a
-//! lost UA.
+//! as lost). That all is told sooner after noise than `all_is_told_in_time` says, or while more is asked for.
 
 ghost use Rattle.laws_time.specs.circuit.AfterNoise.{FramesComeAfterNoise, NoiseMakesNoFrameAfter};
 ghost use Rattle.laws_time.specs.circuit.Answered.{AnEnquiryIsAnswered, CommandsAreAnswered, NoNoiseIsClear, OneEnquiryIsEnough};

@@ -115,6 +115,7 @@ pub mod FreeOften
 pub mod FreeLaw
 pub mod FreeBegun
 pub mod FreeMet
+pub mod QuietGiven
 pub mod QuietSteps
 pub mod QuietOn
 pub mod QuietSearch

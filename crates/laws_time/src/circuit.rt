@@ -18,9 +18,8 @@
 //!
 //! # Open
 //!
-//! That each command and each answer finds a place in its queue of control frames (some of these laws suppose that none is
-//! told as lost). That all is told sooner after noise than `all_is_told_in_time` says, and how soon if layer 3 is or was
-//! busy, if more is asked for meanwhile, or if a UA was lost (error F).
+//! That each command and each answer finds a place in its queue of control frames (these laws suppose that none is told
+//! as lost). That all is told sooner after noise than `all_is_told_in_time` says, or while more is asked for.
 
 ghost use Rattle.laws_time.specs.circuit.AfterNoise.{FramesComeAfterNoise, NoiseMakesNoFrameAfter};
 ghost use Rattle.laws_time.specs.circuit.Answered.{AnEnquiryIsAnswered, CommandsAreAnswered, NoNoiseIsClear, OneEnquiryIsEnough};
@@ -160,20 +159,20 @@ pub fn t200_falls_due_seldom()
 /// no frame, and then there is none. The end that calls is up, nothing more is asked for, and u contents are missing at
 /// most: granted at an end, and not told at the other. N200 is not used up, and no error F is told.
 ///
-/// Let timers fall due e times at both ends together in so many octet times: (M + (2 k + 4) e) (2 L + D) + (e + 1) (L + D +
+/// Let timers fall due e times at both ends together in so many octet times: (M + (k + 2) e) (2 L + D) + (e + 1) (L + D +
 /// T200). Then each end was told one establishment, and all data that the other was granted to send: in order, each once,
 /// and nothing else, except what was dropped (`counted`). L is the longest frame in octets, D octets are in transit, T200
-/// is in octet times, that of either end, and k is the greater window. M counts moves as
-/// [`laws_wire::turns_come_to_an_end`] has them: 2 (2 (k + 2) + (k + 2) (6 + c + c' + 2 D) + (k + 3) u), where c and c'
-/// control frames may wait at the ends.
+/// is in octet times, that of either end, and k is the greater window. M counts frames that may begin, as
+/// [`laws_wire::turns_come_to_an_end`] has them: 2 (k + 2) + (k + 2) (6 + c + c' + 2 D) + (k + 3) u + D + 1, where c and
+/// c' control frames may wait at the ends.
 ///
 /// If layer 3 asked for data alone, and three control frames may wait at either end, T200 falls due u + 2 times at most
 /// ([`t200_falls_due_seldom`]). So e is u + 2, and the number of times that T203 falls due in these octet times
 /// (`seldom`). That is q times at either end at most, if q times T203, less a millisecond each, are as long. So numbers
 /// alone say how soon all is told, with e of u + 2 + 2 q (`numbers`).
 ///
-/// The bound is far from what runs take, since each move is given 2 L + D octet times. At 16 kbit/s with N201 of 260, D of
-/// 4, k of 1, T200 of 1 s and T203 of 10 s one message that noise took is told within 160 s
+/// The bound is far from what runs take, since each frame is given 2 L + D octet times. At 16 kbit/s with N201 of 260, D
+/// of 4, k of 1, T200 of 1 s and T203 of 10 s one message that noise took is told within 60 s
 /// (`specs/circuit/WorkedToldInTime`).
 pub fn all_is_told_in_time()
     ensures counted { AllIsToldInTime }
@@ -183,7 +182,7 @@ pub fn all_is_told_in_time()
 
 /// Frames come to an end after noise. A call is as [`t200_falls_due_seldom`] has it, and L + 1 octet times after noise has
 /// ended nothing more is granted. Then so many frames begin at most, at both ends together, in whatever time: the M of
-/// [`all_is_told_in_time`], and 2 k + 4 for each timer that falls due. u contents are missing then at most.
+/// [`all_is_told_in_time`], and k + 2 for each timer that falls due. u contents are missing then at most.
 ///
 /// So if T203 does not fall due, frames come to an end by themselves: T200 falls due u + 2 times at most.
 pub fn frames_come_to_an_end()

@@ -120,7 +120,7 @@ unfoldable pub gifts : List StepAt → Wire → ℕ
 gifts [] w = 0
 gifts (d ∷ ds) w = count (is_gift d w) + gifts ds (doing d w)
 
-gifts-append : (ds es : List StepAt) (w : Wire) → gifts (ds ++ es) w ≡ gifts ds w + gifts es (doing_all ds w)
+pub gifts-append : (ds es : List StepAt) (w : Wire) → gifts (ds ++ es) w ≡ gifts ds w + gifts es (doing_all ds w)
 unfolding gifts doing_all
 gifts-append [] es w = omega arith
 gifts-append (d ∷ ds) es w = let rest = gifts-append ds es (doing d w) in omega (arith, rest)

@@ -1,43 +1,25 @@
 -- How many frames begin on the circuit once noise has ended, if data alone is asked for and nothing more is granted.
-use Rattle.std.proofs.Common.{arith, ◌≡◌, ℕ, ◌+◌, ◌*◌, ◌≤◌, List, [], ◌∷◌, ◌++◌, length, sym, ap, subst}
+use Rattle.std.proofs.Common.{arith, ◌≡◌, ℕ, ◌+◌, ◌*◌, ◌≤◌, List, ◌++◌, length, ap}
 use Rattle.laws_wire.specs.Arriving.{most_left}
 use Rattle.laws_wire.specs.Facing.{granted_of}
 use Rattle.laws_wire.specs.Losing.{IsRoughTalk}
-use Rattle.laws_wire.specs.Resting.{is_move_of, most_frames}
+use Rattle.laws_wire.specs.Resting.{most_frames}
 unfoldable use Rattle.laws_wire.specs.Resting.{moves}
-use Rattle.laws_wire.specs.Wire.{Endpoint as FrameEndpoint, Wire, Step, requests, expires, sends, receives, loses, StepAt, at_near, at_far, acting, turned}
-use Rattle.laws_order.specs.circuit.Circuit.{port_of}
+use Rattle.laws_wire.specs.Wire.{Endpoint as FrameEndpoint, Wire}
 use Rattle.laws_time.specs.circuit.Begun.{FramesComeToAnEnd, begun_in, fallen_due}
 use Rattle.laws_time.specs.circuit.CaughtUp.{in_call}
 use Rattle.laws_time.specs.circuit.Clocked.{Clocked, Beat, after}
 use Rattle.laws_time.specs.circuit.InBeats.{granted_in}
 use Rattle.laws_time.specs.circuit.LongEnough.{Line}
 use Rattle.laws_time.specs.circuit.Seldom.{IsQuiet, is_t200, is_t203, near_fallen, far_fallen}
-use Rattle.laws_time.specs.circuit.ToldInTime.{AreMissing, moves_left, frames_there}
-use Rattle.laws_time.proofs.OfCircuit.ArrivPath.{of_whole, IsDone, all-done, count, is_gift_of}
+use Rattle.laws_time.specs.circuit.ToldInTime.{AreMissing, frames_to_come, frames_there}
+use Rattle.laws_time.proofs.OfCircuit.ArrivPath.{of_whole, IsDone, all-done}
 unfoldable use Rattle.laws_time.proofs.OfCircuit.ArrivPath.{gifts}
-use Rattle.laws_time.proofs.OfCircuit.ArrivWay.{Going}
 use Rattle.laws_time.proofs.OfCircuit.CaughtLaw.{its, near-contents, far-contents}
-use Rattle.laws_time.proofs.OfCircuit.FreeLaw.{reached-data, up, free, whole, pair-there}
+use Rattle.laws_time.proofs.OfCircuit.FreeLaw.{reached-data, up, free, whole, pair-there, pair-last}
 use Rattle.laws_time.proofs.OfCircuit.FreeOften.{whole-rough, last}
-use Rattle.laws_time.proofs.OfCircuit.QuietBeats.{fits, fits-far}
-use Rattle.laws_time.proofs.OfCircuit.QuietOn.{few-moves, few-under, frames-few, notes-few, most-rises, near-errless, far-errless}
+use Rattle.laws_time.proofs.OfCircuit.QuietOn.{few-given, few-there, frames-few, notes-few, most-rises, near-errless, far-errless}
 use Rattle.laws_time.proofs.OfCircuit.QuietSteps.{Run}
-
--- ---- each frame that is given is a move
-
-one-few : (act : Step) (w : Wire) → count (is_gift_of act w) ≤ count (is_move_of act w)
-one-few (requests r) w = omega arith
-one-few (expires timer) w = omega arith
-one-few sends w = omega arith
-one-few receives w = omega arith
-one-few loses w = omega arith
-
-gifts-few : (ds : List StepAt) (w : Wire) → gifts ds w ≤ moves ds w
-unfolding gifts moves
-gifts-few [] w = omega arith
-gifts-few (at_near act ∷ ds) w = let one = one-few act w in let rest = gifts-few ds (acting act w) in omega (arith, one, rest)
-gifts-few (at_far act ∷ ds) w = let one = one-few act (turned w) in let rest = gifts-few ds (turned (acting act (turned w))) in omega (arith, one, rest)
 
 -- ---- the bound
 
@@ -56,14 +38,9 @@ module _ (l : Line) (before noisy quiet bs : List Beat) (b : Beat) (k u : ℕ) (
       let pair = pair-there l before noisy quiet bs b h in
       let x = up l before noisy quiet bs b h in
       let s = its l h.fit in
-      let there = few-under l.near.n201 l.near (fits l h.fit) w.near.at pair.near_ok.but.ends.ran w.near.at.way r.same.there r.same.goes in
-      let back = few-under l.near.n201 l.far (fits-far l h.fit) w.far.at pair.far_ok.but.ends.ran w.far.at.way r.same.back
-      (subst (λ n. Going n (port_of w.far.at) w.far.at.way r.same.back) (sym h.fit.call.opposite.1) r.same.comes) in
-      let way = ap (λ (z : FrameEndpoint). length z.way) r.same.near_is in
-      let way_far = ap (λ (z : FrameEndpoint). length z.way) r.same.far_is in
-      let long = pair.near_counts.way in let long_far = pair.far_counts.way in
-      let a = frames-few l.service l.tei l.near r.f.near x.n x.near.stands (l.way + 1) (omega (arith, there, way, long)) in
-      let d = frames-few l.service l.tei l.far r.f.far x.m x.far.stands (l.way + 1) (omega (arith, back, way_far, long_far)) in
+      let there = few-there l h.fit w pair r.f r.same in
+      let a = frames-few l.service l.tei l.near r.f.near x.n x.near.stands (l.way + 1) there.0 in
+      let d = frames-few l.service l.tei l.far r.f.far x.m x.far.stands (l.way + 1) there.1 in
       let granted = ap (λ (z : FrameEndpoint). length z.granted) r.same.near_is in
       let granted_far = ap (λ (z : FrameEndpoint). length z.granted) r.same.far_is in
       let told = ap (λ xs. length xs) (near-contents l h.fit w pair r.f r.same) in
@@ -72,7 +49,7 @@ module _ (l : Line) (before noisy quiet bs : List Beat) (b : Beat) (k u : ℕ) (
       let notes = notes-few l.service l.tei l.near l.far s.face s.back s.near s.far r.f x u (omega (arith, granted, granted_far, told, told_far, few)) in
       most-rises k _ (4 + frames_there l) _ u (omega (arith, a, d)) notes
 
-  pub begun-few : begun_in (after l.rate bs (in_call l before b (noisy ++ quiet))) ≤ begun_in (in_call l before b (noisy ++ quiet)) + moves_left l k u (fallen_due l.rate bs (in_call l before b (noisy ++ quiet)))
+  pub begun-few : begun_in (after l.rate bs (in_call l before b (noisy ++ quiet))) ≤ begun_in (in_call l before b (noisy ++ quiet)) + frames_to_come l k u (fallen_due l.rate bs (in_call l before b (noisy ++ quiet)))
   begun-few =
       let r = reached-data l before noisy quiet bs b h in
       let v = whole l before noisy quiet bs b h in
@@ -89,7 +66,6 @@ module _ (l : Line) (before noisy quiet bs : List Beat) (b : Beat) (k u : ℕ) (
       let last_up = last l.service l.tei l.near l.far s.face s.back h.wide.0 h.wide.1 r.f x (free l before noisy quiet bs b h) (0 + i) (0 + j) (0 + m) v.n v.f v.path in
       let end : Rattle.laws_wire.proofs.LooseUp.LooseUp l.service l.tei l.near l.far 0 0 _ _ v.f =
       record { n = last_up.n; m = last_up.m; near = last_up.up.near; far = last_up.up.far; loose = Rattle.laws_wire.proofs.Loose.as-loose last_up.n last_up.m last_up.up.firm } in
-      let given = gifts-few v.path.steps r.f in
       let gives = v.path.gives in
       let all = v.path.all in
       let run : Run l.service l.tei v.n (i + j + m) r.f v.f =
@@ -98,13 +74,18 @@ module _ (l : Line) (before noisy quiet bs : List Beat) (b : Beat) (k u : ℕ) (
         rough = all-done (IsDone of_whole l.service l.tei) (IsRoughTalk l.service l.tei) (whole-rough l.service l.tei) v.path.steps v.path.done;
         expired = omega (arith, all);
         leads = v.path.leads;
-        moved = omega (arith, given, gives);
+        gives = omega (arith, gives);
       } in
-      let most = few-moves l.service l.tei l.near l.far s.face s.back s.near s.far r.f x v.n (i + j + m) k v.f run grants
+      let most = few-given l.service l.tei l.near l.far s.face s.back s.near s.far r.f x v.n (i + j + m) k v.f run grants
       (near-errless l.service l.tei l.near l.far s.face s.back s.near s.far v.f end) (far-errless l.service l.tei l.near l.far s.face s.back s.near s.far v.f end) missing.window missing.far_window in
       let puts = v.puts in
       let bound = left in
-      omega (arith, most, puts, bound)
+      let there = few-there l h.fit (after l.rate bs w) (pair-last l before noisy quiet bs b h) v.f v.same in
+      let twice = doubled k (i + j + m) in
+      omega (arith, most, bound, there.0, there.1, puts, twice)
+    where
+      doubled : (k e : ℕ) → (2 * k + 4) * e ≡ 2 * ((k + 2) * e)
+      doubled k e = grind arith
 
 pub frames-come-to-an-end : FramesComeToAnEnd
 frames-come-to-an-end l before noisy quiet bs b k u h missing = λ same. begun-few l before noisy quiet bs b k u h missing same

@@ -1,5 +1,5 @@
 -- Once noise has ended T200 of an end falls due once more at most than contents are missing at the other end, if data alone is asked for.
-use Rattle.std.proofs.Common.{arith, ◌≡◌, ◌+◌, ◌≤◌, List, [], ◌∷◌, ◌++◌, length, refl, sym, ap, subst, All, append_assoc}
+use Rattle.std.proofs.Common.{arith, ◌≡◌, ◌+◌, ◌≤◌, List, [], ◌∷◌, ◌++◌, length, refl, sym, ap, subst, All, append_assoc, append-nil}
 use Rattle.std.proofs.lemmas.List.Elements.{All-nil, All-cons, All-append, All-head, All-tail}
 use Rattle.model_line.specs.Request.{Request, Data, Establish}
 use Rattle.laws_line.proofs.OfCard.Meanwhile.{all-left, all-right}
@@ -131,6 +131,10 @@ module _ (l : Line) (before noisy quiet bs : List Beat) (b : Beat) (h : IsQuiet 
   pub pair-there : PairNow l h.fit (in_call l before b (noisy ++ quiet))
   unfolding well
   pair-there = parts.pair-w l before first bs b well
+
+  pub pair-last : PairNow l h.fit (after l.rate bs (in_call l before b (noisy ++ quiet)))
+  unfolding well
+  pair-last = parts.pair-done l before first bs b well bs [] (append-nil bs)
 
   -- From there on nothing is lost.
   pub whole : ReachedBy of_whole l h.fit (0 + near_fallen is_t200 l.rate bs (in_call l before b (noisy ++ quiet))) (0 + far_fallen is_t200 l.rate bs (in_call l before b (noisy ++ quiet)))

@@ -41,7 +41,7 @@ use Rattle.laws_time.proofs.OfCircuit.Orders.{RunsOurs}
 use Rattle.laws_time.proofs.OfCircuit.QuietBeats.{answer_of, fits, fits-far, near-put, far-put}
 use Rattle.laws_time.proofs.OfCircuit.QuietPorts.{none-put}
 use Rattle.laws_time.proofs.OfCircuit.QuietLine.{nothing-left}
-use Rattle.laws_time.proofs.OfCircuit.QuietOn.{beat-done, Errless, near-errless, far-errless, few-moves}
+use Rattle.laws_time.proofs.OfCircuit.QuietOn.{beat-done, Errless, near-errless, far-errless, few-there, few-given}
 use Rattle.laws_time.proofs.OfCircuit.QuietSearch.{one-falls, now_fallen, all_in, all-suc, zero-in, none-now, silent-more, silent-none, near-granted, far-granted}
 use Rattle.laws_time.proofs.OfCircuit.QuietSteps.{Run, run-both, run-none, as-run}
 use Rattle.laws_time.proofs.OfCircuit.QuietCall.{front-nil, next, its_well, pair-at, parts, fair-at, well-at, told-between}
@@ -89,7 +89,7 @@ module _ (l : Line) (before bs : List Beat) (b : Beat) (N : ℕ) (h : GoesWell l
     pub loose-first : LooseUp l.service l.tei l.near l.far 0 0 (near_past l h.fit) (far_past l h.fit) f0
     loose-first = loose-at 0 N zero-sum
 
-    -- A wire for the world, to which so many moves and expiries led.
+    -- A wire for the world, to which so many frames that were given and expiries led.
     pub record State (t m e : ℕ) : Type 0 where
       pub g : Wire
       pub same : SameNow l h.fit (in_call l before b (bs ++ replicate t plain)) g
@@ -112,7 +112,7 @@ module _ (l : Line) (before bs : List Beat) (b : Beat) (N : ℕ) (h : GoesWell l
 
     module _ (k : ℕ) (wide : (terms l.near l.service l.tei).k ≤ k) (wide' : (terms l.far l.service l.tei).k ≤ k) where
       -- There are so many at most.
-      bounded : (t left m e : ℕ) → t + left ≡ N → State t m e → m ≤ most_left l.service l.tei k f0 + (2 * k + 4) * e
+      bounded : (t left m e : ℕ) → t + left ≡ N → State t m e → 2 * m ≤ most_left l.service l.tei k f0 + (2 * k + 4) * e + 2 * (l.way + 1)
       unfolding first-state
       bounded t left m e sum x =
           let s = its l h.fit in
@@ -125,9 +125,11 @@ module _ (l : Line) (before bs : List Beat) (b : Beat) (N : ℕ) (h : GoesWell l
           let granted = granted-on t in
           let a = ap (λ (z : FrameEndpoint). length z.granted) x.same.near_is ∙ ap length granted.0 ∙ sym (ap (λ (z : FrameEndpoint). length z.granted) first.near_is) in
           let d = ap (λ (z : FrameEndpoint). length z.granted) x.same.far_is ∙ ap length granted.1 ∙ sym (ap (λ (z : FrameEndpoint). length z.granted) first.far_is) in
-          few-moves l.service l.tei l.near l.far s.face s.back s.near s.far f0 loose-first m e k x.g x.run (λ i. a i + d i)
+          let there = few-there l h.fit (V t) pair x.g x.same in
+          let few = few-given l.service l.tei l.near l.far s.face s.back s.near s.far f0 loose-first m e k x.g x.run (λ i. a i + d i)
           (subst (All Errless) (sym near) (near-errless l.service l.tei l.near l.far s.face s.back s.near s.far r.f loose))
-          (subst (All Errless) (sym far) (far-errless l.service l.tei l.near l.far s.face s.back s.near s.far r.f loose)) wide wide'
+          (subst (All Errless) (sym far) (far-errless l.service l.tei l.near l.far s.face s.back s.near s.far r.f loose)) wide wide' in
+          omega (arith, few, there.0, there.1)
 
       -- ---- one beat
 
@@ -179,7 +181,7 @@ module _ (l : Line) (before bs : List Beat) (b : Beat) (N : ℕ) (h : GoesWell l
           let none = zero-in l.rate (beat l.rate w plain) in
           let all = r.path.all in
           let p : Run l.service l.tei 0 (now_fallen l.rate w) x.g r.f =
-          record { steps = r.path.steps; rough = rough-of l.service l.tei x.g r.f r.path; expired = omega (arith, all, one, none); leads = r.path.leads; moved = omega arith } in
+          record { steps = r.path.steps; rough = rough-of l.service l.tei x.g r.f r.path; expired = omega (arith, all, one, none); leads = r.path.leads; gives = omega arith } in
           record {
             g = r.f;
             same = subst (λ w. SameNow l h.fit w r.f) (sym (next l before bs b N h t)) r.same;
@@ -227,12 +229,12 @@ module _ (l : Line) (before bs : List Beat) (b : Beat) (N : ℕ) (h : GoesWell l
             far-put l h.fit w p undue.0 undue.1 ∙ none-put l.near.n201 l.far (fits-far l h.fit) w.far.at p.far_ok.but.ends.ran none.1,
           )
 
-      module _ (M : ℕ) (most : most_left l.service l.tei k f0 ≤ M) (Q : ℕ) where
+      module _ (M : ℕ) (most : most_left l.service l.tei k f0 + 2 * (l.way + 1) ≤ 2 * M) (Q : ℕ) where
         abbrev c : ℕ
-        c = 2 * k + 4
+        c = k + 2
 
         abbrev K : ℕ
-        K = Q + (2 * k + 4) * (2 * longest l.near.n201 + l.way)
+        K = Q + (k + 2) * (2 * longest l.near.n201 + l.way)
 
         pub record Found : Type 0 where
           pub j : ℕ
@@ -242,7 +244,7 @@ module _ (l : Line) (before bs : List Beat) (b : Beat) (N : ℕ) (h : GoesWell l
 
         abbrev Goes : ℕ → Type 0
         Goes n =
-            (t j q m e r d : ℕ) → j + q ≡ t → q + d ≡ Q → t + n ≡ N → State t m e → IsSilent l q (in_call l before b (bs ++ replicate j plain)) → M + (2 * k + 4) * e ≤ m + r
+            (t j q m e r d : ℕ) → j + q ≡ t → q + d ≡ Q → t + n ≡ N → State t m e → IsSilent l q (in_call l before b (bs ++ replicate j plain)) → M + (k + 2) * e ≤ m + r
             → r * (2 * longest l.near.n201 + l.way) + all_in l.rate n (in_call l before b (bs ++ replicate t plain)) * K + d ≤ n → Found
 
         -- the budget after a beat
@@ -260,11 +262,14 @@ module _ (l : Line) (before bs : List Beat) (b : Beat) (N : ℕ) (h : GoesWell l
             let same : 1 * Q ≡ Q = omega arith in
             omega (arith, less, all, more, one, same)
 
+        doubled : (k e : ℕ) → (2 * k + 4) * e ≡ 2 * ((k + 2) * e)
+        doubled k e = grind arith
+
         by-count : (c e x : ℕ) → c * (e + x) ≡ c * e + c * x
         by-count c e x = grind arith
 
         module _ (n : ℕ) (others : Goes n) (t j q m e r d : ℕ) (at : j + q ≡ t) (apart : q + suc d ≡ Q) (sum : t + suc n ≡ N) (x : State t m e)
-            (silent : IsSilent l q (in_call l before b (bs ++ replicate j plain))) (low : M + (2 * k + 4) * e ≤ m + r)
+            (silent : IsSilent l q (in_call l before b (bs ++ replicate j plain))) (low : M + (k + 2) * e ≤ m + r)
             (budget : r * (2 * longest l.near.n201 + l.way) + all_in l.rate (suc n) (in_call l before b (bs ++ replicate t plain)) * K + suc d ≤ suc n) where
           abbrev w : Clocked
           w = in_call l before b (bs ++ replicate t plain)
@@ -298,8 +303,8 @@ module _ (l : Line) (before bs : List Beat) (b : Beat) (N : ℕ) (h : GoesWell l
             moves-on : q < 2 * longest l.near.n201 + l.way → 1 ≤ y.more → Found
             moves-on early some = go r low budget-undue
               where
-                go : (r : ℕ) → M + (2 * k + 4) * e ≤ m + r → r * (2 * longest l.near.n201 + l.way) + all_in l.rate n (in_call l before b (bs ++ replicate (suc t) plain)) * K + suc d ≤ suc n → Found
-                go zero low budget = let high = bounded (suc t) n (m + y.more) e sum-then y.state in absurd (omega (arith, high, most, low, some))
+                go : (r : ℕ) → M + (k + 2) * e ≤ m + r → r * (2 * longest l.near.n201 + l.way) + all_in l.rate n (in_call l before b (bs ++ replicate (suc t) plain)) * K + suc d ≤ suc n → Found
+                go zero low budget = let high = bounded (suc t) n (m + y.more) e sum-then y.state in let twice = doubled k e in absurd (omega (arith, high, most, low, some, twice))
                 go (suc r) low budget =
                     others (suc t) (suc t) 0 (m + y.more) e r Q (omega arith) (omega arith) sum-then y.state (silent-none l (V (suc t))) (omega (arith, low, some))
                     (subst (λ d. r * B + all_in l.rate n (V (suc t)) * K + d ≤ n) apart (on-move r B (all_in l.rate n (V (suc t))) K d q n early budget))

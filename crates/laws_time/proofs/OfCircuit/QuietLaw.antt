@@ -16,17 +16,16 @@ use Rattle.laws_time.specs.circuit.Clocked.{Clocked, Beat, plain, beat, clean, c
 use Rattle.laws_time.specs.circuit.InCall.{IsUp}
 use Rattle.laws_time.specs.circuit.LongEnough.{Line}
 use Rattle.laws_time.specs.circuit.Quiet.{IsAllTold, HasToldAll}
-use Rattle.laws_time.specs.circuit.ToldInTime.{AreMissing, all_fallen, t203_fallen, frames_there, moves_left, in_time, AllIsToldInTime, AllIsToldAfterNoise}
+use Rattle.laws_time.specs.circuit.ToldInTime.{AreMissing, all_fallen, t203_fallen, frames_there, frames_to_come, in_time, AllIsToldInTime, AllIsToldAfterNoise}
 use Rattle.laws_time.proofs.OfCircuit.ArrivAs.{heard_of}
 use Rattle.laws_time.proofs.OfCircuit.ArrivLaw.{calls-bear-noise}
 use Rattle.laws_time.proofs.OfCircuit.CaughtLaw.{its, near-contents, far-contents}
 use Rattle.laws_time.proofs.OfCircuit.FreeLaw.{well, t200-falls-due-seldom}
 use Rattle.laws_time.proofs.OfCircuit.InBeatsTold.{front-is-all}
-use Rattle.laws_time.proofs.OfCircuit.QuietBeats.{fits, fits-far}
 use Rattle.laws_time.proofs.OfCircuit.QuietCall.{pair-at, told-on, told-on-far}
 use Rattle.laws_time.proofs.OfCircuit.QuietFound.{granted-on, f0, loose-first, first-same, first-state, zero-sum, Found, search, clean-to, well-to}
 use Rattle.laws_time.proofs.OfCircuit.QuietLine.{world-at, a-quiet-line-has-told-all}
-use Rattle.laws_time.proofs.OfCircuit.QuietOn.{few-under, frames-few, notes-few, most-rises}
+use Rattle.laws_time.proofs.OfCircuit.QuietOn.{few-there, frames-few, notes-few, most-rises}
 use Rattle.laws_time.proofs.OfCircuit.QuietSearch.{near-granted, far-granted, silent-none}
 
 module _ (l : Line) (before bs : List Beat) (b : Beat) (n k u : ℕ) (h : GoesWell l before b (bs ++ replicate n plain)) (up_w : IsUp l (in_call l before b bs).near) (missing : AreMissing l k u (in_call l before b bs)) where
@@ -44,9 +43,9 @@ module _ (l : Line) (before bs : List Beat) (b : Beat) (n k u : ℕ) (h : GoesWe
 
   -- What is left to do.
   abbrev M : ℕ
-  M = 2 * most_frames k (4 + frames_there l) u
+  M = most_frames k (4 + frames_there l) u + (l.way + 1)
 
-  most : most_left l.service l.tei k (f0 l before bs b n h up) ≤ 2 * most_frames k (4 + frames_there l) u
+  most : most_left l.service l.tei k (f0 l before bs b n h up) + 2 * (l.way + 1) ≤ 2 * (most_frames k (4 + frames_there l) u + (l.way + 1))
   most =
       let f = f0 l before bs b n h up in
       let same = first-same l before bs b n h up in
@@ -54,21 +53,17 @@ module _ (l : Line) (before bs : List Beat) (b : Beat) (n k u : ℕ) (h : GoesWe
       let s = its l h.fit in
       let pair = pair-at l before bs b n h 0 n (zero-sum l before bs b n h up) in
       let v = V 0 in
-      let near_way = few-under l.near.n201 l.near (fits l h.fit) v.near.at pair.near_ok.but.ends.ran v.near.at.way same.there same.goes in
-      let far_way = few-under l.near.n201 l.far (fits-far l h.fit) v.far.at pair.far_ok.but.ends.ran v.far.at.way same.back
-      (subst (λ n. Rattle.laws_time.proofs.OfCircuit.ArrivWay.Going n (Rattle.laws_order.specs.circuit.Circuit.port_of v.far.at) v.far.at.way same.back) (sym h.fit.call.opposite.1) same.comes) in
-      let near_is = ap (λ (z : FrameEndpoint). length z.way) same.near_is in
-      let far_is = ap (λ (z : FrameEndpoint). length z.way) same.far_is in
-      let near_long = pair.near_counts.way in let far_long = pair.far_counts.way in
-      let a = frames-few l.service l.tei l.near f.near loose.n loose.near.stands (l.way + 1) (omega (arith, near_way, near_is, near_long)) in
-      let d = frames-few l.service l.tei l.far f.far loose.m loose.far.stands (l.way + 1) (omega (arith, far_way, far_is, far_long)) in
+      let there = few-there l h.fit v pair f same in
+      let a = frames-few l.service l.tei l.near f.near loose.n loose.near.stands (l.way + 1) there.0 in
+      let d = frames-few l.service l.tei l.far f.far loose.m loose.far.stands (l.way + 1) there.1 in
       let granted = ap (λ (z : FrameEndpoint). length z.granted) same.near_is ∙ ap (λ (v : Clocked). length v.near.at.granted) zero-is in
       let granted_far = ap (λ (z : FrameEndpoint). length z.granted) same.far_is ∙ ap (λ (v : Clocked). length v.far.at.granted) zero-is in
       let told = ap (λ xs. length xs) (near-contents l h.fit v pair f same) ∙ ap (λ (v : Clocked). length (contents_at v.near)) zero-is in
       let told_far = ap (λ xs. length xs) (far-contents l h.fit v pair f same) ∙ ap (λ (v : Clocked). length (contents_at v.far)) zero-is in
       let few = missing.few in
       let notes = notes-few l.service l.tei l.near l.far s.face s.back s.near s.far f loose u (omega (arith, granted, granted_far, told, told_far, few)) in
-      most-rises k _ (4 + frames_there l) _ u (omega (arith, a, d)) notes
+      let few : most_left l.service l.tei k f ≤ 2 * most_frames k (4 + frames_there l) u = most-rises k _ (4 + frames_there l) _ u (omega (arith, a, d)) notes in
+      omega (arith, few)
 
   -- Once all was told it stays so.
   module _ (t left : ℕ) (sum : t + left ≡ n) (then : HasToldAll l (in_call l before b (bs ++ replicate t plain))) where
@@ -106,10 +101,10 @@ module _ (l : Line) (before bs : List Beat) (b : Beat) (n k u : ℕ) (h : GoesWe
 
   -- T200 of one end runs as long as that of the other, or longer.
   module _ (Q : ℕ) (near : longest l.near.n201 + l.way + l.lengths.t200 * l.rate ≤ Q) (far : longest l.near.n201 + l.way + l.far_lengths.t200 * l.rate ≤ Q)
-      (enough : moves_left l k u (all_fallen l.rate n (in_call l before b bs)) * (2 * longest l.near.n201 + l.way) + (all_fallen l.rate n (in_call l before b bs) + 1) * Q ≤ n) where
+      (enough : frames_to_come l k u (all_fallen l.rate n (in_call l before b bs)) * (2 * longest l.near.n201 + l.way) + (all_fallen l.rate n (in_call l before b bs) + 1) * Q ≤ n) where
     found : Found l before bs b n h up k missing.window missing.far_window M most Q
     found =
-        let c = 2 * k + 4 in
+        let c = k + 2 in
         let budget = subst (λ x. x ≤ n) (split M c E B Q) enough in
         search l before bs b n h up k missing.window missing.far_window M most Q n 0 0 0 0 0 M Q (omega arith) (omega arith) (omega arith) (first-state l before bs b n h up) (silent-none l (V 0))
         (let z : c * 0 ≡ 0 = omega arith in omega (arith, z))
@@ -141,8 +136,8 @@ granted-all rate (suc n) w = let rest = granted-all rate n (beat rate w plain) i
 pub time-rises : (l : Line) (lengths : Lengths) (k u e d : ℕ) → e ≤ d → in_time l lengths k u e ≤ in_time l lengths k u d
 time-rises l lengths k u e d more =
     let L = longest l.near.n201 in
-    let c = mul-le (2 * k + 4) e (2 * k + 4) d (omega arith) more in
-    let one = mul-le (moves_left l k u e) (2 * L + l.way) (moves_left l k u d) (2 * L + l.way) (omega (arith, c)) (omega arith) in
+    let c = mul-le (k + 2) e (k + 2) d (omega arith) more in
+    let one = mul-le (frames_to_come l k u e) (2 * L + l.way) (frames_to_come l k u d) (2 * L + l.way) (omega (arith, c)) (omega arith) in
     let two = mul-le (e + 1) (L + l.way + lengths.t200 * l.rate) (d + 1) (L + l.way + lengths.t200 * l.rate) (omega (arith, more)) (omega arith) in
     omega (arith, one, two)
 

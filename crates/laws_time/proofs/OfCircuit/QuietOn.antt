@@ -1,4 +1,4 @@
--- Beats in which no timer falls due, on a wire on which both links are up: so many moves are made at most.
+-- Beats in which no timer falls due, on a wire on which both links are up: so many frames are given at most.
 use Rattle.std.proofs.Common.{arith, ◌≡◌, ℕ, ◌+◌, ◌*◌, ◌/◌, ◌≤◌, false, List, [], ◌∷◌, ◌++◌, length, map, drop, Option, None, Some, refl, sym, ap, ◌∙◌, subst, All, ◌⊎◌, inl, inr, append-nil, append_assoc, length-append}
 use Rattle.std.specs.List.{list_any}
 use Rattle.std.specs.Prelude.{flat_map, option_to_list}
@@ -29,9 +29,9 @@ use Rattle.laws_order.proofs.OfCircuit.Ran.{Ran, sound-port, on-line}
 use Rattle.laws_wire.specs.Arriving.{frames_left, notes_left, most_left}
 use Rattle.laws_wire.specs.Call.{confirmed, indicated, data_told}
 use Rattle.laws_wire.specs.Facing.{granted_of}
-use Rattle.laws_wire.specs.Losing.{for_layer_3, heard_in, is_error, TellNoError, HasNoError}
-use Rattle.laws_wire.specs.Resting.{most_frames, moves}
-use Rattle.laws_wire.specs.Wire.{Endpoint as FrameEndpoint, Wire, turned}
+use Rattle.laws_wire.specs.Losing.{IsRoughTalk, for_layer_3, heard_in, is_error, TellNoError}
+use Rattle.laws_wire.specs.Resting.{most_frames, moves, expiries}
+use Rattle.laws_wire.specs.Wire.{Endpoint as FrameEndpoint, Wire, turned, StepAt, doing_all}
 use Rattle.laws_wire.proofs.Awaited.{link-is}
 use Rattle.laws_wire.proofs.Joint.{shown}
 use Rattle.laws_wire.proofs.LeftToDo.{weighs-left}
@@ -56,6 +56,8 @@ use Rattle.laws_time.proofs.OfCircuit.CaughtEnds.{told-as-many}
 use Rattle.laws_time.proofs.OfCircuit.Ends.{at_time}
 use Rattle.laws_time.proofs.OfCircuit.InTime.{PairNow}
 use Rattle.laws_time.proofs.OfCircuit.QuietBeats.{fits, fits-far, gone-is, near-put, far-put, ran, ran-far, ran-pulled, ran-pulled-far, long, long-far}
+use Rattle.laws_time.proofs.OfCircuit.QuietGiven.{on_way, given-twice}
+use Rattle.laws_time.proofs.OfCircuit.ArrivPath.{gifts}
 use Rattle.laws_time.proofs.OfCircuit.QuietSteps.{Run, Done, done-none, done-both, done-turned, Pulls, pulls, Takes, takes}
 
 -- ---- a beat
@@ -164,7 +166,7 @@ module _ (l : Line) (fit : IsFit l) (w : Clocked) (p : PairNow l fit w) (undue :
         far_heard = ft.heard';
       })
 
-  -- It leads there, and if a frame begins that is a move.
+  -- It leads there, and if a frame begins it is given.
   pub record BeatDone : Type 0 where
     pub g : Wire
     pub same : SameNow l fit (beat l.rate w plain) g
@@ -198,7 +200,7 @@ heard-few n201 a (v ∷ b) =
 
 module _ (n201 : ℕ) (c : Config) (fits_c : Fits n201 c) (s : OctetEndpoint) (ran_s : Ran c s) (way : List ℕ) (there : List (List ℕ)) (g : Going n201 (port_of s) way there) where
   -- A frame for each octet at most, and one more.
-  pub few-under : length there ≤ length way + 1
+  few-under : length there ≤ length way + 1
   few-under =
       let sound = subst (λ n. IsSoundPort n (port_of s)) fits_c.size (sound-port c fits_c.ranged s ran_s) in
       let o = out n201 (port_of s) g.rest g.before there g.carries sound (on-line c fits_c.ranged s ran_s) in
@@ -211,6 +213,17 @@ module _ (n201 : ℕ) (c : Config) (fits_c : Fits n201 c) (s : OctetEndpoint) (r
       let xs = length-map there (λ octets. stream.frame octets) in
       let ys = length-map o.on_its_way (λ octets. stream.frame octets) in
       omega (arith, one, given, few, whole, x, y, xs, ys)
+
+module _ (l : Line) (fit : IsFit l) (v : Clocked) (pair : PairNow l fit v) (g : Wire) (same : SameNow l fit v g) where
+  pub few-there : (length g.near.way ≤ l.way + 1) × (length g.far.way ≤ l.way + 1)
+  few-there =
+      let there = few-under l.near.n201 l.near (fits l fit) v.near.at pair.near_ok.but.ends.ran v.near.at.way same.there same.goes in
+      let back = few-under l.near.n201 l.far (fits-far l fit) v.far.at pair.far_ok.but.ends.ran v.far.at.way same.back
+      (subst (λ n. Going n (port_of v.far.at) v.far.at.way same.back) (sym fit.call.opposite.1) same.comes) in
+      let way = ap (λ (z : FrameEndpoint). length z.way) same.near_is in
+      let way_far = ap (λ (z : FrameEndpoint). length z.way) same.far_is in
+      let long = pair.near_counts.way in let long_far = pair.far_counts.way in
+      (omega (arith, there, way, long), omega (arith, back, way_far, long_far))
 
 -- ---- so many moves
 
@@ -266,21 +279,28 @@ module _ (service : Service) (tei : ℕ) (c d : Config) (face : Face c d) (back 
   pub far-errless : All Errless (heard_in w.far)
   far-errless = subst (All Errless) (sym h.far.heard) (All-cons Errless (indicated service tei) (map (data_told service tei) h.m.delivered) refl (data-errless service tei h.m.delivered))
 
-  pub few-moves : (m e k : ℕ) (g : Wire) → Run service tei m e w g → granted_of g ≡ granted_of w → All Errless (heard_in g.near) → All Errless (heard_in g.far) → (terms c service tei).k ≤ k → (terms d service tei).k ≤ k
-      → m ≤ most_left service tei k w + (2 * k + 4) * e
+  weighs-few : (e k : ℕ) (ds : List StepAt) → All (IsRoughTalk service tei) ds → expiries ds ≡ e → granted_of (doing_all ds w) ≡ granted_of w → All Errless (heard_in (doing_all ds w).near) → All Errless (heard_in (doing_all ds w).far)
+      → (terms c service tei).k ≤ k → (terms d service tei).k ≤ k → moves ds w ≤ most_left service tei k w + (2 * k + 4) * e
   unfolding up-of
-  few-moves m e k g x same fair fair_far wide wide' =
+  weighs-few e k ds rough expired same fair fair_far wide wide' =
       let up = up-of in
-      let all = from-up-on service tei c d 0 0 face back rt ru (2 * k) (twice (terms c service tei).k k wide) (twice (terms d service tei).k k wide') x.steps x.rough w up
-      (subst (λ g. granted_of g ≡ granted_of w) (sym x.leads) same) (subst (λ (g : Wire). HasNoError g.near) (sym x.leads) (no-error g.near.told fair))
-      (subst (λ (g : Wire). HasNoError g.far) (sym x.leads) (no-error g.far.told fair_far)) in
-      let all_e = subst (λ e. moves x.steps w ≤ weigh (2 * k) up.n up.m + (2 * k + 4) * e) x.expired all in
+      let all = from-up-on service tei c d 0 0 face back rt ru (2 * k) (twice (terms c service tei).k k wide) (twice (terms d service tei).k k wide') ds rough w up
+      same (no-error (doing_all ds w).near.told fair) (no-error (doing_all ds w).far.told fair_far) in
+      let all_e = subst (λ e. moves ds w ≤ weigh (2 * k) up.n up.m + (2 * k + 4) * e) expired all in
       let two = weighs-left service tei c d 0 0 k w up (subst (λ t. t.k ≤ k) (sym h.near.stands.terms) wide) (subst (λ t. t.k ≤ k) (sym h.far.stands.terms) wide') in
-      let moved = x.moved in
-      add m (moves x.steps w) (weigh (2 * k) up.n up.m) (most_left service tei k w) ((2 * k + 4) * e) moved all_e two
+      add (moves ds w) (weigh (2 * k) up.n up.m) (most_left service tei k w) ((2 * k + 4) * e) all_e two
     where
-      add : (m x y z c : ℕ) → m ≤ x → x ≤ y + c → y ≤ z → m ≤ z + c
-      add m x y z c p q r = omega (arith, p, q, r)
+      add : (x y z c : ℕ) → x ≤ y + c → y ≤ z → x ≤ z + c
+      add x y z c q r = omega (arith, q, r)
+
+  -- Each frame that is given is taken, or is in transit.
+  pub few-given : (m e k : ℕ) (g : Wire) → Run service tei m e w g → granted_of g ≡ granted_of w → All Errless (heard_in g.near) → All Errless (heard_in g.far) → (terms c service tei).k ≤ k → (terms d service tei).k ≤ k
+      → 2 * m ≤ most_left service tei k w + (2 * k + 4) * e + on_way g
+  few-given m e k g x same fair fair_far wide wide' =
+      let few = weighs-few e k x.steps x.rough x.expired (subst (λ g. granted_of g ≡ granted_of w) (sym x.leads) same) (subst (λ (g : Wire). All Errless (heard_in g.near)) (sym x.leads) fair)
+      (subst (λ (g : Wire). All Errless (heard_in g.far)) (sym x.leads) fair_far) wide wide' in
+      let twice = subst (λ (g : Wire). 2 * gifts x.steps w + on_way w ≤ moves x.steps w + on_way g) x.leads (given-twice x.steps w) in
+      let gives = x.gives in omega (arith, few, twice, gives)
 
   -- What is still to be told.
   pub notes-few : (u : ℕ) → length w.near.granted + length w.far.granted ≤ length (contents_of (heard_in w.near)) + length (contents_of (heard_in w.far)) + u → notes_left service tei w ≤ u

@@ -1,4 +1,4 @@
--- A beat in which nothing is asked for and no timer falls due is done on a wire of frames: frames go, and come. If one begins, that is a move.
+-- A beat in which nothing is asked for and no timer falls due is done on a wire of frames: frames go, and come. One may begin.
 use Rattle.std.proofs.Common.{arith, ◌≡◌, ℕ, ◌+◌, ◌≤◌, Bool, true, false, cond, List, [], ◌∷◌, ◌++◌, length, drop, Option, Some, None, refl, sym, ap, ◌∙◌, subst, All, ◌⊎◌, inl, inr}
 use Rattle.std.proofs.lemmas.List.Elements.{All-nil, All-cons, All-append, All-head, All-tail}
 use Rattle.lapd_frame.specs.declared.services.Service.{Service}
@@ -13,13 +13,13 @@ use Rattle.model_card.specs.ports.Codec.{frames_among}
 use Rattle.model_card.specs.ports.Port as port
 use Rattle.model_card.specs.ports.Port.{gained, is_due}
 use Rattle.laws_wire.specs.Losing.{IsRoughTalk, IsRoughTalkOf}
-use Rattle.laws_wire.specs.Resting.{expiries_in, is_move_of}
-unfoldable use Rattle.laws_wire.specs.Resting.{moves, expiries}
+use Rattle.laws_wire.specs.Resting.{expiries_in}
+unfoldable use Rattle.laws_wire.specs.Resting.{expiries}
 use Rattle.laws_wire.specs.Wire as wire
 use Rattle.laws_wire.specs.Wire.{Endpoint as FrameEndpoint, Wire, Step, sends, receives, loses, StepAt, at_near, at_far, acting, turned, doing}
 unfoldable use Rattle.laws_wire.specs.Wire.{doing_all}
 use Rattle.laws_wire.proofs.Answered.{gives-taken}
-use Rattle.laws_wire.proofs.RestedRounds.{doing-append, moves-append, expiries-append}
+use Rattle.laws_wire.proofs.RestedRounds.{doing-append, expiries-append}
 use Rattle.laws_order.specs.circuit.Circuit as circuit
 use Rattle.laws_order.specs.circuit.Circuit.{port_of}
 use Rattle.laws_order.proofs.OfCircuit.AsFrames.{as_endpoint}
@@ -30,6 +30,8 @@ use Rattle.laws_order.proofs.OfCircuit.Ran.{Ran, config}
 use Rattle.laws_time.specs.circuit.Clocked.{TimedEndpoint, happens, hears}
 use Rattle.laws_time.specs.circuit.LongEnough.{IsFrame, IsClearAt}
 use Rattle.laws_time.proofs.OfCircuit.ArrivAs.{station, heard_of, Becomes, due-becomes, undue-becomes, none-becomes, dropped-becomes, frame-becomes}
+use Rattle.laws_time.proofs.OfCircuit.ArrivPath.{is_gift_of, gifts-append}
+unfoldable use Rattle.laws_time.proofs.OfCircuit.ArrivPath.{gifts}
 use Rattle.laws_time.proofs.OfCircuit.ArrivWay.{Going, pulled-way, IsNoFrame, Comes, comes}
 use Rattle.std.proofs.Common.{append-nil}
 
@@ -44,13 +46,13 @@ all-swap [] = []
 all-swap (d ∷ ds) = swap d ∷ all-swap ds
 
 module _ (service : Service) (tei : ℕ) where
-  -- So often a timer expires in it, and there are so many moves at least.
+  -- So often a timer expires in it, and so many frames are given at least.
   pub record Run (m e : ℕ) (f g : Wire) : Type 0 where
     pub steps : List StepAt
     pub rough : All (IsRoughTalk service tei) steps
     pub expired : expiries steps ≡ e
     pub leads : doing_all steps f ≡ g
-    pub moved : m ≤ moves steps f
+    pub gives : m ≤ gifts steps f
 
   pub run-both : (m e m' e' : ℕ) (f g x : Wire) → Run m e f g → Run m' e' g x → Run (m + m') (e + e') f x
   run-both m e m' e' f g x p q = record {
@@ -58,27 +60,27 @@ module _ (service : Service) (tei : ℕ) where
     rough = All-append (IsRoughTalk service tei) p.steps q.steps p.rough q.rough;
     expired = (let sum = expiries-append p.steps q.steps in let one = p.expired in let two = q.expired in omega (arith, sum, one, two));
     leads = doing-append p.steps q.steps f ∙ ap (doing_all q.steps) p.leads ∙ q.leads;
-    moved = (let sum = moves-append p.steps q.steps f in let one = p.moved in let two = subst (λ h. m' ≤ moves q.steps h) (sym p.leads) q.moved in omega (arith, sum, one, two));
+    gives = (let sum = gifts-append p.steps q.steps f in let one = p.gives in let two = subst (λ h. m' ≤ gifts q.steps h) (sym p.leads) q.gives in omega (arith, sum, one, two));
   }
 
   pub run-none : (f : Wire) → Run 0 0 f f
-  unfolding doing_all moves expiries
-  run-none f = record { steps = []; rough = All-nil (IsRoughTalk service tei); expired = refl; leads = refl; moved = omega arith }
+  unfolding doing_all gifts expiries
+  run-none f = record { steps = []; rough = All-nil (IsRoughTalk service tei); expired = refl; leads = refl; gives = omega arith }
 
-  -- No timer expires in it, and there are so many moves at least.
+  -- No timer expires in it, and so many frames are given at least.
   pub record Done (m : ℕ) (f g : Wire) : Type 0 where
     pub steps : List StepAt
     pub rough : All (IsRoughTalk service tei) steps
     pub none : expiries steps ≡ 0
     pub leads : doing_all steps f ≡ g
-    pub moved : m ≤ moves steps f
+    pub gives : m ≤ gifts steps f
 
   pub as-run : (m : ℕ) (f g : Wire) → Done m f g → Run m 0 f g
-  as-run m f g p = record { steps = p.steps; rough = p.rough; expired = p.none; leads = p.leads; moved = p.moved }
+  as-run m f g p = record { steps = p.steps; rough = p.rough; expired = p.none; leads = p.leads; gives = p.gives }
 
   pub done-none : (f g : Wire) → f ≡ g → Done 0 f g
-  unfolding doing_all moves expiries
-  done-none f g same = record { steps = []; rough = All-nil (IsRoughTalk service tei); none = refl; leads = same; moved = omega arith }
+  unfolding doing_all gifts expiries
+  done-none f g same = record { steps = []; rough = All-nil (IsRoughTalk service tei); none = refl; leads = same; gives = omega arith }
 
   pub done-both : (m k : ℕ) (f g x : Wire) → Done m f g → Done k g x → Done (m + k) f x
   done-both m k f g x p q = record {
@@ -86,17 +88,17 @@ module _ (service : Service) (tei : ℕ) where
     rough = All-append (IsRoughTalk service tei) p.steps q.steps p.rough q.rough;
     none = (let sum = expiries-append p.steps q.steps in let one = p.none in let two = q.none in omega (arith, sum, one, two));
     leads = doing-append p.steps q.steps f ∙ ap (doing_all q.steps) p.leads ∙ q.leads;
-    moved = (let sum = moves-append p.steps q.steps f in let one = p.moved in let two = subst (λ h. k ≤ moves q.steps h) (sym p.leads) q.moved in omega (arith, sum, one, two));
+    gives = (let sum = gifts-append p.steps q.steps f in let one = p.gives in let two = subst (λ h. k ≤ gifts q.steps h) (sym p.leads) q.gives in omega (arith, sum, one, two));
   }
 
-  done-one : (act : Step) → IsRoughTalkOf service tei act → expiries_in (at_near act) ≡ 0 → (m : ℕ) (f g : Wire) → m ≤ cond {A = ℕ} (is_move_of act f) 1 0 → acting act f ≡ g → Done m f g
-  unfolding doing_all moves expiries
+  done-one : (act : Step) → IsRoughTalkOf service tei act → expiries_in (at_near act) ≡ 0 → (m : ℕ) (f g : Wire) → m ≤ cond {A = ℕ} (is_gift_of act f) 1 0 → acting act f ≡ g → Done m f g
+  unfolding doing_all gifts expiries
   done-one act is none m f g some same = record {
     steps = at_near act ∷ [];
     rough = All-cons (IsRoughTalk service tei) (at_near act) [] is (All-nil (IsRoughTalk service tei));
     none = omega (arith, none);
     leads = same;
-    moved = omega (arith, some);
+    gives = omega (arith, some);
   }
 
   swap-rough : (ds : List StepAt) → All (IsRoughTalk service tei) ds → All (IsRoughTalk service tei) (all-swap ds)
@@ -117,11 +119,11 @@ module _ (service : Service) (tei : ℕ) where
   swap-leads (at_near act ∷ ds) w = swap-leads ds (acting act w)
   swap-leads (at_far act ∷ ds) w = swap-leads ds (turned (acting act (turned w)))
 
-  swap-moves : (ds : List StepAt) (w : Wire) → moves (all-swap ds) (turned w) ≡ moves ds w
-  unfolding moves all-swap swap
-  swap-moves [] w = refl
-  swap-moves (at_near act ∷ ds) w = ap (λ n. cond {A = ℕ} (is_move_of act w) 1 0 + n) (swap-moves ds (acting act w))
-  swap-moves (at_far act ∷ ds) w = ap (λ n. cond {A = ℕ} (is_move_of act (turned w)) 1 0 + n) (swap-moves ds (turned (acting act (turned w))))
+  swap-gifts : (ds : List StepAt) (w : Wire) → gifts (all-swap ds) (turned w) ≡ gifts ds w
+  unfolding gifts all-swap swap
+  swap-gifts [] w = refl
+  swap-gifts (at_near act ∷ ds) w = ap (λ n. cond {A = ℕ} (is_gift_of act w) 1 0 + n) (swap-gifts ds (acting act w))
+  swap-gifts (at_far act ∷ ds) w = ap (λ n. cond {A = ℕ} (is_gift_of act (turned w)) 1 0 + n) (swap-gifts ds (turned (acting act (turned w))))
 
   pub done-turned : (m : ℕ) (f g : Wire) → Done m f g → Done m (turned f) (turned g)
   done-turned m f g p = record {
@@ -129,7 +131,7 @@ module _ (service : Service) (tei : ℕ) where
     rough = swap-rough p.steps p.rough;
     none = swap-none p.steps ∙ p.none;
     leads = swap-leads p.steps f ∙ ap turned p.leads;
-    moved = subst (λ k. m ≤ k) (sym (swap-moves p.steps f)) p.moved;
+    gives = subst (λ k. m ≤ k) (sym (swap-gifts p.steps f)) p.gives;
   }
 
   -- ---- a pull
@@ -181,7 +183,7 @@ module _ (service : Service) (tei : ℕ) where
             so-many None = 0
             so-many (Some f) = 1
 
-            few : (o : Option NextFrame) → next_of_card a.at.line a.at.card.card ≡ line.gave o → so-many o ≤ cond {A = ℕ} (is_move_of sends (with (station there ts a.at))) 1 0
+            few : (o : Option NextFrame) → next_of_card a.at.line a.at.card.card ≡ line.gave o → so-many o ≤ cond {A = ℕ} (is_gift_of sends (with (station there ts a.at))) 1 0
             few None is = omega arith
             few (Some f) is = subst (λ answer. 1 ≤ cond {A = ℕ} (wire.is_any (wire.frames_by answer)) 1 0) (sym is) (omega arith)
 

@@ -24,18 +24,19 @@ pub record AreMissing (l : Line) (k u : ℕ) (w : Clocked) : Type 0 where
   pub far_window : (terms l.far l.service l.tei).k ≤ k
   pub few : length w.near.at.granted + length w.far.at.granted ≤ length (contents_at w.near) + length (contents_at w.far) + u
 
--- The moves that are left at most, as `Resting` of laws_wire counts them, if as many frames as may be wait at either end, and there is one
--- in transit for each octet, and one more; and for each timer that falls due.
+-- So many frames are there at most: as many as may wait at either end, and in transit one for each octet, and one more.
 abbrev pub frames_there : Line → ℕ
 frames_there l = l.near.control + l.far.control + 2 * (l.way + 1)
 
-abbrev pub moves_left : Line → ℕ → ℕ → ℕ → ℕ
-moves_left l k u e = 2 * most_frames k (4 + frames_there l) u + (2 * k + 4) * e
+-- So many begin at most, as `Resting` of laws_wire counts them: half as many as moves are left, since each is a move as it begins and one as it is
+-- taken, and some for those in transit at last; and for each timer that falls due.
+abbrev pub frames_to_come : Line → ℕ → ℕ → ℕ → ℕ
+frames_to_come l k u e = most_frames k (4 + frames_there l) u + (l.way + 1) + (k + 2) * e
 
--- For each move 2 L + D octet times; and L + D and T200 for each timer that falls due, and once more.
+-- For each frame that begins 2 L + D octet times; and L + D and T200 for each timer that falls due, and once more.
 abbrev pub in_time : Line → Lengths → ℕ → ℕ → ℕ → ℕ
 in_time l lengths k u e =
-    let L = longest l.near.n201 in moves_left l k u e * (2 * L + l.way) + (e + 1) * (L + l.way + lengths.t200 * l.rate)
+    let L = longest l.near.n201 in frames_to_come l k u e * (2 * L + l.way) + (e + 1) * (L + l.way + lengths.t200 * l.rate)
 
 -- Noise has ended, the end that calls is up, and nothing more is asked for. If e timers fall due in so many beats, so all is told.
 abbrev pub AllIsToldInTime : Type 0

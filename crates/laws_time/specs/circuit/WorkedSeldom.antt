@@ -10,7 +10,7 @@ use Rattle.laws_time.specs.circuit.Clocked.{Clocked, Beat, plain, after}
 use Rattle.laws_time.specs.circuit.LongEnough.{Line, answered_in}
 use Rattle.laws_time.specs.circuit.Quiet.{frames_put}
 use Rattle.laws_time.specs.circuit.Seldom.{IsQuiet, is_t203, near_fallen}
-use Rattle.laws_time.specs.circuit.ToldInTime.{moves_left}
+use Rattle.laws_time.specs.circuit.ToldInTime.{frames_to_come}
 
 -- An octet a millisecond, none in transit, eight octets in a content at most and three control frames: an answer takes 90 octet times at most, and the
 -- longest frame 18. T203 of the end that calls runs for 20 milliseconds.
@@ -61,5 +61,5 @@ abbrev pub ASeldomRunMeetsIt : Type 0
 ASeldomRunMeetsIt = Meets
 
 -- The bound is far above that.
-its_bound : moves_left its_line 1 0 1 ≡ 90
+its_bound : frames_to_come its_line 1 0 1 ≡ 46
 its_bound = refl

@@ -4,17 +4,17 @@ use Rattle.std.proofs.Common.{arith}
 use Rattle.laws_time.specs.circuit.ToldInTime.{in_time, FallsDueFew}
 use Rattle.laws_time.specs.circuit.WorkedLongEnough.{line_with}
 
--- At 16 kbit/s with 4 octets in transit, a window of 1, and T200 of 1 s, one content is missing. T203 of 10 s falls due 16 times at either end at most
--- in 159984 ms, so timers fall due 35 times; and all is told 158776 ms later.
-basic_rate : let l = line_with 2 4 1000 in in_time l l.lengths 1 1 (1 + 2 + 2 * 16) ≡ 317552
+-- At 16 kbit/s with 4 octets in transit, a window of 1, and T200 of 1 s, one content is missing. T203 of 10 s falls due 6 times at either end at most
+-- in 59994 ms, so timers fall due 15 times; and all is told 59298 ms later.
+basic_rate : let l = line_with 2 4 1000 in in_time l l.lengths 1 1 (1 + 2 + 2 * 6) ≡ 118596
 basic_rate = refl
 
-basic_few : let l = line_with 2 4 1000 in FallsDueFew l l.lengths 319968 16
+basic_few : let l = line_with 2 4 1000 in FallsDueFew l l.lengths 119988 6
 basic_few = omega arith
 
--- At 64 kbit/s with 16 octets in transit and a window of 7, T203 falls due 17 times at either end at most in 169983 ms, and all is told 167089 ms later.
-primary_rate : let l = line_with 8 16 1000 in in_time l l.lengths 7 1 (1 + 2 + 2 * 17) ≡ 1336706
+-- At 64 kbit/s with 16 octets in transit and a window of 7, T203 falls due 7 times at either end at most in 69993 ms, and all is told 69096 ms later.
+primary_rate : let l = line_with 8 16 1000 in in_time l l.lengths 7 1 (1 + 2 + 2 * 7) ≡ 552762
 primary_rate = refl
 
-primary_few : let l = line_with 8 16 1000 in FallsDueFew l l.lengths 1359864 17
+primary_few : let l = line_with 8 16 1000 in FallsDueFew l l.lengths 559944 7
 primary_few = omega arith

@@ -114,11 +114,12 @@ pub fn a_call_outlasts_noise()
 /// queue keeps the others of those that were granted. No more are acknowledged than the other end was told by now. (Of the
 /// end that is called this is said from when the other is up.)
 ///
-/// Let either end come from state 7 to state 8, as T200 or T203 falls due, on a line without noise. Let no noise come for
-/// 2 (L + D) + 9 (c + c') octet times from then on, and let no frame find no place, while requests may go on. Then that end
-/// has caught up with what the other had been told as the timer fell due, whatever noise took before (`in_time`). So a lost
-/// acknowledgement is made good so soon (Q.921 clause 5.6.7). If the other end had been told all that is granted by then,
-/// each place of the queue is free (`all`). A worked run meets all premises of the first (`met`).
+/// Let either end come from state 7 to state 8, as T200 or T203 falls due, without noise from the octet time before on. Let
+/// no noise come for 2 (L + D) + 9 (c + c') octet times from then on, and let no frame find no place, while requests may go
+/// on. Then that end has caught up with what the other had been told as the timer fell due, whatever noise took before
+/// (`in_time`). So a lost acknowledgement is made good so soon (Q.921 clause 5.6.7). If nothing more is granted, and the
+/// other end had been told all by then, each place of the queue is free (`all`). A worked run meets all premises of the
+/// first (`met`).
 pub fn an_answer_tells_what_came()
     ensures came { AnswersTellWhatCame }
     ensures in_time { AnEnquiryCatchesUp }

@@ -87,7 +87,7 @@ impl FrameLine {
         match heard {
             Heard::Nothing => false,
             Heard::Dropped(_) | Heard::Frame(_) | Heard::Overlong(_) => {
-                // It is counted once it is served: so it is read once, while it is at hand.
+                // It is counted after it is served: so what was seen of its octets need not be looked at again.
                 self.layer.serve(heard, report, shelf);
                 self.counters.heard(self.layer.config.side, heard);
                 self.count(report)

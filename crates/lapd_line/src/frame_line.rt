@@ -87,8 +87,9 @@ impl FrameLine {
         match heard {
             Heard::Nothing => false,
             Heard::Dropped(_) | Heard::Frame(_) | Heard::Overlong(_) => {
-                self.counters.heard(self.layer.config.side, heard);
+                // It is counted after it is served: so what was seen of its octets need not be looked at again.
                 self.layer.serve(heard, report, shelf);
+                self.counters.heard(self.layer.config.side, heard);
                 self.count(report)
             }
         }
@@ -145,6 +146,10 @@ impl FrameLine {
         ensures after { Leads (hears (came (config_of self.old).n201 octets.now)) self.old (S.store shelf.old) self.new (S.store shelf.new) }
         ensures quiet { result ≡ true → IsQuiet report.new }
     {
+        // Both ways do the same. An RR frame, as a poll is, is compiled apart, so that nothing is in its way that others need.
+        if let [_, _, 0x01, _] = octets {
+            return self.heard(came(octets, self.layer.config.n201), report, shelf);
+        }
         self.heard(came(octets, self.layer.config.n201), report, shelf)
     }
 

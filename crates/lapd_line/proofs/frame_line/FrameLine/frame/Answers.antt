@@ -5,10 +5,10 @@ use Rattle.lapd_line.proofs.frame_line.FrameLine.frame.Goals as goal
 
 pub returns-clause-told : goal.returns-clause-told
 returns-clause-told g c = λ others m st.
-    ap (λ h. told (told_in (octets_of h) c.heard.new.report)) (sym c.came.ensures)
-    ∙ c.heard.ensures.told others m st
-    ∙ ap (λ h. answer_if_heard (config_of c.args.self.now) h m) c.came.ensures
+    ap (λ h. told (told_in (octets_of h) c.heard-2.new.report)) (sym c.came-2.ensures)
+    ∙ c.heard-2.ensures.told others m st
+    ∙ ap (λ h. answer_if_heard (config_of c.args.self.now) h m) c.came-2.ensures
 
 pub returns-clause-after : goal.returns-clause-after
 returns-clause-after g c =
-    subst (λ h. LeadsIfHeard h c.args.self.now (g.S.Shelf.store c.args.shelf.now) c.heard.new.self (g.S.Shelf.store c.heard.new.shelf)) c.came.ensures c.heard.ensures.after
+    subst (λ h. LeadsIfHeard h c.args.self.now (g.S.Shelf.store c.args.shelf.now) c.heard-2.new.self (g.S.Shelf.store c.heard-2.new.shelf)) c.came-2.ensures c.heard-2.ensures.after

@@ -18,4 +18,5 @@ returns-in-Dropped-clause-after g c =
     heard_leads c.args.self.now (heard_of c.args.heard) some c.serve.ensures
     (c.count.ensures.counted
     ∙ ap (λ k. record c.args.self.now { layer = c.serve.new.self; counters = with_all k (bare_shown c.serve.new.report) }) c.heard.ensures
+    ∙ ap (λ k. record c.args.self.now { layer = c.serve.new.self; counters = with_all (with_all c.args.self.now.counters (heard_shown k.side (heard_of c.args.heard))) (bare_shown c.serve.new.report) }) c.serve.ensures.config
     ∙ ap (λ k. record c.args.self.now { layer = c.serve.new.self; counters = k }) (counted_twice c.args.self.now.counters (heard_shown (config_of c.args.self.now).side (heard_of c.args.heard)) (bare_shown c.serve.new.report)))

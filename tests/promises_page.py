@@ -42,7 +42,7 @@ RUNS = {
     'calls_bear_noise': 'laws_time circuit/WorkedArriving', 'a_call_outlasts_noise': 'laws_time circuit/WorkedInCall', 'a_call_takes_beats': 'laws_time circuit/WorkedInBeats',
     'a_call_comes_in_time': 'laws_time circuit/WorkedInTime', 'frames_come_in_beats': 'laws_time circuit/WorkedInBeats',
     'no_answer_is_awaited_longer': 'laws_time ArrivalsWorked',
-    'n200_takes_its_time': 'laws_time ArrivalsWorked',
+   
     'falling_due_ends': 'laws_time WorkedFallingDue',
     'timers_are_true': 'model_timed Worked', 'timers_run_the_same': 'model_timed WorkedOctets',
     'frames_are_heard': 'model_card ports/WorkedText', 'given_frames_are_heard': 'laws_trace octets/Worked',
@@ -71,6 +71,8 @@ SHARED = {'a call': ['CanCall c line d other tei'], 'talk': ['All (IsTalk servic
                            'NoneFallsDue l.rate (calls l b ∷ bs ++ replicate n plain) (begins l)'],
           'a quiet line': ['Begins l', 'All (IsTalk l) (b ∷ before)', 'All IsClean (b ∷ before)', 'All IsClean bs'],
           'at rest': ['All (AsksData l) bs', 'IsAtRest l r', 'NoneFallsDue l.rate (bs ++ replicate n plain) r'],
+          'after noise': ['IsQuiet l before noisy quiet (replicate n plain) b', 'AreMissing l k u w'],
+          'in time': ['in_time l l.lengths k u e ≤ n', 'in_time l l.far_lengths k u e ≤ n'],
           'a timed line': ['IsInRange c', 'number < c.lines', 'ArePrompt w.kind late before begun', 'ArePrompt w.kind late steps t']}
 # What some of these say, in words.
 IN_WORDS = {'a call': 'two cards, one of each side, with one TEI', 'talk': 'data is asked for; frames are sent and received',

@@ -39,9 +39,9 @@ RUNS = {
     'rooms_are_told': 'laws_trace WorkedRooms', 'counters_count': 'laws_trace WorkedCounters',
     'causes_are_told': 'laws_trace WorkedCauses', 'a_dead_line_is_told': 'laws_time WorkedSilence', 'answers_come_in_time': 'laws_time circuit/WorkedLongEnough',
     'commands_are_answered': 'laws_time circuit/WorkedAnswered',
-    'calls_bear_noise': 'laws_time circuit/WorkedArriving', 'a_call_outlasts_noise': 'laws_time circuit/WorkedInCall', 'a_call_takes_beats': 'laws_time circuit/WorkedInBeats',
+    'calls_bear_noise': 'laws_time circuit/WorkedArriving', 'an_answer_tells_what_came': 'laws_time circuit/WorkedCaughtUp',
+    'a_call_outlasts_noise': 'laws_time circuit/WorkedInCall', 'a_call_takes_beats': 'laws_time circuit/WorkedInBeats',
     'a_call_comes_in_time': 'laws_time circuit/WorkedInTime', 'frames_come_in_beats': 'laws_time circuit/WorkedInBeats',
-    'no_answer_is_awaited_longer': 'laws_time ArrivalsWorked',
    
     'falling_due_ends': 'laws_time WorkedFallingDue',
     'timers_are_true': 'model_timed Worked', 'timers_run_the_same': 'model_timed WorkedOctets',

@@ -21,6 +21,7 @@ SHARED = {
     "Circuit": "laws_order",
     "Beats": "laws_time",
     "Rested": "laws_time",
+    "Answers": "laws_time",
     "Links": "model_link",
     "Both": "model_link",
     "Given": "laws_link",

@@ -130,21 +130,22 @@ pub fn an_answer_tells_what_came()
 /// A quiet line has told all. A call is as [`calls_bear_noise`] has it, with any noise that makes no frame, and with data and
 /// busy requests at any time. N200 is not used up, and the end that is called tells no error F (of a lost UA).
 ///
-/// Then let there be no noise, let nothing be asked for, let no timer fall due, and let neither end begin a frame: flags
-/// alone go. For L + D octet times and T200 of each end it stays so. Then each end was told one establishment, and all data
+/// Then let there be no noise, let nothing be asked for, let no timer fall due, and let neither end begin a frame. (One that
+/// began before may still go.) For L + D octet times and the longer T200 it stays so. Then each end was told one establishment, and all data
 /// that the other was granted to send: in order, each once, and nothing else, except what was dropped. All of it is
 /// acknowledged: each place of the queue is free at both ends (`Card::room`). L is the longest frame in octets, and D octets
 /// are in transit.
 ///
 /// So as long as anything that was granted is missing, whatever noise took before, the line does not fall silent: in each
-/// stretch of that length a frame begins, or a timer falls due.
+/// stretch of that length without noise and requests a frame begins, or a timer falls due.
 pub fn a_quiet_line_has_told_all()
     ensures { AQuietLineHasToldAll }
 {}
 
 /// T200 falls due seldom once noise has ended. A call is as [`calls_bear_noise`] has it, and layer 3 of either end asks for
 /// data alone. N200 is not used up, and the end that is called tells no error F. Three control frames may wait at either
-/// end. Any noise came that made no frame. L + 1 octet times after its end, the end that calls is up.
+/// end. Any noise came that made no frame. L + 1 octet times after its end, or later, the end that calls is up, and noise does
+/// not come again.
 ///
 /// From there on T200 of an end falls due once more at most than contents are missing at the other end (`seldom`). Those are
 /// the contents that are granted in the end, and were not told there by then. It falls due for the first time for what noise
@@ -163,17 +164,18 @@ pub fn t200_falls_due_seldom()
 /// Let timers fall due e times at both ends together in so many octet times: (M + (k + 2) e) (2 L + D) + (e + 1) (L + D +
 /// T200). Then each end was told one establishment, and all data that the other was granted to send: in order, each once,
 /// and nothing else, except what was dropped (`counted`). L is the longest frame in octets, D octets are in transit, T200
-/// is in octet times, that of either end, and k is the greater window. M counts frames that may begin, as
+/// is in octet times, the longer of both, and k is the greater window. M counts frames that may begin, as
 /// [`laws_wire::turns_come_to_an_end`] has them: 2 (k + 2) + (k + 2) (6 + c + c' + 2 D) + (k + 3) u + D + 1, where c and
 /// c' control frames may wait at the ends.
 ///
 /// If layer 3 asked for data alone, and three control frames may wait at either end, T200 falls due u + 2 times at most
 /// ([`t200_falls_due_seldom`]). So e is u + 2, and the number of times that T203 falls due in these octet times
-/// (`seldom`). That is q times at either end at most, if q times T203, less a millisecond each, are as long. So numbers
-/// alone say how soon all is told, with e of u + 2 + 2 q (`numbers`).
+/// (`seldom`). That is q times at either end at most, if q times T203, less a millisecond each, are as long. So
+/// T200, T203 and what is missing say how soon all is told, as long as N200 lasts, with e of u + 2 + 2 q (`numbers`).
 ///
-/// The bound is far from what runs take, since each frame is given 2 L + D octet times. At 16 kbit/s with N201 of 260, D
-/// of 4, k of 1, T200 of 1 s and T203 of 10 s one message that noise took is told within 60 s
+/// The bound is far from what runs take, since M counts a frame in each octet in transit and each place of a control frame,
+/// and each is given 2 L + D octet times. At 16 kbit/s with N201 of 260, D of 4, c and c' of 4, k of 1, T200 of 1 s and T203
+/// of 10 s one message that noise took is told within 60 s
 /// (`specs/circuit/WorkedToldInTime`).
 pub fn all_is_told_in_time()
     ensures counted { AllIsToldInTime }
@@ -185,7 +187,8 @@ pub fn all_is_told_in_time()
 /// ended nothing more is granted. Then so many frames begin at most, at both ends together, in whatever time: the M of
 /// [`all_is_told_in_time`], and k + 2 for each timer that falls due. u contents are missing then at most.
 ///
-/// So if T203 does not fall due, frames come to an end by themselves: T200 falls due u + 2 times at most.
+/// So if T203 does not fall due, frames come to an end by themselves: T200 falls due u + 2 times at most. (On an idle line T203
+/// falls due again and again.)
 pub fn frames_come_to_an_end()
     ensures { FramesComeToAnEnd }
 {}
@@ -229,8 +232,8 @@ pub fn frames_come_in_beats()
 {}
 
 /// Frames come after noise. Any noise may have come before, of any length, even such as makes frames. Then there is none.
-/// Each frame that an end puts on its line after the first octet time without noise is received whole L + D octet times
-/// later, as in [`frames_come_in_beats`]. They are received in order, and nothing is heard between them. So noise takes
+/// Each frame that an end puts on its line after the first octet time without noise is received whole within L + D octet
+/// times, as in [`frames_come_in_beats`]. They are received in order, and nothing is heard between them. So noise takes
 /// no frame that is put there after it (`come`). It holds whatever layer 3 of either end asks for of the link except unit
 /// data and deactivation, and whichever timers fall due.
 ///

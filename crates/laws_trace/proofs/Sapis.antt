@@ -89,10 +89,10 @@ module _ (c : Config) (ranged : IsInRange c) (octets : List ℕ) where
 
   frames : (side : Side) (r : Result Parts ReadFault) → Reads side octets r → IsFrame (named_by c.sapi r)
   frames side (Ok frame) told = address frame.address told
-  frames side (Err BadExtension) has = tt
+  frames side (Err BadExtension) _ = tt
   frames side (Err (Undefined a)) has = address a has
   frames side (Err (WrongSize a)) has = address a has
-  frames side (Err Short) has = tt
+  frames side (Err Short) _ = tt
 
   frame-read : (sender : Sender) → sender.sapi ≡ c.sapi → IsFrame (reading sender octets)
   unfolding reading
@@ -105,10 +105,10 @@ module _ (c : Config) (ranged : IsInRange c) (octets : List ℕ) where
   longs : (side : Side) (r : Result Long ReadFault) → IsLong side octets r → IsLongFrame (long_named c.sapi r)
   longs side (Ok (long.Information a)) has = address a has
   longs side (Ok (long.Unnumbered a)) has = address a has
-  longs side (Err BadExtension) has = tt
+  longs side (Err BadExtension) _ = tt
   longs side (Err (Undefined a)) has = address a has
   longs side (Err (WrongSize a)) has = address a has
-  longs side (Err Short) has = tt
+  longs side (Err Short) _ = tt
 
   long-read : IsLongFrame (long_reading (heard_side c) octets)
   long-read = longs (heard_side c).side (side_long_reading (heard_side c).side octets) (has-long (heard_side c).side octets)

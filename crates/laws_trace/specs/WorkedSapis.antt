@@ -21,5 +21,5 @@ unfolding exchanged reading side_reading header_of control_of unnumbered_of
 sabme_of_16 = refl
 
 -- One with SAPI 16 that was read as one of the second service would break the law.
-served_there : IsNamed abis (0x40 ∷ 0x81 ∷ 0x7F ∷ []) (record { address = record { sapi = 16; command = true; tei = 64 }; control = Sabme true; info = [] }) → ⊥
+served_there : IsNamed abis (0x40 ∷ 0x81 ∷ 0x7F ∷ []) (record { sapi = 16; command = true; tei = 64 }) → ⊥
 served_there h = cc h.packet

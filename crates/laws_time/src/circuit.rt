@@ -19,7 +19,8 @@
 //! # Open
 //!
 //! That each command and each answer finds a place in its queue of control frames (these laws suppose that none is told
-//! as lost). That all is told sooner after noise than `all_is_told_in_time` says, or while more is asked for.
+//! as lost). That all is told sooner after noise than `all_is_told_in_time` says, or while more is asked for; that N200
+//! lasts as long as that law supposes (`a_call_outlasts_noise` says it of (N200 + 1) T200).
 
 ghost use Rattle.laws_time.specs.circuit.AfterNoise.{FramesComeAfterNoise, NoiseMakesNoFrameAfter};
 ghost use Rattle.laws_time.specs.circuit.Answered.{AnEnquiryIsAnswered, CommandsAreAnswered, NoNoiseIsClear, OneEnquiryIsEnough};

@@ -71,8 +71,6 @@ SHARED = {'a call': ['CanCall c line d other tei'], 'talk': ['All (IsTalk servic
                            'NoneFallsDue l.rate (calls l b ∷ bs ++ replicate n plain) (begins l)'],
           'a quiet line': ['Begins l', 'All (IsTalk l) (b ∷ before)', 'All IsClean (b ∷ before)', 'All IsClean bs'],
           'at rest': ['All (AsksData l) bs', 'IsAtRest l r', 'NoneFallsDue l.rate (bs ++ replicate n plain) r'],
-          'after noise': ['IsQuiet l before noisy quiet (replicate n plain) b', 'AreMissing l k u w'],
-          'in time': ['in_time l l.lengths k u e ≤ n', 'in_time l l.far_lengths k u e ≤ n'],
           'a timed line': ['IsInRange c', 'number < c.lines', 'ArePrompt w.kind late before begun', 'ArePrompt w.kind late steps t']}
 # What some of these say, in words.
 IN_WORDS = {'a call': 'two cards, one of each side, with one TEI', 'talk': 'data is asked for; frames are sent and received',

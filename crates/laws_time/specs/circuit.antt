@@ -14,13 +14,7 @@ pub mod WorkedInCall
 pub mod InBeats
 pub mod AfterNoise
 pub mod WorkedAfterNoise
-pub mod Seldom
-pub mod Begun
-pub mod WorkedSeldom
 pub mod WorkedInBeats
 pub mod WorkedInTime
 pub mod CaughtUp
 pub mod WorkedCaughtUp
-pub mod Quiet
-pub mod ToldInTime
-pub mod WorkedToldInTime

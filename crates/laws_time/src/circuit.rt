@@ -10,33 +10,26 @@
 //! call through noise tells is in `Arriving`, and a run that meets its premises in `WorkedArriving`. How soon it comes
 //! through is in `InCall` and `WorkedInCall`. How many beats a call without noise takes is in `InBeats` and
 //! `WorkedInBeats`, and with which T200 no timer falls due in it in `WorkedInTime`. What the answer to an enquiry
-//! brings is in `CaughtUp` and `WorkedCaughtUp`. What comes after noise is in `AfterNoise` and `WorkedAfterNoise`. How
-//! often T200 falls due after noise, and how many frames begin, is in `Seldom`, `Begun` and `WorkedSeldom`. What a line
-//! that was quiet for so long has told is in `Quiet`, and how soon all is told after noise in `ToldInTime` and
-//! `WorkedToldInTime`. Random and chosen runs broke nothing of what is open, if layer 3 asks for no unit data and is not
-//! busy, T200 is at least as long as an answer takes, and noise makes no frame.
+//! brings is in `CaughtUp` and `WorkedCaughtUp`. What comes after noise is in `AfterNoise` and `WorkedAfterNoise`.
 //!
 //! # Open
 //!
 //! That each command and each answer finds a place in its queue of control frames (these laws suppose that none is told
-//! as lost). That all is told sooner after noise than `all_is_told_in_time` says, or while more is asked for; that N200
-//! lasts as long as that law supposes (`a_call_outlasts_noise` says it of (N200 + 1) T200).
+//! as lost). That all is told in the end once noise has ended, and how soon: in 4,550 random and chosen runs nothing was
+//! missing, and at 16 kbit/s one message took 1.14 s at most, eight took 2.07 s. (Layer 3 asked for no unit data and was
+//! not busy, T200 was as long as an answer takes at least, and noise made no frame.) That N200 lasts longer than
+//! `a_call_outlasts_noise` says.
 
 ghost use Rattle.laws_time.specs.circuit.AfterNoise.{FramesComeAfterNoise, NoiseMakesNoFrameAfter};
 ghost use Rattle.laws_time.specs.circuit.Answered.{AnEnquiryIsAnswered, CommandsAreAnswered, NoNoiseIsClear, OneEnquiryIsEnough};
 ghost use Rattle.laws_time.specs.circuit.Arriving.{CallsBearNoise};
-ghost use Rattle.laws_time.specs.circuit.Begun.{FramesComeToAnEnd};
 ghost use Rattle.laws_time.specs.circuit.CaughtUp.{AllPlacesAreFree, AnEnquiryCatchesUp, AnswersTellWhatCame};
 ghost use Rattle.laws_time.specs.circuit.Ends.{EndsAreTimedCards};
 ghost use Rattle.laws_time.specs.circuit.InBeats.{ACallComesInTime, ACallTakesBeats, AShortCallTakesBeats, FramesComeInBeats, MessagesComeInTime, MessagesTakeBeats, ShortMessagesTakeBeats, T203FallsDueFirst, T203FallsDueFirstSince};
 ghost use Rattle.laws_time.specs.circuit.InCall.{ACallOutlastsNoise, N200LastsInACall};
 ghost use Rattle.laws_time.specs.circuit.LongEnough.{AnswersComeInTime};
-ghost use Rattle.laws_time.specs.circuit.Quiet.{AQuietLineHasToldAll};
-ghost use Rattle.laws_time.specs.circuit.Seldom.{T200FallsDueSeldom};
-ghost use Rattle.laws_time.specs.circuit.ToldInTime.{AllIsToldAfterNoise, AllIsToldByNumbers, AllIsToldInTime};
 ghost use Rattle.laws_time.specs.circuit.WorkedAnswered.{AnEnquiryIsMet};
 ghost use Rattle.laws_time.specs.circuit.WorkedCaughtUp.{AnEnquiryMeetsIt};
-ghost use Rattle.laws_time.specs.circuit.WorkedSeldom.{ASeldomRunMeetsIt};
 
 /// Each end of the clocked circuit is a timed card of octets, as `model_timed` has it. Anything may be asked for at
 /// either end, with any noise, and any number of beats may have passed. Then the card at an end and its clock came
@@ -126,72 +119,6 @@ pub fn an_answer_tells_what_came()
     ensures in_time { AnEnquiryCatchesUp }
     ensures all { AllPlacesAreFree }
     ensures met { AnEnquiryMeetsIt }
-{}
-
-/// A quiet line has told all. A call is as [`calls_bear_noise`] has it, with any noise that makes no frame, and with data and
-/// busy requests at any time. N200 is not used up, and the end that is called tells no error F (of a lost UA).
-///
-/// Then let there be no noise, let nothing be asked for, let no timer fall due, and let neither end begin a frame. (One that
-/// began before may still go.) For L + D octet times and the longer T200 it stays so. Then each end was told one establishment, and all data
-/// that the other was granted to send: in order, each once, and nothing else, except what was dropped. All of it is
-/// acknowledged: each place of the queue is free at both ends (`Card::room`). L is the longest frame in octets, and D octets
-/// are in transit.
-///
-/// So as long as anything that was granted is missing, whatever noise took before, the line does not fall silent: in each
-/// stretch of that length without noise and requests a frame begins, or a timer falls due.
-pub fn a_quiet_line_has_told_all()
-    ensures { AQuietLineHasToldAll }
-{}
-
-/// T200 falls due seldom once noise has ended. A call is as [`calls_bear_noise`] has it, and layer 3 of either end asks for
-/// data alone. N200 is not used up, and the end that is called tells no error F. Three control frames may wait at either
-/// end. Any noise came that made no frame. L + 1 octet times after its end, or later, the end that calls is up, and noise does
-/// not come again.
-///
-/// From there on T200 of an end falls due once more at most than contents are missing at the other end (`seldom`). Those are
-/// the contents that are granted in the end, and were not told there by then. It falls due for the first time for what noise
-/// took, or for whatever runs then. After each enquiry all that was sent before it is acknowledged (Q.921 clauses 5.6.3 and
-/// 5.6.7). It holds of any number of octet times, also while more is asked for. So if nothing more is granted and all was
-/// told, T200 falls due once at most at that end. A worked run meets all premises (`met`).
-pub fn t200_falls_due_seldom()
-    ensures seldom { T200FallsDueSeldom }
-    ensures met { ASeldomRunMeetsIt }
-{}
-
-/// All is told in time after noise, while timers fall due. A call is as [`calls_bear_noise`] has it. Any noise came that made
-/// no frame, and then there is none. The end that calls is up, nothing more is asked for, and u contents are missing at
-/// most: granted at an end, and not told at the other. N200 is not used up, and no error F is told.
-///
-/// Let timers fall due e times at both ends together in so many octet times: (M + (k + 2) e) (2 L + D) + (e + 1) (L + D +
-/// T200). Then each end was told one establishment, and all data that the other was granted to send: in order, each once,
-/// and nothing else, except what was dropped (`counted`). L is the longest frame in octets, D octets are in transit, T200
-/// is in octet times, the longer of both, and k is the greater window. M counts frames that may begin, as
-/// [`laws_wire::turns_come_to_an_end`] has them: 2 (k + 2) + (k + 2) (6 + c + c' + 2 D) + (k + 3) u + D + 1, where c and
-/// c' control frames may wait at the ends.
-///
-/// If layer 3 asked for data alone, and three control frames may wait at either end, T200 falls due u + 2 times at most
-/// ([`t200_falls_due_seldom`]). So e is u + 2, and the number of times that T203 falls due in these octet times
-/// (`seldom`). That is q times at either end at most, if q times T203, less a millisecond each, are as long. So
-/// T200, T203 and what is missing say how soon all is told, as long as N200 lasts, with e of u + 2 + 2 q (`numbers`).
-///
-/// The bound is far from what runs take, since M counts a frame in each octet in transit and each place of a control frame,
-/// and each is given 2 L + D octet times. At 16 kbit/s with N201 of 260, D of 4, c and c' of 4, k of 1, T200 of 1 s and T203
-/// of 10 s one message that noise took is told within 60 s
-/// (`specs/circuit/WorkedToldInTime`).
-pub fn all_is_told_in_time()
-    ensures counted { AllIsToldInTime }
-    ensures seldom { AllIsToldAfterNoise }
-    ensures numbers { AllIsToldByNumbers }
-{}
-
-/// Frames come to an end after noise. A call is as [`t200_falls_due_seldom`] has it, and L + 1 octet times after noise has
-/// ended nothing more is granted. Then so many frames begin at most, at both ends together, in whatever time: the M of
-/// [`all_is_told_in_time`], and k + 2 for each timer that falls due. u contents are missing then at most.
-///
-/// So if T203 does not fall due, frames come to an end by themselves: T200 falls due u + 2 times at most. (On an idle line T203
-/// falls due again and again.)
-pub fn frames_come_to_an_end()
-    ensures { FramesComeToAnEnd }
 {}
 
 /// Without noise from the start on, noise makes no frame (`clear`): each frame that is heard stood at that place in what

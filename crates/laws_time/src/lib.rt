@@ -14,10 +14,9 @@ mod laws;
 
 pub use cards::timed_cards_are_cards;
 pub use circuit::{
-    a_call_comes_in_time, a_call_outlasts_noise, a_call_takes_beats, a_quiet_line_has_told_all,
-    all_is_told_in_time, an_answer_tells_what_came, answers_come_in_time, calls_bear_noise,
-    commands_are_answered, ends_are_timed_cards, frames_come_after_noise, frames_come_in_beats,
-    frames_come_to_an_end, no_noise_makes_no_frame, t200_falls_due_seldom,
+    a_call_comes_in_time, a_call_outlasts_noise, a_call_takes_beats, an_answer_tells_what_came,
+    answers_come_in_time, calls_bear_noise, commands_are_answered, ends_are_timed_cards,
+    frames_come_after_noise, frames_come_in_beats, no_noise_makes_no_frame,
 };
 pub use falling::falling_due_ends;
 pub use laws::{a_dead_line_is_told, n200_takes_its_time, no_answer_is_awaited_longer};

@@ -12,7 +12,7 @@ use Rattle.model_card.specs.ports.Codec.{frames_among}
 use Rattle.model_card.specs.ports.Port.{Port, gained, is_due, item_of}
 use Rattle.model_timed.specs.Octets.{TimedOctetCard, fresh}
 use Rattle.laws_time.specs.circuit.Ends.{card_of}
-use Rattle.laws_time.specs.circuit.Seldom.{is_t200, is_t203, fallen}
+use Rattle.laws_time.proofs.OfCircuit.Fallen.{is_t200, is_t203, fallen}
 use Rattle.laws_link.specs.two.Timely.{HasNo}
 use Rattle.laws_wire.specs.Timely.{is_final}
 use Rattle.laws_wire.specs.Wire.{Endpoint as FrameEndpoint, Wire}

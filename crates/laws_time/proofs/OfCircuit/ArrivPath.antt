@@ -249,15 +249,3 @@ module _ (service : Service) (tei : ℕ) where
   data-call (at_far sends) is = tt
   data-call (at_far receives) is = tt
   data-call (at_far loses) is = tt
-
-  pub path-call : (w v : Wire) → {i j k n : ℕ} → Path of_data service tei i j k n w v → Path of_call service tei i j k n w v
-  path-call w v p = record {
-    steps = p.steps;
-    done = all-done (IsDone of_data service tei) (IsDone of_call service tei) data-call p.steps p.done;
-    patient = p.patient;
-    leads = p.leads;
-    near = p.near;
-    far = p.far;
-    all = p.all;
-    gives = p.gives;
-  }

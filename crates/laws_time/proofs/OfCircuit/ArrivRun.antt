@@ -15,8 +15,8 @@ use Rattle.laws_time.specs.circuit.Arriving.{calls, IsAsked, AreAsked}
 use Rattle.laws_time.specs.circuit.InBeats.{IsDataOf}
 use Rattle.laws_time.specs.circuit.Clocked.{TimedEndpoint, Clocked, Beat, asks, hears, comes_to, gone, beat, after, flags}
 use Rattle.lapd_frame.specs.declared.timers.Timer.{Timer}
-use Rattle.laws_time.specs.circuit.Seldom.{is_t200, is_t203, fallen_in}
-unfoldable use Rattle.laws_time.specs.circuit.Seldom.{near_fallen, far_fallen}
+use Rattle.laws_time.proofs.OfCircuit.Fallen.{is_t200, is_t203, fallen_in}
+unfoldable use Rattle.laws_time.proofs.OfCircuit.Fallen.{near_fallen, far_fallen}
 use Rattle.laws_time.specs.circuit.LongEnough.{Line, IsFit, IsTalk, IsOfLink, asked, answered_in}
 unfoldable use Rattle.laws_time.specs.circuit.LongEnough.{AreClear}
 use Rattle.laws_time.proofs.OfCircuit.Acts.{Goes, asks-goes}
@@ -92,11 +92,6 @@ pub call-kept : (l : Line) (bs : List Beat) (w : Clocked) → AreKept of_call l 
 unfolding AreKept
 call-kept l [] w = tt
 call-kept l (b ∷ bs) w = (inl tt, inl tt, call-kept l bs (beat l.rate w b))
-
-pub data-kept : (l : Line) (bs : List Beat) (w : Clocked) → AreKept of_data l bs w
-unfolding AreKept
-data-kept l [] w = tt
-data-kept l (b ∷ bs) w = (inl tt, inl tt, data-kept l bs (beat l.rate w b))
 
 module _ (l : Line) (fit : IsFit l) where
   abbrev pub SameNow : Clocked → Wire → Type 0

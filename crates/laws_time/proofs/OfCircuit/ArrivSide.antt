@@ -35,8 +35,8 @@ use Rattle.laws_time.specs.circuit.Clocked.{TimedEndpoint, happens, asks, falls}
 unfoldable use Rattle.laws_time.specs.circuit.Clocked.{fall_due}
 use Rattle.laws_time.specs.circuit.Ends.{card_of}
 use Rattle.laws_time.specs.circuit.LongEnough.{IsOfLink, is_waiting}
-use Rattle.laws_time.specs.circuit.Seldom as seldom
-unfoldable use Rattle.laws_time.specs.circuit.Seldom.{fallen}
+use Rattle.laws_time.proofs.OfCircuit.Fallen as seldom
+unfoldable use Rattle.laws_time.proofs.OfCircuit.Fallen.{fallen}
 use Rattle.laws_time.proofs.OfCircuit.Acts.{Goes, asks-goes, fell-goes, soon-then, own-same}
 use Rattle.laws_time.proofs.OfCircuit.ArrivAs.{station, heard_of, Becomes, asked-becomes, expired-becomes, expired-as}
 use Rattle.laws_time.proofs.OfCircuit.ArrivFair.{IsFair, fair-parts, fair-may}

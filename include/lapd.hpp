@@ -95,6 +95,7 @@ private:
 // ---- Enums: the numbers of lapd.h -----------------------------------------------------------------------------------
 
 enum class [[nodiscard]] status : uint32_t {
+    // tools/names: LAPD_OK
     ok = LAPD_OK,
     refused_bad_tei = LAPD_REFUSED_BAD_TEI,
     refused_no_link = LAPD_REFUSED_NO_LINK,
@@ -137,12 +138,19 @@ enum class [[nodiscard]] status : uint32_t {
     bad_n201 = LAPD_BAD_N201,
     bad_n200 = LAPD_BAD_N200,
     bad_side = LAPD_BAD_SIDE,
-    bad_sapi = LAPD_BAD_SAPI
+    bad_sapi = LAPD_BAD_SAPI,
+    // tools/names: end
 };
 
-enum class service : uint8_t { call = LAPD_CALL, packet = LAPD_PACKET };
+enum class service : uint8_t {
+    // tools/names: LAPD_CALL
+    call = LAPD_CALL,
+    packet = LAPD_PACKET,
+    // tools/names: end
+};
 
 enum class note_kind : uint8_t {
+    // tools/names: LAPD_ESTABLISH_INDICATION
     establish_indication = LAPD_ESTABLISH_INDICATION,
     establish_confirm = LAPD_ESTABLISH_CONFIRM,
     release_indication = LAPD_RELEASE_INDICATION,
@@ -156,15 +164,29 @@ enum class note_kind : uint8_t {
     xid_indication = LAPD_XID_INDICATION,
     denied = LAPD_DENIED,
     unassigned = LAPD_UNASSIGNED,
-    remove_all = LAPD_REMOVE_ALL
+    remove_all = LAPD_REMOVE_ALL,
+    // tools/names: end
 };
 
-enum class timer_kind : uint8_t { t200 = LAPD_T200, t203 = LAPD_T203, t201 = LAPD_T201, t202 = LAPD_T202 };
+enum class timer_kind : uint8_t {
+    // tools/names: LAPD_T200
+    t200 = LAPD_T200,
+    t203 = LAPD_T203,
+    t201 = LAPD_T201,
+    t202 = LAPD_T202,
+    // tools/names: end
+};
 
-enum class order_kind : uint8_t { start = LAPD_START, stop = LAPD_STOP };
+enum class order_kind : uint8_t {
+    // tools/names: LAPD_START
+    start = LAPD_START,
+    stop = LAPD_STOP,
+    // tools/names: end
+};
 
 enum class cause : uint8_t {
     none = 0,
+    // tools/names: LAPD_ABORT
     abort = LAPD_ABORT,
     ragged = LAPD_RAGGED,
     too_short = LAPD_SHORT,
@@ -172,7 +194,8 @@ enum class cause : uint8_t {
     extension = LAPD_EXTENSION,
     sapi = LAPD_SAPI,
     tei = LAPD_TEI,
-    unserved = LAPD_UNSERVED
+    unserved = LAPD_UNSERVED,
+    // tools/names: end
 };
 
 /// Of a link; `none` where the TEI is not on the line.

@@ -39,6 +39,7 @@ from typing import Any, Dict, Iterator, List, NamedTuple, Optional, Tuple, TypeV
 class Status(enum.IntEnum):
     """What a call answers; a later library may have more."""
 
+    # tools/names: LAPD_OK
     OK = 0
     REFUSED_BAD_TEI = 1
     REFUSED_NO_LINK = 2
@@ -50,6 +51,7 @@ class Status(enum.IntEnum):
     REFUSED_TABLE_FULL = 8
     REFUSED_CHECK_RUNNING = 9
     REFUSED_CONTROL_FULL = 10
+    REFUSED_WRONG_SIDE = 29
     NO_CARD = 11
     NO_CLOCK = 12
     SECOND_START = 13
@@ -61,6 +63,7 @@ class Status(enum.IntEnum):
     WRONG_LENGTH = 19
     WRONG_ORDER = 20
     WRONG_TIME = 21
+    WRONG_POINTER = 30
     NO_MEMORY = 22
     NO_TIMER = 23
     NO_PLACE = 24
@@ -68,8 +71,6 @@ class Status(enum.IntEnum):
     WRONG_CARD = 26
     WRONG_CAUSE = 27
     NO_FRAME = 28
-    REFUSED_WRONG_SIDE = 29
-    WRONG_POINTER = 30
     BAD_LINES = 33
     BAD_TERMINALS = 34
     BAD_K = 35
@@ -82,6 +83,7 @@ class Status(enum.IntEnum):
     BAD_N200 = 42
     BAD_SIDE = 43
     BAD_SAPI = 44
+    # tools/names: end
 
     @classmethod
     def _missing_(cls, value: Any) -> Optional["Status"]:
@@ -93,17 +95,22 @@ class Status(enum.IntEnum):
 
 
 class Side(enum.IntEnum):
+    # tools/names: LAPD_NETWORK
     NETWORK = 0
     USER = 1
     TERMINAL = 2
+    # tools/names: end
 
 
 class Service(enum.IntEnum):
+    # tools/names: LAPD_CALL
     CALL = 0
     PACKET = 16
+    # tools/names: end
 
 
 class NoteKind(enum.IntEnum):
+    # tools/names: LAPD_ESTABLISH_INDICATION
     ESTABLISH_INDICATION = 1
     ESTABLISH_CONFIRM = 2
     RELEASE_INDICATION = 3
@@ -118,23 +125,29 @@ class NoteKind(enum.IntEnum):
     DENIED = 12
     UNASSIGNED = 13
     REMOVE_ALL = 14
+    # tools/names: end
 
 
 class TimerKind(enum.IntEnum):
+    # tools/names: LAPD_T200
     T200 = 1
     T203 = 2
     T201 = 3
     T202 = 4
+    # tools/names: end
 
 
 class OrderKind(enum.IntEnum):
+    # tools/names: LAPD_START
     START = 1
     STOP = 2
+    # tools/names: end
 
 
 class Cause(enum.IntEnum):
     """Why a frame, or what stood for one, was dropped."""
 
+    # tools/names: LAPD_ABORT
     ABORT = 1
     RAGGED = 2
     SHORT = 3
@@ -143,12 +156,14 @@ class Cause(enum.IntEnum):
     SAPI = 6
     TEI = 7
     UNSERVED = 8
+    # tools/names: end
 
     def __str__(self) -> str:
         return _text(library().lapd_cause_text(self))
 
 
 class Request(enum.IntEnum):
+    # tools/names: LAPD_ESTABLISH
     ESTABLISH = 1
     RELEASE = 2
     DATA = 3
@@ -163,6 +178,7 @@ class Request(enum.IntEnum):
     DISOWN = 12
     ASK_TEI = 13
     VERIFY_TEI = 14
+    # tools/names: end
 
 
 class State(enum.IntEnum):
@@ -176,66 +192,101 @@ class State(enum.IntEnum):
     TIMER_RECOVERY = 8
 
 
+# tools/names: LAPD_GROUP_TEI
 GROUP_TEI = 127
-MOST_NOTES, MOST_ORDERS, MOST_OCTETS, MOST_FRAME = 4, 4, 260, 264
+MOST_NOTES = 4
+MOST_ORDERS = 4
+MOST_OCTETS = 260
+MOST_FRAME = 264
+MOST_LINES = 64
+MOST_TEXT = 592
+# tools/names: end
+# tools/names: LAPD_COUNTERS
 COUNTERS = 79
+# tools/names: end
 
 # ---- Structs of lapd.h ---------------------------------------------------------------------------------------------------
 
 
 class _Config(ctypes.Structure):
-    _fields_ = [(name, ctypes.c_uint16) for name in ("lines", "terminals", "k", "k16", "queue", "unit_queue", "control",
-                                                     "slots", "n201", "n200", "side", "seed", "sapi")]
+    # tools/names: lapd_config
+    _fields_ = [("lines", ctypes.c_uint16), ("terminals", ctypes.c_uint16), ("k", ctypes.c_uint16),
+                ("k16", ctypes.c_uint16), ("queue", ctypes.c_uint16), ("unit_queue", ctypes.c_uint16),
+                ("control", ctypes.c_uint16), ("slots", ctypes.c_uint16), ("n201", ctypes.c_uint16),
+                ("n200", ctypes.c_uint16), ("side", ctypes.c_uint16), ("seed", ctypes.c_uint16), ("sapi", ctypes.c_uint16)]
+    # tools/names: end
 
 
 class _Note(ctypes.Structure):
-    _fields_ = [(name, ctypes.c_uint8) for name in ("note", "service", "tei", "error")]
+    # tools/names: lapd_note
+    _fields_ = [("note", ctypes.c_uint8), ("service", ctypes.c_uint8), ("tei", ctypes.c_uint8), ("error", ctypes.c_uint8)]
+    # tools/names: end
 
 
 class _Timer(ctypes.Structure):
-    _fields_ = [(name, ctypes.c_uint8) for name in ("timer", "service", "tei")]
+    # tools/names: lapd_timer
+    _fields_ = [("timer", ctypes.c_uint8), ("service", ctypes.c_uint8), ("tei", ctypes.c_uint8)]
+    # tools/names: end
 
 
 class _Order(ctypes.Structure):
+    # tools/names: lapd_order
     _fields_ = [("order", ctypes.c_uint8), ("timer", _Timer)]
+    # tools/names: end
 
 
 class _Report(ctypes.Structure):
-    _fields_ = [*((name, ctypes.c_uint8) for name in ("note_count", "order_count", "cause", "lost", "begun", "delivered")),
-                ("length", ctypes.c_uint16), ("notes", _Note * MOST_NOTES), ("orders", _Order * MOST_ORDERS),
-                ("contents", ctypes.c_uint8 * MOST_OCTETS),
-                *((name, ctypes.c_uint8) for name in ("more", "reopened", "reopened_service", "reopened_tei")),
-                ("line", ctypes.c_uint16)]
+    # tools/names: lapd_report
+    _fields_ = [("note_count", ctypes.c_uint8), ("order_count", ctypes.c_uint8), ("cause", ctypes.c_uint8),
+                ("lost", ctypes.c_uint8), ("begun", ctypes.c_uint8), ("delivered", ctypes.c_uint8),
+                ("length", ctypes.c_uint16), ("notes", _Note * 4), ("orders", _Order * 4),
+                ("contents", ctypes.c_uint8 * 260), ("more", ctypes.c_uint8), ("reopened", ctypes.c_uint8),
+                ("reopened_service", ctypes.c_uint8), ("reopened_tei", ctypes.c_uint8), ("line", ctypes.c_uint16)]
+    # tools/names: end
 
 
 class _Lengths(ctypes.Structure):
-    _fields_ = [(name, ctypes.c_uint32) for name in ("t200", "t203", "t201", "t202")]
+    # tools/names: lapd_lengths
+    _fields_ = [("t200", ctypes.c_uint32), ("t203", ctypes.c_uint32), ("t201", ctypes.c_uint32), ("t202", ctypes.c_uint32)]
+    # tools/names: end
 
 
 class _Handle(ctypes.Structure):
     """A card or a clock; zeroed it is none."""
 
+    # tools/names: lapd_card
     _fields_ = [("started", ctypes.c_bool), ("at", ctypes.c_void_p)]
+    # tools/names: end
 
 
 class _Link(ctypes.Structure):
-    _fields_ = [(name, ctypes.c_uint8) for name in ("service", "tei", "state")]
+    # tools/names: lapd_link
+    _fields_ = [("service", ctypes.c_uint8), ("tei", ctypes.c_uint8), ("state", ctypes.c_uint8)]
+    # tools/names: end
 
 
 class _Room(ctypes.Structure):
+    # tools/names: lapd_room
     _fields_ = [("pool", ctypes.c_uint32), ("queue", ctypes.c_uint8), ("va", ctypes.c_uint8)]
+    # tools/names: end
 
 
 class _Head(ctypes.Structure):
+    # tools/names: lapd_head
     _fields_ = [("length", ctypes.c_uint16), ("octets", ctypes.c_uint8 * 4)]
+    # tools/names: end
 
 
 class _Counters(ctypes.Structure):
-    _fields_ = [("values", ctypes.c_uint64 * COUNTERS)]
+    # tools/names: lapd_counters
+    _fields_ = [("values", ctypes.c_uint64 * 79)]
+    # tools/names: end
 
 
 class _Due(ctypes.Structure):
+    # tools/names: lapd_due
     _fields_ = [("line", ctypes.c_uint32), ("timer", _Timer)]
+    # tools/names: end
 
 
 # ---- The library ---------------------------------------------------------------------------------------------------------

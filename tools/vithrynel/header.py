@@ -76,6 +76,13 @@ def numbers() -> Dict[str, int]:
     return {name: int(number) for name, number in re.findall(r"\b(LAPD_\w+) = (\d+)\b", text())}
 
 
+@functools.lru_cache(None)
+def enums() -> List[Dict[str, int]]:
+    """The header's enums, each with its numbers by name."""
+    bodies = re.findall(r"^enum \{\n(.*?)^\};", text(), re.M | re.S)
+    return [{name: int(number) for name, number in re.findall(r"\b(LAPD_\w+) = (\d+)\b", it)} for it in bodies]
+
+
 def laid_out(name: str, body: str, known: Dict[str, Struct]) -> Struct:
     fields, at, alignment = [], 0, 1
     for kind, field, count in re.findall(r"(\w+|void \*) ?\b(\w+)(?:\[(\w+)\])?;", body):

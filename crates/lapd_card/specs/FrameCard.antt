@@ -1,10 +1,10 @@
 -- What a card holds.
-use Rattle.std.specs.Prelude.{◌≡◌, ℕ, ◌+◌, List, refl, None}
+use Rattle.std.specs.Prelude.{◌≡◌, ℕ, ◌+◌, List, refl}
 use Rattle.std.specs.Coded.{Coded, code_by, coded×, coded_list}
-use Rattle.lapd_frame.specs.declared.addresses.Side.TheVariants.{Network}
 use Rattle.model_card.specs.Stored.{limit}
 use Rattle.model_line.specs.declared.config.Config.{Config}
 use Rattle.model_line.specs.contracts.config.Config as config
+use Rattle.model_line.specs.Usual.{usual}
 use Rattle.lapd_line.specs.declared.frame_line.FrameLine.{FrameLine}
 use Rattle.lapd_line.specs.declared.marks.Marks.{Marks}
 use Rattle.lapd_line.specs.contracts.frame_line.FrameLine as line
@@ -34,5 +34,5 @@ abbrev pub room_for_frames : {S : Type 0} → Held S → ℕ
 room_for_frames card = card.config.n201 + 4
 
 -- What a card may store, of eight terminals, four control frames, N201 of 260 and 64 slots.
-few_octets : limit (record { lines = 1; terminals = 8; k = 7; k16 = 7; queue = 8; unit_queue = 4; control = 4; slots = 64; n201 = 260; n200 = 3; side = Network; sapi = 16; seed = None }) ≡ 16940
+few_octets : limit usual ≡ 16940
 few_octets = refl

@@ -3,19 +3,19 @@
 -- Of four lines on which no TEI is, none has. Then unit data to the group waits on lines 1 and 3: the first from 0 or 1 on is
 -- line 1, from 2 or 3 on line 3, and from 4 on there is none. Once line 1 has given its frame, the first is line 3.
 use Rattle.std.specs.Prelude.{◌≡◌, ℕ, false, true, [], ◌∷◌, Some, None, refl}
-use Rattle.lapd_frame.specs.declared.addresses.Side.TheVariants.{Network}
 use Rattle.lapd_frame.specs.declared.services.Service.TheVariants.{Call}
 use Rattle.model_line.specs.declared.config.Config.{Config}
 use Rattle.model_line.specs.Event as line
 use Rattle.model_line.specs.Machine as lines
 use Rattle.model_line.specs.Request.{Unit}
+use Rattle.model_line.specs.Usual.{usual}
 use Rattle.model_card.specs.Card.{Card, fresh}
 use Rattle.model_card.specs.Event.{at}
 use Rattle.model_card.specs.Machine.{after}
 use Rattle.lapd_card.specs.Waiting.{has_next, next_waiting}
 
 abbrev four_lines : Config
-four_lines = record { lines = 4; terminals = 2; k = 7; k16 = 7; queue = 8; unit_queue = 4; control = 4; slots = 64; n201 = 260; n200 = 3; side = Network; sapi = 16; seed = None }
+four_lines = record usual { lines = 4; terminals = 2 }
 
 abbrev asked_at : ℕ → Card → Card
 asked_at number card = after (at number (line.request (Unit Call 127 (8 ∷ [])))) card

@@ -1,6 +1,6 @@
 -- What a call on one link does to all of them: it is taken out of the list, and put back.
-use Rattle.lapd_line.proofs.Vocabulary.{◌≡◌, ℕ, ◌<◌, ◌≤◌, List, length, get_or, set, option_map, Result, OnOk, None, refl, sym, ap, subst, ◌∙◌, arith, Option, Bool, length-map, length-set, get_or_default, map-set_same, slice_get-map, slice_get-get_or, same_Some, Owned, Store, SameLimits, FocusPair, focus_pair, Link, Offer, BareReport, terms_of, told_with, Terms, offer, Service, Config, terms}
-use Rattle.lapd_line.proofs.Vocabulary.{window, LinkFits, LinksStand, HasTerms, machine_at, link_pairs, terms_in, IsGiven, Offers, Refuses, Refusal, GoesOn, LinkStands}
+use Rattle.lapd_line.proofs.Vocabulary.{◌≡◌, ℕ, ◌<◌, ◌≤◌, List, length, get_or, set, option_map, Result, OnOk, None, refl, sym, ap, subst, ◌∙◌, arith, Option, Bool, length-map, length-set, get_or_default, map-set_same, slice_get-map, slice_get-get_or, same_Some, Owned, Store, SameLimits, FocusPair, focus_pair, Link, Offer, BareReport, terms_of, told_with, Terms, offer, Config}
+use Rattle.lapd_line.proofs.Vocabulary.{LinkFits, LinksStand, HasTerms, machine_at, link_pairs, terms_in, IsGiven, Offers, Refuses, Refusal, GoesOn, LinkStands}
 use Rattle.model_link.specs.Events.{Event, Request}
 use Rattle.model_link.specs.Requests.{refusal}
 use Rattle.model_link.specs.Link as machine
@@ -114,11 +114,6 @@ module _ {items links : List Link} {number : ℕ} {x : Link} (view : items ≡ l
 -- as many links as before, where their parameters are the same
 pub same_many : (new old : List Link) → terms_in new ≡ terms_in old → length new ≡ length old
 same_many new old same = sym (length-map new terms_of) ∙ ap (λ l. length l) same ∙ length-map old terms_of
-
--- the parameters of a link whose TEI has come to the line
-pub opened_terms : (old : Terms) (c : Config) (service : Service) (tei k n200 : ℕ) → k ≡ window c service → n200 ≡ c.n200 → old.queue ≡ c.queue → old.control ≡ c.control
-    → record old { service = service; tei = tei; k = k; n200 = n200; n201 = c.n201 } ≡ terms c service tei
-opened_terms old c service tei k n200 is_k is_n200 queue control = grind arith
 
 -- what holds of a result, by what holds of another
 pub on_ok : {A E P Q : Type 0} (r : Result A E) → (P → Q) → OnOk r P → OnOk r Q

@@ -1,7 +1,7 @@
 //! The links of a line.
 
 ghost use Rattle.std.specs.Prelude.{◌≡◌, ◌-◌, ◌<◌, ◌≤◌, List, [], length, set, nat_le, Some, None, IfOk, IfErr, OnOk, OnErr};
-ghost use Rattle.lapd_line.specs.{Owned, Store, used_slots, held, room_of, address_at, Terms, Config, terms, window, IsInRange, received_of, info_of, TellsOf, IsClear, LinksStand, Offers, Refuses, HasTerms, machine_at, terms_in, AreBegun};
+ghost use Rattle.lapd_line.specs.{Owned, Store, used_slots, held, room_of, address_at, Terms, Config, terms, IsInRange, received_of, info_of, TellsOf, IsClear, LinksStand, Offers, Refuses, HasTerms, machine_at, terms_in, AreBegun};
 ghost use Rattle.model_link.specs.Events as event;
 ghost use Rattle.model_link.specs.Link as machine;
 
@@ -180,20 +180,6 @@ impl Links {
         ensures stands { (store : Store) (others : List Owned) (ms : List machine.Link) → LinksStand config.now self.old store others ms
             → LinksStand config.now self.new store others (set ms number machine.fresh) }
     {
-        let k = window(config, service);
-        self.all[number].open(service, tei, k, config.n200 as u8, config.n201);
-    }
-}
-
-/// The window of a service.
-fn window(config: &Config, service: Service) -> u8
-    requires { IsInRange config.now }
-    ensures window { result ≡ window config.now service }
-    ensures low { 1 ≤ result }
-    ensures high { result ≤ config.now.queue }
-{
-    match service {
-        Service::Call => config.k as u8,
-        Service::Packet => config.k16 as u8,
+        self.all[number].open(config.terms(service, tei));
     }
 }

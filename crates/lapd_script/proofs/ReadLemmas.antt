@@ -1,9 +1,10 @@
 -- What is read of words that stand in references, and of lines with too many.
-use Rattle.lapd_script.proofs.Vocabulary.{◌≡◌, ℕ, Bool, true, false, cond, List, [], ◌∷◌, length, take, drop, get_or, Some, None, Ok, Err, Result, Option, refl, sym, ap, ◌∙◌, Bor, arith, IsErr, IsErrAnd, false≢true, Network, FaultKind, BadNumberOfWords, Config, Word, Ask, texts, word_named, carries_octets, read_words, read_after, read_as, card_numbers, nine_numbers, three_numbers}
+use Rattle.lapd_script.proofs.Vocabulary.{◌≡◌, ℕ, Bool, true, false, cond, List, [], ◌∷◌, length, take, drop, get_or, Some, Ok, Err, Result, Option, refl, sym, ap, ◌∙◌, Bor, arith, IsErr, IsErrAnd, false≢true, FaultKind, BadNumberOfWords, Config, Word, Ask, texts, word_named, carries_octets, read_words, read_after, read_as, card_numbers, nine_numbers, three_numbers}
 use Rattle.lapd_script.proofs.Vocabulary.{side_numbers, for_sapi, more_numbers, names_sapi}
 use Rattle.std.specs.Prelude.{◌-◌, ◌&&◌, nat_le, bytes_eq, codes, zero, suc}
 use Rattle.lapd_script.specs.declared.word.Word.TheVariants.{Card}
 use Rattle.lapd_script.specs.Meaning.{card}
+use Rattle.lapd_script.specs.Read.{numbered}
 use Rattle.lapd_script.proofs.Vocabulary.{◌>>=◌}
 
 abbrev pub nowhere : Bor (List ℕ)
@@ -46,7 +47,7 @@ grouped ra rb rc = do
   a ← ra
   b ← rb
   c ← rc
-  Ok (record { lines = a.0; terminals = a.1; k = a.2; queue = b.0; unit_queue = b.1; control = b.2; slots = c.0; n201 = c.1; n200 = c.2; k16 = a.2; side = Network; sapi = 16; seed = None })
+  Ok (numbered a b c)
 
 -- nine words,
 pub nine_given : (words : List (Bor (List ℕ))) → length words ≡ 9

@@ -1,9 +1,10 @@
 -- How a line of a script is read: what each first word takes, and what can be wrong with the words by themselves.
 use Rattle.std.specs.Prelude.{ℕ, ◌-◌, ◌==◌, ◌&&◌, not, nat_le, Bool, if◌then◌else◌, List, [], ◌∷◌, length, get_or, take, drop, codes, bytes_eq, Option, Some, None, Result, Ok, Err}
-use Rattle.lapd_frame.specs.declared.addresses.Side.TheVariants.{User, Network}
+use Rattle.lapd_frame.specs.declared.addresses.Side.TheVariants.{User}
 use Rattle.lapd_script.specs.declared.kind.FaultKind.{FaultKind}
 use Rattle.lapd_script.specs.declared.kind.FaultKind.TheVariants.{UnknownWord, BadNumberOfWords}
 use Rattle.model_line.specs.declared.config.Config.{Config}
+use Rattle.model_line.specs.Usual.{usual}
 use Rattle.lapd_script.specs.declared.command.Durations.{Durations}
 use Rattle.lapd_script.specs.declared.word.Word.{Word}
 use Rattle.lapd_script.specs.declared.word.Word.TheVariants.{Card, Rx, In, Failed, Next, Down, AskTei, Pull, Wait, Timers, Stored, Counters, Ask}
@@ -27,7 +28,7 @@ line_number word = number 0 65535 word
 abbrev pub tei_number : List ℕ → Result ℕ FaultKind
 tei_number word = number 0 255 word
 
--- the nine numbers of a card line, where the window of packet links is that of call control
+-- the nine numbers of a card line: the window of packet links is that of call control, and what they do not say is as usual
 abbrev pub three_numbers : List ℕ → List ℕ → List ℕ → Result (ℕ × ℕ × ℕ) FaultKind
 three_numbers first second third = do
   a ← number 0 65535 first
@@ -35,12 +36,16 @@ three_numbers first second third = do
   c ← number 0 65535 third
   Ok (a, b, c)
 
+abbrev pub numbered : ℕ × ℕ × ℕ → ℕ × ℕ × ℕ → ℕ × ℕ × ℕ → Config
+numbered a b c =
+    record usual { lines = a.0; terminals = a.1; k = a.2; queue = b.0; unit_queue = b.1; control = b.2; slots = c.0; n201 = c.1; n200 = c.2; k16 = a.2 }
+
 abbrev pub nine_numbers : List (List ℕ) → Result Config FaultKind
 nine_numbers (lines ∷ terminals ∷ k ∷ queue ∷ unit_queue ∷ control ∷ slots ∷ n201 ∷ n200 ∷ []) = do
   a ← three_numbers lines terminals k
   b ← three_numbers queue unit_queue control
   c ← three_numbers slots n201 n200
-  Ok (record { lines = a.0; terminals = a.1; k = a.2; queue = b.0; unit_queue = b.1; control = b.2; slots = c.0; n201 = c.1; n200 = c.2; k16 = a.2; side = Network; sapi = 16; seed = None })
+  Ok (numbered a b c)
 nine_numbers _ = Err BadNumberOfWords
 
 -- nine numbers, or ten: the tenth is the window of packet links. After them stands the word `user`, if the card is the user's

@@ -2,13 +2,14 @@
 use Rattle.std.specs.Prelude.{◌≡◌, true, false, [], ◌∷◌, codes, Some, None, Ok, Err, refl}
 use Rattle.std.specs.Fmt.{digits}
 use Rattle.hex.specs.Hex.{decode_pairs}
-use Rattle.lapd_frame.specs.declared.addresses.Side.TheVariants.{User, Network}
+use Rattle.lapd_frame.specs.declared.addresses.Side.TheVariants.{User}
 use Rattle.lapd_frame.specs.declared.faults.ReadFault.TheVariants.{Short}
 use Rattle.lapd_frame.specs.declared.services.Service.TheVariants.{Call, Packet}
 use Rattle.lapd_script.specs.declared.kind.FaultKind.TheVariants.{UnknownWord, BadNumberOfWords, BadNumber, BadOctets, BadCause}
 use Rattle.lapd_script.specs.declared.command.Asked as asked
 use Rattle.model_card.specs.declared.kinds.CardKind.TheVariants.{Octets, Frames}
 use Rattle.model_line.specs.declared.faults.Fault.TheVariants.{Ragged}
+use Rattle.model_line.specs.Usual.{usual}
 use Rattle.lapd_transcript.specs.declared.counters.CounterGroup.TheVariants as group
 use Rattle.lapd_script.specs.Meaning.{skip, card, rx, into, failed, next, down, ask_tei, pull, wait, timers, stored, counters, ask}
 use Rattle.lapd_script.specs.Read.{read}
@@ -24,22 +25,22 @@ empty = refl
 comment : read (codes "# anything") ≡ Ok skip
 comment = refl
 
-nine : read (codes "card 1 8 7 8 4 4 64 260 3") ≡ Ok (card Octets (record { lines = 1; terminals = 8; k = 7; queue = 8; unit_queue = 4; control = 4; slots = 64; n201 = 260; n200 = 3; k16 = 7; side = Network; sapi = 16; seed = None }))
+nine : read (codes "card 1 8 7 8 4 4 64 260 3") ≡ Ok (card Octets usual)
 nine = refl
 
-ten : read (codes "card 1 8 7 8 4 4 64 260 3 015") ≡ Ok (card Octets (record { lines = 1; terminals = 8; k = 7; queue = 8; unit_queue = 4; control = 4; slots = 64; n201 = 260; n200 = 3; k16 = 15; side = Network; sapi = 16; seed = None }))
+ten : read (codes "card 1 8 7 8 4 4 64 260 3 015") ≡ Ok (card Octets (record usual { k16 = 15 }))
 ten = refl
 
-of_user : read (codes "card 1 8 7 8 4 4 64 260 3 user") ≡ Ok (card Octets (record { lines = 1; terminals = 8; k = 7; queue = 8; unit_queue = 4; control = 4; slots = 64; n201 = 260; n200 = 3; k16 = 7; side = User; sapi = 16; seed = None }))
+of_user : read (codes "card 1 8 7 8 4 4 64 260 3 user") ≡ Ok (card Octets (record usual { side = User }))
 of_user = refl
 
-ten_of_user : read (codes "card 1 8 7 8 4 4 64 260 3 15 user") ≡ Ok (card Octets (record { lines = 1; terminals = 8; k = 7; queue = 8; unit_queue = 4; control = 4; slots = 64; n201 = 260; n200 = 3; k16 = 15; side = User; sapi = 16; seed = None }))
+ten_of_user : read (codes "card 1 8 7 8 4 4 64 260 3 15 user") ≡ Ok (card Octets (record usual { k16 = 15; side = User }))
 ten_of_user = refl
 
-a_terminal : read (codes "frames 1 8 7 8 4 4 64 260 3 user 4660") ≡ Ok (card Frames (record { lines = 1; terminals = 8; k = 7; queue = 8; unit_queue = 4; control = 4; slots = 64; n201 = 260; n200 = 3; k16 = 7; side = User; sapi = 16; seed = Some 4660 }))
+a_terminal : read (codes "frames 1 8 7 8 4 4 64 260 3 user 4660") ≡ Ok (card Frames (record usual { side = User; seed = Some 4660 }))
 a_terminal = refl
 
-ten_of_terminal : read (codes "card 1 8 7 8 4 4 64 260 3 15 user 065535 sapi 62") ≡ Ok (card Octets (record { lines = 1; terminals = 8; k = 7; queue = 8; unit_queue = 4; control = 4; slots = 64; n201 = 260; n200 = 3; k16 = 15; side = User; sapi = 62; seed = Some 65535 }))
+ten_of_terminal : read (codes "card 1 8 7 8 4 4 64 260 3 15 user 065535 sapi 62") ≡ Ok (card Octets (record usual { k16 = 15; side = User; sapi = 62; seed = Some 65535 }))
 ten_of_terminal = refl
 
 long_seed : read (codes "card 1 8 7 8 4 4 64 260 3 user 65536") ≡ Err BadNumber
@@ -55,10 +56,10 @@ user_last = refl
 after_the_seed : read (codes "card 1 8 7 8 4 4 64 260 3 user 7 7") ≡ Err BadNumberOfWords
 after_the_seed = refl
 
-with_sapi : read (codes "card 1 8 7 8 4 4 64 260 3 sapi 62") ≡ Ok (card Octets (record { lines = 1; terminals = 8; k = 7; queue = 8; unit_queue = 4; control = 4; slots = 64; n201 = 260; n200 = 3; k16 = 7; side = Network; sapi = 62; seed = None }))
+with_sapi : read (codes "card 1 8 7 8 4 4 64 260 3 sapi 62") ≡ Ok (card Octets (record usual { sapi = 62 }))
 with_sapi = refl
 
-all_words : read (codes "frames 1 8 7 8 4 4 64 260 3 15 user sapi 63") ≡ Ok (card Frames (record { lines = 1; terminals = 8; k = 7; queue = 8; unit_queue = 4; control = 4; slots = 64; n201 = 260; n200 = 3; k16 = 15; side = User; sapi = 63; seed = None }))
+all_words : read (codes "frames 1 8 7 8 4 4 64 260 3 15 user sapi 63") ≡ Ok (card Frames (record usual { k16 = 15; side = User; sapi = 63 }))
 all_words = refl
 
 no_sapi : read (codes "card 1 8 7 8 4 4 64 260 3 sapi 65536") ≡ Err BadNumber
@@ -95,7 +96,7 @@ a_frame : read (codes "in 63 00817F") ≡ Ok (into 63 (0 ∷ 129 ∷ 127 ∷ [])
 unfolding decode_pairs
 a_frame = refl
 
-for_frames : read (codes "frames 1 8 7 8 4 4 64 260 3") ≡ Ok (card Frames (record { lines = 1; terminals = 8; k = 7; queue = 8; unit_queue = 4; control = 4; slots = 64; n201 = 260; n200 = 3; k16 = 7; side = Network; sapi = 16; seed = None }))
+for_frames : read (codes "frames 1 8 7 8 4 4 64 260 3") ≡ Ok (card Frames usual)
 for_frames = refl
 
 no_frame : read (codes "failed 0 ragged") ≡ Ok (failed 0 Ragged)

@@ -316,9 +316,7 @@ fn nine_numbers(words: &[&[u8]]) -> Result<Config, FaultKind>
         n201: third.1,
         n200: third.2,
         k16: first.2,
-        side: Side::Network,
-        sapi: 16,
-        seed: None,
+        ..Config::USUAL
     })
 }
 

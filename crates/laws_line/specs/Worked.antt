@@ -1,10 +1,8 @@
 -- Worked values: what requests and their ends are to the links of a line.
-use Rattle.std.specs.Prelude.{◌≡◌, ℕ, List, [], ◌∷◌, refl, None}
-use Rattle.laws_line.specs.WorkedWords.{Network, Packet, request, told, nothing, Config, of_aim, Line, fresh_line, of_request, aim_of_heard, Assign, Unit, units_asked}
+use Rattle.std.specs.Prelude.{◌≡◌, ℕ, List, [], ◌∷◌, refl}
+use Rattle.laws_line.specs.WorkedWords.{Packet, request, told, nothing, of_aim, Line, fresh_line, of_request, aim_of_heard, Assign, Unit, units_asked}
 use Rattle.model_bits.specs.Stream as stream
-
-abbrev pub usual : Config
-usual = record { lines = 1; terminals = 8; k = 7; k16 = 7; queue = 8; unit_queue = 4; control = 4; slots = 64; n201 = 260; n200 = 3; side = Network; sapi = 16; seed = None }
+pub use Rattle.model_line.specs.Usual.{usual}
 
 -- TEI 64 on the line, and its SABME of both services
 abbrev pub heard : List ℕ → Line → Line

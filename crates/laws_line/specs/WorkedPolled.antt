@@ -1,13 +1,14 @@
 -- Worked values: a poll, and what is before its answer. With them the laws of a poll say something: they are what those ask of
 -- a line.
 use Rattle.std.specs.Prelude.{◌≡◌, ℕ, true, List, [], ◌∷◌, length, Some, None, refl}
-use Rattle.laws_line.specs.WorkedWords.{Network, ReceiveReady, Ua, Call, Parts, exchanged, read_by, reading, header_of, control_of, unnumbered_of, supervisory_of, seq, distance_of, named, Link, is_multiple_frame, response, Config, hears, request, first_fault, sapi_fault, Line, fresh_line, place_in, tei_at, link_in, after, Assign, frames_to_go, most_frames, most_frames_before}
+use Rattle.laws_line.specs.WorkedWords.{ReceiveReady, Ua, Call, Parts, exchanged, read_by, reading, header_of, control_of, unnumbered_of, supervisory_of, seq, distance_of, named, Link, is_multiple_frame, response, Config, hears, request, first_fault, sapi_fault, Line, fresh_line, place_in, tei_at, link_in, after, Assign, frames_to_go, most_frames, most_frames_before}
 use Rattle.model_bits.specs.Stream as stream
 use Rattle.lapd_tei.specs.Events as teis
+use Rattle.model_line.specs.Usual.{least}
 
 -- One terminal, and room for two control frames.
 abbrev pub small : Config
-small = record { lines = 2; terminals = 1; k = 1; k16 = 1; queue = 1; unit_queue = 1; control = 2; slots = 2; n201 = 8; n200 = 1; side = Network; sapi = 16; seed = None }
+small = record least { lines = 2; slots = 2; n200 = 1 }
 
 in_range : first_fault small ≡ None
 unfolding sapi_fault

@@ -18,9 +18,10 @@ use Rattle.model_line.specs.Event.{Event, hears, expiry, request, next, Answer, 
 use Rattle.model_line.specs.Request.{AskTei, VerifyTei, Check, Establish, Remove}
 use Rattle.model_line.specs.Line.{Line, fresh_line, has_tei}
 unfoldable use Rattle.model_line.specs.Machine.{after, answer}
+use Rattle.model_line.specs.Usual.{usual}
 
 abbrev terminal : Config
-terminal = record { lines = 1; terminals = 8; k = 7; k16 = 7; queue = 8; unit_queue = 4; control = 4; slots = 64; n201 = 260; n200 = 3; side = User; sapi = 16; seed = Some 4660 }
+terminal = record usual { side = User; seed = Some 4660 }
 
 abbrev trunk : Config
 trunk = record terminal { seed = None }

@@ -40,7 +40,7 @@ pub use Rattle.model_link.specs.AwaitingEstablishment.{frame_in_5}
 pub use Rattle.model_link.specs.AwaitingRelease.{frame_in_6}
 pub use Rattle.model_link.specs.Deliveries.{Arrived, Establishes, IsEstablished, MayEstablish, eligible_of, information_in, information_of, restarts}
 pub use Rattle.model_link.specs.Events.{ClearBusy, Data, Establish, Event, Release, Request, SetBusy, cleared, expired, frame, offer, overlong, received, requested, undefined, wrong_size}
-pub use Rattle.model_link.specs.Link.{Link, address_at, frame_of, fresh, has_outstanding, is_asked, is_multiple_frame, is_peer_busy}
+pub use Rattle.model_link.specs.Link.{Link, address_at, frame_of, fresh, has_outstanding, is_asked, is_multiple_frame, is_peer_busy, may_repeat}
 pub use Rattle.model_link.specs.Machine.{after, course, expire_running, expired_in, expired_step, frame_in, frame_step, given, given_of, is_running, malformed_in, step, told, told_of_clearing}
 unfoldable pub use Rattle.model_link.specs.Machine.{after_all}
 pub use Rattle.model_link.specs.Notes.{is_data, is_unit}

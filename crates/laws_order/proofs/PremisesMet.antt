@@ -7,7 +7,7 @@ use Rattle.model_line.specs.Config.{sapi_fault}
 use Rattle.model_line.specs.Machine as lines
 use Rattle.model_line.specs.Request.{SetBusy}
 use Rattle.laws_order.specs.Worked.{network, user, faces, calls_both, others_speak, both_send, is_busy, goes_again, busy_run, call_far as far_stays, owes, sends_one, sends_more, more_far_stays, busy_waits, clears, cleared_stays, enquires, asks_state, recovers, recovered_stays, early, loses_first, early_stays}
-use Rattle.laws_order.specs.WorkedInTheEnd.{repeats_three, gives_up, four_expire, gives_up_quietly, goes_on_to_the_end, comes_quietly, comes_there, comes_confirmed}
+use Rattle.laws_order.specs.WorkedInTheEnd.{four_tries, gives_up, four_expire, gives_up_quietly, goes_on_to_the_end, comes_quietly, comes_there, comes_confirmed}
 use Rattle.laws_order.proofs.InTheEnd.{releases-are-told, both-are-told}
 use Rattle.laws_order.proofs.Ordered.{delivered-in-order}
 use Rattle.laws_order.proofs.Beginning.{Pasts, past-acted, past-done, past-all, past-calling, link_known, step-known}
@@ -151,7 +151,7 @@ release-told =
 -- and it is told in the end: where each DISC is lost, and where the other end was told before
 told-at-last : IsToldAtLast Call 0 (news Call 0 (seen_near gives_up released))
 told-at-last =
-    let many : released.near.card.config.n200 < t200s Call 0 gives_up released = omega (arith, repeats_three, four_expire) in
+    let many : tries released.near.card.config ≤ t200s Call 0 gives_up released = omega (arith, four_tries, four_expire) in
     releases-are-told Call 0 released gives_up (all-happened releases tt faces pasts).near awaits (acts-possible released gives_up tt) gives_up_quietly many
 
 abbrev AreActive : List AnyStepAt → Type 0

@@ -1,5 +1,5 @@
 -- A release is told in the end, at both ends, whatever waits, is on its way, or is lost.
-use Rattle.std.specs.Prelude.{◌≡◌, ◌<◌, ℕ, ◌+◌, Bool, true, false, List, [], ◌∷◌, length, filter, All, Some, is_some, ◌⊎◌}
+use Rattle.std.specs.Prelude.{◌≡◌, ◌≤◌, ℕ, ◌+◌, Bool, true, false, List, [], ◌∷◌, length, filter, All, Some, is_some, ◌⊎◌}
 use Rattle.std.specs.List.{list_any}
 use Rattle.lapd_frame.specs.declared.notes.ErrorCode.TheVariants.{H}
 use Rattle.lapd_frame.specs.declared.notes.Note.{Note}
@@ -7,6 +7,7 @@ use Rattle.lapd_frame.specs.declared.notes.Note.TheVariants.{ReleaseConfirm, Err
 use Rattle.lapd_frame.specs.declared.services.Service.{Service}
 use Rattle.lapd_frame.specs.declared.timers.Timer.TheVariants.{T200}
 use Rattle.model_line.specs.Event.{Event, expiry, request}
+use Rattle.model_line.specs.Line.{tries}
 use Rattle.laws_line.specs.Requests.{deactivates}
 use Rattle.laws_trace.specs.Trace.{is_own}
 use Rattle.laws_wire.specs.Wire.{requests, Wire}
@@ -32,13 +33,13 @@ t200s service tei (h ∷ hs) w = t200_by service tei h w + t200s service tei hs 
 abbrev pub IsToldAtLast : Service → ℕ → List Note → Type 0
 IsToldAtLast service tei ns = (ns ≡ ReleaseConfirm service tei ∷ []) ⊎ (ns ≡ Error service tei H ∷ ReleaseConfirm service tei ∷ [])
 
--- The end at which the release was granted is told once T200 expired there more than N200 times, if not before: from state 6 on, and as
+-- The end at which the release was granted is told once T200 expired there as often as DISC may go, if not before: from state 6 on, and as
 -- long as nothing else begins, as `Release` has it.
 abbrev pub ReleasesAreTold : Type 0
 ReleasesAreTold =
     (service : Service) (tei : ℕ) (w : Wire) (hs : List AnyStepAt) → Past w.near → state_here service tei w.near ≡ Some 6 →
     All (IsPossible service tei w) hs → BeginsNothing service tei (seen_near hs w) →
-    w.near.card.config.n200 < t200s service tei hs w → IsToldAtLast service tei (news service tei (seen_near hs w))
+    tries w.near.card.config ≤ t200s service tei hs w → IsToldAtLast service tei (news service tei (seen_near hs w))
 
 -- The TEI stays on the line of the near end, and its link is not deactivated.
 unfoldable pub StaysThere : Service → ℕ → List AnyStepAt → Wire → Type 0

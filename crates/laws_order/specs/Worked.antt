@@ -1,9 +1,9 @@
 -- Worked values: two cards whose links of both services are established; each sends, a frame is damaged on its way, own busy begins and
 -- ends, a timer expires, something happens at another line, and other terminals of the line are heard. Each computes.
-use Rattle.std.specs.Prelude.{◌≡◌, List, [], ◌∷◌, ◌++◌, refl, None}
+use Rattle.std.specs.Prelude.{◌≡◌, List, [], ◌∷◌, ◌++◌, refl}
 use Rattle.model_bits.specs.Stream.{frame, dropped}
 use Rattle.model_bits.specs.declared.heard.Cause.TheVariants.{Fcs}
-use Rattle.lapd_frame.specs.declared.addresses.Side.TheVariants.{User, Network}
+use Rattle.lapd_frame.specs.declared.addresses.Side.TheVariants.{User}
 use Rattle.lapd_frame.specs.declared.services.Service.TheVariants.{Call, Packet}
 use Rattle.lapd_frame.specs.declared.timers.Timer.TheVariants.{T200, T203}
 use Rattle.lapd_frame.specs.Reading.{reading, header_of, control_of, unnumbered_of, supervisory_of}
@@ -15,6 +15,7 @@ use Rattle.model_line.specs.declared.config.Config.{Config}
 use Rattle.model_line.specs.Event.{hears, request, next}
 use Rattle.model_line.specs.Machine as lines
 use Rattle.model_line.specs.Request.{Data, Establish, Assign, SetBusy, ClearBusy}
+use Rattle.model_line.specs.Usual.{usual}
 use Rattle.model_card.specs.Card.{fresh}
 use Rattle.model_card.specs.Event.{Event, at}
 use Rattle.model_card.specs.Run.{moments, after_all}
@@ -25,7 +26,7 @@ use Rattle.laws_order.specs.AnySteps.{step, disturbed, elsewhere, AnyStepAt, any
 use Rattle.laws_order.specs.Order.{data_noted, StaysEstablished, Known, known_by, kept_by}
 
 abbrev pub network : Config
-network = record { lines = 2; terminals = 1; k = 7; k16 = 3; queue = 8; unit_queue = 4; control = 4; slots = 16; n201 = 260; n200 = 3; side = Network; sapi = 16; seed = None }
+network = record usual { lines = 2; terminals = 1; k16 = 3; slots = 16 }
 
 abbrev pub user : Config
 user = record network { side = User }

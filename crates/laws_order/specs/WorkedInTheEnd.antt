@@ -9,6 +9,7 @@ use Rattle.lapd_frame.specs.Senders.{exchanged, reading as read_by}
 use Rattle.lapd_seq.specs.Circle.{distance_of, named}
 use Rattle.lapd_seq.specs.Numbers.{seq}
 use Rattle.lapd_tei.specs.Events as teis
+use Rattle.model_line.specs.Line.{tries}
 use Rattle.model_line.specs.Machine as lines
 use Rattle.model_line.specs.Request.{Release, Remove, Deactivate}
 use Rattle.laws_wire.specs.Wire.{Wire, requests, expires, sends, receives, loses, turned, doing_all}
@@ -26,9 +27,9 @@ is_lost = any_near (step sends) ∷ any_near (step loses) ∷ any_near (step (ex
 abbrev pub gives_up : List AnyStepAt
 gives_up = is_lost ++ is_lost ++ is_lost ++ is_lost
 
-pub repeats_three : released.near.card.config.n200 ≡ 3
+pub four_tries : tries released.near.card.config ≡ 4
 unfolding lines.after lines.answer lines.takes_slot exchanged read_by reading header_of control_of unnumbered_of supervisory_of teis.course teis.refusal seq distance_of named doing_all any_doing_all
-repeats_three = refl
+four_tries = refl
 
 three_are_few : news Call 0 (seen_near (is_lost ++ is_lost ++ is_lost) released) ≡ []
 unfolding lines.after lines.answer lines.takes_slot exchanged read_by reading header_of control_of unnumbered_of supervisory_of teis.course teis.refusal seq distance_of named doing_all any_doing_all seen_near

@@ -7,8 +7,7 @@ use crate::frame_call::drive_frames;
 use crate::frame_events::FrameEvent;
 use crate::frame_replies::FrameReply;
 use crate::frame_sink::FrameSink;
-use crate::tests::USUAL;
-use lapd_card::{Fault, FrameCard, Request, SinkFailed, SinkFault};
+use lapd_card::{Config, Fault, FrameCard, Request, SinkFailed, SinkFault};
 use lapd_frame::{Note, Refusal, Service, Timer};
 use lapd_store::SlabShelf;
 use model_bits::Cause;
@@ -21,7 +20,7 @@ const CALL: Service = Service::Call;
 fn frame_card(alloc: Global) -> Result<FrameCard<SlabShelf>, Fail>
     ensures { IfOk result (λ card. line_count card ≡ 1) }
 {
-    Ok(FrameCard::start(alloc, USUAL, SlabShelf::start(alloc, 64, 260)?)?)
+    Ok(FrameCard::start(alloc, Config::USUAL, SlabShelf::start(alloc, 64, 260)?)?)
 }
 
 /// What a reply says, in short.

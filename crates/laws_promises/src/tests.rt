@@ -4,31 +4,15 @@ ghost use Rattle.std.specs.Prelude.{◌≡◌, IfOk};
 ghost use Rattle.lapd_card.specs.Card.{line_count};
 
 use crate::call::drive;
-use lapd_card::{Card, Config, Event, Kept, Reply, Request, Side};
+use lapd_card::{Card, Config, Event, Kept, Reply, Request};
 use lapd_store::SlabShelf;
 use std::alloc::Global;
 use std::test::Fail;
 
-pub(crate) const USUAL: Config = Config {
-    lines: 1,
-    terminals: 8,
-    k: 7,
-    k16: 7,
-    queue: 8,
-    unit_queue: 4,
-    control: 4,
-    slots: 64,
-    n201: 260,
-    n200: 3,
-    side: Side::Network,
-    sapi: 16,
-    seed: None,
-};
-
 fn usual_card(alloc: Global) -> Result<Card<SlabShelf>, Fail>
     ensures { IfOk result (λ card. line_count card ≡ 1) }
 {
-    Ok(Card::start(alloc, USUAL, SlabShelf::start(alloc, 64, 260)?)?)
+    Ok(Card::start(alloc, Config::USUAL, SlabShelf::start(alloc, 64, 260)?)?)
 }
 
 #[test]

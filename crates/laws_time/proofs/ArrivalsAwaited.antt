@@ -1,7 +1,7 @@
 -- No answer is awaited longer than T200 may run out.
 use Rattle.std.proofs.Common.{arith, ◌≡◌, ℕ, ◌+◌, ◌-◌, ◌*◌, ◌<◌, ◌≤◌, ◌==◌, ◌&&◌, ◌||◌, not, Bool, true, false, List, [], ◌∷◌, ◌++◌, Option, Some, None, refl, sym, ap, ◌∙◌, subst, eqb-true, is_some, inl, append-nil, append_assoc, option_map}
 use Rattle.std.specs.Option.{option_map_or}
-use Rattle.std.specs.Prelude.{option_to_list, nat_lt, fold}
+use Rattle.std.specs.Prelude.{option_to_list, fold}
 use Rattle.std.proofs.lemmas.Bool.{true≢false, ltb-true}
 use Rattle.std.proofs.lemmas.Nat.{mul-le}
 use Rattle.lapd_clock.specs.Timer.{Lengths, is_same}
@@ -23,7 +23,7 @@ use Rattle.model_card.specs.Machine.{answer}
 use Rattle.model_card.specs.Run as runs_of
 use Rattle.model_card.specs.Run.{Moment}
 use Rattle.laws_trace.specs.Managing.{is_on}
-use Rattle.laws_trace.specs.Observer.{Observed, View, view_of, view_behind, by_event, by_t200, by_frame_begun, moment_of}
+use Rattle.laws_trace.specs.Observer.{Observed, View, view_of, view_behind, by_event, by_t200, by_frame_begun, moment_of, may_repeat}
 use Rattle.laws_trace.specs.TimersAreTimely.{runs, is_anew, is_timer_of}
 use Rattle.laws_trace.specs.Trace.{is_own, frame_in}
 use Rattle.model_timed.specs.Clock.{Clock, due, without_first, at_moment}
@@ -71,11 +71,11 @@ counts-same c service tei (expiry timer) a o other waits same = grind arith
 counts-same c service tei next a o other waits same = begun-count c service tei (frame_in a) o
 
 -- T200 expires there: it does so once more, or the state is left.
-led-on : (n200 : ℕ) (o : Observed) → is_waiting o.state ≡ true → nat_lt o.expiries n200 ≡ true → by_t200 n200 o ≡ record o { expiries = o.expiries + 1 }
-led-on n200 o waits less = grind (arith, eqb-true)
+led-on : (c : Config) (o : Observed) → is_waiting o.state ≡ true → may_repeat c o ≡ true → by_t200 c o ≡ record o { expiries = o.expiries + 1 }
+led-on c o waits less = grind (arith, eqb-true)
 
-led-out : (n200 : ℕ) (o : Observed) → is_waiting o.state ≡ true → nat_lt o.expiries n200 ≡ false → (by_t200 n200 o).state ≡ o.state → ⊥
-led-out n200 o waits none same = grind (arith, eqb-true)
+led-out : (c : Config) (o : Observed) → is_waiting o.state ≡ true → may_repeat c o ≡ false → (by_t200 c o).state ≡ o.state → ⊥
+led-out c o waits none same = grind (arith, eqb-true)
 
 no-expiry : (service : Service) (tei : ℕ) (what : line_event.Event) → IsNoExpiry what → is_own_t200 service tei what ≡ false
 no-expiry service tei what none = grind arith
@@ -179,16 +179,16 @@ module _ (c : Config) (lengths : Lengths) (late number : ℕ) (ranged : IsInRang
     abbrev o_was : Observed
     o_was = o_at events
 
-    leads : o_at (events ++ at number (expiry (timers.T200 service tei)) ∷ []) ≡ by_t200 c.n200 o_was
+    leads : o_at (events ++ at number (expiry (timers.T200 service tei)) ∷ []) ≡ by_t200 c o_was
     leads = is-q events t u w s its g there ∙ t200-leads c number ranged within service tei events s.all w.on
 
     expired : Awaits (events ++ at number (expiry (timers.T200 service tei)) ∷ []) (with_event (at number (expiry (timers.T200 service tei))) u)
-    expired = go (nat_lt o_was.expiries c.n200) refl
+    expired = go (may_repeat c o_was) refl
       where
-        go : (b : Bool) → nat_lt o_was.expiries c.n200 ≡ b → Awaits (events ++ at number (expiry (timers.T200 service tei)) ∷ []) (with_event (at number (expiry (timers.T200 service tei))) u)
-        go false none = absurd (led-out c.n200 o_was (waits-at o_was w.state_is) none (ap (λ (x : Observed). x.state) (sym leads) ∙ there.1 ∙ sym w.state_is))
+        go : (b : Bool) → may_repeat c o_was ≡ b → Awaits (events ++ at number (expiry (timers.T200 service tei)) ∷ []) (with_event (at number (expiry (timers.T200 service tei))) u)
+        go false none = absurd (led-out c o_was (waits-at o_was w.state_is) none (ap (λ (x : Observed). x.state) (sym leads) ∙ there.1 ∙ sym w.state_is))
         go true less =
-            let count = ap (λ (x : Observed). x.expiries) (leads ∙ led-on c.n200 o_was (waits-at o_was w.state_is) less) in
+            let count = ap (λ (x : Observed). x.expiries) (leads ∙ led-on c o_was (waits-at o_was w.state_is) less) in
             let d = w.due_by (runs-at o_was w.state_is) in
             record {
               goes = g;

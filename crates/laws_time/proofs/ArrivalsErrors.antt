@@ -28,7 +28,7 @@ use Rattle.model_line.specs.declared.config.Config.{Config}
 use Rattle.model_link.specs.declared.timers.LinkTimer.TheVariants.{T200}
 use Rattle.laws_trace.specs.LinkFrames.{malformed, fault_of, faulty_long, its_frame, frame_of}
 use Rattle.laws_trace.specs.News.{notes_due, wrong, wrong_frame, wrong_number, given_up, due as due_notes, brings, is_xid, is_sabme, releases}
-use Rattle.laws_trace.specs.Observer.{Observed, by_event, by_expiry, by_t200, awaits}
+use Rattle.laws_trace.specs.Observer.{Observed, by_event, by_expiry, by_t200, awaits, may_repeat}
 use Rattle.laws_trace.specs.TimersAreTimely.{runs}
 use Rattle.laws_trace.specs.Trace.{is_own, is_up, frame_in}
 use Rattle.laws_time.specs.circuit.Arriving.{error_in, is_used_up}
@@ -62,18 +62,18 @@ moved-zero c service tei next a o waits moves = absurd (true≢false (sym (eq-eq
     same (f ∷ fs) o = same fs (Rattle.laws_trace.specs.Observer.by_frame_begun c service tei o f) ∙ one f o
 
 -- What T200 leads to: no expiry is counted, or one more.
-pub led : (n200 : ℕ) (o : Observed) → is_waiting (by_t200 n200 o).state ≡ true → runs T200 o ≡ true
-    → ((by_t200 n200 o).expiries ≡ 0) ⊎ (((by_t200 n200 o).expiries ≡ o.expiries + 1) × (is_waiting o.state ≡ true))
-led n200 o waits run = go (o.state == 7) refl (nat_lt o.expiries n200) refl (o.state == 8) refl
+pub led : (c : Config) (o : Observed) → is_waiting (by_t200 c o).state ≡ true → runs T200 o ≡ true
+    → ((by_t200 c o).expiries ≡ 0) ⊎ (((by_t200 c o).expiries ≡ o.expiries + 1) × (is_waiting o.state ≡ true))
+led c o waits run = go (o.state == 7) refl (may_repeat c o) refl (o.state == 8) refl
   where
-    go : (a : Bool) → (o.state == 7) ≡ a → (b : Bool) → nat_lt o.expiries n200 ≡ b → (d : Bool) → (o.state == 8) ≡ d
-        → ((by_t200 n200 o).expiries ≡ 0) ⊎ (((by_t200 n200 o).expiries ≡ o.expiries + 1) × (is_waiting o.state ≡ true))
+    go : (a : Bool) → (o.state == 7) ≡ a → (b : Bool) → may_repeat c o ≡ b → (d : Bool) → (o.state == 8) ≡ d
+        → ((by_t200 c o).expiries ≡ 0) ⊎ (((by_t200 c o).expiries ≡ o.expiries + 1) × (is_waiting o.state ≡ true))
     go true e b f d g = inl (grind arith)
     go false e true f d g = inr (grind (arith, eqb-true))
     go false e false f d g = inl (grind arith)
 
-pub idle-off : (n200 : ℕ) (o : Observed) → runs T200 o ≡ false → runs T200 (by_t200 n200 o) ≡ false
-idle-off n200 o none = grind arith
+pub idle-off : (c : Config) (o : Observed) → runs T200 o ≡ false → runs T200 (by_t200 c o) ≡ false
+idle-off c o none = grind arith
 
 -- Errors by which N200 is used up are told as T200 expires for the last time.
 map-codes : (service : Service) (tei : ℕ) (cs : List ErrorCode) → flat_map error_in (map (Error service tei) cs) ≡ cs
@@ -177,7 +177,7 @@ used-means c service tei o q (expiry timer) a is =
     let x = left-means o.state q.state (used-is c service tei o q (expiry timer) a is) in (timer, refl, x.0, x.1, x.2)
 
 pub expiry-means : (c : Config) (service : Service) (tei : ℕ) (o : Observed) (timer : Timer) → is_waiting o.state ≡ true → (o.state == (by_expiry c service tei timer o).state) ≡ false
-    → (is_own_t200 service tei (expiry timer) ≡ true) × (nat_lt o.expiries c.n200 ≡ false)
+    → (is_own_t200 service tei (expiry timer) ≡ true) × (may_repeat c o ≡ false)
 expiry-means c service tei o (timers.T200 of by) waits moves = (grind (arith, eq-eqb), grind (arith, eq-eqb, eqb-true))
 expiry-means c service tei o (timers.T203 of by) waits moves = absurd (grind (arith, eq-eqb, not-7))
 expiry-means c service tei o timers.T201 waits moves = absurd (true≢false (sym (eq-eqb o.state o.state refl) ∙ moves))

@@ -4,6 +4,7 @@ use Rattle.std.specs.List.{list_any}
 use Rattle.std.specs.Prelude.{flat_map}
 use Rattle.lapd_frame.specs.declared.services.Service.{Service}
 use Rattle.model_line.specs.Event as line
+use Rattle.model_line.specs.Line.{tries}
 use Rattle.model_card.specs.Card.{state}
 use Rattle.model_card.specs.Event.{Event as FrameEvent}
 use Rattle.model_card.specs.ports.Event.{Event}
@@ -72,8 +73,8 @@ n200-takes-its-time-of-octets service c lengths late number tei n before steps r
     (prompt-inside late before (fresh c lengths) prompt_before)
     (subst (ArePrompt frames late its) t_is (prompt-inside late steps t prompt))
     (subst (λ (v : TimedCard). state number service tei v.card ≡ Some n) t_is at_n)
-    (subst (λ (v : TimedCard). (after_all frames its v).clock.now < v.clock.now + (c.n200 + 1) * lengths.t200) t_is
-    (subst (λ (u : TimedCard). u.clock.now < t.clock.now + (c.n200 + 1) * lengths.t200) (steps-inside steps t) soon))))
+    (subst (λ (v : TimedCard). (after_all frames its v).clock.now < v.clock.now + tries c * lengths.t200) t_is
+    (subst (λ (u : TimedCard). u.clock.now < t.clock.now + tries c * lengths.t200) (steps-inside steps t) soon))))
   where
     t : TimedOctetCard
     t = after_all octets before (fresh c lengths)

@@ -17,6 +17,7 @@ use Rattle.model_line.specs.Event as line_event
 use Rattle.model_line.specs.Event.{expiry}
 use Rattle.model_line.specs.Sound.{IsInRange}
 use Rattle.model_line.specs.declared.config.Config.{Config}
+use Rattle.model_line.specs.Line.{tries}
 use Rattle.model_link.specs.declared.timers.LinkTimer.TheVariants.{T200}
 use Rattle.model_card.specs.Card as cards
 use Rattle.model_card.specs.Card.{state}
@@ -69,7 +70,7 @@ module _ (c : Config) (lengths : Lengths) (late number : ℕ) (ranged : IsInRang
 
   -- T200 falls due and expires.
   module _ (events : List Event) (t u : TimedCard) (w : Runs c lengths late number ranged within service tei t0 events t) (s : S events u) (m0 : ℕ) (same_now : u.clock.now ≡ t.clock.now)
-      (at_m : moment_of number (timers.T200 service tei) t.clock.running ≡ Some m0) (low : m0 ≤ t.clock.now) (soon : t.clock.now < t0 + (c.n200 + 1) * lengths.t200) where
+      (at_m : moment_of number (timers.T200 service tei) t.clock.running ≡ Some m0) (low : m0 ≤ t.clock.now) (soon : t.clock.now < t0 + tries c * lengths.t200) where
     abbrev its : line_event.Event
     its = expiry (timers.T200 service tei)
 
@@ -92,14 +93,14 @@ module _ (c : Config) (lengths : Lengths) (late number : ℕ) (ranged : IsInRang
     since-now : t0 ≤ u.clock.now
     since-now = subst (λ n. t0 ≤ n) (sym same_now) w.since
 
-    led-by : runs T200 o_was ≡ true → q_then ≡ by_t200 c.n200 o_was
+    led-by : runs T200 o_was ≡ true → q_then ≡ by_t200 c o_was
     led-by run = t200-leads c number ranged within service tei events s.all (there c events number ranged s.all within service tei T200 run)
 
     expired-due : H (events ++ at number (expiry (timers.T200 service tei)) ∷ []) (with_event (at number (expiry (timers.T200 service tei))) u).clock (P (o_at (events ++ at number (expiry (timers.T200 service tei)) ∷ [])))
     expired-due = go (runs T200 o_was) refl
       where
         once : (run : runs T200 o_was ≡ true) → is_waiting q_then.state ≡ true
-            → ((by_t200 c.n200 o_was).expiries ≡ 0) ⊎ (((by_t200 c.n200 o_was).expiries ≡ o_was.expiries + 1) × (is_waiting o_was.state ≡ true)) → t0 + (q_then.expiries + 1) * lengths.t200 ≤ u.clock.now + lengths.t200
+            → ((by_t200 c o_was).expiries ≡ 0) ⊎ (((by_t200 c o_was).expiries ≡ o_was.expiries + 1) × (is_waiting o_was.state ≡ true)) → t0 + (q_then.expiries + 1) * lengths.t200 ≤ u.clock.now + lengths.t200
         once run waits (inl zero) = first-time c lengths late number ranged within service tei t0 u.clock.now u.clock.now q_then since-now (ap (λ (q : Observed). q.expiries) (led-by run) ∙ zero)
         once run waits (inr (count, was)) =
             subst (λ e. t0 + (e + 1) * lengths.t200 ≤ u.clock.now + lengths.t200) (sym (ap (λ (q : Observed). q.expiries) (led-by run) ∙ count))
@@ -108,7 +109,7 @@ module _ (c : Config) (lengths : Lengths) (late number : ℕ) (ranged : IsInRang
         go : (b : Bool) → runs T200 o_was ≡ b → H (events ++ at number (expiry (timers.T200 service tei)) ∷ []) (with_event (at number (expiry (timers.T200 service tei))) u).clock (P (o_at (events ++ at number (expiry (timers.T200 service tei)) ∷ [])))
         go true run =
             anew-due c lengths late number ranged within service tei t0 events u s its (expired-anew c number ranged within service tei events s.all T200 run)
-            (λ waits. once run waits (led c.n200 o_was (ap (λ (q : Observed). is_waiting q.state) (sym (led-by run)) ∙ waits) run))
+            (λ waits. once run waits (led c o_was (ap (λ (q : Observed). is_waiting q.state) (sym (led-by run)) ∙ waits) run))
         go false none = λ run.
             absurd (true≢false (sym run ∙ ap (runs T200) (is-q c lengths late number ranged within service tei t0 events u s its) ∙ off (is_on tei (view_of c service tei number events).teis) refl (is_on tei (view_behind c service tei number events its).teis) refl))
           where
@@ -121,7 +122,7 @@ module _ (c : Config) (lengths : Lengths) (late number : ℕ) (ranged : IsInRang
 
             off : (a : Bool) → is_on tei (view_of c service tei number events).teis ≡ a → (b : Bool) → is_on tei (view_behind c service tei number events its).teis ≡ b → runs T200 q_then ≡ false
             off true on b e =
-                ap (runs T200) (t200-leads c number ranged within service tei events s.all on) ∙ idle-off c.n200 o_was none
+                ap (runs T200) (t200-leads c number ranged within service tei events s.all on) ∙ idle-off c o_was none
             off false on b e = ap (runs T200) (views-own c lengths late number ranged within service tei t0 events u s its ∙ ap (λ a. cond (not on_then) (in_state 1) (cond a (by_event c service tei its (moment_at c events number its).answer o_was) (in_state 4))) on) ∙ none-on on_then
 
     expired-news : Used (news_in of_frames service tei number (Some (at number (expiry (timers.T200 service tei)))) u.card) ≡ false
@@ -136,7 +137,7 @@ module _ (c : Config) (lengths : Lengths) (late number : ℕ) (ranged : IsInRang
             absurd (omega (arith, b, low, soon))
           where
             is-by : runs T200 o_was ≡ true → q_then ≡ by_expiry c service tei (timers.T200 service tei) o_was
-            is-by run = led-by run ∙ sym (ap (λ b. cond b (by_t200 c.n200 o_was) o_was) (own-is service tei))
+            is-by run = led-by run ∙ sym (ap (λ b. cond b (by_t200 c o_was) o_was) (own-is service tei))
 
         go : (b : Bool) → Used (notes_due c service tei o_was q_then its (moment_at c events number its).answer) ≡ b → b ≡ false
         go false e = refl
@@ -173,7 +174,7 @@ module _ (c : Config) (lengths : Lengths) (late number : ℕ) (ranged : IsInRang
               by false off = λ run. absurd (true≢false (sym run ∙ ap (runs T200) (is ∙ ap (λ b. cond (not b) (in_state 1) (o_at events)) off)))
 
   -- A timer falls due.
-  module _ (events : List Event) (t : TimedCard) (w : Runs c lengths late number ranged within service tei t0 events t) (x : Expiry) (is : due t.clock ≡ Some x) (soon : t.clock.now < t0 + (c.n200 + 1) * lengths.t200) where
+  module _ (events : List Event) (t : TimedCard) (w : Runs c lengths late number ranged within service tei t0 events t) (x : Expiry) (is : due t.clock ≡ Some x) (soon : t.clock.now < t0 + tries c * lengths.t200) where
     abbrev u : TimedCard
     u = record t { clock = without_first t.clock }
 
@@ -222,7 +223,7 @@ module _ (c : Config) (lengths : Lengths) (late number : ℕ) (ranged : IsInRang
   later : (e : Event) (u : TimedCard) → t0 ≤ u.clock.now → t0 ≤ (with_event e u).clock.now
   later e u since = subst (λ n. t0 ≤ n) (sym (now-stays e.line u.clock (orders_in (answer e u.card)))) since
 
-  step-runs : (events : List Event) (t : TimedCard) (d : Step Event) → Runs c lengths late number ranged within service tei t0 events t → IsPrompt late d t → t.clock.now < t0 + (c.n200 + 1) * lengths.t200
+  step-runs : (events : List Event) (t : TimedCard) (d : Step Event) → Runs c lengths late number ranged within service tei t0 events t → IsPrompt late d t → t.clock.now < t0 + tries c * lengths.t200
       → Stepped (events ++ option_to_list (event_of d t)) (after d t) (news_in of_frames service tei number (event_of d t) t.card)
   step-runs events t (happens e) w prompt soon =
       let g = step-goes c lengths late number ranged within service tei events t (happens e) w.goes prompt in
@@ -266,7 +267,7 @@ module _ (c : Config) (lengths : Lengths) (late number : ℕ) (ranged : IsInRang
   all-later t [] prompt = omega arith
   all-later t (d ∷ steps) prompt = let one = later-on t d prompt.0 in let rest = all-later (after d t) steps prompt.1 in omega (arith, one, rest)
 
-  pub steps-run : (events : List Event) (t : TimedCard) (steps : List (Step Event)) → Runs c lengths late number ranged within service tei t0 events t → ArePrompt late steps t → (after_all steps t).clock.now < t0 + (c.n200 + 1) * lengths.t200
+  pub steps-run : (events : List Event) (t : TimedCard) (steps : List (Step Event)) → Runs c lengths late number ranged within service tei t0 events t → ArePrompt late steps t → (after_all steps t).clock.now < t0 + tries c * lengths.t200
       → Used (news of_frames service tei number steps t) ≡ false
   unfolding timed_after_all TimedArePrompt news
   steps-run events t [] w prompt soon = refl

@@ -66,10 +66,10 @@ module _ (c : Config) (number : ℕ) (ranged : IsInRange c) (within : number < c
     abbrev behind : LinkTimer → Observed
     behind timer = (view_behind c service tei number events (expiry (timer_of service tei timer))).link
 
-    pub t200-leads : is_on tei (view_of c service tei number events).teis ≡ true → behind T200 ≡ by_t200 c.n200 o
+    pub t200-leads : is_on tei (view_of c service tei number events).teis ≡ true → behind T200 ≡ by_t200 c o
     t200-leads on =
         stays-on c events number ranged all within service tei (expiry (timers.T200 service tei)) on (on-by tei (number == number) (is_terminal c) (view_of c service tei number events).teis on)
-        ∙ ap (λ b. cond b (by_t200 c.n200 o) o) (own-is service tei)
+        ∙ ap (λ b. cond b (by_t200 c o) o) (own-is service tei)
 
     pub t203-leads : is_on tei (view_of c service tei number events).teis ≡ true → behind T203 ≡ cond (o.state == 7 && not (awaits o)) (enquires o) o
     t203-leads on =
@@ -80,7 +80,7 @@ module _ (c : Config) (number : ℕ) (ranged : IsInRange c) (within : number < c
     pub expired-anew : (timer : LinkTimer) → runs timer o ≡ true → is_anew c service tei timer o (behind timer) (expiry (timer_of service tei timer)) ≡ true
     expired-anew T200 run =
         ap (λ q. is_anew c service tei T200 o q (expiry (timers.T200 service tei))) (t200-leads (there c events number ranged all within service tei T200 run))
-        ∙ ap (λ b. b || (o.state == 7 && false)) (t200-enters o c.n200 run)
+        ∙ ap (λ b. b || (o.state == 7 && false)) (t200-enters o c run)
     expired-anew T203 run =
         ap (λ q. is_anew c service tei T203 o q (expiry (timers.T203 service tei)))
         (t203-leads (there c events number ranged all within service tei T203 run) ∙ ap (λ b. cond b (enquires o) o) run)

@@ -87,10 +87,10 @@ module _ (c : Config) (lengths : Lengths) (late number : ℕ) (ranged : IsInRang
   H timer events clock P = Holds c lengths late number ranged within service tei timer events clock P
 
   abbrev DueAt200 : List Event → ℕ → Type 0
-  DueAt200 events m = Due200 c.n200 lengths.t200 late first all (o_at events).state (o_at events).expiries m
+  DueAt200 events m = Due200 c lengths.t200 late first all (o_at events).state (o_at events).expiries m
 
   abbrev DueAt203 : ℕ → Type 0
-  DueAt203 m = Due203 c.n200 lengths.t200 late first all m
+  DueAt203 m = Due203 c lengths.t200 late first all m
 
   -- Its TEI stays on the line.
   on-now : (events : List Event) (t : TimedCard) → G events t → is_some (state number service tei t.card) ≡ true → is_on tei (view_of c service tei number events).teis ≡ true
@@ -116,7 +116,7 @@ module _ (c : Config) (lengths : Lengths) (late number : ℕ) (ranged : IsInRang
         told_is = ap (λ b. (told ++ cond b (filter (is_news service tei) (notes_of (answer e u.card))) []) ++ owed service tei (o_at (events ++ e ∷ [])).state) other
             ∙ ap (λ ns. ns ++ owed service tei (o_at (events ++ e ∷ [])).state) (append-nil told) ∙ ap (λ (o : Observed). told ++ owed service tei o.state) same ∙ w.told_is;
         wait = λ up. w.wait (ap (λ (o : Observed). nat_le 7 o.state) (sym same) ∙ up);
-        t200 = subst (λ (o : Observed). H T200 (events ++ e ∷ []) (with_event e u).clock (λ m. Due200 c.n200 lengths.t200 late first all o.state o.expiries m)) (sym same)
+        t200 = subst (λ (o : Observed). H T200 (events ++ e ∷ []) (with_event e u).clock (λ m. Due200 c lengths.t200 late first all o.state o.expiries m)) (sym same)
             (other-line c lengths late number ranged within service tei events u s (DueAt200 events) e T200 other h200);
         t203 = other-line c lengths late number ranged within service tei events u s DueAt203 e T203 other h203;
       }
@@ -295,11 +295,11 @@ one-of-7 o is = go (awaits o) refl
     go true e = inl e
     go false e = inr (idle-7 o is e)
 
-module _ (n200 t200 late first all now m : ℕ) (late_is : now ≤ m + late) where
-  within-200 : (s e : ℕ) → Due200 n200 t200 late first all s e m → now ≤ limit n200 t200 late first all s
+module _ (c : Config) (t200 late first all now m : ℕ) (late_is : now ≤ m + late) where
+  within-200 : (s e : ℕ) → Due200 c t200 late first all s e m → now ≤ limit c t200 late first all s
   within-200 s e h = omega (arith, h, late_is)
 
-  within-203 : Due203 n200 t200 late first all m → now ≤ first
+  within-203 : Due203 c t200 late first all m → now ≤ first
   within-203 h = omega (arith, h, late_is)
 
 owed-is : (service : Service) (tei n : ℕ) → 5 ≤ n → owed service tei n ≡ told_in n service tei
@@ -347,14 +347,14 @@ a-dead-line-is-told service c lengths late number tei from before steps ranged w
         d.0,
         d.1,
         d.2,
-        subst (λ s. Due200 c.n200 lengths.t200 late (F c lengths late t.clock.now from) (A c lengths late t.clock.now from) s o.expiries d.0) (sym state_is)
+        subst (λ s. Due200 c lengths.t200 late (F c lengths late t.clock.now from) (A c lengths late t.clock.now from) s o.expiries d.0) (sym state_is)
             (start-200 c lengths late t.clock.now from low high o.expiries d.0 d.3),
       );
       t203 = λ run. let d = g.timers_are T203 run in let at_7 = never-both o run in (
         d.0,
         d.1,
         d.2,
-        subst (λ n. Due203 c.n200 lengths.t200 late (F c lengths late t.clock.now n) (A c lengths late t.clock.now n) d.0) (sym at_7.0 ∙ state_is)
+        subst (λ n. Due203 c lengths.t200 late (F c lengths late t.clock.now n) (A c lengths late t.clock.now n) d.0) (sym at_7.0 ∙ state_is)
             (start-203 c lengths late t.clock.now d.0 d.3),
       );
     }
@@ -365,14 +365,14 @@ a-dead-line-is-told service c lengths late number tei from before steps ranged w
     o_last : Observed
     o_last = seen c lengths late number ranged within service tei (events ++ events_of steps t)
 
-    by-200 : (n : ℕ) → o_last.state ≡ n → runs T200 o_last ≡ true → (after_all steps t).clock.now ≤ limit c.n200 lengths.t200 late first all n
+    by-200 : (n : ℕ) → o_last.state ≡ n → runs T200 o_last ≡ true → (after_all steps t).clock.now ≤ limit c lengths.t200 late first all n
     by-200 n is run =
         let d = last.t200 run in
-        subst (λ s. (after_all steps t).clock.now ≤ limit c.n200 lengths.t200 late first all s) is
-        (within-200 c.n200 lengths.t200 late first all (after_all steps t).clock.now d.0 d.2 o_last.state o_last.expiries d.3)
+        subst (λ s. (after_all steps t).clock.now ≤ limit c lengths.t200 late first all s) is
+        (within-200 c lengths.t200 late first all (after_all steps t).clock.now d.0 d.2 o_last.state o_last.expiries d.3)
 
     waits-7 : (o_last.state ≡ 7) ⊎ (o_last.state ≡ 8) → (after_all steps t).clock.now ≤ F c lengths late t.clock.now from
-    waits-7 (inl is) = ⊎_elim (λ run. by-200 7 is run) (λ run. let d = last.t203 run in within-203 c.n200 lengths.t200 late first all (after_all steps t).clock.now d.0 d.2 d.3) (one-of-7 o_last is)
+    waits-7 (inl is) = ⊎_elim (λ run. by-200 7 is run) (λ run. let d = last.t203 run in within-203 c lengths.t200 late first all (after_all steps t).clock.now d.0 d.2 d.3) (one-of-7 o_last is)
     waits-7 (inr is) = by-200 8 is (waits-8 o_last (inr (inr is)))
 
     waits-5 : (o_last.state ≡ 5) ⊎ (o_last.state ≡ 6) → (after_all steps t).clock.now ≤ A c lengths late t.clock.now from

@@ -23,7 +23,7 @@ module _ (c : Config) (lengths : Lengths) (late now : ℕ) where
   A from = now + all_in from late c lengths
 
   abbrev pub Start : ℕ → Type 0
-  Start from = (e m : ℕ) → m ≤ now + lengths.t200 → Due200 c.n200 lengths.t200 late (F from) (A from) from e m
+  Start from = (e m : ℕ) → m ≤ now + lengths.t200 → Due200 c lengths.t200 late (F from) (A from) from e m
 
   whole-left : (e : ℕ) → (c.n200 - e) * (lengths.t200 + late) + (lengths.t200 + late) ≤ (c.n200 + 1) * (lengths.t200 + late)
   whole-left e = omega (arith, mono c.n200 e (lengths.t200 + late), one-more c.n200 (lengths.t200 + late))
@@ -50,11 +50,11 @@ module _ (c : Config) (lengths : Lengths) (late now : ℕ) where
       go (inr (inr (inr (inl is)))) = subst Start (sym is) start-7
       go (inr (inr (inr (inr is)))) = subst Start (sym is) start-8
 
-  pub start-203 : (m : ℕ) → m ≤ now + lengths.t203 → Due203 c.n200 lengths.t200 late (F 7) (A 7) m
+  pub start-203 : (m : ℕ) → m ≤ now + lengths.t203 → Due203 c lengths.t200 late (F 7) (A 7) m
   start-203 m h = omega (arith, h)
 
   abbrev pub Up : ℕ → Type 0
-  Up from = nat_le 7 from ≡ true → F from + whole c.n200 lengths.t200 late (F from) (A from) ≤ A from
+  Up from = nat_le 7 from ≡ true → F from + whole c lengths.t200 late (F from) (A from) ≤ A from
 
   pub start-wait : (from : ℕ) → 5 ≤ from → from ≤ 8 → Up from
   start-wait from low high = go (four from (omega (arith, low)) high)

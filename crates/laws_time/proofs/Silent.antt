@@ -50,8 +50,8 @@ never-both o run = grind (arith, eqb-true)
 not-false : (b : Bool) → not b ≡ true → b ≡ false
 not-false b e = grind arith
 
-idle-200 : (n200 : ℕ) (o : Observed) → awaits o ≡ false → by_t200 n200 o ≡ o
-idle-200 n200 o none = grind arith
+idle-200 : (c : Config) (o : Observed) → awaits o ≡ false → by_t200 c o ≡ o
+idle-200 c o none = grind arith
 
 like-self : (o : Observed) → IsLike o o
 like-self o = record { state = refl; expiries = refl }
@@ -70,10 +70,10 @@ module _ (c : Config) (lengths : Lengths) (late number : ℕ) (ranged : IsInRang
   o_of events = seen c lengths late number ranged within service tei events
 
   abbrev D200 : Observed → ℕ → Type 0
-  D200 o m = Due200 c.n200 lengths.t200 late first all o.state o.expiries m
+  D200 o m = Due200 c lengths.t200 late first all o.state o.expiries m
 
   abbrev D203 : ℕ → Type 0
-  D203 m = Due203 c.n200 lengths.t200 late first all m
+  D203 m = Due203 c lengths.t200 late first all m
 
   abbrev Has : LinkTimer → List Event → Clock → (ℕ → Type 0) → Type 0
   Has timer events clock P = Holds c lengths late number ranged within service tei timer events clock P
@@ -83,8 +83,8 @@ module _ (c : Config) (lengths : Lengths) (late number : ℕ) (ranged : IsInRang
 
   like-due : (o q : Observed) → IsLike o q → (m : ℕ) → D200 o m → D200 q m
   like-due o q like m h =
-      subst (λ s. Due200 c.n200 lengths.t200 late first all s q.expiries m) (sym like.state)
-      (subst (λ e. Due200 c.n200 lengths.t200 late first all o.state e m) (sym like.expiries) h)
+      subst (λ s. Due200 c lengths.t200 late first all s q.expiries m) (sym like.state)
+      (subst (λ e. Due200 c lengths.t200 late first all o.state e m) (sym like.expiries) h)
 
   -- An event of the line that moves nothing.
   module _ (events : List Event) (t : TimedCard) (s : Stand events t) (what : line_event.Event) where
@@ -116,8 +116,8 @@ module _ (c : Config) (lengths : Lengths) (late number : ℕ) (ranged : IsInRang
         from-203 idle run =
             let at_7 = only-7 o q like.state idle run in
             let d = h203 (idle-7 o at_7 idle) in
-            subst (λ s. Due200 c.n200 lengths.t200 late first all s q.expiries (t.clock.now + lengths.t200)) (sym (like.state ∙ at_7))
-            (sent c.n200 lengths.t200 late first all t.clock.now d.0 d.2 q.expiries d.3)
+            subst (λ s. Due200 c lengths.t200 late first all s q.expiries (t.clock.now + lengths.t200)) (sym (like.state ∙ at_7))
+            (sent c lengths.t200 late first all t.clock.now d.0 d.2 q.expiries d.3)
 
     pub calm-203 : IsLike o q → is_anew c service tei T203 o q what ≡ false → (o.state ≡ 7 → awaits o ≡ true → awaits q ≡ true) → Has T203 events t.clock D203 → Then T203 D203
     calm-203 like none keeps h203 =
@@ -142,7 +142,7 @@ module _ (c : Config) (lengths : Lengths) (late number : ℕ) (ranged : IsInRang
     pub on : is_on tei (view_of c service tei number events).teis ≡ true
     pub phase : IsPhase (o_of events)
     pub told_is : told ++ owed service tei (o_of events).state ≡ whole_told
-    pub wait : nat_le 7 (o_of events).state ≡ true → first + whole c.n200 lengths.t200 late first all ≤ all
+    pub wait : nat_le 7 (o_of events).state ≡ true → first + whole c lengths.t200 late first all ≤ all
     pub t200 : Has T200 events t.clock (D200 (o_of events))
     pub t203 : Has T203 events t.clock D203
 
@@ -244,7 +244,7 @@ module _ (c : Config) (lengths : Lengths) (late number : ℕ) (ranged : IsInRang
     waits-200 on g run =
         let l = leads c service tei (moment_of c events number (expiry (timers.T200 service tei))).answer (timers.T200 service tei) o_was lengths.t200 late first all run w.phase in
         let d = w.t200 run in
-        waits-led T200 (by_t200 c.n200 o_was) (t200-leads c number ranged within service tei events s.all w.on) on g l.phase l.told
+        waits-led T200 (by_t200 c o_was) (t200-leads c number ranged within service tei events s.all w.on) on g l.phase l.told
         (λ run_now. l.due u.clock.now d.0 (subst (λ n. n ≤ d.0 + late) (sym same_now) d.2) d.3 w.wait run_now) l.no_t203 l.wait
         (λ run_was. expired-anew c number ranged within service tei events s.all T200 run_was)
 
@@ -257,13 +257,13 @@ module _ (c : Config) (lengths : Lengths) (late number : ℕ) (ranged : IsInRang
         (record { least = omega arith; most = omega arith })
         (ap (owed service tei) at_7.0
         ∙ sym (ap (λ ns. ns ++ owed service tei 8) (notes-none c service tei (moment_of c events number (expiry (timers.T203 service tei))).answer (timers.T203 service tei) o_was (enquires o_was) w.phase.least (inr (at_7.0, refl)))))
-        (λ run_now. enquiry-203 c.n200 lengths.t200 late first all u.clock.now d.0 (subst (λ n. n ≤ d.0 + late) (sym same_now) d.2) d.3) refl
+        (λ run_now. enquiry-203 c lengths.t200 late first all u.clock.now d.0 (subst (λ n. n ≤ d.0 + late) (sym same_now) d.2) d.3) refl
         (λ up. ap (nat_le 7) at_7.0)
         (λ run_was. absurd (true≢false (sym run_was ∙ at_7.1)))
 
     -- T200 does not run, or T203 does not.
     pub idle-200-is : awaits o_was ≡ false → r_of (timers.T200 service tei) ≡ o_was
-    idle-200-is none = t200-leads c number ranged within service tei events s.all w.on ∙ idle-200 c.n200 o_was none
+    idle-200-is none = t200-leads c number ranged within service tei events s.all w.on ∙ idle-200 c o_was none
 
     pub idle-203-is : runs T203 o_was ≡ false → r_of (timers.T203 service tei) ≡ o_was
     idle-203-is none = t203-leads c number ranged within service tei events s.all w.on ∙ ap (λ b. cond b (enquires o_was) o_was) none

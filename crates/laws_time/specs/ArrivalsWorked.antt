@@ -9,6 +9,7 @@ use Rattle.lapd_tei.specs.Events as teis
 use Rattle.model_line.specs.Event as line
 use Rattle.model_line.specs.Machine as lines
 use Rattle.model_line.specs.Request.{Assign, Data, Establish}
+use Rattle.model_line.specs.Line.{tries}
 use Rattle.model_card.specs.Card.{state}
 use Rattle.model_card.specs.Event.{Event, at}
 use Rattle.model_timed.specs.Frames.{TimedCard, fresh, frames}
@@ -57,6 +58,6 @@ told_g : news of_frames Call 64 0 unheard assigned ≡ given_up Call 64
 unfolding lines.after lines.answer lines.takes_slot exchanged read_by reading header_of control_of unnumbered_of supervisory_of teis.course teis.refusal seq distance_of named after_all news
 told_g = refl
 
-as_soon : (after_all frames unheard assigned).clock.now ≡ assigned.clock.now + (usual.n200 + 1) * lengths.t200
+as_soon : (after_all frames unheard assigned).clock.now ≡ assigned.clock.now + tries usual * lengths.t200
 unfolding lines.after lines.answer lines.takes_slot exchanged read_by reading header_of control_of unnumbered_of supervisory_of teis.course teis.refusal seq distance_of named after_all
 as_soon = refl

@@ -12,6 +12,7 @@ use Rattle.model_line.specs.Event as line
 use Rattle.model_line.specs.Request.{Request, Establish, Release, Deactivate}
 use Rattle.model_line.specs.Sound.{IsInRange}
 use Rattle.model_line.specs.declared.config.Config.{Config}
+use Rattle.model_line.specs.Line.{tries}
 use Rattle.model_timed.specs.Timed.{Timed, Step, happens, time, falls_due, after, after_all, event_of, ArePrompt}
 use Rattle.laws_trace.specs.LinkFrames.{brought, malformed}
 use Rattle.laws_trace.specs.News.{is_news}
@@ -71,10 +72,10 @@ told_in state service tei =
     else if state == 6 then Error service tei H ∷ ReleaseConfirm service tei ∷ []
     else Error service tei I ∷ given_up service tei
 
--- How long this takes at most, if T200 and T203 run so long, a command is repeated n200 times, and timers fall due so late at most:
+-- How long this takes at most, if T200 and T203 run so long, a command goes so often, and timers fall due so late at most:
 -- first, in state 7, the timer that runs, which is T203, or T200 after an I-frame; then the answers that are awaited.
 abbrev pub awaiting : ℕ → Config → Lengths → ℕ
-awaiting late c lengths = (c.n200 + 1) * (lengths.t200 + late)
+awaiting late c lengths = tries c * (lengths.t200 + late)
 
 abbrev pub idling : ℕ → Lengths → ℕ
 idling late lengths = lengths.t203 + late + (lengths.t200 + late)

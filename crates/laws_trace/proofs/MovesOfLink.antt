@@ -30,7 +30,7 @@ ticks other = 0
 -- What an observer says that an event leads to.
 abbrev pub expected : Terms → Known → ℕ → Event → ℕ → ℕ
 expected t k n (received (frame f)) state = by_frame k state f.address.command (nat_lt t.n201 (length f.info)) f.control
-expected t k n (expired timer) state = by_expiry t.n200 k n state timer
+expected t k n (expired timer) state = by_expiry (nat_lt n t.n200) k state timer
 expected t k n (requested Establish full) state = cond (state == 4) 5 state
 expected t k n (requested Release full) state = cond (is_up state) 6 state
 expected t k n (requested other full) state = state

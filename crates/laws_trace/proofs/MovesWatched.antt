@@ -55,12 +55,12 @@ by_seen c service tei k state (granted r) = by_request service tei state r
 by_seen c service tei k state other = state
 
 -- In state 7 the expiry of the timer that runs leads to an enquiry, in state 8 (clauses 5.6.7 and 5.10.3). In states 5,
--- 6 and 8 T200 leads to another state where SABME, DISC or the enquiry was repeated N200 times: n says how often
--- (clauses 5.5.1.3, 5.5.3.3, 5.6.7 and 5.9.2).
-abbrev pub by_expiry : ℕ → Known → ℕ → ℕ → LinkTimer → ℕ
-by_expiry n200 k n state T200 =
-    if state == 7 then (if awaits k (Some 7) then 8 else 7) else if nat_lt n n200 then state else if state == 8 then 5 else 4
-by_expiry n200 k n state T203 = if state == 7 && not (awaits k (Some 7)) then 8 else state
+-- 6 and 8 T200 leads to another state if SABME, DISC or the enquiry may not go again (clauses 5.5.1.3, 5.5.3.3, 5.6.7
+-- and 5.9.2).
+abbrev pub by_expiry : Bool → Known → ℕ → LinkTimer → ℕ
+by_expiry again k state T200 =
+    if state == 7 then (if awaits k (Some 7) then 8 else 7) else if again then state else if state == 8 then 5 else 4
+by_expiry again k state T203 = if state == 7 && not (awaits k (Some 7)) then 8 else state
 
 abbrev pub repeated : Service → ℕ → ℕ → ℕ → Moment → ℕ
 repeated service tei number n m =
@@ -71,4 +71,4 @@ repeated service tei number n m =
 -- The state that an event leads to, with what is seen of it.
 abbrev pub led : Config → Service → ℕ → Known → ℕ → Event → List Seen → ℕ → ℕ
 led c service tei k n what now state =
-    fold (by_seen c service tei k) (option_map_or (by_expiry c.n200 k n state) (expired_of service tei what) state) now
+    fold (by_seen c service tei k) (option_map_or (by_expiry (nat_lt n c.n200) k state) (expired_of service tei what) state) now

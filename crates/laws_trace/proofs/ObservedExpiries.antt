@@ -35,5 +35,5 @@ module _ (o : Observed) where
   pub enquired : o.state ≡ 7 → enters o (enquires o) ≡ true
   enquired is = moved 7 (enquires o) is refl
 
-  pub t200-enters : (n200 : ℕ) → awaits o ≡ true → enters o (by_t200 n200 o) ≡ true
-  t200-enters n200 waits = grind (arith, moved, eqb-true, lt-ltb, or-true, enquired)
+  pub t200-enters : (c : Config) → awaits o ≡ true → enters o (by_t200 c o) ≡ true
+  t200-enters c waits = grind (arith, moved, eqb-true, lt-ltb, or-true, enquired)

@@ -2,6 +2,7 @@
 use Rattle.laws_trace.proofs.Vocabulary.{arith, ℕ, ◌==◌, ◌&&◌, ◌||◌, Bool, false, cond, length, Option, Some, None, is_some, nat_lt, option_map_or, Service, Timer, Parts, State, TeiAssigned, AwaitingEstablishment, AwaitingRelease, Established, TimerRecovery, LinkTimer, state_number, Config, expiry, request, Answer, LineTold, Control, T200, Event, told, Request, its_frame, Observed, anew}
 use Rattle.laws_trace.proofs.Vocabulary.{while_up}
 use Rattle.laws_trace.proofs.Vocabulary.{while_down, observer_by_frame as by_frame, by_t200, observer_by_expiry as by_expiry, enquires, by_event, is_own, is_up, seen, TimerT200}
+use Rattle.laws_trace.specs.Observer.{may_repeat}
 use Rattle.laws_trace.proofs.TimersWatched.{sent_by, Known, nothing_yet}
 use Rattle.laws_trace.proofs.States as states
 use Rattle.laws_trace.proofs.MovesWatched as moves
@@ -83,10 +84,10 @@ module _ (c : Config) (service : Service) (tei : ℕ) where
 
   abbrev Timed : State → Known → (ℕ → ℕ) → Option LinkTimer → Observed → Observed → Type 0
   Timed x k more timer p q =
-      let s = state_number x in let to = option_map_or (moves.by_expiry c.n200 k p.expiries s) timer s in Moved s to (cond (to == 7 || to == 8) k nothing_yet) false more p q
+      let s = state_number x in let to = option_map_or (moves.by_expiry (may_repeat c p) k s) timer s in Moved s to (cond (to == 7 || to == 8) k nothing_yet) false more p q
 
   by-t200 : (x : State) (k : Known) → Shape x k → (o : Observed) (b : Bool) → let p = at_state (state_number x) k o in
-      Timed x k (cond b one_more none_more) (cond b (Some T200) None) p (cond b (by_t200 c.n200 p) p)
+      Timed x k (cond b one_more none_more) (cond b (Some T200) None) p (cond b (by_t200 c p) p)
   by-t200 x k shape o b = grind (arith, enquiry, one_more, known.awaits, stays)
 
   timer-moves : (x : State) (k : Known) → Shape x k → (o : Observed) (timer : Timer) → let p = at_state (state_number x) k o in

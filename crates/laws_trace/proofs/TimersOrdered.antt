@@ -5,6 +5,7 @@ use Rattle.laws_trace.proofs.Vocabulary.{Card, line_at, at, moments, runs_at_cal
 use Rattle.laws_trace.proofs.Vocabulary.{list_any, or-false, T201, TimerT203, TimerT200, after_all-append}
 use Rattle.lapd_frame.specs.declared.timers.Timer.TheVariants.{T202}
 use Rattle.model_line.specs.Event as line_event
+use Rattle.laws_trace.specs.Observer.{may_repeat}
 use Rattle.laws_trace.specs.TimersAreTimely as timely
 use Rattle.laws_trace.proofs.ObservedControls.{none-due}
 use Rattle.laws_trace.proofs.ObservedExpiries.{IsNoMore, same, zero, either, no-more, enquired, t200-enters}
@@ -129,7 +130,7 @@ module _ (c : Config) (events : List Event) (number : ℕ) (ranged : IsInRange c
   other-t200 : (of : Service) (by : ℕ) → is_own service tei of by ≡ false → IsNoMore was (then_of (expiry (TimerT200 of by)))
   other-t200 of by other =
       no-rise c events number ranged all within service tei (expiry (TimerT200 of by))
-      (subst (λ b. IsNoMore was (cond b (by_t200 c.n200 was) was)) (sym other) (same was))
+      (subst (λ b. IsNoMore was (cond b (by_t200 c was) was)) (sym other) (same was))
 
   t200-of : (of : Service) (by : ℕ) (b : Bool) → is_own service tei of by ≡ b → Due T200 (expiry (TimerT200 of by))
   t200-of of by false other =
@@ -139,7 +140,7 @@ module _ (c : Config) (events : List Event) (number : ℕ) (ranged : IsInRange c
       let what = expiry (TimerT200 of by) in
       ap (λ b. not (cond b false (awaits was)) || moved_or_renewed c service tei T200 was (then_of what) what) own
       ∙ ended (awaits was) (not (was.state == (then_of what).state)) (nat_lt was.expiries (then_of what).expiries) (renewed T200 what)
-      (λ waits. ap (enters was) (on-then T200 what (none-ends of by) waits ∙ ap (λ b. cond b (by_t200 c.n200 was) was) own) ∙ t200-enters was c.n200 waits)
+      (λ waits. ap (enters was) (on-then T200 what (none-ends of by) waits ∙ ap (λ b. cond b (by_t200 c was) was) own) ∙ t200-enters was c waits)
 
   -- T203 that expires leads on.
   not-t200 : (what : line_event.Event) (timer : LinkTimer) → ((of : Service) (by : ℕ) → what ≡ expiry (TimerT200 of by) → ⊥) → IsNoMore was (then_of what)
@@ -163,8 +164,8 @@ module _ (c : Config) (events : List Event) (number : ℕ) (ranged : IsInRange c
   idle-then : (of : Service) (by : ℕ) → is_own service tei of by ≡ true → timely.runs T203 was ≡ true → then_of (expiry (TimerT200 of by)) ≡ was
   idle-then of by own runs =
       let parts = and_parts (was.state == 7) (not (awaits was)) runs in
-      let last = cond (nat_lt was.expiries c.n200) (record was { expiries = was.expiries + 1 }) (cond (was.state == 8) (anew was) (in_state 4)) in
-      on-then T203 (expiry (TimerT200 of by)) (none-ends of by) runs ∙ ap (λ b. cond b (by_t200 c.n200 was) was) own
+      let last = cond (may_repeat c was) (record was { expiries = was.expiries + 1 }) (cond (was.state == 8) (anew was) (in_state 4)) in
+      on-then T203 (expiry (TimerT200 of by)) (none-ends of by) runs ∙ ap (λ b. cond b (by_t200 c was) was) own
       ∙ ap (λ b. cond b (cond (awaits was) (enquires was) was) (cond (not (awaits was)) was last)) parts.0
       ∙ ap (λ b. cond b (enquires was) was) (not-so (awaits was) parts.1)
 

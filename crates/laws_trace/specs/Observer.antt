@@ -137,15 +137,18 @@ by_request service tei other o = o
 abbrev pub enquires : Observed → Observed
 enquires o = record o { state = 8; expiries = 0 }
 
-abbrev pub by_t200 : ℕ → Observed → Observed
-by_t200 n200 o =
+abbrev pub may_repeat : Config → Observed → Bool
+may_repeat c o = nat_lt o.expiries c.n200
+
+abbrev pub by_t200 : Config → Observed → Observed
+by_t200 c o =
     if o.state == 7 then (if awaits o then enquires o else o)
     else if not (awaits o) then o
-    else if nat_lt o.expiries n200 then record o { expiries = o.expiries + 1 }
+    else if may_repeat c o then record o { expiries = o.expiries + 1 }
     else if o.state == 8 then anew o else in_state 4
 
 abbrev pub by_expiry : Config → Service → ℕ → Timer → Observed → Observed
-by_expiry c service tei (T200 of by) o = if is_own service tei of by then by_t200 c.n200 o else o
+by_expiry c service tei (T200 of by) o = if is_own service tei of by then by_t200 c o else o
 by_expiry c service tei (T203 of by) o = if is_own service tei of by && (o.state == 7 && not (awaits o)) then enquires o else o
 by_expiry c service tei other o = o
 

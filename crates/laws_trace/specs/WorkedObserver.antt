@@ -117,7 +117,7 @@ by_disc : 7 ≡ (by_heard usual Call 64 (stream.frame (0x00 ∷ 0x81 ∷ 0x53 �
 unfolding exchanged read_by reading header_of control_of unnumbered_of supervisory_of
 by_disc e = cc e
 
-too_soon : 4 ≡ (by_t200 3 (record (in_state 5) { expiries = 2 })).state → ⊥
+too_soon : 4 ≡ (by_t200 usual (record (in_state 5) { expiries = 2 })).state → ⊥
 too_soon e = cc e
 
 -- Where RR acknowledges a part, and T200 runs on from before, the law is broken; so it is where T203 is started anew by

@@ -1,7 +1,7 @@
 -- What is awaited at a station is awaited at the end for which it stands: there a T200 that is long enough is timely, N200 is used up as
 -- its expiry tells, and it runs as its expiry is answered.
 use Rattle.laws_wire.proofs.Vocabulary.{◌≡◌, ℕ, zero, suc, ◌<◌, Bool, true, false, cond, not, ◌||◌, IsTrue, List, [], ◌∷◌, ◌++◌, length, map, Option, None, Some, option_map, refl, sym, ap, subst, ◌∙◌, true≢false, All, flat_map, list_any, option_map_or, nat_lt, ltb-true, All-nil, All-cons, All-append, All-head, All-tail, Seq, Control, Information, ReceiveReady, Service, Parts, spelling}
-use Rattle.laws_wire.proofs.Vocabulary.{TeiAssigned, Established, ControlFrame, LinkTimer, Terms, Link, fresh, frame_of, state_number, is_multiple_frame, course, begun, given_of, is_running, Course, T200, LinkEndpoint, frame_given, with_sent, Config, next, link_in, state_in, state_of, terms, awaits_answer, HasNo, Endpoint, answered, happens, told_by, expiry, is_error, TellNoError, is_poll}
+use Rattle.laws_wire.proofs.Vocabulary.{TeiAssigned, Established, ControlFrame, LinkTimer, Terms, Link, fresh, frame_of, state_number, is_multiple_frame, may_repeat, course, begun, given_of, is_running, Course, T200, LinkEndpoint, frame_given, with_sent, Config, next, link_in, state_in, state_of, terms, awaits_answer, HasNo, Endpoint, answered, happens, told_by, expiry, is_error, TellNoError, is_poll}
 use Rattle.laws_wire.proofs.Vocabulary.{is_final, giving, NoneGoes, IsNoneOpen, awaits_in, awaits_reply, IsLongEnough, MayRepeat, is_any_order, runs_t200, Answer, BadTei, NoLink, Refusal, Rests, arith, frames_by, gives_one, is_on-at, le-ltb, link_of, list_any_none, place_of-is, queue_of, told, told_of_link, of_aim, at_timer, place_in, ◌-◌, ◌≤◌, expired, timer_T200, line_answer, line_takes_slot}
 use Rattle.laws_wire.proofs.Vocabulary.{all-right, room_of, orders_for, orders_in, unless, free, own_side}
 use Rattle.model_link.specs.Machine as links
@@ -30,9 +30,9 @@ module _ (t : Terms) (l : Link) where
   none-ordered : (r : Option LinkTimer) → is_any_order (orders_for t r None r) ≡ false
   none-ordered r = grind arith
 
-  -- and tells an error where N200 is used up
-  told-few : awaits_answer l.state ≡ true → is_running T200 l ≡ true → list_any is_error expires.notes ≡ false → l.repeats < t.n200
-  told-few awaits running fair = grind (arith, nat_lt, ltb-true)
+  -- and tells an error if it may not go again
+  told-few : awaits_answer l.state ≡ true → is_running T200 l ≡ true → list_any is_error expires.notes ≡ false → may_repeat t l ≡ true
+  told-few awaits running fair = grind arith
 
 fair-said : (c : Course) → TellNoError (said_by c) → list_any is_error c.notes ≡ false
 fair-said c h = go (list_any is_error c.notes) refl
@@ -177,11 +177,11 @@ module _ (service : Service) (tei : ℕ) (c : Config) (place : ℕ) (s : Endpoin
   its-answer : t200 service tei s ≡ told (told_of_link (links.told n.terms (expired T200) n.link))
   its-answer = grind (arith, answers-t200)
 
-  pub may-there : MayRepeat service tei s → awaits_answer n.link.state ≡ true → is_running T200 n.link ≡ true → n.link.repeats < n.terms.n200
+  pub may-there : MayRepeat service tei s → awaits_answer n.link.state ≡ true → is_running T200 n.link ≡ true → may_repeat n.terms n.link ≡ true
   may-there may awaits running =
       told-few n.terms n.link awaits running (fair-said (course n.terms (expired T200) n.link) (subst (λ a. TellNoError (told_by a)) its-answer may))
 
-  pub may-here : (awaits_answer n.link.state ≡ true → n.link.repeats < n.terms.n200) → MayRepeat service tei s
+  pub may-here : (awaits_answer n.link.state ≡ true → may_repeat n.terms n.link ≡ true) → MayRepeat service tei s
   may-here few = subst (λ a. TellNoError (told_by a)) (sym its-answer) (grind (arith, heard_by))
 
   pub runs-is : (n.link.state ≡ TeiAssigned → ⊥) → runs_t200 service tei s ≡ is_running T200 n.link

@@ -1,5 +1,6 @@
 -- The premises of the law on counted expiries are met, by the worked calls that recover from their losses.
-use Rattle.laws_wire.proofs.Vocabulary.{◌≡◌, refl, arith, All, Call, exchanged, reading, side_reading, header_of, control_of, unnumbered_of, supervisory_of, distance_of, named, seq, sends, loses, at_near, doing, doing_all, turns, confirmed, heard_in, StayTimely, IsFullTalk, StayPatient, Counts, counting, uncounted, IsBelow, StayCounted, StaySpared, user, network, begins, loses_three, lost, ℕ, ◌<◌}
+use Rattle.laws_wire.proofs.Vocabulary.{◌≡◌, refl, arith, All, Call, exchanged, reading, side_reading, header_of, control_of, unnumbered_of, supervisory_of, distance_of, named, seq, sends, loses, at_near, doing, doing_all, turns, confirmed, heard_in, StayTimely, IsFullTalk, StayPatient, Counts, counting, uncounted, IsBelow, StayCounted, StaySpared, user, network, begins, loses_three, lost, ℕ, ◌+◌, ◌<◌}
+use Rattle.model_line.specs.Line.{tries}
 use Rattle.laws_wire.proofs.Vocabulary.{line_answer}
 use Rattle.laws_wire.proofs.Vocabulary.{line_takes_slot, line_after, tei_refusal, tei_course, ua_is_lost}
 unfoldable use Rattle.laws_wire.proofs.AnsweringMet.{ua-lost}
@@ -16,15 +17,15 @@ none-expired : so_far.near ≡ 0
 unfolding line_after line_answer line_takes_slot exchanged reading side_reading header_of control_of unnumbered_of supervisory_of tei_course tei_refusal seq distance_of named doing_all turns
 none-expired = refl
 
-three-times : silent.near.card.config.n200 ≡ 3
+four-tries : tries silent.near.card.config ≡ 4
 unfolding doing_all
-three-times = refl
+four-tries = refl
 
-fewer : (k n : ℕ) → k ≡ 0 → n ≡ 3 → k < n
+fewer : (k n : ℕ) → k ≡ 0 → n ≡ 4 → k + 1 < n
 fewer k n e e' = omega (arith, e, e')
 
 few : IsBelow Call 0 silent.near so_far.near
-few awaits = fewer so_far.near silent.near.card.config.n200 none-expired three-times
+few awaits = fewer so_far.near (tries silent.near.card.config) none-expired four-tries
 
 counted : StayCounted Call 0 loses_three uncounted begins
 unfolding doing_all StayCounted
@@ -46,12 +47,12 @@ ua-none-expired : ua_so_far.near ≡ 0
 unfolding line_after line_answer line_takes_slot exchanged reading side_reading header_of control_of unnumbered_of supervisory_of tei_course tei_refusal seq distance_of named doing_all turns ua_so_far
 ua-none-expired = refl
 
-ua-three-times : ua-lost.near.card.config.n200 ≡ 3
+ua-four-tries : tries ua-lost.near.card.config ≡ 4
 unfolding doing_all ua-lost
-ua-three-times = refl
+ua-four-tries = refl
 
 ua-few : IsBelow Call 0 ua-lost.near ua_so_far.near
-ua-few awaits = fewer ua_so_far.near ua-lost.near.card.config.n200 ua-none-expired ua-three-times
+ua-few awaits = fewer ua_so_far.near (tries ua-lost.near.card.config) ua-none-expired ua-four-tries
 
 ua-counted : StayCounted Call 0 ua_is_lost uncounted begins
 unfolding doing_all StayCounted ua-lost ua_so_far

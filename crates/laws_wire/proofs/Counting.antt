@@ -1,9 +1,10 @@
 -- RC is never above the number of expiries of T200 since a link was last in state 7, so no error is told while this is below N200.
-use Rattle.laws_wire.proofs.Vocabulary.{◌≡◌, ℕ, ◌+◌, ◌<◌, ◌≤◌, Bool, true, false, cond, ◌==◌, List, [], ◌∷◌, ◌++◌, map, refl, sym, ap, subst, ◌∙◌, inl, inr, true≢false, eqb-true, arith, All, All-nil, All-head, All-tail, Service, Parts, spelling, State, TeiAssigned, AwaitingEstablishment, AwaitingRelease, Established, TimerRecovery, Terms, T203, Link, IsInRange, LinkEndpoint, Config, Line}
+use Rattle.laws_wire.proofs.Vocabulary.{◌≡◌, ℕ, ◌+◌, ◌<◌, ◌≤◌, Bool, true, false, cond, ◌==◌, List, [], ◌∷◌, ◌++◌, map, refl, sym, ap, subst, ◌∙◌, inl, inr, true≢false, eqb-true, lt-ltb, arith, All, All-nil, All-head, All-tail, Service, Parts, spelling, State, TeiAssigned, AwaitingEstablishment, AwaitingRelease, Established, TimerRecovery, Terms, T203, Link, may_repeat, IsInRange, LinkEndpoint, Config, Line}
 use Rattle.laws_wire.proofs.Vocabulary.{place_in, at_requested, aim_of_request, request, terms, awaits_answer, as_heard, is_clearing, is_time, event-follows, T200, after, Request, Data, SetBusy, ClearBusy, Endpoint, Wire, happens, with_first_of, EndStep, requests, expires, sends, receives, StepAt, at_near, at_far, acting, turned, doing, doing_all, calling, IsRoughTalk, IsFullTalkOf, IsFullTalk}
 use Rattle.laws_wire.proofs.Vocabulary.{own_link, IsTimelyOf, StayTimely, StayPatient, Counts, is_7, is_in_7, counted, counting, uncounted, IsCountedOf, IsCounted, StayCounted, StaySpared, ExpiriesAreCounted, LossyExpiriesAreCounted, frame, requested, offer, expired, LinkSetBusy, received, LinkClearBusy, LinkData, LinkRequest, timer_T200, timer_T203, IsPatient, Called, uncalled, seeing, seen}
 use Rattle.laws_wire.proofs.Vocabulary.{own_side}
 use Rattle.model_link.specs.Events.{Event}
+use Rattle.model_line.specs.Line.{tries}
 use Rattle.laws_wire.proofs.Awaited.{link-is, state-is, awaits-is, may-here}
 use Rattle.laws_wire.proofs.LooseUp.{for-asked}
 use Rattle.laws_wire.proofs.LossyPhases.{for-data}
@@ -109,8 +110,8 @@ module _ (service : Service) (tei : ℕ) where
         (near-asks (SetBusy service tei) LinkSetBusy (λ l. refl)) (near-asks (ClearBusy service tei) LinkClearBusy (λ l. refl)) r is
     near-counts act is = grind (arith, each-timer, near-t200, near-t203, near-gives, near-takes, same)
 
-  few : (r k i i' : ℕ) → r ≤ k → k < i → i' ≡ i → r < i'
-  few r k i i' h h' e = omega (arith, h, h', e)
+  few : (t : Terms) (l : Link) (k most : ℕ) → l.repeats ≤ k → k + 1 < most → most ≡ t.n200 + 1 → may_repeat t l ≡ true
+  few t l k most low less is = lt-ltb l.repeats t.n200 (omega (arith, low, less, is))
 
   of-act : (c : Config) (p : ℕ) (act : EndStep) → IsFullTalkOf service tei act → (w : Wire) (n : LinkEndpoint) → StationStands c service tei p w.near n → (k : ℕ) → Below w.near k → IsCountedOf act k w
       → IsTimelyOf act w
@@ -119,8 +120,8 @@ module _ (service : Service) (tei : ℕ) where
       (λ x. (
         x.0,
         may-here service tei c p w.near n h (λ awaits.
-            few n.link.repeats k w.near.card.config.n200 n.terms.n200 (subst (λ l. IsBelow l k) (link-is service tei c p w.near n h) below awaits) (x.1 (awaits-is service tei c p w.near n h ∙ awaits))
-            (ap (λ t. t.n200) h.terms ∙ ap (λ (e : Config). e.n200) (sym h.config))),
+            few n.terms n.link k (tries w.near.card.config) (subst (λ l. IsBelow l k) (link-is service tei c p w.near n h) below awaits) (x.1 (awaits-is service tei c p w.near n h ∙ awaits))
+            (ap tries h.config ∙ ap (λ (t : Terms). t.n200 + 1) (sym h.terms))),
       ))
       (λ x. tt) timer is x
   of-act c p other is w n h k below x = tt

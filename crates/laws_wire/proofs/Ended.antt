@@ -1,5 +1,5 @@
 -- Two stations of which one releases the link where both rest: what each thing that is done makes of them.
-use Rattle.laws_wire.proofs.Vocabulary.{◌≡◌, ℕ, ◌+◌, ◌<◌, Bool, true, false, List, [], ◌∷◌, ◌++◌, cond, refl, sym, ap, subst, ◌∙◌, ◌⊎◌, inl, inr, append-nil, arith, All, nat_lt, flat_map, lt-ltb, All-head, All-tail, Service, Timer, Parts, spelling, Established, ControlFrame, Terms, LinkTimer, T203, Link, frame_of, course, LinkEndpoint, with_link, response, Ua, Dm, IsInRange, begun, Config}
+use Rattle.laws_wire.proofs.Vocabulary.{◌≡◌, ℕ, ◌+◌, ◌<◌, Bool, true, false, List, [], ◌∷◌, ◌++◌, cond, refl, sym, ap, subst, ◌∙◌, ◌⊎◌, inl, inr, append-nil, arith, All, nat_lt, flat_map, lt-ltb, All-head, All-tail, Service, Timer, Parts, spelling, Established, ControlFrame, Terms, LinkTimer, T203, Link, may_repeat, frame_of, course, LinkEndpoint, with_link, response, Ua, Dm, IsInRange, begun, Config}
 use Rattle.laws_wire.proofs.Vocabulary.{LineTold, expiry, next, terms, HasNothingToSend, awaits_answer, T200, Endpoint, Wire, happens, EndStep, requests, expires, sends, receives, loses, acting, turned, StepAt, at_near, at_far, doing, doing_all, is_poll, is_final, IsTimelyOf, for_layer_3, IsLeaving, IsTimelyThere, StayTimelyThere, release_confirmed, release_indicated, map, expired, timer_T200}
 use Rattle.laws_wire.proofs.Vocabulary.{timer_T203, own_side}
 use Rattle.laws_wire.proofs.Awaited.{NoneOpen, may-there, long-there, waits-first, goes-first}
@@ -116,7 +116,7 @@ module _ (service : Service) (tei : ℕ) where
       loses-disc h = record { near = grind (arith, IsCarried); far = h.far }
 
       -- and goes again
-      asks-again : k < t.n200 → Are (N k [] []) m hn b w → Are (N (k + 1) (its_disc ∷ []) []) m hn b (acting (expires (timer_T200 service tei)) w)
+      asks-again : may_repeat t (N k [] []).link ≡ true → Are (N k [] []) m hn b w → Are (N (k + 1) (its_disc ∷ []) []) m hn b (acting (expires (timer_T200 service tei)) w)
       asks-again few h = record {
         near = as-end service tei c p _ hn (happens (expiry (timer_T200 service tei)) w.near) (with_link (expired T200) (N k [] [])) (N (k + 1) (its_disc ∷ []) [])
             (t-expired service tei c p hn w.near (N k [] []) h.near (timer_T200 service tei) T200 (λ l. refl))

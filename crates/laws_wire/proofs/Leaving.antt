@@ -1,5 +1,5 @@
 -- A link that is released, and the one that is told of it: what each event makes of them.
-use Rattle.laws_wire.proofs.Vocabulary.{arith, ◌≡◌, ℕ, ◌+◌, ◌<◌, Bool, true, false, cond, List, [], ◌∷◌, take, None, Some, sym, ap, ◌∙◌, nat_lt, lt-ltb, Disc, Ua, Parts, TeiAssigned, AwaitingRelease, Established, ControlFrame, Terms, received, expired, requested, Link, frame_of, course, begun, ◌then◌, command, response, T200, after, Course, release_indicated, code_H}
+use Rattle.laws_wire.proofs.Vocabulary.{arith, ◌≡◌, ℕ, ◌+◌, ◌<◌, Bool, true, false, cond, List, [], ◌∷◌, take, None, Some, sym, ap, ◌∙◌, nat_lt, lt-ltb, Disc, Ua, Parts, TeiAssigned, AwaitingRelease, Established, ControlFrame, Terms, received, expired, requested, Link, may_repeat, frame_of, course, begun, ◌then◌, command, response, T200, after, Course, release_indicated, code_H}
 use Rattle.model_link.specs.Events.{frame, Release}
 use Rattle.model_link.specs.Words
 use Rattle.laws_wire.proofs.Speaking.{said_by}
@@ -48,13 +48,13 @@ module _ (t : Terms) (room : nat_lt 0 t.control ≡ true) (l : Link) where
     abbrev over : Course
     over = (Words.error t code_H then Words.release_confirm t then Words.no_timer then Words.enter TeiAssigned) (begun (leaving l k []))
 
-    repeats : k < t.n200 → course t (expired T200) (leaving l k []) ≡ again true
-    repeats few = ap (λ b. cond b (again (nat_lt 0 t.control)) over) (lt-ltb k t.n200 few) ∙ ap again room
+    repeats : may_repeat t (leaving l k []) ≡ true → course t (expired T200) (leaving l k []) ≡ again true
+    repeats few = ap (λ b. cond b (again (nat_lt 0 t.control)) over) few ∙ ap again room
 
-    pub repeats-disc : k < t.n200 → after t (expired T200) (leaving l k []) ≡ leaving l (k + 1) (its_disc ∷ [])
+    pub repeats-disc : may_repeat t (leaving l k []) ≡ true → after t (expired T200) (leaving l k []) ≡ leaving l (k + 1) (its_disc ∷ [])
     repeats-disc few = ap (λ (c : Course). c.link) (repeats few)
 
-    pub repeats-untold : k < t.n200 → said_by (course t (expired T200) (leaving l k [])) ≡ []
+    pub repeats-untold : may_repeat t (leaving l k []) ≡ true → said_by (course t (expired T200) (leaving l k [])) ≡ []
     repeats-untold few = ap said_by (repeats few)
 
   -- DISC where it is down already

@@ -1,5 +1,5 @@
 -- A timer that expires lets a link send w turns more, and an enquiry and its answer; or an error is told.
-use Rattle.laws_wire.proofs.Vocabulary.{◌≡◌, ℕ, ◌+◌, ◌<◌, ◌≤◌, Bool, true, cond, refl, ◌⊎◌, inr, lt-ltb, arith, Sabme, State, TimerRecovery, LinkTimer, Terms, Link, expired, course, begun, ◌then◌, awaits_answer, T200, Course}
+use Rattle.laws_wire.proofs.Vocabulary.{◌≡◌, ℕ, ◌+◌, ◌≤◌, Bool, true, cond, refl, ◌⊎◌, inr, arith, Sabme, State, TimerRecovery, LinkTimer, Terms, Link, may_repeat, expired, course, begun, ◌then◌, awaits_answer, T200, Course}
 use Rattle.model_link.specs.Machine
 use Rattle.model_link.specs.Words
 use Rattle.laws_wire.proofs.Fair.{HasError}
@@ -32,10 +32,10 @@ module _ (w : ℕ) (t : Terms) (l : Link) where
 
   -- no error is told where it may go again
   abbrev pub May : LinkTimer → Type 0
-  May timer = timer ≡ T200 → awaits_answer l.state ≡ true → Machine.is_running T200 l ≡ true → l.repeats < t.n200
+  May timer = timer ≡ T200 → awaits_answer l.state ≡ true → Machine.is_running T200 l ≡ true → may_repeat t l ≡ true
 
   fairly-by-state : (here : State) → l.state ≡ here → (timer : LinkTimer) → May timer → Machine.is_running timer l ≡ true → Expires (Machine.expired_in here timer t (begun l))
-  fairly-by-state o at timer may run = grind (arith, lt-ltb, awaits_answer, sabme-again, one-waits, asks-again, idle)
+  fairly-by-state o at timer may run = grind (arith, awaits_answer, sabme-again, one-waits, asks-again, idle)
 
   pub timer-fairly : (timer : LinkTimer) → May timer → Expires (course t (expired timer) l)
   timer-fairly timer may = grind (arith, fairly-by-state l.state refl timer may)

@@ -1,5 +1,5 @@
 -- A link that awaits its establishment, as often as SABME was repeated and whatever waits; and what comes of it.
-use Rattle.laws_wire.proofs.Vocabulary.{arith, ◌≡◌, ℕ, ◌+◌, ◌<◌, Bool, true, false, cond, List, [], ◌∷◌, ◌++◌, length, drop, None, Some, refl, sym, ap, subst, ◌∙◌, ◌⊎◌, inl, inr, append-nil, append_assoc, All, nat_lt, lt-ltb, All-nil, All-cons, All-tail, All-append, Sabme, Parts, T203, ControlFrame, Terms, Link, fresh, frame_of, received, expired, course, begun, ◌then◌, with_sent, command}
+use Rattle.laws_wire.proofs.Vocabulary.{arith, ◌≡◌, ℕ, ◌+◌, ◌<◌, Bool, true, false, cond, List, [], ◌∷◌, ◌++◌, length, drop, None, Some, refl, sym, ap, subst, ◌∙◌, ◌⊎◌, inl, inr, append-nil, append_assoc, All, nat_lt, lt-ltb, All-nil, All-cons, All-tail, All-append, Sabme, Parts, T203, ControlFrame, Terms, Link, fresh, may_repeat, frame_of, received, expired, course, begun, ◌then◌, with_sent, command}
 use Rattle.laws_wire.proofs.Vocabulary.{frames_of, frames-append, Means, T200, frame, after, Course, code_G}
 use Rattle.model_link.specs.declared.states.State.TheVariants as state
 use Rattle.model_link.specs.Words
@@ -43,7 +43,7 @@ module _ (t : Terms) (k : ℕ) (ws : List ControlFrame) where
   given_up = (Words.discard then Words.error t code_G then Words.release_indication t then Words.no_timer then Words.enter state.TeiAssigned) (begun l)
 
   pub t200-rings : HasError (course t (expired T200) l).notes ⊎ Rings k ws (course t (expired T200) l)
-  t200-rings = subst (λ c. HasError c.notes ⊎ Rings k ws c) (sym refl) (go (nat_lt k t.n200) (nat_lt (length ws) t.control))
+  t200-rings = subst (λ c. HasError c.notes ⊎ Rings k ws c) (sym refl) (go (may_repeat t l) (nat_lt (length ws) t.control))
     where
       go : (b room : Bool) → HasError (cond b (again room) given_up).notes ⊎ Rings k ws (cond b (again room) given_up)
       go false room = inl refl
@@ -68,8 +68,8 @@ module _ (t : Terms) (k : ℕ) (room : nat_lt 0 t.control ≡ true) where
   abbrev pub repeated : Course
   repeated = record (begun (ringing (k + 1) (its_sabme ∷ []))) { started = Some T200 }
 
-  pub t200-repeats : k < t.n200 → course t (expired T200) (ringing k []) ≡ repeated
-  t200-repeats few = ap (λ b. cond b (again t k [] (nat_lt 0 t.control)) (given_up t k [])) (lt-ltb k t.n200 few) ∙ ap (again t k []) room
+  pub t200-repeats : may_repeat t (ringing k []) ≡ true → course t (expired T200) (ringing k []) ≡ repeated
+  t200-repeats few = ap (λ b. cond b (again t k [] (nat_lt 0 t.control)) (given_up t k [])) few ∙ ap (again t k []) room
 
 -- what waits goes to the way
 pub record RingsOn (t : Terms) (k : ℕ) (ws : List ControlFrame) (way : List Parts) : Type 0 where

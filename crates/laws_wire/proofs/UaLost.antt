@@ -1,6 +1,6 @@
 -- The phases of a call in which UA may be lost: one end rings, and the other is down; or it is up, and its UA waits, is on its way, or is
 -- not to come.
-use Rattle.laws_wire.proofs.Vocabulary.{◌≡◌, ℕ, ◌+◌, ◌<◌, ◌≤◌, Bool, true, false, not, List, [], ◌∷◌, ◌++◌, map, take, refl, sym, ap, subst, ◌∙◌, ◌⊎◌, inl, inr, arith, nat_lt, option_to_list, lt-ltb, All, All-head, All-drop, Control, Service, Parts, ControlFrame, Terms, course, IsInRange, LinkEndpoint, with_link, Config, LineTold, expiry, request, terms, Request, Rising, kind_of, T203}
+use Rattle.laws_wire.proofs.Vocabulary.{◌≡◌, ℕ, ◌+◌, ◌<◌, ◌≤◌, Bool, true, false, not, List, [], ◌∷◌, ◌++◌, map, take, refl, sym, ap, subst, ◌∙◌, ◌⊎◌, inl, inr, arith, nat_lt, option_to_list, lt-ltb, All, All-head, All-drop, Control, Service, Parts, ControlFrame, Terms, may_repeat, course, IsInRange, LinkEndpoint, with_link, Config, LineTold, expiry, request, terms, Request, Rising, kind_of, T203}
 use Rattle.laws_wire.proofs.Vocabulary.{one_enquiry, tally, line, HasNo, T200, Course, Endpoint, Wire, happens, without_first, EndStep, requests, expires, sends, receives, loses, acting, IsStill, confirmed, heard_in, is_poll, IsTimelyOf, IsFullTalkOf, timer_T200, timer_T203, NoteData}
 use Rattle.model_link.specs.Events as link
 use Rattle.laws_wire.proofs.Awaited.{awaits-is, may-there, none-there, goes-first, waits-first}
@@ -129,7 +129,7 @@ module _ (service : Service) (tei : ℕ) (c d : Config) (p q : ℕ) (face : Face
       nothing-asked x = none-there service tei c p w.near n h.near.stands is_poll (x.0 (awaits-is service tei c p w.near n h.near.stands)).commands
 
     -- T200 expires, and SABME goes again
-    pub repeats-sabme : (w : Wire) (h : R [] [] w) → h.repeats < t.n200 → R (its_sabme ∷ []) [] (acting (expires (timer_T200 service tei)) w)
+    pub repeats-sabme : (w : Wire) (h : R [] [] w) → may_repeat t (ringing h.repeats []) ≡ true → R (its_sabme ∷ []) [] (acting (expires (timer_T200 service tei)) w)
     repeats-sabme w h few =
         let rung = end t (ringing h.repeats []) [] in
         let s' = happens (expiry (timer_T200 service tei)) w.near in

@@ -1,5 +1,5 @@
 -- Where one end rings, no turn is left and its T200 expires, one round is enough for it to be told of the establishment.
-use Rattle.laws_wire.proofs.Vocabulary.{◌≡◌, ℕ, ◌<◌, IsTrue, List, [], ◌∷◌, refl, sym, ap, subst, nat_lt, lt-ltb, arith, All, All-head, Service, Timer, Parts, spelling, ControlFrame, Terms, Link, fresh, is_multiple_frame, after, course, IsInRange, LinkEndpoint, with_link, with_sent, Config, LineTold, next, terms, Endpoint, Wire, happens, frame_comes, with_first_of, without_first, expires, sends}
+use Rattle.laws_wire.proofs.Vocabulary.{◌≡◌, ℕ, true, IsTrue, List, [], ◌∷◌, refl, sym, ap, subst, nat_lt, lt-ltb, arith, All, All-head, Service, Timer, Parts, spelling, ControlFrame, Terms, Link, fresh, is_multiple_frame, may_repeat, after, course, IsInRange, LinkEndpoint, with_link, with_sent, Config, LineTold, next, terms, Endpoint, Wire, happens, frame_comes, with_first_of, without_first, expires, sends}
 use Rattle.laws_wire.proofs.Vocabulary.{acting, doing_all, confirmed, heard_in, MayRepeat, rounds, timer_T200, own_side}
 use Rattle.model_link.specs.Events as link
 use Rattle.laws_wire.proofs.Acting.{ranges}
@@ -99,7 +99,7 @@ module _ (service : Service) (tei : ℕ) (c d : Config) (p q : ℕ) (face : Face
     abbrev timer : Timer
     timer = timer_T200 service tei
 
-    few : h.repeats < t.n200
+    few : may_repeat t (ringing h.repeats []) ≡ true
     few = may-there service tei c p w.near (end t (ringing h.repeats []) []) h.near.stands may refl refl
 
     pub rings-again : heard_in (rounds 1 (acting (expires timer) w)).near ≡ confirmed service tei ∷ []

@@ -125,7 +125,7 @@ pub use Rattle.model_link.proofs.SoundEvents.{sound-after, sound-fresh}
 pub use Rattle.model_link.proofs.SoundRows.{named-within}
 pub use Rattle.model_link.proofs.Taking.{frame-taken, named-is_seq, none-delivered}
 pub use Rattle.model_link.specs.Events.{cleared, expired, frame, offer, received, requested, undefined, wrong_size, ClearBusy as LinkClearBusy, Data as LinkData, Establish as LinkEstablish, Event as LinkEvent, Release as LinkRelease, Request as LinkRequest, SetBusy as LinkSetBusy}
-pub use Rattle.model_link.specs.Link.{Link, frame_of, fresh, has_outstanding, is_multiple_frame, queue_of, state_number, unsent}
+pub use Rattle.model_link.specs.Link.{Link, frame_of, fresh, has_outstanding, is_multiple_frame, may_repeat, queue_of, state_number, unsent}
 pub use Rattle.model_link.specs.Machine.{after, course, frame_step, given, given_of, is_running, told as link_told}
 pub use Rattle.model_link.specs.Requests.{granted, is_down, refusal, serves}
 pub use Rattle.model_link.specs.Sound.{IsInRange, IsSound, IsWaitingFrame, is_information}

@@ -3,7 +3,7 @@ use Rattle.std.specs.Prelude.{◌≡◌, ◌<◌, ℕ, ◌+◌, ◌==◌, Bool, 
 use Rattle.lapd_frame.specs.declared.services.Service.{Service}
 use Rattle.lapd_frame.specs.declared.timers.Timer.TheVariants.{T200}
 use Rattle.model_line.specs.declared.config.Config.{Config}
-use Rattle.model_line.specs.Line.{state_of}
+use Rattle.model_line.specs.Line.{state_of, tries}
 use Rattle.laws_wire.specs.Wire.{Endpoint, Wire, Step, expires, turned, StepAt, at_near, at_far, doing}
 use Rattle.laws_wire.specs.Call.{calling, CanCall}
 use Rattle.laws_wire.specs.Losing.{IsRoughTalk}
@@ -32,9 +32,9 @@ abbrev pub counting : Service → ℕ → StepAt → Wire → Counts → Counts
 counting service tei (at_near act) w k = record k { near = counted service tei act w.near k.near }
 counting service tei (at_far act) w k = record k { far = counted service tei act w.far k.far }
 
--- T200 is long enough, and expires in states 5 and 8 only while this count is below N200.
+-- T200 is long enough, and expires in states 5 and 8 only while the command may go once more: it went once, and so often again.
 abbrev pub IsBelow : Service → ℕ → Endpoint → ℕ → Type 0
-IsBelow service tei s k = awaits_reply service tei s ≡ true → k < s.card.config.n200
+IsBelow service tei s k = awaits_reply service tei s ≡ true → k + 1 < tries s.card.config
 
 abbrev pub IsCountedOf : Step → ℕ → Wire → Type 0
 IsCountedOf (expires (T200 service tei)) k w = IsLongEnough service tei w.near w.far × IsBelow service tei w.near k

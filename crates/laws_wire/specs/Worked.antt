@@ -1,6 +1,6 @@
 -- Worked values: a card of the user's side calls one of the network's, and each end sends data while the other does. Each computes.
-use Rattle.std.specs.Prelude.{◌≡◌, List, [], ◌∷◌, refl, None}
-use Rattle.lapd_frame.specs.declared.addresses.Side.TheVariants.{User, Network}
+use Rattle.std.specs.Prelude.{◌≡◌, List, [], ◌∷◌, refl}
+use Rattle.lapd_frame.specs.declared.addresses.Side.TheVariants.{User}
 use Rattle.lapd_frame.specs.declared.services.Service.TheVariants.{Call}
 use Rattle.lapd_frame.specs.Reading.{reading, header_of, control_of, unnumbered_of, supervisory_of}
 use Rattle.lapd_frame.specs.Senders.{exchanged, reading as read_by}
@@ -10,11 +10,12 @@ use Rattle.lapd_tei.specs.Events as teis
 use Rattle.model_line.specs.declared.config.Config.{Config}
 use Rattle.model_line.specs.Machine as lines
 use Rattle.model_line.specs.Request.{Data}
+use Rattle.model_line.specs.Usual.{usual}
 use Rattle.laws_wire.specs.Wire.{Wire, requests, sends, receives, StepAt, at_near, at_far, doing_all, turns}
 use Rattle.laws_wire.specs.Call.{calling, confirmed, indicated, data_told}
 
 abbrev pub network : Config
-network = record { lines = 1; terminals = 1; k = 7; k16 = 3; queue = 8; unit_queue = 4; control = 4; slots = 16; n201 = 260; n200 = 3; side = Network; sapi = 16; seed = None }
+network = record usual { terminals = 1; k16 = 3; slots = 16 }
 
 abbrev pub user : Config
 user = record network { side = User }

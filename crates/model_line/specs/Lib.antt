@@ -1,10 +1,11 @@
 -- The machine of a line.
 --
--- Read in this order: Config, Event, Request; Line; Effect, whom an event concerns and what comes of it; Sides; Heard,
+-- Read in this order: Config, Usual, Event, Request; Line; Effect, whom an event concerns and what comes of it; Sides; Heard,
 -- Expiry, Refusal, Requested, Taken; Machine. Came is what a controller's frames and faults are heard as, and Room what a line
 -- answers about itself. Stored, Counts, Deliveries and Sound are the words of the laws, Laws their statements. Counted is what
 -- its counters count, and Runs which timers run at a caller's.
 pub mod Config
+pub mod Usual
 pub mod Request
 pub mod Event
 pub mod Line

@@ -91,6 +91,10 @@ terms c service tei = record {
   control = c.control;
 }
 
+-- How often a command goes at most until it is answered: once, and N200 times again (clause 5.9.2).
+abbrev pub tries : Config → ℕ
+tries c = c.n200 + 1
+
 -- A link by its number, and the line with another one in its place.
 abbrev pub link_at : ℕ → Line → Link
 link_at number l = get_or l.links number fresh

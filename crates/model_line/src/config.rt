@@ -1,12 +1,15 @@
 //! The sizes and limits of a card.
 
-ghost use Rattle.std.specs.Prelude.{◌≡◌, Some};
+ghost use Rattle.std.specs.Prelude.{◌≡◌, ◌≤◌, Some};
 ghost use Rattle.model_line.specs.Config.{first_fault, field_name, is_within};
 ghost use Rattle.model_line.specs.Heard.{heard_side};
-ghost use Rattle.model_line.specs.Line.{is_terminal};
+ghost use Rattle.model_line.specs.Line.{is_terminal, terms, window};
+ghost use Rattle.model_line.specs.Sound.{IsInRange};
+ghost use Rattle.model_link.specs.Sound as links;
 ghost use Rattle.model_line.specs.Taken.{own_side};
 
-use lapd_frame::{MOST_N201, Sender, Side};
+use lapd_frame::{MOST_N201, Sender, Service, Side};
+use model_link::Terms;
 use std::fmt;
 
 /// The greatest window, modulo 128, and so the most contents that a link keeps (Q.921 clause 5.9.5; profile).
@@ -75,6 +78,24 @@ pub enum Field {
 }
 
 impl Config {
+    /// The usual one, for the network's side of a line on which eight TEIs can be: others say in what they differ from it,
+    /// as `Config { lines: 4, ..Config::USUAL }`.
+    pub const USUAL: Config = Config {
+        lines: 1,
+        terminals: 8,
+        k: 7,
+        k16: 7,
+        queue: 8,
+        unit_queue: 4,
+        control: 4,
+        slots: 64,
+        n201: 260,
+        n200: 3,
+        side: Side::Network,
+        sapi: 16,
+        seed: None,
+    };
+
     /// The first field that is out of range, in the order of the fields; none if all are in range.
     #[tactic(auto, unfolding(crate::specs::Config::sapi_fault))]
     pub fn fault(&self) -> Option<Field>
@@ -131,6 +152,36 @@ impl Config {
         Sender {
             side: self.side,
             sapi: self.sapi,
+        }
+    }
+
+    /// The parameters of the link that a service has with a TEI, 0 to 126 (Q.921 clause 5.9). The configuration has to be in
+    /// range, and they are then.
+    #[tactic(auto, using(crate::proofs::Ranges::ranges_of, crate::proofs::Ranges::terms_in_range))]
+    pub fn terms(&self, service: Service, tei: u8) -> Terms
+        requires range { IsInRange self.now }
+        requires tei { tei ≤ 126 }
+        ensures terms { result ≡ terms self.now service tei }
+        ensures in_range { links.IsInRange result }
+    {
+        Terms {
+            service,
+            tei,
+            k: self.window(service) as u8,
+            n201: self.n201,
+            n200: self.n200 as u8,
+            queue: self.queue as u8,
+            control: self.control as u8,
+        }
+    }
+
+    // The window of a service.
+    fn window(&self, service: Service) -> u16
+        ensures { result ≡ window self.now service }
+    {
+        match service {
+            Service::Call => self.k,
+            Service::Packet => self.k16,
         }
     }
 

@@ -3,7 +3,6 @@ use Rattle.std.specs.Prelude.{◌≡◌, List, [], ◌∷◌, ◌++◌, None, So
 use Rattle.lapd_clock.specs.Timer.{Lengths, T200, T203, Call}
 use Rattle.lapd_frame.specs.Reading.{reading, header_of, control_of, unnumbered_of, supervisory_of}
 use Rattle.lapd_frame.specs.Senders.{exchanged, reading as read_by}
-use Rattle.lapd_frame.specs.declared.addresses.Side.TheVariants.{Network}
 use Rattle.lapd_seq.specs.Circle.{distance_of, named}
 use Rattle.lapd_seq.specs.Numbers.{seq}
 use Rattle.lapd_tei.specs.Events as teis
@@ -11,6 +10,7 @@ use Rattle.model_bits.specs.Stream.{frame}
 use Rattle.model_line.specs.Event as line
 use Rattle.model_line.specs.Machine as lines
 use Rattle.model_line.specs.Request.{Assign, Data}
+use Rattle.model_line.specs.Usual.{usual as plain}
 use Rattle.model_line.specs.declared.config.Config.{Config}
 use Rattle.model_card.specs.Card.{state}
 use Rattle.model_card.specs.Event.{Event, at}
@@ -21,7 +21,7 @@ use Rattle.model_timed.specs.Sayings.{said_in, last_start}
 use Rattle.model_timed.specs.TimersAreTrue.{moment_after, IsNext}
 
 abbrev pub usual : Config
-usual = record { lines = 1; terminals = 8; k = 7; k16 = 3; queue = 8; unit_queue = 4; control = 4; slots = 64; n201 = 260; n200 = 3; side = Network; sapi = 16; seed = None }
+usual = record plain { k16 = 3 }
 
 abbrev pub lengths : Lengths
 lengths = record { t200 = 10; t203 = 50; t201 = 10; t202 = 20 }

@@ -3,8 +3,8 @@
 ghost use Rattle.std.specs.Prelude.{◌≡◌, ◌<◌, ◌≤◌, ◌^◌};
 ghost use Rattle.lapd_card.specs.Card.{line_count};
 
-use crate::starts::{USUAL, usual_card};
-use lapd_card::{Card, CardFault, Request};
+use crate::starts::usual_card;
+use lapd_card::{Card, CardFault, Config, Request};
 use lapd_clock::Clock;
 use lapd_frame::{Note, Order, Service};
 use lapd_store::SlabShelf;
@@ -14,7 +14,7 @@ use std::test::Fail;
 
 /// Serves so many octets of a line: each is handed to the card, and one of the card's takes its place.
 fn serve(alloc: Global, shelf: SlabShelf, line: &mut [u8]) -> Result<bool, CardFault> {
-    let mut card = Card::start(alloc, USUAL, shelf)?;
+    let mut card = Card::start(alloc, Config::USUAL, shelf)?;
     let _ = card.request(0, Request::Assign(64));
     let mut is_up = false;
     for octet in line.iter_mut() {

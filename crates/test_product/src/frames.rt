@@ -4,9 +4,8 @@
 ghost use Rattle.std.specs.Prelude.{◌≡◌, IfOk};
 ghost use Rattle.lapd_card.specs.FrameCard.{line_count};
 
-use crate::starts::USUAL;
 use crate::texts::says;
-use lapd_card::{BareReport, Fault, FrameCard, Request, RoomTooSmall};
+use lapd_card::{BareReport, Config, Fault, FrameCard, Request, RoomTooSmall};
 use lapd_frame::{Note, Refusal, Service, Timer};
 use lapd_store::SlabShelf;
 use model_bits::Cause;
@@ -19,7 +18,7 @@ const CALL: Service = Service::Call;
 fn frame_card(alloc: Global) -> Result<FrameCard<SlabShelf>, Fail>
     ensures { IfOk result (λ card. line_count card ≡ 1) }
 {
-    Ok(FrameCard::start(alloc, USUAL, SlabShelf::start(alloc, 64, 260)?)?)
+    Ok(FrameCard::start(alloc, Config::USUAL, SlabShelf::start(alloc, 64, 260)?)?)
 }
 
 /// Asks for something at line 0.

@@ -5,7 +5,7 @@ ghost use Rattle.lapd_card.specs.Drive.{line_of};
 
 use crate::example::SABME;
 use crate::kept::keep_replies;
-use crate::starts::{USUAL, usual_card};
+use crate::starts::usual_card;
 use lapd_card::{Card, Config, Event, Kept, KeptReply, Reply, Request};
 use lapd_frame::{Service, Timer};
 use lapd_store::{RawShelf, SlabShelf};
@@ -104,7 +104,7 @@ fn ten_thousand_rounds(rt: HostRuntime) -> Result<(), Fail> {
 const SMALL: Config = Config {
     lines: 2,
     terminals: 2,
-    ..USUAL
+    ..Config::USUAL
 };
 
 #[test]

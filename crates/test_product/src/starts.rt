@@ -4,32 +4,16 @@ ghost use Rattle.std.specs.Prelude.{◌≡◌, ◌≤◌, IfOk};
 ghost use Rattle.lapd_card.specs.Card.{line_count};
 
 use crate::texts::says;
-use lapd_card::{Card, CardFault, Config, Field, Side};
+use lapd_card::{Card, CardFault, Config, Field};
 use lapd_store::{Shelf, SlabShelf};
 use std::alloc::Global;
 use std::test::Fail;
-
-pub const USUAL: Config = Config {
-    lines: 1,
-    terminals: 8,
-    k: 7,
-    k16: 7,
-    queue: 8,
-    unit_queue: 4,
-    control: 4,
-    slots: 64,
-    n201: 260,
-    n200: 3,
-    side: Side::Network,
-    sapi: 16,
-    seed: None,
-};
 
 /// A card of the usual sizes.
 pub fn usual_card(alloc: Global) -> Result<Card<SlabShelf>, Fail>
     ensures { IfOk result (λ card. line_count card ≡ 1) }
 {
-    Ok(Card::start(alloc, USUAL, SlabShelf::start(alloc, 64, 260)?)?)
+    Ok(Card::start(alloc, Config::USUAL, SlabShelf::start(alloc, 64, 260)?)?)
 }
 
 /// Why a card does not start with a shelf of so many slots of this width, 8 to 260; none if it does.
@@ -43,14 +27,18 @@ fn fault(alloc: Global, config: Config, slots: u32, width: u16) -> Result<Option
 
 #[test]
 fn a_shelf_that_is_too_small(rt: HostRuntime) -> Result<(), Fail> {
-    assert!(rt; fault(rt.alloc(), USUAL, 64, 260)?.is_none());
+    assert!(rt; fault(rt.alloc(), Config::USUAL, 64, 260)?.is_none());
     for (slots, width) in [(63, 260), (64, 259), (0, 8)] {
         assert!(rt; 8 <= width && width <= 260);
-        assert!(rt; fault(rt.alloc(), USUAL, slots, width)? == Some(CardFault::ShelfTooSmall));
+        assert!(rt;
+            fault(rt.alloc(), Config::USUAL, slots, width)? == Some(CardFault::ShelfTooSmall)
+        );
     }
     let mut shelf = SlabShelf::start(rt.alloc(), 64, 260)?;
     assert!(rt; shelf.put(&[]).is_some());
-    assert!(rt; Card::start(rt.alloc(), USUAL, shelf).err() == Some(CardFault::ShelfTooSmall));
+    assert!(rt;
+        Card::start(rt.alloc(), Config::USUAL, shelf).err() == Some(CardFault::ShelfTooSmall)
+    );
     Ok(())
 }
 

@@ -8,7 +8,7 @@ use crate::fault::Fault;
 use crate::sender::N201;
 use crate::terminal::Terminal;
 use lapd_card::{Card, Config, Request};
-use lapd_frame::{Service, Side};
+use lapd_frame::Service;
 use lapd_store::SlabShelf;
 use std::alloc::{AllocError, Global};
 
@@ -50,18 +50,9 @@ pub enum Traffic {
 pub fn config(lines: u16) -> Config {
     Config {
         lines,
-        terminals: 8,
-        k: 7,
-        k16: 7,
-        queue: 8,
-        unit_queue: 4,
-        control: 4,
         slots: lines.saturating_mul(SLOTS),
         n201: N201,
-        n200: 3,
-        side: Side::Network,
-        sapi: 16,
-        seed: None,
+        ..Config::USUAL
     }
 }
 

@@ -5,6 +5,7 @@ ghost use Rattle.std.specs.Prelude.{IfOk};
 use lapd_frame::{Address, Control, Frame, Refusal, Service};
 use lapd_link::{BareReport, Link, LinkRequest, LinkTimer, Offer, Received, StartFault};
 use lapd_store::SlabShelf;
+use model_link::Terms;
 use std::alloc::Global;
 
 /// As many contents and control frames as a link keeps, and slots as its shelf has.
@@ -31,7 +32,15 @@ impl ShelvedLink {
         let Ok(shelf) = SlabShelf::start(alloc, ROOM, 8) else {
             return Err(StartFault::OutOfMemory);
         };
-        link.open(Service::Call, 64, ROOM as u8, 3, 8);
+        link.open(Terms {
+            service: Service::Call,
+            tei: 64,
+            k: ROOM as u8,
+            n201: 8,
+            n200: 3,
+            queue: ROOM as u8,
+            control: ROOM as u8,
+        });
         Ok(ShelvedLink { link, shelf })
     }
 

@@ -2,6 +2,7 @@
 use Rattle.lapd_sim.proofs.OfMachine.Vocabulary.{◌≡◌, ℕ, ◌<◌, ◌≤◌, ◌^◌, Bool, true, false, not, cond, ◌&&◌, ◌⊎◌, inl, inr, nat_lt, nat_le, List, [], ◌∷◌, length, Option, None, Some, Result, Ok, Err, refl, sym, ap, ◌∙◌, subst, arith, codes, decimal, bytes_eq, list_all, is_ascii_digit, all_ascii_digits, digits_value, leb-true, le-leb, lt-ltb, none-some, digits_decimal, digits_value-decimal}
 use Rattle.lapd_sim.proofs.OfMachine.Vocabulary.{decimal_nonempty, IsNumeralModel, numerals_by_value, tells_all_ascii_digits, Config, Lines, Terminals, Control, Slots, N201, is_within, IsInRange, Within, ranges_of, Network, User, FaultKind, BadNumber, Job, job, job_or_none, limits, limits_of, run, frame, number, ◌>>=◌, limits_words, limits_of_card, LimitsAreOfCards}
 use Rattle.model_line.specs.Config.{sapi_fault}
+use Rattle.model_line.specs.Usual.{least}
 
 own : IsNumeralModel (λ word. all_ascii_digits word ≡ true) (digits_value 10)
 own = numerals_by_value _ tells_all_ascii_digits
@@ -55,7 +56,7 @@ passed_by : (a b c d e : Bool) → a ≡ true → b ≡ true → c ≡ true → 
 passed_by a b c d e ea eb ec ed ee = rw ea (rw eb (rw ec (rw ed (rw ee refl))))
 
 abbrev card_of : ℕ → ℕ → ℕ → ℕ → ℕ → Config
-card_of l t r s n = record { lines = l; terminals = t; k = 1; k16 = 1; queue = 1; unit_queue = 1; control = r; slots = s; n201 = n; n200 = 0; side = Network; sapi = 16; seed = None }
+card_of l t r s n = record least { lines = l; terminals = t; control = r; slots = s; n201 = n }
 
 starts : (l t r s n : ℕ) → Within 1 64 l → Within 1 8 t → Within 2 16 r → Within 1 8192 s → Within 8 260 n → IsInRange (card_of l t r s n)
 unfolding sapi_fault

@@ -1,6 +1,6 @@
 -- The premises are met: by two links that begin, by the worked run in which every frame is lost, and by one in which a
 -- frame is lost and REJ makes it good.
-use Rattle.laws_link.proofs.Vocabulary.{◌≡◌, Bool, true, false, ◌&&◌, List, [], ◌∷◌, length, refl, inr, arith, nat_lt, nat_le, and_parts, ltb-true, leb-true, seq, distance_of, named, supervisory_of, unnumbered_of, control_of, header_of, reading, Request, Release, after_all, Endpoint, Ends, EndStep, requests, expires, StepAt, at_near, at_far, doing, doing_all, StayUp, IsTimed, both, mended}
+use Rattle.laws_link.proofs.Vocabulary.{◌≡◌, Bool, true, false, ◌&&◌, List, [], ◌∷◌, length, refl, inr, arith, may_repeat, nat_le, and_parts, leb-true, seq, distance_of, named, supervisory_of, unnumbered_of, control_of, header_of, reading, Request, Release, after_all, Endpoint, Ends, EndStep, requests, expires, StepAt, at_near, at_far, doing, doing_all, StayUp, IsTimed, both, mended}
 use Rattle.laws_link.proofs.Vocabulary.{IsNotRelease, KeepsLinkUp, KeepsLinksUp, StayAhead, IsReady, IsTaken, HasUnsent, CanRecoverFrom, HasMissing, losing, cut_off}
 use Rattle.laws_link.proofs.OfTwo.Premises.{begins}
 use Rattle.laws_link.proofs.OfTwo.Together.{all-stay_up}
@@ -12,7 +12,7 @@ mild_request other = true
 
 unfoldable pub mild_act : EndStep → Endpoint → Bool
 mild_act (requests request full) n = mild_request request
-mild_act (expires timer) n = nat_lt n.link.repeats n.terms.n200
+mild_act (expires timer) n = may_repeat n.terms n.link
 mild_act other n = true
 
 unfoldable pub mild : StepAt → Ends → Bool
@@ -31,7 +31,7 @@ by-request other e = tt
 by-act : (act : EndStep) (n : Endpoint) → mild_act act n ≡ true → KeepsLinkUp act n
 unfolding mild_act
 by-act (requests request full) n e = by-request request e
-by-act (expires timer) n e = λ state running. ltb-true n.link.repeats n.terms.n200 e
+by-act (expires timer) n e = λ state running. e
 by-act other n e = tt
 
 by-doing : (d : StepAt) (e : Ends) → mild d e ≡ true → KeepsLinksUp d e
@@ -68,7 +68,7 @@ pub near-silent : CanRecoverFrom cut_off.near cut_off.far
 unfolding seq distance_of named reading header_of control_of unnumbered_of supervisory_of after_all doing_all
 near-silent =
     record {
-      repeats = λ e. ltb-true cut_off.near.link.repeats cut_off.near.terms.n200 refl;
+      repeats = λ e. refl;
       own_busy = refl;
       waiting = refl;
       way = refl;
@@ -79,7 +79,7 @@ pub far-silent : CanRecoverFrom cut_off.far cut_off.near
 unfolding seq distance_of named reading header_of control_of unnumbered_of supervisory_of after_all doing_all
 far-silent =
     record {
-      repeats = λ e. ltb-true cut_off.far.link.repeats cut_off.far.terms.n200 refl;
+      repeats = λ e. refl;
       own_busy = refl;
       waiting = refl;
       way = refl;

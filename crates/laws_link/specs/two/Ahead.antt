@@ -1,8 +1,9 @@
 -- What can lead two links out of states 7 and 8, and what does not.
-use Rattle.std.specs.Prelude.{◌≡◌, ◌<◌, ◌≤◌, true, List, [], ◌∷◌}
+use Rattle.std.specs.Prelude.{◌≡◌, ◌≤◌, true, IsTrue, List, [], ◌∷◌}
 use Rattle.model_link.specs.declared.states.State.TheVariants.{TimerRecovery}
 use Rattle.model_link.specs.declared.timers.LinkTimer.{LinkTimer}
 use Rattle.model_link.specs.Events.{Request, Establish, Release, Data, SetBusy, ClearBusy}
+use Rattle.model_link.specs.Link.{may_repeat}
 use Rattle.model_link.specs.Machine.{is_running}
 use Rattle.model_link.specs.TwoEnds.{Endpoint, Ends, Step, requests, expires, sends, receives, loses, StepAt, at_near, at_far, doing}
 
@@ -19,7 +20,7 @@ IsNotRelease SetBusy = Unit {0}
 IsNotRelease ClearBusy = Unit {0}
 
 abbrev pub CanRepeat : LinkTimer → Endpoint → Type 0
-CanRepeat timer n = n.link.state ≡ TimerRecovery → is_running timer n.link ≡ true → n.link.repeats < n.terms.n200
+CanRepeat timer n = n.link.state ≡ TimerRecovery → is_running timer n.link ≡ true → IsTrue (may_repeat n.terms n.link)
 
 abbrev pub KeepsLinkUp : Step → Endpoint → Type 0
 KeepsLinkUp (requests request full) n = IsNotRelease request

@@ -1,8 +1,8 @@
 -- Two links, all of whose frames on the way were lost.
-use Rattle.std.specs.Prelude.{◌≡◌, ℕ, ◌+◌, ◌<◌, ◌≤◌, Bool, false, IsTrue, [], length, take, All}
+use Rattle.std.specs.Prelude.{◌≡◌, ℕ, ◌+◌, ◌≤◌, Bool, false, IsTrue, [], length, take, All}
 use Rattle.model_link.specs.declared.states.State.TheVariants.{TimerRecovery}
 use Rattle.model_link.specs.declared.timers.LinkTimer.TheVariants.{T200}
-use Rattle.model_link.specs.Link.{is_multiple_frame}
+use Rattle.model_link.specs.Link.{is_multiple_frame, may_repeat}
 use Rattle.model_link.specs.Sound.{IsInRange, IsSound}
 use Rattle.model_link.specs.Timed.{IsTimed}
 use Rattle.model_link.specs.TwoEnds.{Endpoint, Ends, expires, at_near, at_far, doing}
@@ -18,7 +18,7 @@ pub record IsCutOffWith (own : Bool) (n m : Endpoint) : Type 0 where
   pub timed : IsTimed n.link
   pub heeds : Heeds n.link
   pub up : IsTrue (is_multiple_frame n.link.state)
-  pub repeats : n.link.state ≡ TimerRecovery → n.link.repeats < n.terms.n200
+  pub repeats : n.link.state ≡ TimerRecovery → IsTrue (may_repeat n.terms n.link)
   pub own_busy : n.link.own_busy ≡ own
   pub waiting : n.link.waiting ≡ []
   pub way : n.way ≡ []
@@ -41,7 +41,7 @@ HasMissing u n m = length n.link.contents ≤ m.link.r + u
 -- The part of this that has to be asked of links which came from an establishment: own busy is off, or on, nothing waits
 -- or is on its way, an enquiry can be repeated, and V(S) is not below the other's V(R).
 pub record CanRecoverFromWith (own : Bool) (n m : Endpoint) : Type 0 where
-  pub repeats : n.link.state ≡ TimerRecovery → n.link.repeats < n.terms.n200
+  pub repeats : n.link.state ≡ TimerRecovery → IsTrue (may_repeat n.terms n.link)
   pub own_busy : n.link.own_busy ≡ own
   pub waiting : n.link.waiting ≡ []
   pub way : n.way ≡ []

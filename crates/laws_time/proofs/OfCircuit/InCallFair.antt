@@ -10,7 +10,7 @@ use Rattle.std.proofs.lemmas.Nat.{mul-le}
 use Rattle.lapd_clock.specs.Timer.{Lengths}
 use Rattle.lapd_frame.specs.declared.services.Service.{Service}
 use Rattle.model_link.specs.Link.{Link, state_number, fresh as fresh_link}
-use Rattle.model_line.specs.Line.{link_in}
+use Rattle.model_line.specs.Line.{link_in, tries}
 use Rattle.model_line.specs.Request.{Establish}
 use Rattle.model_line.specs.Sound.{IsInRange}
 use Rattle.model_line.specs.declared.config.Config.{Config}
@@ -183,17 +183,17 @@ module _ (c : Config) (service : Service) (number tei : ℕ) (ranged : IsInRange
 
   -- So it is for so long.
   module _ (line_is : a.at.line < c.lines) (moment : ℕ) (u : TimedEndpoint) (first : Leads (fresh c lengths) (card_of (at_time moment a))) (x : Walks service tei (at_time moment a) u)
-      (soon_now : u.clock.now < moment + (c.n200 + 1) * lengths.t200) where
+      (soon_now : u.clock.now < moment + tries c * lengths.t200) where
     abbrev Claim : TimedOctetCard → Type 0
     Claim t =
-        ArePrompt octets 0 x.steps t → state a.at.line service tei t.card.card ≡ Some 4 → (after_all octets x.steps t).clock.now < t.clock.now + (c.n200 + 1) * lengths.t200
+        ArePrompt octets 0 x.steps t → state a.at.line service tei t.card.card ≡ Some 4 → (after_all octets x.steps t).clock.now < t.clock.now + tries c * lengths.t200
         → Used (news of_octets service tei a.at.line x.steps t) ≡ false
 
     fair-then : IsFair u.at.told
     fair-then =
         x.fair
         (subst Claim first.leads (λ prompt at_4 soon. n200-takes-its-time-of-octets service c lengths 0 a.at.line tei 4 first.steps x.steps ranged line_is refl first.prompt prompt at_4 soon)
-        x.prompt in-4 (subst (λ (t : TimedOctetCard). t.clock.now < moment + (c.n200 + 1) * lengths.t200) (sym x.leads) soon_now))
+        x.prompt in-4 (subst (λ (t : TimedOctetCard). t.clock.now < moment + tries c * lengths.t200) (sym x.leads) soon_now))
         told-none
 
 module _ (l : Line) (before bs : List Beat) (b : Beat) (fit : IsFit l) (all : All (AreAsked l) (b ∷ bs)) (v : Clocked) (idle : IdleNow l fit v) (clear : AreClear l (calls l b ∷ bs) v) where
@@ -227,11 +227,11 @@ module _ (l : Line) (before bs : List Beat) (b : Beat) (fit : IsFit l) (all : Al
         fair-then l.near l.service l.near_line l.tei c.near.0 c.near.1 c.terminal l.lengths l.rate p.S (near_by l fit v p now talk clear.0 clear.1) v.near p.near_ok idle.near p.near_ok.but.ends.ran.within
             (v.beats / l.rate) w.near
             (leads-both (near_card l fit) (card_of v.near) (card_of (at_time (v.beats / l.rate) v.near)) p.both.near_leads (near-time l fit v p now talk clear.0 clear.1)) near_walk
-            (subst (λ n. n < v.beats / l.rate + (l.near.n200 + 1) * l.lengths.t200) (sym near_now) (fewer v.beats (length bs) l.rate ((l.near.n200 + 1) * l.lengths.t200) fit.some short)),
+            (subst (λ n. n < v.beats / l.rate + tries l.near * l.lengths.t200) (sym near_now) (fewer v.beats (length bs) l.rate (tries l.near * l.lengths.t200) fit.some short)),
         fair-then l.far l.service l.far_line l.tei c.far.0 c.far.1 c.terminal l.far_lengths l.rate p.S2 (far_by l fit v p now talk clear.0 clear.1) v.far p.far_ok idle.far p.far_ok.but.ends.ran.within
             (v.beats / l.rate) w.far
             (leads-both (far_card l fit) (card_of v.far) (card_of (at_time (v.beats / l.rate) v.far)) p.both.far_leads (far-time l fit v p now talk clear.0 clear.1)) far_walk
-            (subst (λ n. n < v.beats / l.rate + (l.far.n200 + 1) * l.far_lengths.t200) (sym far_now) (fewer v.beats (length bs) l.rate ((l.far.n200 + 1) * l.far_lengths.t200) fit.some short_far)),
+            (subst (λ n. n < v.beats / l.rate + tries l.far * l.far_lengths.t200) (sym far_now) (fewer v.beats (length bs) l.rate (tries l.far * l.far_lengths.t200) fit.some short_far)),
       )
 
 pub n200-lasts-in-a-call : N200LastsInACall

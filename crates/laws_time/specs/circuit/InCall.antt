@@ -4,6 +4,7 @@ use Rattle.std.specs.List.{list_any}
 use Rattle.lapd_clock.specs.Timer.{Lengths}
 use Rattle.model_line.specs.Event.{LineTold}
 use Rattle.model_line.specs.declared.config.Config.{Config}
+use Rattle.model_line.specs.Line.{tries}
 use Rattle.laws_wire.specs.Call.{confirmed, indicated}
 use Rattle.laws_wire.specs.Losing.{for_layer_3}
 use Rattle.laws_time.specs.circuit.Answered.{IsUndisturbed, begun, state_at}
@@ -21,7 +22,7 @@ WasTold first s = (more : List LineTold) × (flat_map for_layer_3 s.at.told ≡ 
 
 -- So many beats are fewer than (N200 + 1) T200 of each end by a millisecond, as moments are whole.
 abbrev pub IsShortAt : Line → ℕ → Config → Lengths → Type 0
-IsShortAt l n c lengths = n + l.rate ≤ (c.n200 + 1) * lengths.t200 * l.rate
+IsShortAt l n c lengths = n + l.rate ≤ tries c * lengths.t200 * l.rate
 
 abbrev pub IsShort : Line → ℕ → Type 0
 IsShort l n = IsShortAt l n l.near l.lengths × IsShortAt l n l.far l.far_lengths

@@ -1,7 +1,7 @@
 -- Worked values: how many beats are enough for a call, and what comes of one if noise takes its SABME. Each computes.
-use Rattle.std.specs.Prelude.{◌≡◌, ℕ, ◌+◌, ◌*◌, false, List, [], ◌∷◌, ◌++◌, replicate, None, Some, refl}
+use Rattle.std.specs.Prelude.{◌≡◌, ℕ, ◌+◌, ◌*◌, false, List, [], ◌∷◌, ◌++◌, replicate, Some, refl}
 use Rattle.lapd_clock.specs.Timer.{T203}
-use Rattle.lapd_frame.specs.declared.addresses.Side.TheVariants.{Network, User}
+use Rattle.lapd_frame.specs.declared.addresses.Side.TheVariants.{User}
 use Rattle.lapd_frame.specs.declared.services.Service.TheVariants.{Call}
 use Rattle.lapd_frame.specs.Reading.{reading, header_of, control_of, unnumbered_of, supervisory_of}
 use Rattle.lapd_frame.specs.Senders.{exchanged, reading as read_by}
@@ -12,6 +12,7 @@ use Rattle.model_bits.specs.Bits.{low_bits}
 use Rattle.model_line.specs.Machine as lines
 use Rattle.model_line.specs.Request.{Data}
 use Rattle.model_line.specs.declared.config.Config.{Config}
+use Rattle.model_line.specs.Usual.{least}
 use Rattle.model_card.specs.ports.Card as ports
 use Rattle.model_timed.specs.Clock.{Clock}
 use Rattle.laws_order.specs.circuit.Beats.{enough_beats, longest}
@@ -33,7 +34,7 @@ short_contents : (3 + 2 * 5) * (longest 40 + (longest 40 + 4)) ≡ 1534
 short_contents = refl
 
 abbrev pub network : Config
-network = record { lines = 1; terminals = 1; k = 1; k16 = 1; queue = 1; unit_queue = 1; control = 2; slots = 4; n201 = 8; n200 = 3; side = Network; sapi = 16; seed = None }
+network = record least { slots = 4; n200 = 3 }
 
 abbrev pub user : Config
 user = record network { side = User }

@@ -1,10 +1,10 @@
 -- Worked values: T200 is long enough, and falls due while an answer is to come, as a premise of the law is not met. Each computes.
-use Rattle.std.specs.Prelude.{◌≡◌, ◌≤◌, ◌<◌, ℕ, ◌+◌, ◌*◌, true, List, [], ◌∷◌, ◌++◌, length, map, replicate, None, Some, refl}
+use Rattle.std.specs.Prelude.{◌≡◌, ◌≤◌, ◌<◌, ℕ, ◌+◌, ◌*◌, true, List, [], ◌∷◌, ◌++◌, length, map, replicate, Some, refl}
 use Rattle.std.proofs.Common.{arith}
 use Rattle.model_bits.specs.Bits.{low_bits}
 use Rattle.model_bits.specs.Stream as stream
 use Rattle.lapd_clock.specs.Timer.{T200}
-use Rattle.lapd_frame.specs.declared.addresses.Side.TheVariants.{Network, User}
+use Rattle.lapd_frame.specs.declared.addresses.Side.TheVariants.{User}
 use Rattle.lapd_frame.specs.declared.services.Service.TheVariants.{Call}
 use Rattle.lapd_frame.specs.Reading.{reading, header_of, control_of, unnumbered_of, supervisory_of}
 use Rattle.lapd_frame.specs.Senders.{exchanged, reading as read_by}
@@ -15,6 +15,7 @@ use Rattle.model_line.specs.Machine as lines
 use Rattle.model_line.specs.Request.{Request, Establish, Unit}
 use Rattle.model_line.specs.Config.{sapi_fault}
 use Rattle.model_line.specs.declared.config.Config.{Config}
+use Rattle.model_line.specs.Usual.{least}
 use Rattle.model_card.specs.Card.{state}
 use Rattle.model_card.specs.ports.Card as ports
 use Rattle.model_card.specs.ports.Port.{gained}
@@ -25,7 +26,7 @@ use Rattle.laws_time.specs.circuit.Clocked.{Clocked, TimedEndpoint, Beat, plain,
 use Rattle.laws_time.specs.circuit.LongEnough.{Line, IsFit, IsLongEnough, begins, asked, pulling, is_of}
 
 abbrev network : Config
-network = record { lines = 1; terminals = 1; k = 1; k16 = 1; queue = 1; unit_queue = 8; control = 2; slots = 8; n201 = 8; n200 = 3; side = Network; sapi = 16; seed = None }
+network = record least { unit_queue = 8; slots = 8; n200 = 3 }
 
 abbrev user : Config
 user = record network { side = User }

@@ -1,12 +1,11 @@
 -- Worked values: when pulls call for the next frame, and what goes out then; and frames that stand in octets, as they are heard.
-use Rattle.std.specs.Prelude.{◌≡◌, ℕ, List, [], ◌∷◌, ◌++◌, replicate, Some, refl, None}
+use Rattle.std.specs.Prelude.{◌≡◌, ℕ, List, [], ◌∷◌, ◌++◌, replicate, Some, refl}
 use Rattle.std.proofs.Common.{lit<}
 use Rattle.std.proofs.lemmas.List.Elements.{All-nil, All-cons}
 use Rattle.model_bits.specs.Bits.{bits, flag, low_bits}
 use Rattle.model_bits.specs.Sent.{frame_text}
 use Rattle.model_bits.specs.Stream.{frame, overlong, dropped, heard_in}
 use Rattle.model_bits.specs.declared.heard.Cause.TheVariants.{Fcs}
-use Rattle.lapd_frame.specs.declared.addresses.Side.TheVariants.{Network}
 use Rattle.lapd_frame.specs.declared.services.Service.TheVariants.{Call}
 use Rattle.lapd_frame.specs.Senders.{exchanged}
 use Rattle.model_line.specs.Came.{came}
@@ -14,6 +13,7 @@ use Rattle.model_line.specs.declared.config.Config.{Config}
 use Rattle.model_line.specs.Event as line
 use Rattle.model_line.specs.Machine as lines
 use Rattle.model_line.specs.Request.{Request, Unit}
+use Rattle.model_line.specs.Usual.{least}
 use Rattle.model_card.specs.Event as frames
 use Rattle.model_card.specs.Run as runs
 use Rattle.model_card.specs.ports.AtOnce.{text_of_calls, left_to_give}
@@ -25,7 +25,7 @@ use Rattle.model_card.specs.ports.Run.{moments, meant_all}
 use Rattle.model_card.specs.ports.WholeLaws.{IsThere, Brings}
 
 abbrev small : Config
-small = record { lines = 1; terminals = 1; k = 1; k16 = 1; queue = 1; unit_queue = 1; control = 2; slots = 1; n201 = 8; n200 = 1; side = Network; sapi = 16; seed = None }
+small = record least { n200 = 1 }
 
 -- Unit data of the group, and so many pulls.
 abbrev unit : Request

@@ -55,8 +55,8 @@ def words_for(processor: str, to: str) -> List[str]:
 def text(processor: str, over_gate: bool) -> str:
     built(NAME, processor, over_gate, with_module=True)
     with tempfile.TemporaryDirectory(prefix="assembly-") as folder:
-        said = subprocess.run(words_for(processor, f"{folder}/lapd.s"), stdin=subprocess.DEVNULL, stdout=subprocess.PIPE, stderr=subprocess.STDOUT,
-                              text=True, check=False)
+        said = subprocess.run(words_for(processor, f"{folder}/lapd.s"), stdin=subprocess.DEVNULL, stdout=subprocess.PIPE,
+                              stderr=subprocess.STDOUT, text=True, check=False)
         if said.returncode:
             raise NotBuilt(f"the kit's clang makes no text for {processor}: {said.stdout.strip()[-300:]}")
         with open(f"{folder}/lapd.s", encoding="utf-8") as file:

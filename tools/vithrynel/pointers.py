@@ -3,8 +3,8 @@ asked, too: a program, or a part of check."""
 import re
 from typing import List
 
-from vithrynel.checked import is_buffer, length_of, pointers, tag
-from vithrynel.header import Function, functions, parameter, structs, text
+from .checked import is_buffer, length_of, pointers, tag
+from .header import Function, functions, parameter, structs, text
 
 PROGRAM = """\
 #include <stdio.h>

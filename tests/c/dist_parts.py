@@ -19,7 +19,7 @@ C99 = ["-std=c99", *STRICT, "-pedantic"]
 # What README.md begins with. Both take less than 30 seconds of the processor on a machine that does nothing else; other tests
 # that run beside them make it half as much again.
 COMMANDS = ("cc -O2 -o lapdsim dist/lapdsim.c && ./lapdsim run < crates/lapdsim/stdin",
-            "cc -O2 -I dist -o first examples/c/first.c dist/lapd.c && ./first")
+            "cc -O2 -I dist -o first examples/c/first.c dist/lapd.S dist/lapd_malloc.c && ./first")
 SOON = 45
 # Programs of examples/c with their files; first.c and wire.c are played, as they ask for no line.
 EXAMPLES = {"first": (), "wire": ("trace",), "terminal": ("linecard", "trace"), "clock": ("trace",), "exchange": ("linecard", "pcap", "trace"),
@@ -32,11 +32,13 @@ LITTLE = 5000  # KB of addresses: enough for a small card
 
 
 class Dist(NamedTuple):
-    """The files, a folder of the part's own, the proved program, and the folder of what is compiled once for all parts."""
+    """The files, a folder of the part's own, the proved program, the folder of what is compiled once for all parts, and whether
+    the kit that is here made the files."""
     files: str
     folder: str
     lapdsim: str
     built: str
+    is_of_this_kit: bool = True
 
 
 def shell(command, folder, **env):
@@ -78,7 +80,7 @@ def clean_folder(dist):
     print(f"c: both commands of README.md took {took:.1f} s of processor time")
     check("a first program and a played script", took < SOON, f"{took:.1f} s")
     shown = re.findall(r"^    (cc \S.*?)(?:  .*)?$", read(f"{dist.files}/README").decode(), re.M)
-    check("dist/README shows two commands", len(shown) == 2, shown)
+    check("dist/README shows three commands", len(shown) == 3, shown)
     for command in shown:
         said = shell(command, f"{clone}/dist", PATH=path)
         good = said.stdout == FIRST if "first" in command else said.stdout.startswith(b"lapdsim plays LAPD")
@@ -283,17 +285,19 @@ def cmake_by(dist, name, found, language, flags):
 
 
 def python(dist):
-    """lapd.py over the shared library that dist/README has made of lapd.c, beside it: all stored scripts."""
-    at = f"{dist.folder}/python"
+    """lapd.py over the shared library that dist/README has made of lapd.S, or of lapd.c, beside it: all stored scripts."""
+    at, code = f"{dist.folder}/python", (
+        "import sys; sys.dont_write_bytecode = True; sys.path[:0] = sys.argv[1:]; import lapd, scripted; from worked import worked; "
+        "scripts = worked(); print(lapd.__file__, sum(scripted.play(it.text) == it.wanted() for it in scripts.values()) - len(scripts))")
     shutil.copytree(dist.files, at)
-    command = re.search(r"cc -O2 -shared .*?lapd\.c", read(f"{at}/README").decode())
-    said = shell(command[0] if command else "false", at)
-    check("a shared library of lapd.c", said.returncode == 0, said.stderr.decode()[:600])
-    if said.returncode == 0:
-        code = ("import sys; sys.dont_write_bytecode = True; sys.path[:0] = sys.argv[1:]; import lapd, scripted; from worked import worked; "
-                "scripts = worked(); print(lapd.__file__, sum(scripted.play(it.text) == it.wanted() for it in scripts.values()) - len(scripts))")
+    command = re.search(r"cc -O2 -shared .*? lapd\.S lapd_malloc\.c", read(f"{at}/README").decode())
+    check("dist/README shows a shared library", command, "no command")
+    for source in ("lapd.S lapd_malloc.c", "lapd.c") if command else ():
+        said = shell(command[0].replace("lapd.S lapd_malloc.c", source), at)
+        check(f"a shared library of {source}", said.returncode == 0, said.stderr.decode()[:600])
         ran = run([sys.executable, "-c", code, at, HERE, f"{ROOT}/tests/scripts"], env={"LAPD_LIBRARY": ""})
-        check("lapd.py over lapd.c", ran.stdout.decode() == f"{at}/lapd.py 0\n", (ran.stdout + ran.stderr).decode()[-600:])
+        check(f"lapd.py over {source}", ran.stdout.decode() == f"{at}/lapd.py 0\n", (ran.stdout + ran.stderr).decode()[-600:])
+        os.remove(f"{at}/liblapd.so.1")
 
 
 PARTS = (clean_folder, examples, plays, tests_of_program, processors, limits, threads, cmake, python)

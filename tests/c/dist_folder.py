@@ -142,8 +142,6 @@ def cmake(dist):
     check("an archive of dist/", said.returncode == 0, said.stderr.decode())
     added, fetched = f'add_subdirectory("{dist.files}" lapd)', FETCHED.format(folder=dist.folder)
     ways = {"add_subdirectory": (added, "C", "lapd", PROVED),
-            "lapd.c": (added, "C", "lapd", TESTED, "-DLAPD_CODE=portable"),
-            "another system": (added, "C", "lapd", TESTED, NO_ELF),
             "a project in C++ alone": (added, "CXX", "lapd", PROVED),
             "a shared library": (added, "C", "lapd", PROVED, "-DBUILD_SHARED_LIBS=ON"),
             "lapd::shared": (added, "C", "shared", PROVED),
@@ -151,6 +149,10 @@ def cmake(dist):
             "FetchContent": (fetched, "C", "lapd", PROVED),
             "FetchContent in C++ alone": (fetched, "CXX", "lapd", PROVED)}
     in_parallel(lambda it: cmake_by(dist, it, *ways[it]), ways)
+    # What is configured alone: lapd.c takes long to compile.
+    for flags in (("-DLAPD_CODE=portable",), (NO_ELF,)):
+        said = run(["cmake", "-S", dist.files, "-B", f"{dist.folder}/{flags[0]}", *flags])
+        check(f"CMake with {flags[0]}: which code", said.returncode == 0 and TESTED in said.stdout, (said.stdout + said.stderr).decode()[-600:])
     for flags, told in ((("-DLAPD_CODE=proved", NO_ELF), b"take LAPD_CODE=portable"), (("-DLAPD_CODE=other",), b"none of auto, proved and portable")):
         said = run(["cmake", "-S", dist.files, "-B", f"{dist.folder}/{flags[0]}", *flags])
         words = b" ".join(said.stderr.split())
@@ -219,7 +221,7 @@ def installed(dist):
     if not shutil.which("cmake"):
         skip("what CMake installs", "there is no CMake (Debian: apt-get install cmake)", "CMAKE")
         return
-    at, to = made(dist, "built", "-DLAPD_SIMULATOR=ON", "-DLAPD_TESTS=OFF"), f"{dist.folder}/a prefix"
+    at, to = made(dist, "built", "-DLAPD_TESTS=OFF"), f"{dist.folder}/a prefix"
     if not at:
         return
     said = run(["cmake", "--install", at, "--prefix", to])
@@ -228,9 +230,10 @@ def installed(dist):
     examples = {f"share/lapd/examples/{it}" for it in os.listdir(f"{dist.files}/examples")}
     wanted = examples | {f"include/{it}" for it in ("lapd.h", "lapd_checked.h", "lapd_memory.h", "lapd.hpp")} | {
         f"lib/{it}" for it in ("liblapd.a", "liblapd-static.a", "liblapd_card.a", "liblapd.so", "liblapd.so.1", "liblapd.so.1.0")} | {
-        "lib/pkgconfig/lapd.pc", "lib/pkgconfig/lapd-shared.pc", "share/lapd/lapd.py", "share/lapd/lapd_malloc.c", "bin/lapdsim",
-        "share/doc/lapd/EMBEDDING.md", "share/man/man3/lapd.3", "share/man/man1/lapdsim.1", "share/man/man5/lapdsim.5"}
+        "lib/pkgconfig/lapd.pc", "lib/pkgconfig/lapd-shared.pc", "share/lapd/lapd.py", "share/lapd/lapd_malloc.c",
+        "share/doc/lapd/EMBEDDING.md", "share/man/man3/lapd.3"}
     check("what CMake installs", {it for it in there if not it.startswith("lib/cmake/lapd/")} == wanted, sorted(there ^ wanted))
+    check("lapd(3) names no simulator that is not there", b"lapdsim" not in read(f"{to}/share/man/man3/lapd.3"), "it does")
     check("one list of targets", targets_of(f"{to}/lib/cmake/lapd") == targets_of(f"{ROOT}/c/cmake") == {"lapd::lapd", "lapd::shared", "lapd::card"},
           f"{targets_of(f'{to}/lib/cmake/lapd')} and {targets_of(f'{ROOT}/c/cmake')}")
     rows = run(["nm", "-D", "--defined-only", f"{to}/lib/liblapd.so.1"]).stdout.decode().splitlines()

@@ -11,6 +11,7 @@ from typing import Dict, List
 
 from .assembly import assembly, memory
 from .crates import ROOT, sum_of
+from .folder import files
 from .machine import content
 from .page import page, version
 from .page_module import module_of
@@ -24,8 +25,8 @@ from .wasm import kit_version, put, versions
 
 # What is copied, from where.
 COPIED = {"lapd.h": "include/lapd.h", "lapd_checked.h": "include/lapd_checked.h", "lapd_memory.h": "include/lapd_memory.h",
-          "lapd.hpp": "include/lapd.hpp", "lapd.py": "bindings/python/lapd.py", "first.c": "examples/c/first.c",
-          "lapd.3": "man/lapd.3", "lapdsim.1": "man/lapdsim.1", "lapdsim.5": "man/lapdsim.5"}
+          "lapd.hpp": "include/lapd.hpp", "lapd.py": "bindings/python/lapd.py", "lapd.3": "man/lapd.3",
+          "lapdsim.1": "man/lapdsim.1", "lapdsim.5": "man/lapdsim.5"}
 SUMS = "SHA256SUMS"
 # What is written of texts of the repository.
 WRITTEN = ("CMakeLists.txt", "lapd_malloc.c")
@@ -55,7 +56,7 @@ def readme(portable: str) -> str:
 
 def copied() -> Dict[str, bytes]:
     made = {"CMakeLists.txt": content("c/dist/CMakeLists.txt").replace("@VERSION@", version()).encode("ascii"),
-            "lapd_malloc.c": memory().encode("ascii")}
+            "lapd_malloc.c": memory().encode("ascii"), **files()}
     for name, path in COPIED.items():
         with open(f"{ROOT}/{path}", "rb") as file:
             made[name] = file.read()
@@ -84,6 +85,7 @@ def written(to: str, over_gate: bool = False) -> List[str]:
     made = release(over_gate)
     with tempfile.TemporaryDirectory(prefix="release-") as folder:
         for name, octets in made.items():
+            os.makedirs(os.path.dirname(f"{folder}/{name}"), exist_ok=True)
             with open(f"{folder}/{name}", "wb") as file:
                 file.write(octets)
         put(folder, list(made), to)

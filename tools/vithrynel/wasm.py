@@ -103,10 +103,11 @@ def wasm_of(name: str, exports: Iterable[str], to: str, over_gate: bool = False)
 
 
 def put(folder: str, names: List[str], to: str) -> None:
-    """Copies files that are done to a folder, which is made where it is not there: all, or none."""
-    os.makedirs(to, exist_ok=True)
-    parts = [f"{to}/.{it}.part" for it in names]
+    """Copies files that are done to a folder, and to folders in it, which are made where they are not there: all, or none."""
+    parts = [os.path.join(to, os.path.dirname(it), f".{os.path.basename(it)}.part") for it in names]
     try:
+        for part in parts:
+            os.makedirs(os.path.dirname(part), exist_ok=True)
         for name, part in zip(names, parts):
             shutil.copyfile(f"{folder}/{name}", part)
         for name, part in zip(names, parts):

@@ -5,7 +5,7 @@
  * tools/vithrynel/wasm.py compiles it, for wasm64, freestanding, by the kit's clang, which has no headers. The heap is that of
  * blocks.h. Where no block fits, the memory grows, unless its owner has said where the heap lies, or its engine refuses that.
  *
- *     module_take    a place for what a caller hands over, of so many octets; 0 where there is none
+ *     module_take    a place for what a caller hands over, of so many octets, which are 0; 0 where there is none
  *     module_give    takes it back
  *     module_heap    the heap lies between these addresses, and does not grow: to be called before all else, or never
  */
@@ -75,7 +75,7 @@ static unit *block_of(size_t octets) {
 
 void *module_take(size_t octets) {
     unit *found = block_of(octets);
-    return found != NULL ? found + 1 : NULL;
+    return found != NULL ? __builtin_memset(found + 1, 0, octets) : NULL;
 }
 
 void module_give(void *at) {

@@ -9,20 +9,23 @@
  * octets: lapd_card_start.
  *
  * A card has no callbacks, starts no thread, prints nothing, sets no errno, and takes memory in its start alone, as a
- * clock does. The library comes in two ways, with this header for both:
+ * clock does. The library comes in three ways, with this header for each:
  *
- *  - as one file in C99, lapd.c, for every processor of 32 or 64 bits, x86-64 among them: cc program.c lapd.c. A program
- *    without malloc has one region of memory (-DLAPD_HEAP_OCTETS=N), or two functions of its own (-DLAPD_OWN_MEMORY).
- *  - built by the toolchain, for Linux on every x86-64 and 64-bit ARM processor. Link as pkg-config says of lapd, for the
- *    archives, or of lapd-shared (-llapd); or in CMake with lapd::lapd of find_package(lapd). A program without malloc
- *    brings three functions of its own.
+ *  - as assembler text, lapd.S, for x86-64 and 64-bit ARM with ELF, as Linux has it: cc program.c lapd.S lapd_malloc.c. This
+ *    is the proved code, as the toolchain compiles it. Proofs end with the module of the toolchain's compiler: that LLVM makes
+ *    these instructions of it rightly is only tested.
+ *  - as one file in C99, lapd.c, for every processor of 32 or 64 bits: cc program.c lapd.c. It is made of the same module in
+ *    more steps, each of which is only tested.
+ *  - built by the toolchain, for Linux on x86-64 and 64-bit ARM, with the instructions of lapd.S. Link as pkg-config says of
+ *    lapd, for the archives, or of lapd-shared (-llapd); or in CMake with lapd::lapd of find_package(lapd).
  *
- * lapd_memory.h declares the functions of memory.
+ * A program without malloc has one region of memory (-DLAPD_HEAP_OCTETS=N for lapd.c or lapd_malloc.c), or functions of its
+ * own (-DLAPD_OWN_MEMORY), which lapd_memory.h declares.
  *
- * A call that answers a status answers LAPD_WRONG_POINTER to a null pointer: by lapd.c always, and with a library of the
- * toolchain's if the program is compiled with -DLAPD_CHECKED, by lapd_checked.h. So compile a program that is not finished yet;
- * in C++ all its files or none, as an inline function has one definition. A pointer to octets may be null there if its length is
- * 0. Calls that answer no status, as lapd_tells, lapd_note_text and lapd_card_octets, look at no pointer.
+ * A call that answers a status answers LAPD_WRONG_POINTER to a null pointer: by lapd.c always, and with lapd.S or a library of the
+ * toolchain's if the program is compiled with -DLAPD_CHECKED, by lapd_checked.h. So compile a program that is not finished yet; in
+ * C++ all its files or none, as an inline function has one definition. A pointer to octets may be null there if its length is 0.
+ * Calls that answer no status, as lapd_tells, lapd_note_text and lapd_card_octets, look at no pointer.
  *
  * What the caller promises, and no call can test:
  *

@@ -406,7 +406,7 @@ def _turned() -> bytes:
 
 @dataclasses.dataclass(frozen=True)
 class Config:
-    """How large a card is, and the limits of its lines and links, as lapd.h says at lapd_config."""
+    """How large a card is, and the limits of its lines and links, as lapd.h says at lapd_config, in its order."""
 
     lines: int
     terminals: int
@@ -419,8 +419,8 @@ class Config:
     n201: int
     n200: int
     side: Side = Side.NETWORK
-    sapi: int = 0  # of the second service: 1 to 62; 0 means 16
     seed: int = 0  # of a terminal: its first reference number, 0 to 65535, at random, as of random.randrange(65536)
+    sapi: int = 0  # of the second service: 1 to 62; 0 means 16
 
     def _raw(self) -> _Config:
         """A number that no field of the C struct holds is told as the largest, which is in no range, except of the seed: there

@@ -3,6 +3,8 @@
 #     lapd::lapd      the card and the clock, with memory by malloc
 #     lapd::shared    the same as a shared library
 #     lapd::card      without functions of memory, for a program that has its own (lapd_memory.h)
+#
+# A program in a debugging build is compiled with LAPD_CHECKED.
 get_filename_component(lapd_PREFIX "${CMAKE_CURRENT_LIST_DIR}/../../.." ABSOLUTE)
 
 if(NOT TARGET lapd::card)
@@ -10,6 +12,7 @@ if(NOT TARGET lapd::card)
   set_target_properties(lapd::card PROPERTIES
     IMPORTED_LOCATION "${lapd_PREFIX}/lib/liblapd.a"
     IMPORTED_LINK_INTERFACE_LANGUAGES C
+    INTERFACE_COMPILE_DEFINITIONS "$<$<CONFIG:Debug>:LAPD_CHECKED>"
     INTERFACE_INCLUDE_DIRECTORIES "${lapd_PREFIX}/include")
 endif()
 
@@ -25,5 +28,6 @@ if(NOT TARGET lapd::shared AND EXISTS "${lapd_PREFIX}/lib/liblapd.so.1")
   set_target_properties(lapd::shared PROPERTIES
     IMPORTED_LOCATION "${lapd_PREFIX}/lib/liblapd.so.1"
     IMPORTED_SONAME liblapd.so.1
+    INTERFACE_COMPILE_DEFINITIONS "$<$<CONFIG:Debug>:LAPD_CHECKED>"
     INTERFACE_INCLUDE_DIRECTORIES "${lapd_PREFIX}/include")
 endif()

@@ -19,8 +19,10 @@ C99 = ["-std=c99", *STRICT, "-pedantic"]
 # What README.md begins with. Both take less than 30 seconds of the processor on a machine that does nothing else; other tests
 # that run beside them make it half as much again.
 COMMANDS = ("cc -O2 -o lapdsim dist/lapdsim.c && ./lapdsim run < crates/lapdsim/stdin",
-            "cc -O2 -I dist -o first examples/c/first.c dist/lapd.c && ./first")
+            "cc -O2 -I dist -o first examples/c/first.c dist/lapd.S dist/lapd_malloc.c && ./first")
 SOON = 45
+# And its third: tests.
+TESTS, TESTED_SOON = "cmake -S dist -B built && cmake --build built && (cd built && ctest)", 60
 # Programs of examples/c with their files; first.c and wire.c are played, as they ask for no line.
 EXAMPLES = {"first": (), "wire": ("trace",), "terminal": ("linecard", "trace"), "clock": ("trace",), "exchange": ("linecard", "pcap", "trace"),
             "hardware": ("linecard", "pcap", "trace")}
@@ -32,11 +34,13 @@ LITTLE = 5000  # KB of addresses: enough for a small card
 
 
 class Dist(NamedTuple):
-    """The files, a folder of the part's own, the proved program, and the folder of what is compiled once for all parts."""
+    """The files, a folder of the part's own, the proved program, the folder of what is compiled once for all parts, and whether
+    the kit that is here made the files."""
     files: str
     folder: str
     lapdsim: str
     built: str
+    is_of_this_kit: bool = True
 
 
 def shell(command, folder, **env):
@@ -77,14 +81,29 @@ def clean_folder(dist):
     took = seconds() - before
     print(f"c: both commands of README.md took {took:.1f} s of processor time")
     check("a first program and a played script", took < SOON, f"{took:.1f} s")
+    own_tests(clone, path)
     shown = re.findall(r"^    (cc \S.*?)(?:  .*)?$", read(f"{dist.files}/README").decode(), re.M)
-    check("dist/README shows two commands", len(shown) == 2, shown)
+    check("dist/README shows three commands", len(shown) == 3, shown)
     for command in shown:
         said = shell(command, f"{clone}/dist", PATH=path)
-        good = said.stdout == FIRST if "first" in command else said.stdout.startswith(b"lapdsim plays LAPD")
+        good = said.stdout == FIRST if "first" in command else b" 0 failed" in said.stdout if "check" in command else said.stdout.startswith(b"lapdsim plays LAPD")
         check(command, said.returncode == 0 and good, (said.stdout + said.stderr).decode()[-600:])
     said = shell("sha256sum --strict --quiet -c SHA256SUMS", dist.files, PATH=path)
     check("sha256sum -c SHA256SUMS", said.returncode == 0, said.stdout.decode()[:600])
+
+
+def own_tests(clone, path):
+    """README.md's third command."""
+    check(f"README.md has {TESTS}", f"\n    {TESTS}".encode() in read(f"{ROOT}/README.md"), "it doesn't")
+    if not shutil.which("cmake"):
+        skip(TESTS, "there is no CMake (Debian: apt-get install cmake)", "CMAKE")
+        return
+    before = seconds()
+    said = shell(TESTS, clone, PATH=path)
+    took = seconds() - before
+    check(TESTS, said.returncode == 0 and b"100% tests passed" in said.stdout, (said.stdout + said.stderr).decode()[-600:])
+    print(f"c: the tests of README.md took {took:.1f} s of processor time")
+    check("the tests of README.md", took < TESTED_SOON, f"{took:.1f} s")
 
 
 # ---- Examples -----------------------------------------------------------------------------------------------------------
@@ -229,71 +248,22 @@ def threads(dist):
     check("32 threads", ran.returncode == 0, ran.stderr.decode()[:600])
 
 
-# ---- CMake and Python ---------------------------------------------------------------------------------------------------
-
-PROJECT = """\
-cmake_minimum_required(VERSION 3.14)
-project(program LANGUAGES {language})
-{found}
-add_executable(first first.{ending})
-target_link_libraries(first PRIVATE lapd::lapd)
-"""
-FETCHED = """\
-include(FetchContent)
-FetchContent_Declare(lapd URL "file://{folder}/dist.tar.gz")
-FetchContent_MakeAvailable(lapd)"""
-
-
-def cmake(dist):
-    """A program with lapd::lapd, in each way."""
-    if not shutil.which("cmake"):
-        skip("lapd::lapd", "there is no CMake (Debian: apt-get install cmake)", "CMAKE")
-        return
-    said = run(["tar", "-czf", f"{dist.folder}/dist.tar.gz", "-C", os.path.dirname(dist.files), os.path.basename(dist.files)])
-    check("an archive of dist/", said.returncode == 0, said.stderr.decode())
-    added, fetched = f'add_subdirectory("{dist.files}" lapd)', FETCHED.format(folder=dist.folder)
-    ways = {"add_subdirectory": (added, "C", ()),
-            "a project in C++ alone": (added, "CXX", ()),
-            "a shared library": (added, "C", ("-DBUILD_SHARED_LIBS=ON",)),
-            "a region": (added, "C", ("-DLAPD_HEAP_OCTETS=100000",)),
-            "FetchContent": (fetched, "C", ()),
-            "FetchContent in C++ alone": (fetched, "CXX", ())}
-    in_parallel(lambda it: cmake_by(dist, it, *ways[it]), ways)
-    said = run(["cmake", "-S", dist.files, "-B", f"{dist.folder}/alone", "-DLAPD_SIMULATOR=ON"], timeout=LONG)
-    said = said if said.returncode else run(["cmake", "--build", f"{dist.folder}/alone"], timeout=LONG)
-    check("CMake alone", said.returncode == 0, (said.stdout + said.stderr).decode()[-600:])
-    ran = run([f"{dist.folder}/alone/lapdsim", "--version"]) if said.returncode == 0 else said
-    check("the simulator of CMake", ran.stdout.startswith(b"lapdsim "), ran.stderr.decode()[-300:])
-    said = run(["cmake", "--install", f"{dist.folder}/alone", "--prefix", f"{dist.folder}/there"])
-    check("CMake installs", said.returncode == 0, (said.stdout + said.stderr).decode()[-600:])
-    cmake_by(dist, "the installed package", "find_package(lapd CONFIG REQUIRED)", "C", (f"-DCMAKE_PREFIX_PATH={dist.folder}/there",))
-
-
-def cmake_by(dist, name, found, language, flags):
-    at, ending = f"{dist.folder}/{name.replace(' ', '-')}", {"C": "c", "CXX": "cpp"}[language]
-    os.makedirs(at)
-    shutil.copy(f"{ROOT}/examples/c/first.c", f"{at}/first.{ending}")
-    with open(f"{at}/CMakeLists.txt", "w", encoding="utf-8") as file:
-        file.write(PROJECT.format(found=found, language=language, ending=ending))
-    said = run(["cmake", "-S", at, "-B", f"{at}/build", *flags], timeout=LONG)
-    said = said if said.returncode else run(["cmake", "--build", f"{at}/build"], timeout=LONG)
-    check(f"CMake, {name}", said.returncode == 0, (said.stdout + said.stderr).decode()[-600:])
-    if said.returncode == 0:
-        check(f"CMake, {name}: the program", run([f"{at}/build/first"]).stdout == FIRST, "other lines")
-
+# ---- Python -----------------------------------------------------------------------------------------------------------
 
 def python(dist):
-    """lapd.py over the shared library that dist/README has made of lapd.c, beside it: all stored scripts."""
-    at = f"{dist.folder}/python"
+    """lapd.py over the shared library that dist/README has made of lapd.S, or of lapd.c, beside it: all stored scripts."""
+    at, code = f"{dist.folder}/python", (
+        "import sys; sys.dont_write_bytecode = True; sys.path[:0] = sys.argv[1:]; import lapd, scripted; from worked import worked; "
+        "scripts = worked(); print(lapd.__file__, sum(scripted.play(it.text) == it.wanted() for it in scripts.values()) - len(scripts))")
     shutil.copytree(dist.files, at)
-    command = re.search(r"cc -O2 -shared .*?lapd\.c", read(f"{at}/README").decode())
-    said = shell(command[0] if command else "false", at)
-    check("a shared library of lapd.c", said.returncode == 0, said.stderr.decode()[:600])
-    if said.returncode == 0:
-        code = ("import sys; sys.dont_write_bytecode = True; sys.path[:0] = sys.argv[1:]; import lapd, scripted; from worked import worked; "
-                "scripts = worked(); print(lapd.__file__, sum(scripted.play(it.text) == it.wanted() for it in scripts.values()) - len(scripts))")
+    command = re.search(r"cc -O2 -shared .*? lapd\.S lapd_malloc\.c", read(f"{at}/README").decode())
+    check("dist/README shows a shared library", command, "no command")
+    for source in ("lapd.S lapd_malloc.c", "lapd.c") if command else ():
+        said = shell(command[0].replace("lapd.S lapd_malloc.c", source), at)
+        check(f"a shared library of {source}", said.returncode == 0, said.stderr.decode()[:600])
         ran = run([sys.executable, "-c", code, at, HERE, f"{ROOT}/tests/scripts"], env={"LAPD_LIBRARY": ""})
-        check("lapd.py over lapd.c", ran.stdout.decode() == f"{at}/lapd.py 0\n", (ran.stdout + ran.stderr).decode()[-600:])
+        check(f"lapd.py over {source}", ran.stdout.decode() == f"{at}/lapd.py 0\n", (ran.stdout + ran.stderr).decode()[-600:])
+        os.remove(f"{at}/liblapd.so.1")
 
 
-PARTS = (clean_folder, examples, plays, tests_of_program, processors, limits, threads, cmake, python)
+PARTS = (clean_folder, examples, plays, tests_of_program, processors, limits, threads, python)

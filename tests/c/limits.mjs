@@ -64,16 +64,12 @@ function library(octets) {
   const lapd = new WebAssembly.Instance(new WebAssembly.Module(octets)).exports;
   const config = lapd.module_take(32n);
   const write = (fields) => new Uint16Array(lapd.memory.buffer, Number(config), fields.length).set(fields);
-  const handle = () => {
-    const at = lapd.module_take(16n);
-    new Uint8Array(lapd.memory.buffer, Number(at), 16).fill(0);
-    return at;
-  };
+  const handle = () => lapd.module_take(16n);
   return { lapd, config, write, handle };
 }
 
-const MOST = [64, 8, 127, 127, 127, 16, 16, 8192, 260, 10, 0];
-const FEW = [1, 8, 7, 7, 8, 4, 4, 64, 260, 3, 0];
+const MOST = [64, 8, 127, 127, 127, 16, 16, 8192, 260, 10, 0, 0, 0];
+const FEW = [1, 8, 7, 7, 8, 4, 4, 64, 260, 3, 0, 0, 0];
 const NO_MEMORY = 22;
 
 function inLittle(octets) {

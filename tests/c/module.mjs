@@ -21,11 +21,25 @@ if (taken.map(([name]) => name).join() !== "card,config,report" || taken.some(([
     console.error(`the example takes ${taken}, the structs have ${sizes}`);
     process.exit(1);
 }
+// The example writes each field of a configuration.
+const [, written, values] = declarations.match(/Number\(config\), (\d+)\)\.set\(\[([\d, ]+)\]\)/) ?? [];
+const basic = (values ?? "").split(", ").map(Number);
+if (Number(written) * 2 !== Number(sizes[1]) || basic.length !== Number(written)) {
+    console.error(`the example writes ${basic.length} fields in ${written} places, and a configuration has ${sizes[1]} octets`);
+    process.exit(1);
+}
 const lapd = new WebAssembly.Instance(module).exports;
 const memory = (at, length) => new Uint8Array(lapd.memory.buffer, Number(at), length);
+// A place is 0, whatever was in it.
+const used = lapd.module_take(64n);
+memory(used, 64).fill(0xff);
+lapd.module_give(used);
 const [card, config, report, place] = [...sizes, 16n].map((octets) => lapd.module_take(octets));
-memory(card, 16).fill(0);
-new Uint16Array(lapd.memory.buffer, Number(config), 11).set([1, 8, 1, 3, 8, 4, 4, 64, 260, 3, 0]);
+if (card !== used || memory(card, Number(sizes[0])).some((octet) => octet !== 0)) {
+    console.error(`a place at ${card}, after one at ${used}: ${memory(card, Number(sizes[0]))}`);
+    process.exit(1);
+}
+new Uint16Array(lapd.memory.buffer, Number(config), basic.length).set(basic);
 const want = (status, wanted = 0) => {
     if (status !== wanted) throw new Error(`status ${status}`);
 };

@@ -8,7 +8,7 @@ from compiled import HERE, ROOT, STRICT, check, read, run
 sys.path.insert(0, f"{ROOT}/tests/scripts")
 from worked import worked
 
-PLAY = [f"{HERE}/{it}.c" for it in ("play", "words", "hdlc", "memory")]
+PLAY = [f"{HERE}/{it}.c" for it in ("play", "station", "words", "hdlc", "memory")]
 
 
 def answer(words, script):

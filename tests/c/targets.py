@@ -1,6 +1,6 @@
 """Processors on which the tests of the C library run: their cross compilers and emulators, with the library that a program is
 linked with there. `portable` is lapd.c of tools/portable on this machine; on aarch64 it is the library that is proved for it, on
-the others lapd.c."""
+the others lapd.c. `assembly` is lapd.S of tools/assembly on this machine, `assembly-aarch64` on the other processor."""
 import os
 import re
 import shlex
@@ -42,10 +42,11 @@ TARGETS = {"portable": Target("cc", (), "gcc"),
            "powerpc": cross("powerpc-linux-gnu", "qemu-ppc", "powerpc"),
            "s390x": cross("s390x-linux-gnu", "qemu-s390x", "s390x"),
            "riscv64": cross("riscv64-linux-gnu", "qemu-riscv64", "riscv64")}
+ASSEMBLY = {"assembly": Target("cc", (), "gcc"), "assembly-aarch64": TARGETS["aarch64"]}
 
 
 def tool(name, folder):
-    """Has tools/portable or tools/module write to a folder; False where it can't, which is told."""
+    """Has tools/portable, tools/module or tools/assembly write to a folder; False where it can't, which is told."""
     said = subprocess.run([f"{ROOT}/tools/{name}", "--over-gate", folder], capture_output=True, text=True, check=False)
     told = said.stderr.strip()
     if said.returncode == 0:
@@ -79,6 +80,22 @@ class Portable:
         return Build(name, [compiler], [compiler, *flags], library, folder, target.emulator, each=self.each, blocks=2, stack=STACK)
 
 
+class Assembly:
+    """What tools/assembly leaves: in a folder that is named, or made once for both processors."""
+
+    def __init__(self, folder, made):
+        self.folder = made or f"{folder}/assembly"
+        self.is_there = bool(made) or tool("assembly", self.folder)
+
+    def build(self, name, target, folder):
+        """The tests' programs over lapd.S."""
+        library, compiler = f"{folder}/lib{name}.a", shutil.which(target.compiler)
+        said = run([compiler, *STRICT, "-c", f"{self.folder}/lapd.S", "-o", f"{folder}/{name}.o"])
+        run([re.sub("gcc$|cc$", "ar", target.compiler), "rcs", library, f"{folder}/{name}.o"])
+        check(f"{name}: lapd.S is assembled", said.returncode == 0, said.stderr.decode()[:600])
+        return Build(name, [compiler], [compiler], library, folder, target.emulator) if said.returncode == 0 else None
+
+
 def proved_for(name, build):
     """The library that is proved for a processor. Only where it is there, or has to be, for it takes minutes."""
     is_there = noted(archive("lapd_c", name)) == made_of(uses(), "lapd_c", name)
@@ -90,9 +107,9 @@ def proved_for(name, build):
     return said.stdout.strip() or None
 
 
-def build_for(name, portable, build, folder):
+def build_for(name, portable, assembly, build, folder):
     """What the tests are compiled and run by on a target; None where that can't be, which is told."""
-    target = TARGETS[name]
+    target = {**TARGETS, **ASSEMBLY}[name]
     missing = [it for it in (target.compiler, *target.emulator[:1]) if not shutil.which(it)]
     if missing:
         skip(name, f"{' and '.join(missing)} {'is' if len(missing) == 1 else 'are'} not there (Debian: apt-get install {target.packages})",
@@ -102,7 +119,8 @@ def build_for(name, portable, build, folder):
         library = proved_for(name, build)
         compiler = [shutil.which(target.compiler)]
         return library and Build(name, compiler, compiler, library, folder, target.emulator)
-    return portable().build(name, target, folder) if portable().is_there else None
+    made = assembly() if name in ASSEMBLY else portable()
+    return made.build(name, target, folder) if made.is_there else None
 
 
 def installed(build, folder):
@@ -255,9 +273,8 @@ def another_kit(folder):
 def faults(folder):
     """Without its programs, with a kit of other targets, and where it can't write."""
     os.makedirs(f"{folder}/words")
-    for name, path in (("python3", sys.executable), ("rt", shutil.which("rt"))):
-        if path:
-            os.symlink(path, f"{folder}/words/{name}")
+    for name in ("python3", "rt"):
+        os.symlink(sys.executable if name == "python3" else shutil.which("rt") or "/none", f"{folder}/words/{name}")
     with open(f"{folder}/file", "w", encoding="ascii"):
         pass
     kit = another_kit(folder)
@@ -265,3 +282,6 @@ def faults(folder):
         told(name, [f"{folder}/none"], f"{folder}/none", PATH=f"{folder}/words")
         told(name, [f"{folder}/none"], f"{folder}/none", PATH=f"{kit}:{os.environ['PATH']}")
         told(name, [f"{folder}/file/in"], f"{folder}/file/in")
+    os.remove(f"{folder}/words/rt")
+    told("assembly", [f"{folder}/none"], f"{folder}/none", PATH=f"{folder}/words")
+    told("assembly", [f"{folder}/file/in"], f"{folder}/file/in")

@@ -22,7 +22,7 @@ BUILT = f"{os.path.dirname(os.path.dirname(HERE))}/crates/lapdsim/out/lapdsim"
 SECONDS = 60
 OWN = "run", "worked.py"
 KINDS = ".script", ".transcript"
-HEAD, PART = re.compile(rb"([a-z0-9-]+):(?: (.+))?"), re.compile(rb"[|=](?: |$)")
+HEAD, PART = re.compile(rb"([a-z0-9/-]+):(?: (.+))?"), re.compile(rb"[|=](?: |$)")
 ESCAPE = re.compile(rb"\\x([0-9A-F]{2})|\\r|(.)\\\{(\d+)\}|\\$", re.S)
 
 
@@ -71,6 +71,24 @@ def rows_of(path: str) -> List[Tuple[str, Worked]]:
         elif line and not line.startswith(b"#"):
             sys.exit(f"scripts: {path}: line {number} is no part of a script")
     return [(name, Worked(parts[b"|"], parts[b"="], parts[b":"])) for name, parts in rows]
+
+
+def row_of(mark: str, line: bytes, is_ended: bool = True) -> str:
+    """The line of a table that means this line: octets that are no letters by their numbers, long runs of one by how many."""
+    escaped = re.sub(rb"[^ -\[\]-~]| $", lambda it: b"\\x%02X" % it[0][0], line)
+    shortened = re.sub(rb"([^\\])\1{99,}", lambda it: b"%s\\{%d}" % (it[1], len(it[0])), escaped).decode()
+    return (f"{mark} {shortened}" if line else mark) + ("" if is_ended else "\\")
+
+
+def table_of(scripts: Dict[str, Worked]) -> str:
+    """One table of all of them."""
+    rows: List[str] = []
+    for name, it in scripts.items():
+        rows += ["", f"{name}: {it.fault.decode().rstrip()}".rstrip()]
+        for mark, text in (("|", it.text), ("=", it.transcript)):
+            *lines, rest = text.split(b"\n")
+            rows += [row_of(mark, line) for line in lines] + [row_of(mark, rest, False)] * bool(rest)
+    return "\n".join(rows).lstrip() + "\n"
 
 
 def pair_of(base: str) -> Worked:

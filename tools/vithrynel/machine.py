@@ -76,8 +76,7 @@ def asked_for(memory: str, rest: str) -> str:
 
 
 MADE = """\
-Made by {by}
-through a module with the sum
+Made by {by} of a module with the sum
 {sum}.
 
 The code is proved, each function of it, in Rattle. Proofs end with the code as the kit's compiler has it. From there on nothing
@@ -87,7 +86,6 @@ and wasm2c writes the module as C."""
 
 def comment(text: str, wasm: str) -> str:
     """A file's first comment: a text, with what the file was made by in it."""
-    kit, *others = versions("wasm-opt", "wasm2c")
-    made = MADE.format(by=f"{kit}, {' and '.join(others)}", sum=sum_of(wasm))
+    made = MADE.format(by=" and ".join(versions("wasm-opt", "wasm2c")), sum=sum_of(wasm))
     rows = text.format(made=made).rstrip("\n").split("\n")
     return "/*\n" + "".join(f" * {it}".rstrip() + "\n" for it in rows) + " */\n"

@@ -1,16 +1,17 @@
 """What a user takes, and a C compiler alone can use: the files of dist/. A function a step:
 
-    trees     git's ids of the folders that they are made of, as they stand, whatever of them is committed
-    readme    the page, with the programs that made the files
+    readme    the page, with the programs that made the files, and the modules that they are made of
+    copied    what is copied, and what is written of texts of the repository alone: no toolchain is needed for it
     release   each file's octets, by its name
 """
 import hashlib
 import os
-import subprocess
 import tempfile
 from typing import Dict, List
 
-from .crates import ROOT, closure, uses
+from .assembly import assembly, memory
+from .crates import ROOT, sum_of
+from .folder import files
 from .machine import content
 from .page import page, version
 from .page_module import module_of
@@ -19,50 +20,20 @@ from .portable import NAME as LIBRARY
 from .portable import card_of
 from .portable_program import NAME as PROGRAM
 from .portable_program import program_of
-from .wasm import put, versions
+from .static_library import HOST, module
+from .wasm import kit_version, put, versions
 
 # What is copied, from where.
-COPIED = {"lapd.h": "include/lapd.h", "lapd_checked.h": "include/lapd_checked.h", "lapd_memory.h": "include/lapd_memory.h", "lapd.hpp": "include/lapd.hpp",
-          "lapd.py": "bindings/python/lapd.py", "first.c": "examples/c/first.c", "lapd.3": "man/lapd.3",
+COPIED = {"lapd.h": "include/lapd.h", "lapd_checked.h": "include/lapd_checked.h", "lapd_memory.h": "include/lapd_memory.h",
+          "lapd.hpp": "include/lapd.hpp", "lapd.py": "bindings/python/lapd.py", "lapd.3": "man/lapd.3",
           "lapdsim.1": "man/lapdsim.1", "lapdsim.5": "man/lapdsim.5"}
 SUMS = "SHA256SUMS"
-# What is made.
-MADE = ("lapd.c", "lapdsim.c", "lapd.html", "CMakeLists.txt", "README")
-# What the files are made of beside the sources of crates; the page has the stored scripts, and FORMAT.md's table of faults.
-FOLDERS = ("bindings/python", "c", "crates/lapdsim/stdin", "docs/FORMAT.md", "examples/c/first.c", "include", "man", "tests/scripts",
-           "tools/vithrynel", "web")
-# So many digits of an id, and so many ids in a line.
-DIGITS, COLUMNS = 12, 3
-
-
-def sources() -> List[str]:
-    """The folders that the files are made of."""
-    crates = uses()
-    names = {it for name in (LIBRARY, PAGE, PROGRAM) for it in closure(crates, name)}
-    return [*(f"crates/{it}/src" for it in crates if it in names), *FOLDERS]
-
-
-def trees() -> Dict[str, str]:
-    """Git's id of each, with what is not committed, in an index and a store of objects that are not the repository's."""
-    with tempfile.TemporaryDirectory(prefix="release-") as folder:
-        os.makedirs(f"{folder}/objects")
-        known = git({}, "rev-parse", "--path-format=absolute", "--git-path", "objects")
-        own = {"GIT_INDEX_FILE": f"{folder}/index", "GIT_OBJECT_DIRECTORY": f"{folder}/objects",
-               "GIT_ALTERNATE_OBJECT_DIRECTORIES": known}
-        git(own, "add", "--", *sources())
-        tree = git(own, "write-tree")
-        return {it: git(own, "rev-parse", f"{tree}:{it}") for it in sources()}
-
-
-def git(env: Dict[str, str], *words: str) -> str:
-    return subprocess.run(["git", *words], cwd=ROOT, env={**os.environ, **env}, stdout=subprocess.PIPE, text=True, check=True).stdout.strip()
-
-
-def in_columns(ids: Dict[str, str]) -> str:
-    """Some ids a line, in the order of their names."""
-    cells = [f"{it.replace('crates/', '').replace('/src', ''):19} {ids[it][:DIGITS]}" for it in ids]
-    rows = -(-len(cells) // COLUMNS)
-    return "\n".join("    " + "   ".join(cells[at::rows]).rstrip() for at in range(rows))
+# What is written of texts of the repository.
+WRITTEN = ("CMakeLists.txt", "lapd_malloc.c")
+# What is made of the compiler's modules, and the page that names these.
+MADE = ("lapd.S", "lapd.c", "lapdsim.c", "lapd.html", "README")
+# The compiler's modules that the files are made of.
+MODULES = {"lapd_c": (LIBRARY, HOST), "lapd_c, aarch64": (LIBRARY, "aarch64"), "lapdsim": (PROGRAM, HOST), "lapd_page": (PAGE, HOST)}
 
 
 def number() -> str:
@@ -71,29 +42,40 @@ def number() -> str:
 
 
 def made_by() -> str:
-    return "\n".join(f"    {it}" for it in versions("wasm-opt", "wasm2c"))
+    return "\n".join(f"    {it}" for it in (kit_version(), *versions("wasm-opt", "wasm2c")))
 
 
-def readme(memory: str, ids: Dict[str, str]) -> str:
-    return content("c/dist/README").format(version=number(), memory=memory, tools=made_by(), trees=in_columns(ids))
+def sums() -> str:
+    """The modules, by their sums."""
+    return "\n".join(f"    {it:15}  {sum_of(module(*MODULES[it]))}" for it in MODULES)
 
 
-def release(over_gate: bool) -> Dict[str, bytes]:
-    """Each file, SHA256SUMS last. Git is asked first: without it nothing is built in vain."""
-    made: Dict[str, bytes] = {}
-    ids = trees()
-    with tempfile.TemporaryDirectory(prefix="release-") as folder:
-        for name in ("card", "program"):
-            os.makedirs(f"{folder}/{name}")
-        card, memory = card_of(over_gate, f"{folder}/card")
-        made["lapd.c"] = card.encode("ascii")
-        made["lapdsim.c"] = program_of(over_gate, f"{folder}/program").encode("ascii")
-    made["lapd.html"] = page(module_of(None, over_gate)).encode()
+def readme(portable: str) -> str:
+    return content("c/dist/README").format(version=number(), memory=portable, tools=made_by(), modules=sums())
+
+
+def copied() -> Dict[str, bytes]:
+    made = {"CMakeLists.txt": content("c/dist/CMakeLists.txt").replace("@VERSION@", version()).encode("ascii"),
+            "lapd_malloc.c": memory().encode("ascii"), **files()}
     for name, path in COPIED.items():
         with open(f"{ROOT}/{path}", "rb") as file:
             made[name] = file.read()
-    made["CMakeLists.txt"] = content("c/dist/CMakeLists.txt").replace("@VERSION@", version()).encode("ascii")
-    made["README"] = readme(memory, ids).encode()
+    return made
+
+
+def release(over_gate: bool) -> Dict[str, bytes]:
+    """Each file, SHA256SUMS last."""
+    made: Dict[str, bytes] = {}
+    with tempfile.TemporaryDirectory(prefix="release-") as folder:
+        for name in ("card", "program"):
+            os.makedirs(f"{folder}/{name}")
+        card, portable = card_of(over_gate, f"{folder}/card")
+        made["lapd.c"] = card.encode("ascii")
+        made["lapdsim.c"] = program_of(over_gate, f"{folder}/program").encode("ascii")
+    made["lapd.S"] = assembly(over_gate).encode("ascii")
+    made["lapd.html"] = page(module_of(None, over_gate)).encode()
+    made.update(copied())
+    made["README"] = readme(portable).encode()
     made[SUMS] = "".join(f"{hashlib.sha256(made[it]).hexdigest()}  {it}\n" for it in sorted(made)).encode("ascii")
     return made
 
@@ -103,6 +85,7 @@ def written(to: str, over_gate: bool = False) -> List[str]:
     made = release(over_gate)
     with tempfile.TemporaryDirectory(prefix="release-") as folder:
         for name, octets in made.items():
+            os.makedirs(os.path.dirname(f"{folder}/{name}"), exist_ok=True)
             with open(f"{folder}/{name}", "wb") as file:
                 file.write(octets)
         put(folder, list(made), to)

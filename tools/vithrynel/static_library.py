@@ -1,11 +1,12 @@
-"""Static libraries of the repository: proved and built for a processor. Beside an archive for x86-64 lies the compiler's
-module that it was made from, which tools/vithrynel/wasm.py compiles on for WebAssembly. Of a program the module alone is
-kept: `rt` builds the program."""
+"""Static libraries of the repository: proved and built for a processor. Beside an archive lie the compiler's module that it
+was made from, which wasm.py compiles on for WebAssembly; and what the kit's clang made its object of, and by which words,
+from which assembly.py has the same as text. Of a program the module alone is of use: `rt` builds the program."""
 import contextlib
 import fcntl
 import os
 import re
 import shlex
+import shutil
 import subprocess
 import sys
 import tempfile
@@ -24,7 +25,8 @@ HOST = "x86-64"
 PROCESSORS = {HOST: Processor("x86_64-unknown-linux-gnu", "x86-64"),
               "aarch64": Processor("aarch64-unknown-linux-gnu", "generic")}
 # What else an archive is made by: its sum covers these.
-TOOLS = (f"{ROOT}/tools/library", os.path.abspath(__file__))
+TABLES = f"{ROOT}/tools/vithrynel/tables.py"
+TOOLS = (f"{ROOT}/tools/library", os.path.abspath(__file__), TABLES)
 NOT_TRIED = 77
 
 
@@ -41,9 +43,24 @@ def archive(name: str, processor: str = HOST) -> str:
     return f"{out}/lib{name}.a" if processor == HOST else f"{out}/{processor}/lib{name}.a"
 
 
-def module(name: str) -> str:
-    """The compiler's module of the archive for x86-64, or of a program."""
-    return f"{ROOT}/crates/{name}/out/{name}.bc"
+def module(name: str, processor: str = HOST) -> str:
+    """The compiler's module of the archive for a processor, or of a program."""
+    return f"{os.path.dirname(archive(name, processor))}/{name}.bc"
+
+
+def source_of(name: str, processor: str = HOST) -> str:
+    """What the kit's clang made the archive's object of, as tables.py left it."""
+    return f"{os.path.dirname(archive(name, processor))}/{name}.source"
+
+
+def words_of(name: str, processor: str = HOST) -> str:
+    """The words by which it did so, one a line."""
+    return f"{os.path.dirname(archive(name, processor))}/{name}.words"
+
+
+def beside(name: str, processor: str) -> Dict[str, str]:
+    """What is kept of a build beside what is built, by the names that tables.py has."""
+    return {"module.bc": module(name, processor), "source": source_of(name, processor), "words": words_of(name, processor)}
 
 
 def is_program(name: str) -> bool:
@@ -72,18 +89,18 @@ def are_of_gate(crates: Dict[str, List[str]], below: Set[str]) -> bool:
     return all(of_gate) and not unproved(crates, below)
 
 
-def keeping(toolchain: str, folder: str, kept: str) -> str:
-    """A folder like the kit's toolchain, whose clang also keeps the module that it is given to compile."""
-    os.makedirs(f"{folder}/bin")
+def keeping(toolchain: str, folder: str) -> str:
+    """A folder like the kit's toolchain, in which tables.py stands for clang; what that keeps is left in the folder above."""
+    os.makedirs(f"{folder}/toolchain/bin")
     for name in os.listdir(f"{toolchain}/bin"):
         if name != "clang":
-            os.symlink(f"{toolchain}/bin/{name}", f"{folder}/bin/{name}")
-    os.symlink(f"{toolchain}/lib", f"{folder}/lib")
-    with open(f"{folder}/bin/clang", "w", encoding="utf-8") as file:
-        file.write(f'#!/bin/sh\nfor word; do case $word in *module.bc) cp "$word" {shlex.quote(kept)} || exit ;; esac; done\n'
-                   f'exec {shlex.quote(toolchain)}/bin/clang "$@"\n')
-    os.chmod(f"{folder}/bin/clang", 0o755)
-    return folder
+            os.symlink(f"{toolchain}/bin/{name}", f"{folder}/toolchain/bin/{name}")
+    os.symlink(f"{toolchain}/lib", f"{folder}/toolchain/lib")
+    words = shlex.join([sys.executable, "-B", TABLES, folder, f"{toolchain}/bin/clang"])
+    with open(f"{folder}/toolchain/bin/clang", "w", encoding="utf-8") as file:
+        file.write(f'#!/bin/sh\nexec {words} "$@"\n')
+    os.chmod(f"{folder}/toolchain/bin/clang", 0o755)
+    return f"{folder}/toolchain"
 
 
 def words_of_build(crates: Dict[str, List[str]], name: str, processor: str, toolchain: str, to: str) -> List[str]:
@@ -99,9 +116,8 @@ def words_of_build(crates: Dict[str, List[str]], name: str, processor: str, tool
     words += [] if is_program(name) else ["--crate-type", "staticlib"]
     words += ["--toolchain", toolchain, "--backend", "llvm"]
     words += [f"--target={PROCESSORS[processor].target}", f"--cpu={PROCESSORS[processor].cpu}", "-o", to]
-    if not are_of_gate(crates, below):
-        # `rt lib` and `rt run` left what they checked of the crate itself, too
-        words += ["--incremental", "out/incremental"]
+    # What was checked of the crate itself, by `rt lib`, `rt run` or for the other processor, is not checked again.
+    words += ["--incremental", "out/incremental"]
     os.makedirs(f"{ROOT}/crates/{name}/out", exist_ok=True)
     os.makedirs(os.path.dirname(to), exist_ok=True)
     return [f"{root}/bin/rattle", "build", *words]
@@ -110,15 +126,13 @@ def words_of_build(crates: Dict[str, List[str]], name: str, processor: str, tool
 def compiled(crates: Dict[str, List[str]], name: str, processor: str) -> Tuple[bool, str]:
     """Proves the crate over the libraries below it, which are there, and builds its archive; of a program, an object that is not
     kept."""
-    if processor != HOST:
-        return proved(words_of_build(crates, name, processor, f"{kit()}/toolchain", archive(name, processor)), name, 1)
     with tempfile.TemporaryDirectory(prefix="toolchain-") as folder:
-        toolchain = keeping(f"{kit()}/toolchain", f"{folder}/toolchain", f"{folder}/module.bc")
+        toolchain = keeping(f"{kit()}/toolchain", folder)
         to = f"{folder}/program.o" if is_program(name) else archive(name, processor)
         is_built, said = proved(words_of_build(crates, name, processor, toolchain, to), name, 1)
         if is_built:
-            with open(f"{folder}/module.bc", "rb") as source, open(module(name), "wb") as target:
-                target.write(source.read())
+            for kept, path in beside(name, processor).items():
+                shutil.copyfile(f"{folder}/{kept}", path)
         return is_built, said
 
 
@@ -140,7 +154,7 @@ def built(name: str, processor: str = HOST, over_gate: bool = False, with_module
 
     def is_there() -> bool:
         is_of_these = noted(path) == of or over_gate and is_newer(path, closure(crates, name), *TOOLS)
-        return is_of_these and not (with_module and noted(module(name)) != of)
+        return is_of_these and not (with_module and any(noted(it) != of for it in beside(name, processor).values()))
 
     if not is_there():
         need_toolchain()
@@ -165,5 +179,5 @@ def build(crates: Dict[str, List[str]], name: str, processor: str, over_gate: bo
     is_built, said = compiled(crates, name, processor)
     if not is_built or not re.search(r"^logic=proved ", said, re.M) or not os.path.exists(path):
         raise NotBuilt("\n".join([*said.splitlines()[-8:], "it was not built"]))
-    for it in {path, module(name)} if processor == HOST else {path}:
+    for it in {path, *beside(name, processor).values()}:
         note(it, of)

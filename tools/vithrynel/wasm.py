@@ -103,10 +103,11 @@ def wasm_of(name: str, exports: Iterable[str], to: str, over_gate: bool = False)
 
 
 def put(folder: str, names: List[str], to: str) -> None:
-    """Copies files that are done to a folder, which is made where it is not there: all, or none."""
-    os.makedirs(to, exist_ok=True)
-    parts = [f"{to}/.{it}.part" for it in names]
+    """Copies files that are done to a folder, and to folders in it, which are made where they are not there: all, or none."""
+    parts = [os.path.join(to, os.path.dirname(it), f".{os.path.basename(it)}.part") for it in names]
     try:
+        for part in parts:
+            os.makedirs(os.path.dirname(part), exist_ok=True)
         for name, part in zip(names, parts):
             shutil.copyfile(f"{folder}/{name}", part)
         for name, part in zip(names, parts):
@@ -116,11 +117,20 @@ def put(folder: str, names: List[str], to: str) -> None:
             os.remove(part)
 
 
+def kit_version() -> str:
+    """What the kit says of itself: its name and its logic."""
+    return subprocess.run(["rt", "version"], stdout=subprocess.PIPE, text=True, check=True).stdout.strip()
+
+
+def logic() -> str:
+    """The kit by its logic: what two kits that share it prove is the same."""
+    return re.search(r"logic \w+", kit_version())[0]
+
+
 def versions(*programs: str) -> List[str]:
-    """What the kit and these programs say of themselves."""
-    said = [subprocess.run(["rt", "version"], stdout=subprocess.PIPE, text=True, check=True).stdout.strip()]
+    """What these programs say of themselves."""
+    said = []
     for it in programs:
         told = subprocess.run([it, "--version"], stdout=subprocess.PIPE, text=True, check=True).stdout.strip()
         said.append(f"{it} {re.sub(r'^.*version ', '', told)} ({PACKAGES[it]})")
     return said
-

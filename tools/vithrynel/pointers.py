@@ -1,18 +1,17 @@
-"""A program in C that hands each call of lapd.h each of its pointers as null, written from the header itself, so that a call
-that is added is asked, too."""
+"""C that hands each call of lapd.h each of its pointers as null, written from the header itself, so that a call that is added is
+asked, too: a program, or a part of check."""
 import re
 from typing import List
 
-from vithrynel.checked import is_buffer, length_of, pointers, tag
-from vithrynel.header import Function, functions, parameter, structs, text
+from .checked import is_buffer, length_of, pointers, tag
+from .header import Function, functions, parameter, structs, text
 
-HEAD = """\
+PROGRAM = """\
 #include <stdio.h>
 #include <string.h>
 
 #include "lapd.h"
 
-static const lapd_config config = {2, 2, 1, 1, 2, 8, 2, 8, 8, 1, LAPD_NETWORK, 0, 0};
 static int failed;
 
 static void wants(bool is, const char *what) {
@@ -21,6 +20,18 @@ static void wants(bool is, const char *what) {
         fprintf(stderr, "pointers: %s\\n", what);
     }
 }
+"""
+PART = """\
+/* null.c: null pointers, each of each call's. Written by pointers.py of Vithrynel from lapd.h; not to be edited. */
+#include <string.h>
+
+#define LAPD_CHECKED
+#include "check.h"
+#include "lapd.h"
+"""
+HEAD = """\
+
+static const lapd_config config = {2, 2, 1, 1, 2, 8, 2, 8, 8, 1, LAPD_NETWORK, 0, 0};
 
 /* What calls write to; after a wrong call each octet is as it was. */
 static struct {
@@ -43,7 +54,7 @@ static uint64_t sum(lapd_card *card) {
     return total << 32 | stored;
 }
 
-int main(void) {
+@BEGIN@
     lapd_card card = LAPD_CARD_NONE;
     lapd_clock clock = LAPD_CLOCK_NONE;
     wants(lapd_card_start_frames(&card, &config) == LAPD_OK && lapd_clock_start(&clock, &config) == LAPD_OK, "no start");
@@ -54,8 +65,7 @@ TAIL = """\
     wants(sum(&card) == before, "a wrong call has changed the card");
 @EMPTY@\
     wants(lapd_card_free(&card) == LAPD_OK && lapd_clock_free(&clock) == LAPD_OK, "no end");
-    return failed;
-}
+@END@}
 """
 
 
@@ -90,12 +100,21 @@ def words(of: Function, null: str, length: str) -> str:
 
 
 def program() -> str:
+    return PROGRAM + asked("int main(void) {", "    return failed;\n")
+
+
+def part() -> str:
+    """null.c of check; the calls look at their pointers in any library there, as the file is compiled with LAPD_CHECKED."""
+    return PART + asked("void check_null(void) {", "")
+
+
+def asked(begin: str, end: str) -> str:
     """Each call with each of its pointers as null; and with null for no octets, which is as an address there."""
-    asked = [it for it in [*functions(), *defined_statuses()] if pointers(it)]
-    kinds = {kind_of(it, at) for it in asked for at, one in enumerate(it.parameters) if one.is_pointer}
+    calls = [it for it in [*functions(), *defined_statuses()] if pointers(it)]
+    kinds = {kind_of(it, at) for it in calls for at, one in enumerate(it.parameters) if one.is_pointer}
     fields = "".join(f"    {it} {field(it)};\n" for it in sorted(kinds))
-    rows = [(it, one) for it in asked for one in pointers(it)]
-    text_of = HEAD.replace("@FIELDS@", fields)
+    rows = [(it, one) for it in calls for one in pointers(it)]
+    text_of = HEAD.replace("@FIELDS@", fields).replace("@BEGIN@", begin)
     for it, one in rows:
         text_of += (f"    fresh();\n    wants({words(it, one.name, '1')} == LAPD_WRONG_POINTER && memcmp(&own, &was, sizeof own) == 0,\n"
                     f'          "{it.name} with null for {one.name}");\n')
@@ -103,4 +122,4 @@ def program() -> str:
                     f'          "{it.name} with null for no octets of {one.name}");\n'
                     for it, one in rows if is_buffer(it, one))
     assert len(rows) > 60
-    return text_of + TAIL.replace("@EMPTY@", empty)
+    return text_of + TAIL.replace("@EMPTY@", empty).replace("@END@", end)

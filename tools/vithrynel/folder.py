@@ -1,0 +1,53 @@
+"""What a user takes besides the library and the simulator: examples, tests that a C compiler alone can run, EMBEDDING.md, and
+what CMake has there. Places that they name are those of the folder that is taken, and not the repository's."""
+import os
+import re
+import sys
+from typing import Dict
+
+from .crates import ROOT
+from .machine import content
+from .pointers import part
+
+sys.path.insert(0, os.path.join(ROOT, "tests", "scripts"))
+from worked import table_of, worked
+
+# What is taken as it is, from folders: their files go into a folder of another name.
+FOLDERS = {"examples": "examples/c", "tests": "tests/c/check"}
+FILES = {**{f"tests/{name}{end}": f"tests/c/{name}{end}" for name in ("station", "words", "hdlc") for end in (".c", ".h")},
+         "packages.cmake": "c/dist/packages.cmake", "copyright": "c/dist/copyright"}
+PAGE = "EMBEDDING.md"
+# Of what the files are made that are no copies.
+MADE_OF = ("docs/EMBEDDING.md", "tests/scripts")
+# Places in the repository, and in the folder that is taken.
+IN_CODE = (("../../../examples/c/", "../examples/"), ("../../dist", ".."))
+IN_PAGE = (("../dist/", ""), ("examples/c/", "examples/"), ("-I dist ", "-I . "), ("dist/", ""))
+BEGIN = """\
+Pages that are named without a link, as MACHINE.md, are in docs/ of the repository.
+"""
+
+
+def moved(text: str, places: "tuple[tuple[str, str], ...]") -> str:
+    for here, there in places:
+        text = text.replace(here, there)
+    return text
+
+
+def page(there: "set[str]") -> str:
+    """EMBEDDING.md: a link to what is not there is none."""
+    text = moved(content(f"docs/{PAGE}"), IN_PAGE)
+    text = re.sub(r"\[([^]]+)\]\(([^)#]+)[^)]*\)", lambda it: it[0] if it[2] in there else it[1], text)
+    head, _, rest = text.partition("\n\n")
+    return f"{head}\n\n{BEGIN}\n{rest}"
+
+
+def files() -> Dict[str, bytes]:
+    """Each file's octets, by its place."""
+    places = dict(FILES)
+    for folder, of in FOLDERS.items():
+        places.update((f"{folder}/{it}", f"{of}/{it}") for it in sorted(os.listdir(f"{ROOT}/{of}")) if it.endswith((".c", ".h")))
+    found = {name: moved(content(path), IN_CODE if name.endswith((".c", ".h")) else ()) for name, path in places.items()}
+    found["tests/null.c"] = part()
+    found["tests/scripts.txt"] = table_of(worked())
+    found[PAGE] = page({*found, "README", "lapd.h"})
+    return {name: text.encode() for name, text in found.items()}

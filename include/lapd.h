@@ -203,6 +203,20 @@ enum {
     LAPD_TERMINAL = 2 /* a terminal, whose TEIs the network assigns, checks and removes (clause 5.3) */
 };
 
+/*
+ * Initialisers of a configuration of one line, with the standard's windows, N201 and N200 (clauses 5.9.2, 5.9.3 and 5.9.5), and
+ * with a slot for each place of each queue, so that no request is refused as LAPD_REFUSED_POOL_FULL. They are the network's, and
+ * fit the other sides, too. Basic access has 16 kbit/s, a bus with up to eight TEIs, and windows of 1 and 3; primary rate has 64
+ * kbit/s, one TEI, and windows of 7.
+ *
+ *     lapd_config gateway = LAPD_BASIC_ACCESS;     lapd_config phone = LAPD_BASIC_ACCESS;
+ *     gateway.lines = 4;                           phone.terminals = 1;          a TEI alone takes less memory
+ *     gateway.slots *= gateway.lines;              phone.side = LAPD_TERMINAL;
+ *                                                  phone.seed = ... a random number ...
+ */
+#define LAPD_BASIC_ACCESS { 1, 8, 1, 3, 8, 4, 4, 132, 260, 3, LAPD_NETWORK, 0, 0 }
+#define LAPD_PRIMARY_RATE { 1, 1, 7, 7, 8, 4, 4, 20, 260, 3, LAPD_NETWORK, 0, 0 }
+
 /* ---- What is told ----------------------------------------------------------------------------------------------- */
 
 enum {
@@ -360,6 +374,9 @@ typedef struct lapd_lengths {
     uint32_t t201;
     uint32_t t202;
 } lapd_lengths;
+
+/* An initialiser of lengths, with these defaults. */
+#define LAPD_DEFAULT_LENGTHS { 1000, 10000, 1000, 2000 }
 
 /*
  * Starts a card of octets that keeps its own timers: no clock is needed, and no order is to be carried out. It is at moment 0,

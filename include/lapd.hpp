@@ -8,7 +8,7 @@
  *         for (lapd::note note : report.notes())
  *             tell(report.line(), note.text(), note.tei);
  *     };
- *     lapd::status is = card.start(config, lengths);
+ *     lapd::status is = card.start(lapd::basic_access, lapd::default_lengths);
  *     if (is != lapd::status::ok)
  *         return fail(lapd::text(is));
  *     while ((is = card.fall_due(now(), report)) == lapd::status::ok) // one timer after the other
@@ -198,6 +198,14 @@ inline status frame_text(octets of, uint16_t side, span<char> to) {
 constexpr bool is_refusal(status of) {
     return of == status::refused_wrong_side || (of >= status::refused_bad_tei && of <= status::refused_control_full);
 }
+
+// ---- The usual configurations -----------------------------------------------------------------------------------------
+
+/// One line, as the network's side; as lapd.h says at LAPD_BASIC_ACCESS. `lapd_config mine = lapd::basic_access;` is a copy to
+/// change.
+inline constexpr lapd_config basic_access = LAPD_BASIC_ACCESS;
+inline constexpr lapd_config primary_rate = LAPD_PRIMARY_RATE;
+inline constexpr lapd_lengths default_lengths = LAPD_DEFAULT_LENGTHS;
 
 // ---- What is told ---------------------------------------------------------------------------------------------------
 

@@ -2,9 +2,7 @@
 
     import lapd
 
-    # Basic access: windows of 1 for call control and 3 for packet mode (Q.921, 5.9.5)
-    config = lapd.Config(lines=1, terminals=8, k=1, k16=3, queue=8, unit_queue=4, control=4, slots=64, n201=260, n200=3)
-    with lapd.TimedFrameCard(config) as card:
+    with lapd.TimedFrameCard(lapd.BASIC_ACCESS) as card:        # or a Config of one's own
         list(card.fall_due(now=5000))                           # the time first: timers run from then on
         card.assign(0, 64)
         report = card.frame(0, bytes.fromhex("00817F"))         # SABME of TEI 64
@@ -377,6 +375,11 @@ class Config:
         _whole(ctypes.c_uint16, self.seed)
         words = dataclasses.asdict(self)
         return _Config(**{name: it if 0 <= it <= 0xFFFF else 0xFFFF for name, it in words.items()})
+
+
+# One line, as the network's side; as lapd.h says at LAPD_BASIC_ACCESS. Others are dataclasses.replace(BASIC_ACCESS, lines=4, ..).
+BASIC_ACCESS = Config(lines=1, terminals=8, k=1, k16=3, queue=8, unit_queue=4, control=4, slots=132, n201=260, n200=3)
+PRIMARY_RATE = Config(lines=1, terminals=1, k=7, k16=7, queue=8, unit_queue=4, control=4, slots=20, n201=260, n200=3)
 
 
 class Note(NamedTuple):

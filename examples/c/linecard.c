@@ -7,10 +7,8 @@
 #include <string.h>
 #include <time.h>
 
-/* Basic access: windows of 1 for call control and 3 for packet mode (Q.921, 5.9.5). */
-const lapd_config linecard_config = {.lines = 1, .terminals = 8, .k = 1, .k16 = 3, .queue = 8, .unit_queue = 4,
-                                     .control = 4, .slots = 64, .n201 = 260, .n200 = 3};
-const lapd_lengths linecard_lengths = {.t200 = 1000, .t203 = 10000, .t201 = 1000, .t202 = 2000};
+const lapd_config linecard_config = LAPD_BASIC_ACCESS;
+const lapd_lengths linecard_lengths = LAPD_DEFAULT_LENGTHS;
 
 bool linecard_is_ok(const linecard *own, uint32_t status, const char *call) {
     if (status != LAPD_OK)

@@ -28,7 +28,7 @@ struct linecard {
 /* The card, but for its kind, and the numbers that a script has for it; and how long its timers run. */
 extern const lapd_config linecard_config;
 extern const lapd_lengths linecard_lengths;
-#define LINECARD_NUMBERS "1 8 1 8 4 4 64 260 3 3"
+#define LINECARD_NUMBERS "1 8 1 8 4 4 132 260 3 3"
 
 /* A call that can only fail by a fault of the program; says which, where it fails. */
 bool linecard_is_ok(const linecard *own, uint32_t status, const char *call);

@@ -34,10 +34,8 @@ static const char help[] =
     "  --seed   its first reference number, 0 to 65535; else it is of /dev/urandom\n"
     "  RECORD   a file for all that happens, as a script: lapdsim run < RECORD shows the same\n";
 
-/* Basic access: one TEI, and windows of 1 for call control and 3 for packet mode (Q.921, 5.9.5). */
-static lapd_config config = {.lines = 1, .terminals = 1, .k = 1, .k16 = 3, .queue = 8, .unit_queue = 4, .control = 4,
-                             .slots = 20, .n201 = 260, .n200 = 3, .side = LAPD_TERMINAL};
-#define TERMINAL_NUMBERS "1 1 1 8 4 4 20 260 3 3"
+static lapd_config config = LAPD_BASIC_ACCESS; /* but for what run changes, which the numbers have */
+#define TERMINAL_NUMBERS "1 1 1 8 4 4 132 260 3 3"
 
 static const uint8_t messages[MESSAGES][3] = {{0x08, 0x01, 0x01}, {0x08, 0x01, 0x02}};
 static unsigned returned; /* messages that came back */
@@ -150,6 +148,8 @@ static bool is_number(const char *word, uint16_t *seed) {
 }
 
 static bool run(void) {
+    config.terminals = 1;
+    config.side = LAPD_TERMINAL;
     if (own.record != NULL)
         fprintf(own.record, "card " TERMINAL_NUMBERS " user %u\n", config.seed);
     bool is_good = linecard_begin(&own, lapd_card_start_timed(&own.card, &config, &linecard_lengths)) && serve();

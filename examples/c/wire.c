@@ -32,10 +32,9 @@ static const char usage[] = "usage: wire [--trace] [SEED LOSS COUNT [RECORD]]\n"
                             "  COUNT   so many contents go each way: 1 to 1000000, by default 5000\n"
                             "  RECORD  what happens is written to RECORD.network and RECORD.user, as scripts\n";
 
-static const lapd_config trunk = {.lines = 1, .terminals = 1, .k = 7, .k16 = 7, .queue = 8, .unit_queue = 1,
-                                  .control = 4, .slots = 8, .n201 = 260, .n200 = 3};
-static const lapd_lengths lengths = {.t200 = 1000, .t203 = 10000, .t201 = 1000, .t202 = 2000};
-#define TRUNK_NUMBERS "1 1 7 8 1 4 8 260 3"
+static const lapd_config trunk = LAPD_PRIMARY_RATE;
+static const lapd_lengths lengths = LAPD_DEFAULT_LENGTHS;
+#define TRUNK_NUMBERS "1 1 7 8 4 4 20 260 3"
 
 /* An end of the wire: a card with one line, its layer 3, and the way of its frames to the other end. */
 typedef struct {

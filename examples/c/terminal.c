@@ -15,7 +15,6 @@
 #define _POSIX_C_SOURCE 200809L
 
 #include <errno.h>
-#include <poll.h>
 #include <stdlib.h>
 #include <string.h>
 #include <unistd.h>
@@ -74,7 +73,8 @@ static bool message_came(linecard *own, const lapd_note *note, const uint8_t *co
     return linecard_ask(own, "release", LAPD_RELEASE, note->tei);
 }
 
-static linecard own = {.program = "terminal", .message_came = message_came, .changed = changed, .card = LAPD_CARD_NONE};
+static linecard own = {.program = "terminal", .message_came = message_came, .changed = changed, .side = LAPD_TERMINAL,
+                       .card = LAPD_CARD_NONE};
 
 /* ---- The line ----------------------------------------------------------------------------------------------------- */
 
@@ -120,10 +120,9 @@ static bool whole(bool is_sent, uint8_t *octets) {
 static bool serve(void) {
     uint8_t octets[AT_A_TIME];
     bool good = linecard_ask(&own, "ask", LAPD_ASK_TEI, LAPD_GROUP_TEI);
-    while (good && !is_done && !has_failed) {
-        poll(NULL, 0, MS_OF_THEM);
-        good = linecard_pass(&own) && pull(octets) && whole(true, octets) && whole(false, octets) && take(octets);
-    }
+    while (good && !is_done && !has_failed)
+        good = linecard_wait(&own, NULL, MS_OF_THEM) && pull(octets) && whole(true, octets) && whole(false, octets)
+               && take(octets);
     return good && !has_failed;
 }
 

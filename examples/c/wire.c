@@ -244,15 +244,20 @@ static void start(wire_end *end) {
     tell(end, &report);
 }
 
+/* A timer of an end expired. */
+static void expired(wire_end *end, const lapd_report *report) {
+    if (end->log != NULL)
+        trace_expiry(end->log, now, report);
+    tell(end, report);
+    end->expired++;
+}
+
 /* It is now this moment: timers that are due expire. */
 static void expire(wire_end *end) {
     static lapd_report report;
     uint32_t status;
-    for (; (status = lapd_fall_due(&end->card, now, &report)) == LAPD_OK; end->expired++) {
-        if (end->log != NULL)
-            trace_expiry(end->log, now, &report);
-        tell(end, &report);
-    }
+    while ((status = lapd_fall_due(&end->card, now, &report)) == LAPD_OK)
+        expired(end, &report);
     want_ok(end, status == LAPD_NO_TIMER ? LAPD_OK : status);
 }
 
@@ -269,7 +274,9 @@ static void arrive(wire_end *end) {
     }
     if (other->log != NULL)
         trace_frame(other->log, now, 0, false, end->frame, end->length, end->length);
-    want_ok(other, lapd_frame(&other->card, 0, end->frame, end->length, &report));
+    bool is_done = false;
+    while (want_ok(other, lapd_frame_at(&other->card, now, 0, end->frame, end->length, &is_done, &report)), !is_done)
+        expired(other, &report);
     record(other, "in 0 ", end->frame, end->length);
     tell(other, &report);
 }
@@ -279,7 +286,10 @@ static void give(wire_end *end) {
     static lapd_report report;
     if (end->is_on_its_way)
         return;
-    uint32_t status = lapd_next_frame(&end->card, 0, end->frame, sizeof end->frame, &end->length, &report);
+    uint32_t status;
+    while ((status = lapd_next_frame_at(&end->card, now, 0, end->frame, sizeof end->frame, &end->length, &report)) == LAPD_OK
+           && end->length == 0)
+        expired(end, &report);
     if (status == LAPD_NO_FRAME)
         return;
     want_ok(end, status);

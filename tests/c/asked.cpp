@@ -13,7 +13,7 @@ using lapd::service;
 using lapd::status;
 
 const lapd_config config = {2, 8, 7, 7, 8, 4, 4, 64, 260, 3, LAPD_NETWORK, 0, 0};
-const uint8_t sabme[] = {0x00, 0x81, 0x7F}, ua[] = {0x00, 0x81, 0x73};
+const uint8_t sabme[] = {0x00, 0x81, 0x7F}, ua[] = {0x02, 0x81, 0x73};
 bool is_good = true;
 
 void wants(bool good, const char *what) {

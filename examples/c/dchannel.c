@@ -37,7 +37,7 @@ static void put_numbers(FILE *to, const lapd_config *config) {
 static lapd_config config_of(const dchannel *own) {
     static const lapd_config basic = LAPD_BASIC_ACCESS, primary = LAPD_PRIMARY_RATE;
     lapd_config config = own->is_primary ? primary : basic;
-    config.side = side_of(own);
+    config.side = own->card.side;
     if (own->is_user)
         config.terminals = 1;
     config.seed = (uint16_t)((unsigned)getpid() * 40503u ^ (unsigned)time(NULL)); /* other terminals have other ones */
@@ -133,8 +133,12 @@ bool dchannel_frame(dchannel *own, const uint8_t *frame, size_t length) {
         put_octets(own->card.record, frame, length);
     }
     show(own, false, frame, length);
-    uint32_t status = lapd_frame(&own->card.card, 0, frame, length, &report);
-    return linecard_is_ok(&own->card, status, "frame") && linecard_tell(&own->card, &report);
+    for (bool is_done = false; !is_done;) {
+        uint32_t status = lapd_frame_at(&own->card.card, own->card.now, 0, frame, length, &is_done, &report);
+        if (!linecard_is_ok(&own->card, status, "frame") || !linecard_tell(&own->card, &report))
+            return false;
+    }
+    return true;
 }
 
 bool dchannel_failed(dchannel *own, uint8_t cause) {
@@ -148,17 +152,18 @@ bool dchannel_failed(dchannel *own, uint8_t cause) {
 bool dchannel_next(dchannel *own, uint8_t frame[LAPD_MOST_FRAME], size_t *length) {
     static lapd_report report;
     *length = 0;
-    if (!own->is_up)
-        return true;
-    uint32_t status = lapd_next_frame(&own->card.card, 0, frame, LAPD_MOST_FRAME, length, &report);
-    if (status == LAPD_NO_FRAME)
-        return true;
-    if (!linecard_is_ok(&own->card, status, "next frame"))
-        return false;
-    if (own->card.record != NULL)
-        fprintf(own->card.record, "next 0\n");
-    show(own, true, frame, *length);
-    return linecard_tell(&own->card, &report);
+    for (uint32_t line; own->is_up && *length == 0 && lapd_next_waiting(&own->card.card, 0, &line) == LAPD_OK;) {
+        uint32_t status = lapd_next_frame_at(&own->card.card, own->card.now, line, frame, LAPD_MOST_FRAME, length, &report);
+        if (!linecard_is_ok(&own->card, status, "next frame"))
+            return false;
+        if (*length > 0 && own->card.record != NULL)
+            fprintf(own->card.record, "next 0\n");
+        if (*length > 0)
+            show(own, true, frame, *length);
+        if (!linecard_tell(&own->card, &report))
+            return false;
+    }
+    return true;
 }
 
 /* ---- Its start and its end ---------------------------------------------------------------------------------------- */
@@ -198,8 +203,9 @@ bool dchannel_reads(dchannel *own, int words, char **word, const char *help, int
     own->is_primary = side->is_primary;
     own->card.message_came = message_came;
     own->card.changed = changed;
+    own->card.side = side_of(own);
     if (is_traced)
-        own->card.log->side = side_of(own);
+        own->card.log->side = own->card.side;
     *status = 1;
     return (words < 4 || (own->card.record = linecard_open(&own->card, word[3])) != NULL)
            && (words < 5 || (own->capture = linecard_open(&own->card, word[4])) != NULL);
@@ -218,7 +224,9 @@ static bool begin_teis(dchannel *own) {
 
 bool dchannel_begin(dchannel *own) {
     lapd_config config = config_of(own);
-    struct sigaction end = {.sa_handler = ends}; /* a wait is left: it isn't begun again */
+    struct sigaction end;
+    memset(&end, 0, sizeof end); /* without SA_RESTART: a wait is left */
+    end.sa_handler = ends;
     sigaction(SIGINT, &end, NULL);
     sigaction(SIGTERM, &end, NULL);
     if (own->card.record != NULL) {

@@ -20,7 +20,6 @@
 #include "misdn.h"
 
 #include <errno.h>
-#include <poll.h>
 #include <stdlib.h>
 #include <string.h>
 #include <unistd.h>
@@ -106,28 +105,25 @@ static bool take(const message *in, size_t length) {
     }
 }
 
-/* How long nothing happens, for poll. */
-static int patience(void) {
-    int most = linecard_patience(&own.card);
+/* How long a wait may be: while layer 1 isn't there, until it is asked for again. */
+static int most(void) {
     if (own.is_up)
-        return most;
-    int until = again > own.card.now ? (int)(again - own.card.now) : 0;
-    return most < 0 || most > until ? until : most;
+        return -1;
+    return again > own.card.now ? (int)(again - own.card.now) : 0;
 }
 
-/* Serves the line until a signal ends it. Time comes first: what follows happens at this moment. */
+/* Serves the line until a signal ends it. */
 static bool serve(void) {
     message in;
     struct pollfd line = {.fd = layer1, .events = POLLIN, .revents = 0};
     for (activate(); give();) {
-        int ready = poll(&line, 1, patience());
+        if (!linecard_wait(&own.card, &line, most()))
+            return false;
         if (dchannel_is_over())
             return true;
-        if ((ready < 0 && errno != EINTR) || !linecard_pass(&own.card))
-            return false;
         if (!own.is_up && own.card.now >= again)
             activate();
-        if (ready <= 0)
+        if (line.revents == 0)
             continue;
         ssize_t length = recv(layer1, &in, sizeof in, 0);
         if (length < (ssize_t)sizeof in.head)

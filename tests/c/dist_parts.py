@@ -23,7 +23,8 @@ COMMANDS = ("cc -O2 -o lapdsim dist/lapdsim.c && ./lapdsim run < crates/lapdsim/
 SOON = 45
 # Programs of examples/c with their files; first.c and wire.c are played, as they ask for no line.
 EXAMPLES = {"first": (), "wire": ("trace",), "terminal": ("linecard", "trace"), "clock": ("trace",), "exchange": ("linecard", "pcap", "trace"),
-            "hardware": ("linecard", "pcap", "trace"), "misdn": ("dchannel", "linecard", "pcap", "trace")}
+            "hardware": ("linecard", "pcap", "trace"), "misdn": ("dchannel", "linecard", "pcap", "trace"),
+            "dahdi": ("dchannel", "linecard", "pcap", "trace")}
 # Parts of examples/c that are no programs.
 PARTS_OF_EXAMPLES = {"dchannel", "linecard", "pcap", "trace", "gateway"}
 # A card that a program with little memory can't have, of a script and as lapd.h counts.

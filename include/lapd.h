@@ -1,5 +1,25 @@
 /*
- * lapd.h: a line card that ends ISDN D-channels (ITU-T Q.921, modulo 128), for C99 and C++.
+ * lapd.h: a line card that ends ISDN D-channels (ITU-T Q.921, modulo 128), for C99 and C++. A program is a loop around one, which
+ * reads the time once, after it has waited:
+ *
+ *     uint64_t until = 0;
+ *     for (;;) {
+ *         ... wait (poll): for a frame, for room in a controller, for somebody who asks, and until the moment `until` at most ...
+ *         uint64_t now = ... milliseconds of a clock that is never set back ...
+ *         while ((status = lapd_fall_due(&card, now, &report)) == LAPD_OK)
+ *             ... what the report tells, of report.line ...
+ *         if (status != LAPD_NO_TIMER)
+ *             ... a fault: with LAPD_WRONG_TIME the clock was set back, and no timer falls due ...
+ *         ... lapd_frame or lapd_request, for what came, and what its report tells ...
+ *         for (uint32_t line = 0; lapd_next_waiting(&card, line, &line) == LAPD_OK; line++)
+ *             ... lapd_next_frame, if the controller of this line has room; its report, and the frame ...
+ *         if (lapd_next_moment(&card, &until) != LAPD_OK)
+ *             until = UINT64_MAX;
+ *     }
+ *
+ * All that a card does it does at the moment that lapd_fall_due was told last. Without that call after the wait, timers begin in
+ * the past and expire too soon: a check, for example, can take a good TEI off. No status tells that. Calls that take the moment
+ * with what came cannot forget it: lapd_frame_at, lapd_request_at, lapd_next_frame_at and lapd_exchange_at.
  *
  * A card takes what comes from its lines and answers with notes for layer 3, orders for timers, and what to send. It
  * is the network's side of its lines or, where `side` of its configuration says so, the user's: a private exchange's
@@ -206,6 +226,20 @@ enum {
     LAPD_TERMINAL = 2 /* a terminal, whose TEIs the network assigns, checks and removes (clause 5.3) */
 };
 
+/*
+ * Initialisers of a configuration of one line, with the standard's windows, N201 and N200 (clauses 5.9.2, 5.9.3 and 5.9.5), and
+ * with a slot for each place of each queue, so that no request is refused as LAPD_REFUSED_POOL_FULL. They are the network's, and
+ * fit the other sides, too. Basic access has 16 kbit/s, a bus with up to eight TEIs, and windows of 1 and 3; primary rate has 64
+ * kbit/s, one TEI, and windows of 7.
+ *
+ *     lapd_config gateway = LAPD_BASIC_ACCESS;     lapd_config phone = LAPD_BASIC_ACCESS;
+ *     gateway.lines = 4;                           phone.terminals = 1;          a TEI alone takes less memory
+ *     gateway.slots *= gateway.lines;              phone.side = LAPD_TERMINAL;
+ *                                                  phone.seed = ... a random number ...
+ */
+#define LAPD_BASIC_ACCESS { 1, 8, 1, 3, 8, 4, 4, 132, 260, 3, LAPD_NETWORK, 0, 0 }
+#define LAPD_PRIMARY_RATE { 1, 1, 7, 7, 8, 4, 4, 20, 260, 3, LAPD_NETWORK, 0, 0 }
+
 /* ---- What is told ----------------------------------------------------------------------------------------------- */
 
 enum {
@@ -364,6 +398,9 @@ typedef struct lapd_lengths {
     uint32_t t202;
 } lapd_lengths;
 
+/* An initialiser of lengths, with these defaults. */
+#define LAPD_DEFAULT_LENGTHS { 1000, 10000, 1000, 2000 }
+
 /*
  * Starts a card of octets that keeps its own timers: no clock is needed, and no order is to be carried out. It is at moment 0,
  * and its calls happen at the moment that lapd_fall_due was told last. So tell it the time first: a timer that another call
@@ -373,17 +410,7 @@ typedef struct lapd_lengths {
 LAPD_STATUS lapd_card_start_timed(lapd_card *card, const lapd_config *config, const lapd_lengths *lengths);
 
 /*
- * Starts a card of frames that keeps its own timers in the same way.
- *
- *     uint32_t status;
- *     while ((status = lapd_fall_due(&card, now(), &report)) == LAPD_OK)
- *         ... what the report tells of report.line, if anything
- *     if (status != LAPD_NO_TIMER)
- *         ... a fault: with LAPD_WRONG_TIME the clock was set back, and no timer falls due
- *     if a frame came:  lapd_frame(&card, line, frame, length, &report);  ... what the report tells
- *     for (uint32_t line = 0; lapd_next_waiting(&card, line, &line) == LAPD_OK; line++)
- *         ... lapd_next_frame, where the controller of this line has room
- *     ... and so on, when a frame has come, a controller has room again, or the moment of lapd_next_moment is there
+ * Starts a card of frames that keeps its own timers in the same way: the loop at the top is around one.
  */
 LAPD_STATUS lapd_card_start_frames_timed(lapd_card *card, const lapd_config *config, const lapd_lengths *lengths);
 
@@ -778,6 +805,69 @@ LAPD_INLINE_STATUS lapd_request_with(lapd_card *card, uint32_t line, uint8_t req
     for (size_t i = 0; i < length; i++)
         copy[i] = contents[i];
     return lapd_request(card, line, request, service, tei, copy, length, report);
+}
+
+/*
+ * A frame came, at this moment, to a card of frames that keeps its own timers. This tells the card the time by lapd_fall_due, and
+ * hands the frame over by lapd_frame once nothing is due. A call does one of both: *is_done is false after the expiry of a timer,
+ * which the report tells, and true after the frame. So call it until it is done:
+ *
+ *     for (bool is_done = false; !is_done && status == LAPD_OK;)
+ *         if ((status = lapd_frame_at(&card, now, line, frame, length, &is_done, &report)) == LAPD_OK)
+ *             ... what the report tells, of report.line ...
+ *
+ * Its statuses are those of both, except LAPD_NO_TIMER. If lapd_frame answers another than LAPD_OK, it is this moment already.
+ *
+ * That it is a call, and no test with LAPD_CHECKED, has a reason: a card reads no clock, so no test sees how old its moment is.
+ */
+LAPD_INLINE_STATUS lapd_frame_at(lapd_card *card, uint64_t now, uint32_t line, const uint8_t *octets, size_t length,
+                                 bool *is_done, lapd_report *report) {
+    if (card == LAPD_NULL || (octets == LAPD_NULL && length != 0) || is_done == LAPD_NULL || report == LAPD_NULL)
+        return LAPD_WRONG_POINTER;
+    uint32_t status = lapd_fall_due(card, now, report);
+    *is_done = status == LAPD_NO_TIMER;
+    return *is_done ? lapd_frame(card, line, octets, length, report) : status;
+}
+
+/* Somebody asks for something at this moment, as by lapd_request_with, and otherwise as with lapd_frame_at. Layer 3 that asks
+ * while it is told a report needs no moment: it is that of the report. */
+LAPD_INLINE_STATUS lapd_request_at(lapd_card *card, uint64_t now, uint32_t line, uint8_t request, uint8_t service,
+                                   uint8_t tei, const uint8_t *contents, size_t length, bool *is_done,
+                                   lapd_report *report) {
+    if (card == LAPD_NULL || (contents == LAPD_NULL && length != 0) || is_done == LAPD_NULL || report == LAPD_NULL)
+        return LAPD_WRONG_POINTER;
+    uint32_t status = lapd_fall_due(card, now, report);
+    *is_done = status == LAPD_NO_TIMER;
+    return *is_done ? lapd_request_with(card, line, request, service, tei, contents, length, report) : status;
+}
+
+/* A controller has room at this moment: the time first, as with lapd_frame_at, and then the next frame by lapd_next_frame. After
+ * the expiry of a timer *length is 0, and out is as it was. LAPD_NO_FRAME: nothing is due, and no frame waits.
+ *
+ *     while ((status = lapd_next_frame_at(&card, now, line, out, sizeof out, &length, &report)) == LAPD_OK)
+ *         ... if length is not 0, out[0] to out[length - 1] to the controller; what the report tells, of report.line ...
+ */
+LAPD_INLINE_STATUS lapd_next_frame_at(lapd_card *card, uint64_t now, uint32_t line, uint8_t *out, size_t room,
+                                      size_t *length, lapd_report *report) {
+    if (card == LAPD_NULL || (out == LAPD_NULL && room != 0) || length == LAPD_NULL || report == LAPD_NULL)
+        return LAPD_WRONG_POINTER;
+    uint32_t status = lapd_fall_due(card, now, report);
+    if (status == LAPD_NO_TIMER)
+        return lapd_next_frame(card, line, out, room, length, report);
+    if (status == LAPD_OK)
+        *length = 0;
+    return status;
+}
+
+/* Octets come and go at this moment, at a card of octets that keeps its own timers: the time first, as with lapd_frame_at, and
+ * then lapd_exchange. After the expiry of a timer *steps is as it was; go on as long as there are steps. */
+LAPD_INLINE_STATUS lapd_exchange_at(lapd_card *card, uint64_t now, uint32_t line, const uint8_t *in, size_t in_length,
+                                    uint8_t *out, size_t out_length, size_t *steps, lapd_report *report) {
+    if (card == LAPD_NULL || (in == LAPD_NULL && in_length != 0) || (out == LAPD_NULL && out_length != 0)
+        || steps == LAPD_NULL || report == LAPD_NULL)
+        return LAPD_WRONG_POINTER;
+    uint32_t status = lapd_fall_due(card, now, report);
+    return status == LAPD_NO_TIMER ? lapd_exchange(card, line, in, in_length, out, out_length, steps, report) : status;
 }
 
 /* Asks for the link (DL-ESTABLISH request). */

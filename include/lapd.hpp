@@ -8,15 +8,14 @@
  *         for (lapd::note note : report.notes())
  *             tell(report.line(), note.text(), note.tei);
  *     };
- *     lapd::status is = card.start(config, lengths);
+ *     lapd::status is = card.start(lapd::basic_access, lapd::default_lengths);
  *     if (is != lapd::status::ok)
  *         return fail(lapd::text(is));
- *     while ((is = card.fall_due(now(), report)) == lapd::status::ok) // one timer after the other
- *         layer_3();
- *     if (is != lapd::status::no_timer) // wrong_time: the clock was set back
- *         return fail(lapd::text(is));
- *     if (card.frame(0, octets, report) == lapd::status::ok)
- *         layer_3();
+ *     for (bool is_done = false; !is_done; layer_3()) { // each timer that is due by now, and then the frame
+ *         is = card.frame_at(now(), 0, octets, is_done, report);
+ *         if (is != lapd::status::ok) // wrong_time: the clock was set back
+ *             return fail(lapd::text(is));
+ *     }
  *
  * lapd.h says of each call what it does, and what the caller promises. Here a status can't go unseen: the compiler warns.
  * A card and a clock are neither copied nor moved, since the handle inside mustn't be.
@@ -222,6 +221,14 @@ constexpr bool is_refusal(status of) {
     return of == status::refused_wrong_side || (of >= status::refused_bad_tei && of <= status::refused_control_full);
 }
 
+// ---- The usual configurations -----------------------------------------------------------------------------------------
+
+/// One line, as the network's side; as lapd.h says at LAPD_BASIC_ACCESS. `lapd_config mine = lapd::basic_access;` is a copy to
+/// change.
+inline constexpr lapd_config basic_access = LAPD_BASIC_ACCESS;
+inline constexpr lapd_config primary_rate = LAPD_PRIMARY_RATE;
+inline constexpr lapd_lengths default_lengths = LAPD_DEFAULT_LENGTHS;
+
 // ---- What is told ---------------------------------------------------------------------------------------------------
 
 struct note {
@@ -317,6 +324,13 @@ public:
     status fall_due(uint64_t now, report &to) { return of(lapd_fall_due(&card_, now, to.raw())); }
     /// When the first timer falls due; status::no_timer if none runs.
     status next_moment(uint64_t &moment) { return of(lapd_next_moment(&card_, &moment)); }
+    /// A request (LAPD_ESTABLISH to LAPD_VERIFY_TEI) with its moment: while a timer is due, that falls due, and is_done is false;
+    /// then the request is made, and it is true. So call it until it is done.
+    status request_at(uint64_t now, uint32_t line, uint8_t request, service by, uint8_t tei, octets contents, bool &is_done,
+                      report &to) {
+        return of(lapd_request_at(&card_, now, line, request, number(by), tei, contents.data(), contents.size(), &is_done,
+                                  to.raw()));
+    }
 
     status establish(uint32_t line, service by, uint8_t tei, report &to) {
         return of(lapd_establish(&card_, line, number(by), tei, to.raw()));
@@ -399,6 +413,10 @@ public:
     status exchange(uint32_t line, octets in, span<uint8_t> out, size_t &steps, report &to) {
         return of(lapd_exchange(&card_, line, at(in), in.size(), at(out), out.size(), &steps, to.raw()));
     }
+    /// With the moment, at a card that keeps its own timers: no step is made while a timer is due, which falls due.
+    status exchange_at(uint64_t now, uint32_t line, octets in, span<uint8_t> out, size_t &steps, report &to) {
+        return of(lapd_exchange_at(&card_, now, line, at(in), in.size(), at(out), out.size(), &steps, to.raw()));
+    }
     status begun(uint32_t line, lapd_head &to) { return of(lapd_begun(&card_, line, &to)); }
     status heard(uint32_t line, lapd_head &to) { return of(lapd_heard(&card_, line, &to)); }
 };
@@ -414,6 +432,10 @@ public:
     status frame(uint32_t line, octets came, report &to) {
         return of(lapd_frame(&card_, line, at(came), came.size(), to.raw()));
     }
+    /// With the moment, at a card that keeps its own timers: is_done is false after a timer that falls due, and true after the frame.
+    status frame_at(uint64_t now, uint32_t line, octets came, bool &is_done, report &to) {
+        return of(lapd_frame_at(&card_, now, line, at(came), came.size(), &is_done, to.raw()));
+    }
     status failed(uint32_t line, cause why, report &to) {
         return of(lapd_frame_failed(&card_, line, static_cast<uint8_t>(why), to.raw()));
     }
@@ -421,6 +443,14 @@ public:
     status next_frame(uint32_t line, span<uint8_t> room, octets &goes, report &to) {
         size_t length = 0;
         const status is = of(lapd_next_frame(&card_, line, at(room), room.size(), &length, to.raw()));
+        if (is == status::ok)
+            goes = {room.data(), length};
+        return is;
+    }
+    /// With the moment, at a card that keeps its own timers: `goes` is empty after a timer that falls due.
+    status next_frame_at(uint64_t now, uint32_t line, span<uint8_t> room, octets &goes, report &to) {
+        size_t length = 0;
+        const status is = of(lapd_next_frame_at(&card_, now, line, at(room), room.size(), &length, to.raw()));
         if (is == status::ok)
             goes = {room.data(), length};
         return is;

@@ -2,13 +2,11 @@
 
     import lapd
 
-    # Basic access: windows of 1 for call control and 3 for packet mode (Q.921, 5.9.5)
-    config = lapd.Config(lines=1, terminals=8, k=1, k16=3, queue=8, unit_queue=4, control=4, slots=64, n201=260, n200=3)
-    with lapd.TimedFrameCard(config) as card:
-        list(card.fall_due(now=5000))                           # the time first: timers run from then on
+    with lapd.TimedFrameCard(lapd.BASIC_ACCESS) as card:        # or a Config of one's own
         card.assign(0, 64)
-        report = card.frame(0, bytes.fromhex("00817F"))         # SABME of TEI 64
-        print([str(note) for note in report.notes])             # ['establish-indication']
+        sabme = bytes.fromhex("00817F")                         # a frame of TEI 64, and its moment:
+        for report in card.at(5000, card.frame, 0, sabme):      # what is due by then, and then the frame
+            print([str(note) for note in report.notes])         # ['establish-indication']
         octets, report = card.next_frame(0)                     # UA: 008173
         for report in card.fall_due(now=15000):                 # T203: the terminal is asked whether it is still there
             octets, report = card.next_frame(report.line)       # RR, P=1: 02810101
@@ -31,7 +29,7 @@ import dataclasses
 import enum
 import functools
 import os
-from typing import Any, Dict, Iterator, List, NamedTuple, Optional, Tuple, TypeVar
+from typing import Any, Callable, Dict, Iterator, List, NamedTuple, Optional, Tuple, TypeVar
 
 # ---- Numbers of lapd.h ---------------------------------------------------------------------------------------------------
 
@@ -430,6 +428,11 @@ class Config:
         return _Config(**{name: it if 0 <= it <= 0xFFFF else 0xFFFF for name, it in words.items()})
 
 
+# One line, as the network's side; as lapd.h says at LAPD_BASIC_ACCESS. Others are dataclasses.replace(BASIC_ACCESS, lines=4, ..).
+BASIC_ACCESS = Config(lines=1, terminals=8, k=1, k16=3, queue=8, unit_queue=4, control=4, slots=132, n201=260, n200=3)
+PRIMARY_RATE = Config(lines=1, terminals=1, k=7, k16=7, queue=8, unit_queue=4, control=4, slots=20, n201=260, n200=3)
+
+
 class Note(NamedTuple):
     """A note for layer 3 or management. As a string it is its name in docs/FORMAT.md."""
 
@@ -750,6 +753,12 @@ class _Timed(AnyCard):
         WRONG_TIME: the moment is before the last one, or 2^63 and later."""
         while _unless(Status.NO_TIMER, "lapd_fall_due", self._at, now, ctypes.byref(self._told)):
             yield _report(self._told)
+
+    def at(self, now: int, call: Callable[..., Report], *words: Any) -> Iterator[Report]:
+        """A call with its moment, as `card.at(now, card.frame, 0, octets)`: what is due by then falls due, and then the call is
+        made; each tells what it led to. So nobody forgets to tell the time. Take all of them, as of fall_due."""
+        yield from self.fall_due(now)
+        yield call(*words)
 
     def next_moment(self) -> Optional[int]:
         """The moment of the timer that falls due first; None where none runs."""

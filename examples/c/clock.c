@@ -18,8 +18,7 @@
 #include "lapd.h"
 #include "trace.h"
 
-static const lapd_config config = {.lines = 1, .terminals = 8, .k = 1, .k16 = 3, .queue = 8, .unit_queue = 4,
-                                   .control = 4, .slots = 64, .n201 = 260, .n200 = 3};
+static const lapd_config config = LAPD_BASIC_ACCESS;
 static const uint8_t sabme[] = {0x00, 0x81, 0x7F};
 
 static lapd_card card = LAPD_CARD_NONE;

@@ -62,7 +62,8 @@ static bool exchange(const uint8_t *in, uint8_t *out, size_t length) {
     static lapd_report report;
     for (size_t steps = 0; steps < 2 * length;) {
         size_t before = steps;
-        if (!linecard_is_ok(&own, lapd_exchange(&own.card, 0, in, length, out, length, &steps, &report), "exchange"))
+        uint32_t status = lapd_exchange_at(&own.card, own.now, 0, in, length, out, length, &steps, &report);
+        if (!linecard_is_ok(&own, status, "exchange"))
             return false;
         for (; own.record != NULL && before < steps; before++)
             before % 2 == 0 ? fprintf(own.record, "rx 0 %02X\n", in[before / 2]) : fprintf(own.record, "pull 0 1\n");
@@ -80,9 +81,7 @@ static bool exchange(const uint8_t *in, uint8_t *out, size_t length) {
 static bool serve(void) {
     uint8_t in[MOST_AT_A_TIME], out[MOST_AT_A_TIME];
     struct pollfd line = {.fd = STDIN_FILENO, .events = POLLIN, .revents = 0};
-    while (poll(&line, 1, linecard_patience(&own)) >= 0) {
-        if (!linecard_pass(&own))
-            return false;
+    while (linecard_wait(&own, &line, -1)) {
         if (line.revents == 0)
             continue;
         ssize_t length = read(STDIN_FILENO, in, capture != NULL || own.log != NULL ? MOST_OF_HEADS : sizeof in);
@@ -91,7 +90,7 @@ static bool serve(void) {
         if (!exchange(in, out, (size_t)length))
             return false;
     }
-    return true;
+    return false;
 }
 
 /* Starts the card, serves the line, and ends; whether all went well. */

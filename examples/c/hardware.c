@@ -63,8 +63,27 @@ static bool take(const uint8_t *datagram, size_t length) {
         pcap_frame(capture, own.now, false, LAPD_NETWORK, datagram, length, length);
     if (own.log != NULL)
         trace_frame(own.log, own.now, 0, false, datagram, length, length);
-    uint32_t status = lapd_frame(&own.card, 0, datagram, length, &report);
-    return linecard_is_ok(&own, status, "frame") && linecard_tell(&own, &report);
+    for (bool is_done = false; !is_done;) {
+        uint32_t status = lapd_frame_at(&own.card, own.now, 0, datagram, length, &is_done, &report);
+        if (!linecard_is_ok(&own, status, "frame") || !linecard_tell(&own, &report))
+            return false;
+    }
+    return true;
+}
+
+/* A frame goes to the line, with room for a check behind it. */
+static bool send_frame(uint8_t *datagram, size_t length) {
+    if (own.log != NULL)
+        trace_frame(own.log, own.now, 0, true, datagram, length, length);
+    if (own.record != NULL)
+        fprintf(own.record, "next 0\n");
+    if (capture != NULL)
+        pcap_frame(capture, own.now, true, LAPD_NETWORK, datagram, length, length);
+    memset(datagram + length, 0, check_octets);
+    if (write(STDIN_FILENO, datagram, length + check_octets) >= 0 || errno == EPIPE)
+        return true;
+    perror("hardware: the line");
+    return false;
 }
 
 /* Frames that wait go, as long as the controller has room for one more; is_full says that it has none. */
@@ -77,21 +96,11 @@ static bool give(bool *is_full) {
         *is_full = poll(&room, 1, 0) != 1 || (room.revents & POLLOUT) == 0;
         if (*is_full)
             return true;
-        size_t length;
-        uint32_t status = lapd_next_frame(&own.card, line, datagram, LAPD_MOST_FRAME, &length, &report);
-        if (own.log != NULL && status == LAPD_OK)
-            trace_frame(own.log, own.now, 0, true, datagram, length, length);
-        if (!linecard_is_ok(&own, status, "next frame") || !linecard_tell(&own, &report))
+        size_t length; /* 0 after a timer, which may also take away what waits */
+        uint32_t status = lapd_next_frame_at(&own.card, own.now, line, datagram, LAPD_MOST_FRAME, &length, &report);
+        if (!linecard_is_ok(&own, status, "next frame") || (length != 0 && !send_frame(datagram, length))
+            || !linecard_tell(&own, &report))
             return false;
-        if (own.record != NULL)
-            fprintf(own.record, "next 0\n");
-        if (capture != NULL)
-            pcap_frame(capture, own.now, true, LAPD_NETWORK, datagram, length, length);
-        memset(datagram + length, 0, check_octets);
-        if (write(STDIN_FILENO, datagram, length + check_octets) < 0 && errno != EPIPE) {
-            perror("hardware: the line");
-            return false;
-        }
     }
     return true;
 }
@@ -103,9 +112,7 @@ static bool serve(void) {
     struct pollfd line = {.fd = STDIN_FILENO, .events = POLLIN, .revents = 0};
     while (give(&is_full)) {
         line.events = is_full ? POLLIN | POLLOUT : POLLIN;
-        if (poll(&line, 1, linecard_patience(&own)) < 0)
-            return true;
-        if (!linecard_pass(&own))
+        if (!linecard_wait(&own, &line, -1))
             return false;
         if ((line.revents & (POLLIN | POLLHUP | POLLERR)) != 0) {
             ssize_t length = read(STDIN_FILENO, datagram, sizeof datagram);

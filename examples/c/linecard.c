@@ -7,10 +7,10 @@
 #include <string.h>
 #include <time.h>
 
-/* Basic access: windows of 1 for call control and 3 for packet mode (Q.921, 5.9.5). */
-const lapd_config linecard_config = {.lines = 1, .terminals = 8, .k = 1, .k16 = 3, .queue = 8, .unit_queue = 4,
-                                     .control = 4, .slots = 64, .n201 = 260, .n200 = 3};
-const lapd_lengths linecard_lengths = {.t200 = 1000, .t203 = 10000, .t201 = 1000, .t202 = 2000};
+enum { FIRST_AUTOMATIC_TEI = 64, LONGEST_WAIT = 10000 };
+
+const lapd_config linecard_config = LAPD_BASIC_ACCESS;
+const lapd_lengths linecard_lengths = LAPD_DEFAULT_LENGTHS;
 
 bool linecard_is_ok(const linecard *own, uint32_t status, const char *call) {
     if (status != LAPD_OK)
@@ -83,6 +83,15 @@ bool linecard_traces(linecard *own, uint16_t side, int *words, char ***word) {
     return true;
 }
 
+/* What layer management does about an error: where a TEI that was assigned may be doubled or gone, it asks. */
+static bool managed(linecard *own, const lapd_note *note) {
+    if (note->note != LAPD_ERROR_INDICATION || strchr("CDGH", note->error) == NULL || note->tei < FIRST_AUTOMATIC_TEI)
+        return true;
+    if (own->side == LAPD_TERMINAL)
+        return linecard_ask(own, "verify", LAPD_VERIFY_TEI, note->tei);
+    return own->side == LAPD_USER || linecard_ask(own, "check", LAPD_CHECK, note->tei);
+}
+
 bool linecard_tell(linecard *own, const lapd_report *report) {
     if (own->log != NULL) {
         trace_heads(own->log, own->now, &own->card, report);
@@ -100,6 +109,9 @@ bool linecard_tell(linecard *own, const lapd_report *report) {
         fprintf(stderr, "0 dropped %s\n", lapd_cause_text(report->cause));
     if (report->lost != 0)
         fprintf(stderr, "0 lost %u\n", report->lost);
+    for (unsigned i = 0; i < report->note_count; i++)
+        if (!managed(own, &report->notes[i]))
+            return false;
     for (unsigned i = 0; own->changed != NULL && i < report->note_count; i++)
         if (!is_of_contents(&report->notes[i]) && !own->changed(own, &report->notes[i]))
             return false;
@@ -114,7 +126,8 @@ static uint64_t monotonic(void) {
     return (uint64_t)time.tv_sec * 1000 + (uint64_t)time.tv_nsec / 1000000;
 }
 
-bool linecard_pass(linecard *own) {
+/* Time goes on to now. */
+static bool pass(linecard *own) {
     static lapd_report report;
     uint64_t moment = monotonic() - own->start, next;
     uint32_t status = LAPD_OK;
@@ -131,11 +144,26 @@ bool linecard_pass(linecard *own) {
     return true;
 }
 
-int linecard_patience(linecard *own) {
-    uint64_t moment;
+/* Milliseconds until a timer falls due, for poll, and so many at most. */
+static int patience(linecard *own, int most) {
+    uint64_t moment, left = LONGEST_WAIT;
     if (lapd_next_moment(&own->card, &moment) != LAPD_OK)
-        return -1;
-    return moment <= own->now ? 0 : moment - own->now > 10000 ? 10000 : (int)(moment - own->now);
+        return most;
+    if (moment < own->now + left)
+        left = moment <= own->now ? 0 : moment - own->now;
+    return most >= 0 && (uint64_t)most < left ? most : (int)left;
+}
+
+bool linecard_wait(linecard *own, struct pollfd *line, int most) {
+    if (poll(line, line != NULL, patience(own, most)) < 0) {
+        if (errno != EINTR) {
+            fprintf(stderr, "%s: poll: %s\n", own->program, strerror(errno));
+            return false;
+        }
+        if (line != NULL)
+            line->revents = 0;
+    }
+    return pass(own);
 }
 
 bool linecard_begin(linecard *own, uint32_t status) {

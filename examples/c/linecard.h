@@ -1,10 +1,13 @@
 /*
  * linecard.h: what exchange.c, hardware.c and terminal.c do alike. A card with one line, which keeps its own timers: notes go
- * to layer 3, and each timer expires at its moment. What layer 3 does with a message is each program's own.
+ * to layer 3, and each timer expires at its moment. What layer 3 does with a message is each program's own. Layer management has
+ * an automatic TEI checked, or at a terminal verified, after each of the errors C, D, G and H (Q.921, appendix II): there may be
+ * a second terminal with it, or none any more.
  */
 #ifndef LINECARD_H
 #define LINECARD_H
 
+#include <poll.h>
 #include <stdbool.h>
 #include <stddef.h>
 #include <stdint.h>
@@ -21,6 +24,7 @@ struct linecard {
     bool (*changed)(linecard *own, const lapd_note *note); /* a note of no contents came, where layer 3 does something; or NULL */
     FILE *record; /* where all that happens is written as a script of docs/FORMAT.md, or NULL */
     trace *log;   /* or NULL */
+    uint16_t side; /* of the card, as its configuration has it: LAPD_NETWORK, if it is not set */
     lapd_card card;
     uint64_t start, now; /* milliseconds of the system's monotonic time, and since the start */
 };
@@ -28,7 +32,7 @@ struct linecard {
 /* The card, but for its kind, and the numbers that a script has for it; and how long its timers run. */
 extern const lapd_config linecard_config;
 extern const lapd_lengths linecard_lengths;
-#define LINECARD_NUMBERS "1 8 1 8 4 4 64 260 3 3"
+#define LINECARD_NUMBERS "1 8 1 8 4 4 132 260 3 3"
 
 /* A call that can only fail by a fault of the program; says which, where it fails. */
 bool linecard_is_ok(const linecard *own, uint32_t status, const char *call);
@@ -47,11 +51,10 @@ bool linecard_ask(linecard *own, const char *name, uint8_t request, uint8_t tei)
 /* Layer 3 sends a message on the link of this note. */
 bool linecard_send(linecard *own, const lapd_note *note, const uint8_t *octets, size_t length);
 
-/* Time goes on to now: each timer that falls due until then expires at its own moment. */
-bool linecard_pass(linecard *own);
-
-/* Milliseconds until a timer falls due, for poll. */
-int linecard_patience(linecard *own);
+/* Waits until the line is ready, for so many milliseconds at most (-1: for any time), and no longer than until a timer falls due.
+ * Then it is now, own->now: each timer that fell due meanwhile expires at its own moment. So nobody waits without telling the
+ * time. The line may be NULL. */
+bool linecard_wait(linecard *own, struct pollfd *line, int most);
 
 /* Time starts, with the card: this is what its start answered. */
 bool linecard_begin(linecard *own, uint32_t status);

@@ -15,7 +15,6 @@
 #define _POSIX_C_SOURCE 200809L
 
 #include <errno.h>
-#include <poll.h>
 #include <stdlib.h>
 #include <string.h>
 #include <unistd.h>
@@ -34,10 +33,8 @@ static const char help[] =
     "  --seed   its first reference number, 0 to 65535; else it is of /dev/urandom\n"
     "  RECORD   a file for all that happens, as a script: lapdsim run < RECORD shows the same\n";
 
-/* Basic access: one TEI, and windows of 1 for call control and 3 for packet mode (Q.921, 5.9.5). */
-static lapd_config config = {.lines = 1, .terminals = 1, .k = 1, .k16 = 3, .queue = 8, .unit_queue = 4, .control = 4,
-                             .slots = 20, .n201 = 260, .n200 = 3, .side = LAPD_TERMINAL};
-#define TERMINAL_NUMBERS "1 1 1 8 4 4 20 260 3 3"
+static lapd_config config = LAPD_BASIC_ACCESS; /* but for what run changes, which the numbers have */
+#define TERMINAL_NUMBERS "1 1 1 8 4 4 132 260 3 3"
 
 static const uint8_t messages[MESSAGES][3] = {{0x08, 0x01, 0x01}, {0x08, 0x01, 0x02}};
 static unsigned returned; /* messages that came back */
@@ -76,7 +73,8 @@ static bool message_came(linecard *own, const lapd_note *note, const uint8_t *co
     return linecard_ask(own, "release", LAPD_RELEASE, note->tei);
 }
 
-static linecard own = {.program = "terminal", .message_came = message_came, .changed = changed, .card = LAPD_CARD_NONE};
+static linecard own = {.program = "terminal", .message_came = message_came, .changed = changed, .side = LAPD_TERMINAL,
+                       .card = LAPD_CARD_NONE};
 
 /* ---- The line ----------------------------------------------------------------------------------------------------- */
 
@@ -122,10 +120,9 @@ static bool whole(bool is_sent, uint8_t *octets) {
 static bool serve(void) {
     uint8_t octets[AT_A_TIME];
     bool good = linecard_ask(&own, "ask", LAPD_ASK_TEI, LAPD_GROUP_TEI);
-    while (good && !is_done && !has_failed) {
-        poll(NULL, 0, MS_OF_THEM);
-        good = linecard_pass(&own) && pull(octets) && whole(true, octets) && whole(false, octets) && take(octets);
-    }
+    while (good && !is_done && !has_failed)
+        good = linecard_wait(&own, NULL, MS_OF_THEM) && pull(octets) && whole(true, octets) && whole(false, octets)
+               && take(octets);
     return good && !has_failed;
 }
 
@@ -150,6 +147,8 @@ static bool is_number(const char *word, uint16_t *seed) {
 }
 
 static bool run(void) {
+    config.terminals = 1;
+    config.side = LAPD_TERMINAL;
     if (own.record != NULL)
         fprintf(own.record, "card " TERMINAL_NUMBERS " user %u\n", config.seed);
     bool is_good = linecard_begin(&own, lapd_card_start_timed(&own.card, &config, &linecard_lengths)) && serve();

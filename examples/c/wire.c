@@ -32,10 +32,9 @@ static const char usage[] = "usage: wire [--trace] [SEED LOSS COUNT [RECORD]]\n"
                             "  COUNT   so many contents go each way: 1 to 1000000, by default 5000\n"
                             "  RECORD  what happens is written to RECORD.network and RECORD.user, as scripts\n";
 
-static const lapd_config trunk = {.lines = 1, .terminals = 1, .k = 7, .k16 = 7, .queue = 8, .unit_queue = 1,
-                                  .control = 4, .slots = 8, .n201 = 260, .n200 = 3};
-static const lapd_lengths lengths = {.t200 = 1000, .t203 = 10000, .t201 = 1000, .t202 = 2000};
-#define TRUNK_NUMBERS "1 1 7 8 1 4 8 260 3"
+static const lapd_config trunk = LAPD_PRIMARY_RATE;
+static const lapd_lengths lengths = LAPD_DEFAULT_LENGTHS;
+#define TRUNK_NUMBERS "1 1 7 8 4 4 20 260 3"
 
 /* An end of the wire: a card with one line, its layer 3, and the way of its frames to the other end. */
 typedef struct {
@@ -245,15 +244,20 @@ static void start(wire_end *end) {
     tell(end, &report);
 }
 
+/* A timer of an end expired. */
+static void expired(wire_end *end, const lapd_report *report) {
+    if (end->log != NULL)
+        trace_expiry(end->log, now, report);
+    tell(end, report);
+    end->expired++;
+}
+
 /* It is now this moment: timers that are due expire. */
 static void expire(wire_end *end) {
     static lapd_report report;
     uint32_t status;
-    for (; (status = lapd_fall_due(&end->card, now, &report)) == LAPD_OK; end->expired++) {
-        if (end->log != NULL)
-            trace_expiry(end->log, now, &report);
-        tell(end, &report);
-    }
+    while ((status = lapd_fall_due(&end->card, now, &report)) == LAPD_OK)
+        expired(end, &report);
     want_ok(end, status == LAPD_NO_TIMER ? LAPD_OK : status);
 }
 
@@ -270,7 +274,9 @@ static void arrive(wire_end *end) {
     }
     if (other->log != NULL)
         trace_frame(other->log, now, 0, false, end->frame, end->length, end->length);
-    want_ok(other, lapd_frame(&other->card, 0, end->frame, end->length, &report));
+    bool is_done = false;
+    while (want_ok(other, lapd_frame_at(&other->card, now, 0, end->frame, end->length, &is_done, &report)), !is_done)
+        expired(other, &report);
     record(other, "in 0 ", end->frame, end->length);
     tell(other, &report);
 }
@@ -280,7 +286,10 @@ static void give(wire_end *end) {
     static lapd_report report;
     if (end->is_on_its_way)
         return;
-    uint32_t status = lapd_next_frame(&end->card, 0, end->frame, sizeof end->frame, &end->length, &report);
+    uint32_t status;
+    while ((status = lapd_next_frame_at(&end->card, now, 0, end->frame, sizeof end->frame, &end->length, &report)) == LAPD_OK
+           && end->length == 0)
+        expired(end, &report);
     if (status == LAPD_NO_FRAME)
         return;
     want_ok(end, status);

@@ -13,7 +13,7 @@ using lapd::service;
 using lapd::status;
 
 const lapd_config config = {2, 8, 7, 7, 8, 4, 4, 64, 260, 3, LAPD_NETWORK, 0, 0};
-const uint8_t sabme[] = {0x00, 0x81, 0x7F};
+const uint8_t sabme[] = {0x00, 0x81, 0x7F}, ua[] = {0x02, 0x81, 0x73};
 bool is_good = true;
 
 void wants(bool good, const char *what) {
@@ -115,6 +115,29 @@ void asks_timed(lapd::card &octets, lapd::frame_card &frames) {
     wants(frames.end() == status::ok, "an end without timers");
 }
 
+// Calls that take the moment: T200 that is due is told first, and then what came.
+void asks_at_moments() {
+    lapd::frame_card frames;
+    lapd::card octets;
+    lapd::report report;
+    lapd::octets goes;
+    uint8_t room[LAPD_MOST_FRAME], in[2] = {0x7E, 0x7E}, out[2];
+    bool is_done = false;
+    size_t steps = 0;
+    wants(frames.start(lapd::basic_access, lapd::default_lengths) == status::ok && frames.assign(0, 64, report) == status::ok, "a card");
+    wants(frames.request_at(5000, 0, LAPD_ESTABLISH, service::call, 64, {}, is_done, report) == status::ok && is_done, "a request");
+    wants(frames.frame_at(6000, 0, ua, is_done, report) == status::ok && !is_done && !report.tells(), "T200 before a frame");
+    while (frames.next_frame_at(6000, 0, room, goes, report) == status::ok)
+        wants(goes.size() == 3 && goes[2] == 0x7F, "SABME");
+    wants(frames.frame_at(6000, 0, ua, is_done, report) == status::ok && is_done && report.notes().size() == 1, "the frame");
+    wants(frames.next_frame_at(16000, 0, room, goes, report) == status::ok && goes.empty(), "T203 before a frame that goes");
+    wants(frames.next_frame_at(15999, 0, room, goes, report) == status::wrong_time, "time that goes back");
+    wants(octets.start(lapd::primary_rate, lapd::default_lengths) == status::ok && octets.assign(0, 0, report) == status::ok
+              && octets.request_at(5000, 0, LAPD_CHECK, service::call, 0, {}, is_done, report) == status::ok && is_done, "a check");
+    wants(octets.exchange_at(6000, 0, in, out, steps, report) == status::ok && steps == 0, "T201 before octets");
+    wants(octets.exchange_at(6000, 0, in, out, steps, report) == status::ok && steps > 0, "octets");
+}
+
 // A terminal asks for its TEI, gets it, verifies it and loses it; T202 is told by its own name.
 void asks_terminal() {
     lapd_config of = config;
@@ -163,6 +186,7 @@ int main() {
         asks(*card);
     }
     asks_timed(octets, frames);
+    asks_at_moments();
     wants(octets.start(config) == status::ok, "a start after an end");
     wants(clock.next(moment) == status::no_clock && clock.start(config) == status::ok, "a clock");
     wants(clock.next(moment) == status::no_timer && moment == 7 && clock.end() == status::ok, "no timer");

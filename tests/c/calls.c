@@ -3,7 +3,8 @@
  * a state of, in order, from each place on; contents of a report go back with the same report, and with another one while the
  * first stays as it is; the room of a link is what it refuses contents by; the frame begun last is the one that goes; what
  * is counted is what came, went and was told; a line goes down, and an exchange starts, as docs/EMBEDDING.md has it; lengths
- * of timers that are out of range change nothing; and the version is the header's. For tests alone.
+ * of timers that are out of range change nothing; the usual configurations have the fields that they should; and the version is
+ * the header's. For tests alone.
  */
 #include <stdio.h>
 #include <string.h>
@@ -56,6 +57,18 @@ static void look_at(uint32_t line, unsigned links) {
     for (lapd_link link; lapd_next_link(&card, line, &place, &link) == LAPD_OK;)
         count++;
     wants(count == links, "another number of links");
+}
+
+/* The usual configurations and lengths, field by field. */
+static void presets(void) {
+    static const lapd_config basic = LAPD_BASIC_ACCESS, primary = LAPD_PRIMARY_RATE;
+    static const lapd_config bus = {.lines = 1, .terminals = 8, .k = 1, .k16 = 3, .queue = 8, .unit_queue = 4, .control = 4,
+                                    .slots = 132, .n201 = 260, .n200 = 3, .side = LAPD_NETWORK, .seed = 0, .sapi = 0};
+    static const lapd_config trunk = {.lines = 1, .terminals = 1, .k = 7, .k16 = 7, .queue = 8, .unit_queue = 4, .control = 4,
+                                      .slots = 20, .n201 = 260, .n200 = 3, .side = LAPD_NETWORK, .seed = 0, .sapi = 0};
+    static const lapd_lengths lengths = LAPD_DEFAULT_LENGTHS;
+    wants(memcmp(&basic, &bus, sizeof bus) == 0 && memcmp(&primary, &trunk, sizeof trunk) == 0, "another usual configuration");
+    wants(memcmp(&lengths, &lengths_of, sizeof lengths_of) == 0, "other usual lengths");
 }
 
 static void wrong_calls(void) {
@@ -395,6 +408,7 @@ int main(void) {
     exchange_starts();
     wants(lapd_card_start(&card, &config) == LAPD_OK, "no card");
     wrong_calls();
+    presets();
     rooms_of_nobody();
     lengths();
     look_at(0, 0);

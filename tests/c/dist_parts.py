@@ -25,9 +25,10 @@ SOON = 45
 TESTS, TESTED_SOON = "cmake -S dist -B built && cmake --build built && (cd built && ctest)", 60
 # Programs of examples/c with their files; first.c and wire.c are played, as they ask for no line.
 EXAMPLES = {"first": (), "wire": ("trace",), "terminal": ("linecard", "trace"), "clock": ("trace",), "exchange": ("linecard", "pcap", "trace"),
-            "hardware": ("linecard", "pcap", "trace")}
+            "hardware": ("linecard", "pcap", "trace"), "misdn": ("dchannel", "linecard", "pcap", "trace"),
+            "dahdi": ("dchannel", "linecard", "pcap", "trace")}
 # Parts of examples/c that are no programs.
-PARTS_OF_EXAMPLES = {"linecard", "pcap", "trace", "gateway"}
+PARTS_OF_EXAMPLES = {"dchannel", "linecard", "pcap", "trace", "gateway"}
 # A card that a program with little memory can't have, of a script and as lapd.h counts.
 LARGEST = b"card 64 8 127 127 16 16 8192 260 10 127\nstored\n"
 LITTLE = 5000  # KB of addresses: enough for a small card

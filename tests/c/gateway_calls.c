@@ -1,6 +1,7 @@
 /*
  * gateway_calls.c: what examples/c/gateway.h says of each call: what it answers, from when timers run, and that an advance
- * that comes late asks a silent terminal once, of which the log tells. Starts are refused each block of memory in turn. For tests alone.
+ * that comes late asks a silent terminal once, of which the log tells; that a call tells the time by itself; and that an error
+ * leads to a check, at a terminal to a verify. Starts are refused each block of memory in turn. For tests alone.
  */
 #include <stdio.h>
 #include <stdlib.h>
@@ -26,6 +27,10 @@ static const uint8_t check_request[] = {0xFE, 0xFF, 0x03, 0x0F, 0x00, 0x00, 0x04
 static const uint8_t check_response[] = {0xFC, 0xFF, 0x03, 0x0F, 0x00, 0x00, 0x05, 0x81};
 static const uint8_t removal_of_all[] = {0xFE, 0xFF, 0x03, 0x0F, 0x00, 0x00, 0x06, 0xFF};
 static const uint8_t check_request_65[] = {0xFE, 0xFF, 0x03, 0x0F, 0x00, 0x00, 0x04, 0x83};
+static const uint8_t identity_assigned[] = {0xFE, 0xFF, 0x03, 0x0F, 0x12, 0x34, 0x02, 0x83};
+/* answers that nobody asked for: of TEI 64, TEI 0, and the network; and what the network has verified */
+static const uint8_t stray_ua[] = {0x02, 0x81, 0x73}, stray_ua_0[] = {0x02, 0x01, 0x73}, its_stray_ua[] = {0x00, 0x81, 0x73};
+static const uint8_t its_sabme[] = {0x02, 0x81, 0x7F}, verify_request[] = {0xFC, 0xFF, 0x03, 0x0F, 0x00, 0x00, 0x07, 0x81};
 
 static gateway own = GATEWAY_NONE;
 static trace its_log; /* of network's side */
@@ -87,7 +92,7 @@ static bool takes(const uint8_t *frame, size_t length) {
     uint32_t line = 9;
     bool more;
     return lapd_next_waiting(&own.card, 0, &line) == LAPD_OK && line == 0
-           && gateway_take(&own, 0, out, sizeof out, &octets, &more) == LAPD_OK && octets == length
+           && gateway_take(&own, own.now, 0, out, sizeof out, &octets, &more) == LAPD_OK && octets == length
            && memcmp(out, frame, length) == 0 && more == (lapd_next_waiting(&own.card, 0, &line) == LAPD_OK);
 }
 
@@ -97,7 +102,7 @@ static bool takes_none(void) {
     uint32_t line = 9;
     bool more = true;
     return lapd_next_waiting(&own.card, 0, &line) == LAPD_NO_FRAME && line == 9
-           && gateway_take(&own, 0, out, sizeof out, &octets, &more) == LAPD_NO_FRAME && more;
+           && gateway_take(&own, own.now, 0, out, sizeof out, &octets, &more) == LAPD_NO_FRAME && more;
 }
 
 static bool is_next(uint64_t wanted) {
@@ -121,7 +126,7 @@ static void starts(void) {
     own.on_report = on_report;
     WANT(gateway_start(&own, &config, &bad_lengths) == LAPD_WRONG_TIME && taken == 0);
     for (long block = 0; left = block, (status = gateway_start(&own, &config, &lengths)) == LAPD_NO_MEMORY; block++) {
-        WANT(taken == 0 && gateway_frame(&own, 0, sabme, sizeof sabme) == LAPD_NO_CARD);
+        WANT(taken == 0 && gateway_frame(&own, own.now, 0, sabme, sizeof sabme) == LAPD_NO_CARD);
         WANT(gateway_advance(&own, 0) == LAPD_NO_CARD);
         refused++;
     }
@@ -148,13 +153,13 @@ static void wrong_calls(uint64_t now) {
     size_t length;
     bool more;
     unsigned before = reports;
-    WANT(gateway_frame(&own, config.lines, sabme, sizeof sabme) == LAPD_WRONG_LINE);
+    WANT(gateway_frame(&own, own.now, config.lines, sabme, sizeof sabme) == LAPD_WRONG_LINE);
     WANT(gateway_frame_failed(&own, 0, LAPD_TEI) == LAPD_WRONG_CAUSE);
-    WANT(gateway_ask(&own, 0, 0, LAPD_CALL, 64, NULL, 0) == LAPD_WRONG_REQUEST);
-    WANT(gateway_ask(&own, 0, LAPD_DATA, LAPD_CALL, 66, contents, sizeof contents) == LAPD_REFUSED_NO_LINK);
+    WANT(gateway_ask(&own, own.now, 0, 0, LAPD_CALL, 64, NULL, 0) == LAPD_WRONG_REQUEST);
+    WANT(gateway_ask(&own, own.now, 0, LAPD_DATA, LAPD_CALL, 66, contents, sizeof contents) == LAPD_REFUSED_NO_LINK);
     WANT(gateway_down(&own, config.lines) == LAPD_WRONG_LINE);
     WANT(gateway_disown(&own, 0) == LAPD_REFUSED_TEI_TAKEN);
-    WANT(gateway_take(&own, 0, out, sizeof out - 1, &length, &more) == LAPD_WRONG_LENGTH);
+    WANT(gateway_take(&own, own.now, 0, out, sizeof out - 1, &length, &more) == LAPD_WRONG_LENGTH);
     WANT(gateway_advance(&own, now - 1) == LAPD_WRONG_TIME && gateway_advance(&own, LAPD_LATEST) == LAPD_WRONG_TIME);
     WANT(gateway_advance(&own, UINT64_MAX) == LAPD_WRONG_TIME && own.now == now);
     WANT(reports == before);
@@ -165,20 +170,20 @@ static void comes_up(void) {
     its_log.to = tmpfile();
     WANT(its_log.to != NULL);
     own.log = &its_log;
-    WANT(gateway_ask(&own, 0, LAPD_ASSIGN, LAPD_CALL, 64, NULL, 0) == LAPD_OK);
-    WANT(gateway_ask(&own, 0, LAPD_ASSIGN, LAPD_CALL, 65, NULL, 0) == LAPD_OK);
+    WANT(gateway_ask(&own, own.now, 0, LAPD_ASSIGN, LAPD_CALL, 64, NULL, 0) == LAPD_OK);
+    WANT(gateway_ask(&own, own.now, 0, LAPD_ASSIGN, LAPD_CALL, 65, NULL, 0) == LAPD_OK);
     advances_to(9000);
-    WANT(gateway_frame(&own, 0, sabme, sizeof sabme) == LAPD_OK);
+    WANT(gateway_frame(&own, own.now, 0, sabme, sizeof sabme) == LAPD_OK);
     WANT(notes[LAPD_ESTABLISH_INDICATION] == 1 && is_next(19000));
     wrong_calls(9000);
     WANT(takes(ua, sizeof ua) && takes_none() && is_next(19000));
     advances_to(10000);
-    WANT(gateway_ask(&own, 0, LAPD_DATA, LAPD_CALL, 64, contents, sizeof contents) == LAPD_OK && is_next(19000));
+    WANT(gateway_ask(&own, own.now, 0, LAPD_DATA, LAPD_CALL, 64, contents, sizeof contents) == LAPD_OK && is_next(19000));
     advances_to(12000);
     WANT(takes(data, sizeof data) && is_next(13000));
     advances_to(12500);
-    WANT(gateway_frame(&own, 0, acknowledged, sizeof acknowledged) == LAPD_OK && is_next(22500));
-    WANT(gateway_frame(&own, 0, sabme_65, sizeof sabme_65) == LAPD_OK && are_in(7));
+    WANT(gateway_frame(&own, own.now, 0, acknowledged, sizeof acknowledged) == LAPD_OK && is_next(22500));
+    WANT(gateway_frame(&own, own.now, 0, sabme_65, sizeof sabme_65) == LAPD_OK && are_in(7));
     WANT(takes(ua_65, sizeof ua_65));
 }
 
@@ -211,15 +216,15 @@ static void goes_down(void) {
     uint64_t moment;
     advances_to(42700);
     WANT(gateway_frame_failed(&own, 0, LAPD_FCS) == LAPD_OK && drops == 1);
-    WANT(gateway_ask(&own, 0, LAPD_UNIT, LAPD_CALL, LAPD_GROUP_TEI, contents, sizeof contents) == LAPD_OK);
-    WANT(gateway_ask(&own, 0, LAPD_CHECK, LAPD_CALL, 64, NULL, 0) == LAPD_OK);
+    WANT(gateway_ask(&own, own.now, 0, LAPD_UNIT, LAPD_CALL, LAPD_GROUP_TEI, contents, sizeof contents) == LAPD_OK);
+    WANT(gateway_ask(&own, own.now, 0, LAPD_CHECK, LAPD_CALL, 64, NULL, 0) == LAPD_OK);
     WANT(gateway_down(&own, 0) == LAPD_OK && are_in(4) && takes_none());
     WANT(notes[LAPD_RELEASE_INDICATION] == 2 && lapd_next_moment(&own.card, &moment) == LAPD_NO_TIMER);
     advances_to(42800);
     WANT(gateway_down(&own, 0) == LAPD_OK && notes[LAPD_RELEASE_INDICATION] == 2);
-    WANT(gateway_ask(&own, 0, LAPD_DATA, LAPD_CALL, 64, contents, sizeof contents) == LAPD_REFUSED_WRONG_STATE);
+    WANT(gateway_ask(&own, own.now, 0, LAPD_DATA, LAPD_CALL, 64, contents, sizeof contents) == LAPD_REFUSED_WRONG_STATE);
     advances_to(42900);
-    WANT(gateway_frame(&own, 0, sabme, sizeof sabme) == LAPD_OK && is_next(52900));
+    WANT(gateway_frame(&own, own.now, 0, sabme, sizeof sabme) == LAPD_OK && is_next(52900));
 }
 
 static uint64_t denials(void) {
@@ -233,7 +238,7 @@ static void is_checked(const uint8_t *request, size_t length, bool is_answered) 
     for (int times = 0; times < 2; times++) {
         WANT(notes[LAPD_REMOVED] == 0 && takes(request, length) && is_next(own.now + 1000));
         if (is_answered)
-            WANT(gateway_frame(&own, 0, check_response, sizeof check_response) == LAPD_OK);
+            WANT(gateway_frame(&own, own.now, 0, check_response, sizeof check_response) == LAPD_OK);
         advances_to(own.now + 1000);
     }
 }
@@ -243,18 +248,56 @@ static void is_audited(void) {
     uint8_t place = 0, other_place = 0;
     WANT(takes(ua, sizeof ua) && denials() == 0);
     advances_to(43000);
-    WANT(gateway_frame(&own, 0, identity_request, sizeof identity_request) == LAPD_OK && denials() == 0);
+    WANT(gateway_frame(&own, own.now, 0, identity_request, sizeof identity_request) == LAPD_OK && denials() == 0);
     WANT(takes(identity_denied, sizeof identity_denied) && denials() == 1);
-    WANT(gateway_audit(&own, 0, &place) == LAPD_OK && place == 129);
-    WANT(gateway_audit(&own, 0, &place) == LAPD_REFUSED_CHECK_RUNNING && place == 129);
+    WANT(gateway_audit(&own, own.now, 0, &place) == LAPD_OK && place == 129);
+    WANT(gateway_audit(&own, own.now, 0, &place) == LAPD_REFUSED_CHECK_RUNNING && place == 129);
     is_checked(check_request, sizeof check_request, true);
-    WANT(gateway_audit(&own, 0, &place) == LAPD_OK && place == 131);
+    WANT(gateway_audit(&own, own.now, 0, &place) == LAPD_OK && place == 131);
     is_checked(check_request_65, sizeof check_request_65, false);
-    WANT(notes[LAPD_REMOVED] == 1 && gateway_audit(&own, 0, &place) == LAPD_NO_MORE_LINKS);
-    WANT(gateway_audit(&own, 1, &other_place) == LAPD_NO_MORE_LINKS);
-    WANT(gateway_audit(&own, config.lines, &place) == LAPD_WRONG_LINE);
-    WANT(gateway_frame(&own, 0, identity_request, sizeof identity_request) == LAPD_OK);
+    WANT(notes[LAPD_REMOVED] == 1 && gateway_audit(&own, own.now, 0, &place) == LAPD_NO_MORE_LINKS);
+    WANT(gateway_audit(&own, own.now, 1, &other_place) == LAPD_NO_MORE_LINKS);
+    WANT(gateway_audit(&own, own.now, config.lines, &place) == LAPD_WRONG_LINE);
+    WANT(gateway_frame(&own, own.now, 0, identity_request, sizeof identity_request) == LAPD_OK);
     WANT(notes[LAPD_ASSIGNED] == 1 && denials() == 1);
+}
+
+/* T203 of TEI 64 is due as a frame of it comes, whose call tells the time: an enquiry waits, and the link is as after the frame. */
+static void tells_the_time(void) {
+    uint64_t moment = 0;
+    uint8_t state = 0;
+    WANT(takes(identity_assigned, sizeof identity_assigned) && takes_none());
+    WANT(lapd_next_moment(&own.card, &moment) == LAPD_OK && moment > own.now);
+    WANT(gateway_frame(&own, moment, 0, sabme_65, sizeof sabme_65) == LAPD_OK && own.now == moment);
+    WANT(takes(ua_65, sizeof ua_65) && takes(poll, sizeof poll));
+    WANT(lapd_state(&own.card, 0, LAPD_CALL, 64, &state) == LAPD_OK && state == 8);
+    WANT(gateway_ask(&own, moment - 1, 0, LAPD_BUSY, LAPD_CALL, 64, NULL, 0) == LAPD_WRONG_TIME && own.now == moment);
+}
+
+/* Error C: the TEI is checked, unless it is none that the network assigned. */
+static void errors_are_managed(void) {
+    unsigned before = notes[LAPD_ERROR_INDICATION];
+    WANT(gateway_ask(&own, own.now, 0, LAPD_REMOVE, LAPD_CALL, 65, NULL, 0) == LAPD_OK);
+    WANT(gateway_ask(&own, own.now, 0, LAPD_ASSIGN, LAPD_CALL, 0, NULL, 0) == LAPD_OK);
+    while (takes(check_request, sizeof check_request) || !takes_none())
+        ; /* the removal goes */
+    WANT(gateway_frame(&own, own.now, 0, stray_ua_0, sizeof stray_ua_0) == LAPD_OK);
+    WANT(notes[LAPD_ERROR_INDICATION] == before + 1 && takes_none());
+    WANT(gateway_frame(&own, own.now, 0, stray_ua, sizeof stray_ua) == LAPD_OK);
+    WANT(notes[LAPD_ERROR_INDICATION] == before + 2 && takes(check_request, sizeof check_request));
+}
+
+/* At a terminal it is verified. */
+static void terminals_verify(void) {
+    lapd_config terminal = config;
+    unsigned before = notes[LAPD_ERROR_INDICATION];
+    terminal.side = LAPD_TERMINAL;
+    WANT(gateway_start(&own, &terminal, &lengths) == LAPD_OK);
+    WANT(gateway_ask(&own, 5000, 0, LAPD_ASSIGN, LAPD_CALL, 64, NULL, 0) == LAPD_OK && own.now == 5000);
+    WANT(gateway_frame(&own, 6000, 0, its_sabme, sizeof its_sabme) == LAPD_OK && own.now == 6000);
+    WANT(gateway_frame(&own, 6000, 0, its_stray_ua, sizeof its_stray_ua) == LAPD_OK);
+    WANT(notes[LAPD_ERROR_INDICATION] == before + 1 && takes(verify_request, sizeof verify_request) && is_next(8000));
+    gateway_end(&own);
 }
 
 static void ends(void) {
@@ -272,6 +315,9 @@ int main(void) {
     time_passes();
     goes_down();
     is_audited();
+    tells_the_time();
+    errors_are_managed();
     ends();
+    terminals_verify();
     return 0;
 }

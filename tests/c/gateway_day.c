@@ -96,7 +96,7 @@ static void on_report(gateway *gate, const lapd_report *report) {
         size_t length = q931_answer(report->contents, report->length, answer);
         if (length == 0)
             continue;
-        uint32_t status = gateway_ask(gate, line, LAPD_DATA, note->service, note->tei, answer, length);
+        uint32_t status = gateway_ask(gate, now, line, LAPD_DATA, note->service, note->tei, answer, length);
         seen.refused += status != LAPD_OK;
     }
 }
@@ -194,7 +194,7 @@ static void receive(uint32_t line) {
         return;
     }
     count_heard(&counted[line], arrived->octets, arrived->length);
-    want_ok(gateway_frame(&own, line, arrived->octets, arrived->length), "a frame");
+    want_ok(gateway_frame(&own, now, line, arrived->octets, arrived->length), "a frame");
 }
 
 static bool is_waiting(uint32_t line) {
@@ -205,7 +205,7 @@ static bool is_waiting(uint32_t line) {
 /* Takes the next frame of a line, if one waits. */
 static bool take(uint32_t line, uint8_t frame[LAPD_MOST_FRAME], size_t *length) {
     bool more;
-    uint32_t status = gateway_take(&own, line, frame, LAPD_MOST_FRAME, length, &more);
+    uint32_t status = gateway_take(&own, now, line, frame, LAPD_MOST_FRAME, length, &more);
     if (status == LAPD_NO_FRAME)
         return false;
     want_ok(status, "the next frame");
@@ -247,10 +247,10 @@ static void regain_line(uint32_t line) {
     static const uint8_t setup[] = {0x08, 1, 0x01, 0x05, 0x04, 3, 0x80, 0x90, 0xA3, 0x18, 1, 0x8A};
     lapd_link link;
     uint8_t place = 0;
-    want_ok(gateway_ask(&own, line, LAPD_UNIT, LAPD_CALL, LAPD_GROUP_TEI, setup, sizeof setup), "a call to all");
+    want_ok(gateway_ask(&own, now, line, LAPD_UNIT, LAPD_CALL, LAPD_GROUP_TEI, setup, sizeof setup), "a call to all");
     if (lapd_next_link(&own.card, line, &place, &link) != LAPD_OK)
         return;
-    uint32_t status = gateway_ask(&own, line, LAPD_CHECK, LAPD_CALL, link.tei, NULL, 0);
+    uint32_t status = gateway_ask(&own, now, line, LAPD_CHECK, LAPD_CALL, link.tei, NULL, 0);
     want(status == LAPD_OK || status == LAPD_REFUSED_CHECK_RUNNING, "a TEI is not checked");
 }
 

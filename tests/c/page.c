@@ -9,12 +9,7 @@
 
 #include "lapd.h"
 
-/* basic access: 16 kbit/s, a bus with up to eight TEIs */
-static const lapd_config basic = {.lines = 1, .terminals = 8, .k = 1, .k16 = 3, .queue = 8, .unit_queue = 4,
-                                  .control = 4, .slots = 132, .n201 = 260, .n200 = 3};
-/* primary rate: 64 kbit/s, one TEI */
-static const lapd_config primary = {.lines = 1, .terminals = 1, .k = 7, .k16 = 7, .queue = 8, .unit_queue = 4,
-                                    .control = 4, .slots = 20, .n201 = 260, .n200 = 3};
+static const lapd_config basic = LAPD_BASIC_ACCESS, primary = LAPD_PRIMARY_RATE;
 static uint64_t time_now;
 
 static int fail(const char *text) {
@@ -77,7 +72,7 @@ static void layer_3(const lapd_report *of) {
         printf("%u dropped %s\n", of->line, lapd_cause_text(of->cause));
 }
 
-static const lapd_lengths lengths = {.t200 = 1000, .t203 = 10000, .t201 = 1000, .t202 = 2000};   /* milliseconds */
+static const lapd_lengths lengths = LAPD_DEFAULT_LENGTHS;
 static lapd_card card = LAPD_CARD_NONE;
 static lapd_report report;
 

@@ -10,7 +10,7 @@
 #include "lapd.h"
 #include "lapd_memory.h"
 
-enum { TURNS = 1000000, MOST_CALLS = 56, MOST_STATUSES = 64, FIELDS = 13 };
+enum { TURNS = 1000000, MOST_CALLS = 60, MOST_STATUSES = 64, FIELDS = 13 };
 
 static struct {
     const char *name;
@@ -193,6 +193,25 @@ static void questions(void) {
     }
 }
 
+/* Calls that take the moment, mostly a later one. */
+static void moments(void) {
+    static const uint8_t contents[16] = {0};
+    static uint64_t at;
+    uint8_t address = (uint8_t)(tei() << 1 | 1), out[LAPD_MOST_FRAME], request = (uint8_t)(below(2) ? below(16) : LAPD_DATA + below(2));
+    const uint8_t sabme[] = {0x00, address, 0x7F};
+    size_t length = below(3) ? 0 : below(10), steps = below(4);
+    bool is_done;
+    at = below(40) == 0 ? below(1000) : at + below(9);
+    switch (below(8)) {
+    case 0: CALL(lapd_frame_at, &card, at, line(), sabme, sizeof sabme, &is_done, &report); break;
+    case 1: case 2: case 3: case 4: case 5:
+        CALL(lapd_request_at, &card, at, line(), request, service(), tei(), contents, length, &is_done, &report);
+        break;
+    case 6: CALL(lapd_next_frame_at, &card, at, line(), out, below(3) ? sizeof out : below(13), &length, &report); break;
+    default: CALL(lapd_exchange_at, &card, at, line(), sabme, 1 + below(2), out, 1, &steps, &report);
+    }
+}
+
 static void clock_calls(void) {
     lapd_order order = {ONE_OF(1, 1, 1, 2, 3), timer()};
     lapd_report ordered = {.order_count = (uint8_t)below(6)};
@@ -211,11 +230,12 @@ static void clock_calls(void) {
 
 int main(void) {
     for (unsigned i = 0; i < TURNS; i++)
-        switch (below(12)) {
+        switch (below(14)) {
         case 0: case 1: case 2: case 3: line_calls(); break;
         case 4: case 5: case 6: case 7: requests(); break;
         case 8: questions(); break;
         case 9: case 10: clock_calls(); break;
+        case 11: case 12: moments(); break;
         default:
             if (below(20) == 0)
                 starts_and_ends();

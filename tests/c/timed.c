@@ -2,7 +2,7 @@
  * timed.c: a card that keeps its own timers, of either kind, beside one to which the same happens and whose timers are on a
  * clock: both tell the same, but for orders, and give the same; each timer falls due at the same moment, and in the same order;
  * the next moment, states, rooms and counters are the same. Time goes on at random, mostly to the next moment, and also far over
- * it. A moment before the last is refused, as is a second start, and nothing changes. After the start no memory is taken. For
+ * it; it is told by itself, or by a call that takes the moment with what comes. A moment before the last is refused, as is a second start, and nothing changes. After the start no memory is taken. For
  * tests alone.
  *
  *     timed SEED [octets]
@@ -89,18 +89,28 @@ static void same(uint32_t line, uint32_t status, const lapd_report *own, uint32_
     same_report(line, own, told);
 }
 
+/* A timer has expired at the one card: the same falls due at the other. */
+static void expires(const lapd_report *own) {
+    lapd_report told = {0};
+    lapd_due due;
+    wants(lapd_clock_due(&timers, now, &due) == LAPD_OK && due.line == own->line, "another timer is due");
+    same(due.line, LAPD_OK, own, lapd_expire(&plain, due.line, &due.timer, &told), &told);
+    expired++;
+}
+
+static void none_is_due(void) {
+    lapd_due none;
+    wants(lapd_clock_due(&timers, now, &none) == LAPD_NO_TIMER, "a timer is left");
+}
+
 /* What is due falls due, at both, in one order. */
 static void falls_due(void) {
-    lapd_report own = {0}, told = {0};
+    lapd_report own = {0};
     uint32_t status;
-    while ((status = lapd_fall_due(&timed, now, &own)) == LAPD_OK) {
-        lapd_due due;
-        wants(lapd_clock_due(&timers, now, &due) == LAPD_OK && due.line == own.line, "another timer is due");
-        same(due.line, LAPD_OK, &own, lapd_expire(&plain, due.line, &due.timer, &told), &told);
-        expired++;
-    }
-    lapd_due none;
-    wants(status == LAPD_NO_TIMER && lapd_clock_due(&timers, now, &none) == LAPD_NO_TIMER, "a timer is left");
+    while ((status = lapd_fall_due(&timed, now, &own)) == LAPD_OK)
+        expires(&own);
+    wants(status == LAPD_NO_TIMER, "time does not go on");
+    none_is_due();
 }
 
 static void moments(void) {
@@ -114,13 +124,26 @@ static uint32_t start_timed(lapd_card *card, const lapd_lengths *of) {
     return for_octets ? lapd_card_start_timed(card, &config, of) : lapd_card_start_frames_timed(card, &config, of);
 }
 
-/* Mostly to the next moment; or a little, or far. It does not go back, and no card starts twice. */
-static void time_goes_on(void) {
-    lapd_report told = {.line = 7};
+/* A later moment: mostly the next; or a little later, or much. */
+static void later(void) {
     uint64_t next = now;
     if (below(3) == 0 || lapd_clock_next(&timers, &next) != LAPD_OK)
         next = now + below(below(10) == 0 ? 5000 : 60);
     now = next;
+}
+
+/* Whether the next call takes the moment with what comes. */
+static bool has_moment(void) {
+    bool answer = below(3) == 0;
+    if (answer)
+        later();
+    return answer;
+}
+
+/* Time does not go back, and no card starts twice. */
+static void time_goes_on(void) {
+    lapd_report told = {.line = 7};
+    later();
     falls_due();
     wants(now == 0 || lapd_fall_due(&timed, below(2) ? now - 1 : now / 2, &told) == LAPD_WRONG_TIME, "time goes back");
     wants(lapd_fall_due(&timed, LAPD_LATEST + below(2), &told) == LAPD_WRONG_TIME, "a moment that is too late");
@@ -143,9 +166,18 @@ static void octet_comes(uint32_t line, uint8_t octet) {
 /* Octets come and go in turn. Where the one card stops, the other has told orders before, and no more than these. */
 static void exchange(uint32_t line, const uint8_t *in, size_t length) {
     uint8_t out[MOST_RUN] = {0}, other[MOST_RUN] = {0};
+    bool at = has_moment();
     for (size_t steps = 0, reached = 0; steps < 2 * length;) {
         lapd_report own = {0}, told = {0}, nothing = {0};
-        wants(lapd_exchange(&timed, line, in, length, out, length, &steps, &own) == LAPD_OK, "no exchange");
+        size_t before = steps;
+        wants((at ? lapd_exchange_at(&timed, now, line, in, length, out, length, &steps, &own)
+                  : lapd_exchange(&timed, line, in, length, out, length, &steps, &own)) == LAPD_OK, "no exchange");
+        if (steps == before) { /* a timer expired */
+            wants(at, "no step");
+            expires(&own);
+            continue;
+        }
+        none_is_due();
         wants(lapd_exchange(&plain, line, in, length, other, length, &reached, &told) == LAPD_OK, "no exchange of the other");
         while (reached < steps) {
             same_report(line, &nothing, &told);
@@ -192,7 +224,13 @@ static void frame_comes(void) {
         return;
     }
     lapd_report own = {0}, told = {0};
-    uint32_t status = lapd_frame(&timed, line, from[which], octets[which], &own);
+    uint32_t status = LAPD_OK;
+    bool is_done = !has_moment();
+    if (is_done)
+        status = lapd_frame(&timed, line, from[which], octets[which], &own);
+    while (!is_done && (status = lapd_frame_at(&timed, now, line, from[which], octets[which], &is_done, &own)) == LAPD_OK && !is_done)
+        expires(&own);
+    none_is_due();
     same(line, status, &own, lapd_frame(&plain, line, from[which], octets[which], &told), &told);
 }
 
@@ -209,19 +247,27 @@ static void octets_go(void) {
 }
 
 static void frames_go(void) {
+    bool at = has_moment();
     for (uint32_t line = 0; lapd_next_waiting(&timed, line, &line) == LAPD_OK;) {
         uint8_t out[LAPD_MOST_FRAME], other[LAPD_MOST_FRAME];
         size_t length = 0, octets = 1;
         lapd_report own = {0}, told = {0};
-        uint32_t status = lapd_next_frame(&timed, line, out, sizeof out, &length, &own);
+        uint32_t status = at ? lapd_next_frame_at(&timed, now, line, out, sizeof out, &length, &own)
+                             : lapd_next_frame(&timed, line, out, sizeof out, &length, &own);
+        if (at && status == LAPD_OK && length == 0) {
+            expires(&own);
+            line = 0; /* frames may wait on the lines before */
+            continue;
+        }
         same(line, status, &own, lapd_next_frame(&plain, line, other, sizeof other, &octets, &told), &told);
         wants(length == octets && memcmp(out, other, length) == 0, "another frame");
         if (out[0] >> 2 == 63)
             memcpy(asked, out + 4, sizeof asked);
         frames++;
     }
-    uint32_t none;
-    wants(lapd_next_waiting(&plain, 0, &none) == LAPD_NO_FRAME, "a frame is left");
+    falls_due(); /* of a moment that no call took, as no frame waits */
+    uint32_t own_first = LINES, first = LINES;
+    wants(lapd_next_waiting(&timed, 0, &own_first) == lapd_next_waiting(&plain, 0, &first) && own_first == first, "another frame waits");
 }
 
 static void is_asked(void) {
@@ -232,7 +278,13 @@ static void is_asked(void) {
     size_t length = request == LAPD_DATA || request == LAPD_UNIT ? below(18) : 0;
     uint32_t line = below(LINES);
     lapd_report own = {0}, told = {0};
-    uint32_t status = lapd_request_with(&timed, line, request, service, of, contents, length, &own);
+    uint32_t status = LAPD_OK;
+    bool is_done = !has_moment();
+    if (is_done)
+        status = lapd_request_with(&timed, line, request, service, of, contents, length, &own);
+    while (!is_done && (status = lapd_request_at(&timed, now, line, request, service, of, contents, length, &is_done, &own)) == LAPD_OK && !is_done)
+        expires(&own);
+    none_is_due();
     same(line, status, &own, lapd_request_with(&plain, line, request, service, of, contents, length, &told), &told);
 }
 

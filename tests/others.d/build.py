@@ -54,6 +54,7 @@ def objects(found, lapd):
             yield name, work_of[stack] / path, lambda work, stack=stack: flags(stack, work_of[stack], work)
 
 
+# What else a stack's files are linked with, which its program does not include.
 ALSO = {'misdn_teis': ['layer2', 'fsm'], 'lapd_core_link': ['msgb'], 'our_link': ['lapd'], 'our_teis': ['lapd']}
 
 
@@ -75,3 +76,15 @@ def built(compiler, found, work, lapd=ROOT / 'dist'):
         list(pool.map(run, [[compiler, '-o', work / name, *(work / ('%s.o' % it) for it in
                              [name, name.rpartition('_')[2], *ALSO.get(name, [])])] for name in programs]))
     return work
+
+
+def costs(compiler, found, work):
+    """Builds the programs that tell what a frame costs, each once more to count its blocks, into a folder."""
+    stubs(work)
+    also = {stack: [it.folder / 'src/msgb.c'] * (stack == 'lapd_core') for stack, it in found.items()}
+    for flag, end in ([], ''), (['-DCOUNTED'], '_counted'):
+        common = work / ('cost%s.o' % end)
+        run([compiler, *STRICT, '-O2', *flag, '-c', HERE / 'cost.c', '-o', common])
+        for stack, it in found.items():
+            run([compiler, *flags(stack, it.folder, work), '-O2', HERE / (stack + '_cost.c'), *also[stack], common,
+                 '-o', work / (stack + end)])

@@ -10,7 +10,8 @@ import teis
 PAGE = pathlib.Path(__file__).resolve().parent.parent.parent / 'docs' / 'CONFORMANCE.md'
 BEGIN, END = '<!-- printed by tests/others --page -->', '<!-- end -->'
 STACKS = 'misdn', 'libpri', 'lapd_core'
-PARTS = {'links': 'links', 'network': 'TEI, network', 'terminal': 'TEI, terminal'}
+TABLES = 'links', 'network', 'terminal'
+PARTS = {'links': 'links', 'sequences': 'links', 'network': 'network', 'terminal': 'terminal'}
 
 
 def there(table, stack, ours):
@@ -29,22 +30,21 @@ def counted(table, ours, blocks):
     for stack in STACKS:
         most = there(table, stack, ours)
         differing = sum(it.cells.get(stack, 0) for it in blocks if it.table == table)
-        row.append('' if most is None else '%d of %d' % (most - differing, most))
+        row.append('' if most is None else '%d/%d' % (most - differing, most))
     return '|%s|' % '|'.join(row)
 
 
 def row(block):
     """A row of the second: a difference, how many cells each stack has of it, and whose it is."""
     numbers = [str(block.cells[it] or '*') if it in block.cells else '' for it in STACKS]
-    where = '' if block.table in ('links', 'sequences') else block.table + ': '
-    return '|%s%s|%s|%s|' % (where, block.title, '|'.join(numbers), block.side)
+    return '|%s|%s|%s|%s|' % (PARTS[block.table], block.title, '|'.join(numbers), block.side)
 
 
 def printed(path):
     """The lines of the part."""
     ours, blocks = tables.link_cells(path.read_text(encoding='utf-8')), differences.known()
-    return ['|Equal cells|All|mISDN|libpri|lapd_core|', '|---|---|---|---|---|', *(counted(it, ours, blocks) for it in PARTS), '',
-            '|Cells that differ in|mISDN|libpri|lapd_core|Whose|', '|---|---|---|---|---|', *map(row, blocks)]
+    return ['|Equal|Cells|mISDN|libpri|lapd_core|', '|---|---|---|---|---|', *(counted(it, ours, blocks) for it in TABLES), '',
+            '|Part|Difference|mISDN|libpri|lapd_core|Whose|', '|---|---|---|---|---|---|', *map(row, blocks)]
 
 
 def parts():

@@ -628,7 +628,7 @@ enum {
     LAPD_TOLD_UNASSIGNED = 62, LAPD_TOLD_REMOVE_ALL = 63,
     /* control frames and messages that found no room to wait */
     LAPD_LOST = 64,
-    /* messages of TEI management heard and begun (clause 5.3.1, table 8), by their type. They are the UI frames above with
+    /* messages of TEI management heard and begun (clause 5.3.6, table 8), by their type. They are the UI frames above with
      * SAPI 63 and FF as the second octet (TEI 127 and its extension bit) whose information begins with the entity identifier 15,
      * well formed or not, served or not. The network's side begins those that assign, deny, check
      * and remove, and hears the others; a terminal begins the others */

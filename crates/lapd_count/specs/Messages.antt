@@ -1,4 +1,4 @@
--- The messages of TEI management, as what is counted of a line names them (Q.921 clause 5.3.1).
+-- The messages of TEI management, as what is counted of a line names them (Q.921 clause 5.3.6).
 use Rattle.std.specs.Prelude.{ℕ, ◌/◌, ◌==◌, ◌&&◌, ◌||◌, Bool, List, [], ◌∷◌, get_or, Option, Some, None}
 use Rattle.lapd_count.specs.declared.messages.MessageType.{MessageType}
 use Rattle.lapd_count.specs.declared.messages.MessageType.TheVariants.{IdentityRequest, IdentityAssigned, IdentityDenied, IdentityCheckRequest, IdentityCheckResponse, IdentityRemove, IdentityVerify}

@@ -62,7 +62,7 @@ pub enum Counter {
     RemovedAll,
     /// Control frames and messages of TEI management that found no room to wait.
     Lost,
-    /// Messages of TEI management, of this name: good UI frames with SAPI 63 and TEI 127 that have one (Q.921 clause 5.3.1).
+    /// Messages of TEI management, of this name: good UI frames with SAPI 63 and TEI 127 that have one (Q.921 clause 5.3.6).
     Messages(Way, MessageType),
 }
 

@@ -3,7 +3,7 @@
 ghost use Rattle.std.specs.Prelude.{◌≡◌};
 ghost use Rattle.lapd_count.specs.Messages.{message_of};
 
-/// A message of TEI management, as its type says (Q.921 clause 5.3.1, table 8). It is counted whether or not the message is
+/// A message of TEI management, as its type says (Q.921 clause 5.3.6, table 8). It is counted whether or not the message is
 /// otherwise well formed, and whether or not it is served.
 #[derive(Clone, Copy, PartialEq, Eq, Debug)]
 pub enum MessageType {

@@ -202,7 +202,7 @@ impl Managing {
         }
     }
 
-    /// The type of the message that [`Managing::offer`] takes next (Q.921 clause 5.3.1, table 8).
+    /// The type of the message that [`Managing::offer`] takes next (Q.921 clause 5.3.6, table 8).
     pub fn next_type(&self) -> Option<u8>
         ensures { result ≡ first_type self.now }
     {

@@ -1,4 +1,4 @@
--- The messages of TEI management (Q.921 clause 5.3.1): what the network's are in octets, and which of the terminal's
+-- The messages of TEI management (Q.921 clause 5.3.6): what the network's are in octets, and which of the terminal's
 -- octets are.
 use Rattle.std.specs.Prelude.{ℕ, ◌+◌, ◌*◌, ◌/◌, ◌%◌, ◌==◌, ◌&&◌, true, false, List, [], ◌∷◌, Option, Some, None, if◌then◌else◌}
 use Rattle.lapd_frame.specs.Grammar.{spelling}
@@ -9,7 +9,7 @@ pub use Rattle.lapd_tei.specs.declared.messages.Message.TheVariants.{IdentityAss
 pub use Rattle.lapd_tei.specs.declared.heard.Heard.{Heard}
 pub use Rattle.lapd_tei.specs.declared.heard.Heard.TheVariants.{IdentityRequest, IdentityCheckResponse, IdentityVerify}
 
--- Figure of clause 5.3.1: the entity identifier 0F, the reference number Ri with its high octet first, the message
+-- Figure of clause 5.3.6: the entity identifier 0F, the reference number Ri with its high octet first, the message
 -- type, and the action indicator Ai with 1 as its extension bit.
 abbrev pub information : ℕ → ℕ → ℕ → List ℕ
 information ri type action = 0x0F ∷ (ri / 256) ∷ (ri % 256) ∷ type ∷ (2 * action + 1) ∷ []
@@ -36,7 +36,7 @@ action_of (IdentityDenied ri) = 127
 action_of (IdentityCheckRequest tei) = tei
 action_of (IdentityRemove tei) = tei
 
--- Each goes to the group in a UI command of SAPI 63 with P 0 (clause 5.3.1), spelled as that of the side which sends it
+-- Each goes to the group in a UI command of SAPI 63 with P 0 (clause 5.3.6), spelled as that of the side which sends it
 -- (clause 3.3.2).
 abbrev pub frame_of : Side → Message → List ℕ
 frame_of side message =

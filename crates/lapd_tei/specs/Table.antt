@@ -45,7 +45,7 @@ is_off places tei = not (is_on tei places)
 abbrev pub free_tei : Places → Option ℕ
 free_tei places = find (is_off places) automatic
 
--- The TEIs on the line, by their places, and those that an Ai names (clause 5.3.1): each by 127, or this one, if it is on the
+-- The TEIs on the line, by their places, and those that an Ai names (clause 5.3.6): each by 127, or this one, if it is on the
 -- line.
 abbrev pub itself : Option ℕ → Option ℕ
 itself tei = tei

@@ -5,7 +5,7 @@ ghost use Rattle.lapd_tei.specs.Messages.{heard_in};
 
 use crate::messages::{ENTITY, NO_TEI};
 
-/// A message of TEI management that a terminal sends (Q.921 clause 5.3.1, table 8).
+/// A message of TEI management that a terminal sends (Q.921 clause 5.3.6, table 8).
 #[derive(Clone, Copy)]
 pub(crate) enum Heard {
     /// A terminal asks for any TEI, by a reference number Ri of its choice (clause 5.3.2).

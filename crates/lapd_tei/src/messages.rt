@@ -5,14 +5,14 @@ ghost use Rattle.lapd_tei.specs.Messages.{action_of, information_of, frame_of, t
 
 use lapd_frame::{Address, Control, Frame, GROUP, MANAGEMENT, Side, write};
 
-/// The entity identifier of TEI management (Q.921 clause 5.3.1).
+/// The entity identifier of TEI management (Q.921 clause 5.3.6).
 pub const ENTITY: u8 = 0x0F;
 
-/// The Ai that names no TEI of its own: any will do, each is meant, or there is none to be had (Q.921 clause 5.3.1).
+/// The Ai that names no TEI of its own: any will do, each is meant, or there is none to be had (Q.921 clause 5.3.6).
 pub const NO_TEI: u8 = GROUP;
 
 /// A message of TEI management that the network sends to the terminals of a line (Q.921 clause
-/// 5.3.1, table 8).
+/// 5.3.6, table 8).
 #[derive(Clone, Copy, PartialEq, Eq, Debug)]
 pub enum Message {
     /// The TEI is assigned to the terminal that asked for one with this reference number Ri (clause

@@ -232,7 +232,7 @@ impl Teis {
         self.queue.len() > 0
     }
 
-    /// The type of the message that [`Teis::offer`] takes next (Q.921 clause 5.3.1, table 8).
+    /// The type of the message that [`Teis::offer`] takes next (Q.921 clause 5.3.6, table 8).
     pub fn next_type(&self) -> Option<u8>
         ensures { result ≡ option_map type_of (slice_get self.now.waiting 0) }
     {

@@ -1,4 +1,4 @@
--- The messages of TEI management as a terminal has them (Q.921 clause 5.3.1): what its own are in octets, and which of
+-- The messages of TEI management as a terminal has them (Q.921 clause 5.3.6): what its own are in octets, and which of
 -- the network's octets are.
 use Rattle.std.specs.Prelude.{ℕ, ◌+◌, ◌*◌, ◌/◌, ◌%◌, ◌==◌, ◌&&◌, true, false, List, [], ◌∷◌, Option, Some, None, if◌then◌else◌}
 use Rattle.lapd_frame.specs.Grammar.{spelling}
@@ -28,7 +28,7 @@ action_of (IdentityRequest ri) = 127
 action_of (IdentityCheckResponse ri tei) = tei
 action_of (IdentityVerify tei) = tei
 
--- Each goes, with the TEI of the group, in a UI command of SAPI 63 with P 0 (clause 5.3.1), spelled as the user's side
+-- Each goes, with the TEI of the group, in a UI command of SAPI 63 with P 0 (clause 5.3.6), spelled as the user's side
 -- sends it (clause 3.3.2).
 abbrev pub frame_of : Message → List ℕ
 frame_of message =

@@ -5,7 +5,7 @@ ghost use Rattle.lapd_terminal.specs.Messages.{heard_in};
 
 use lapd_tei::{ENTITY, NO_TEI};
 
-/// A message of TEI management that the network sends (Q.921 clause 5.3.1, table 8).
+/// A message of TEI management that the network sends (Q.921 clause 5.3.6, table 8).
 #[derive(Clone, Copy)]
 pub enum Heard {
     /// The TEI is assigned to the terminal that asked for one with this reference number Ri (clause 5.3.2).

@@ -7,7 +7,7 @@ ghost use Rattle.lapd_terminal.specs.Words.{is_request, is_verify, is_response, 
 use lapd_frame::{Address, Control, Frame, GROUP, MANAGEMENT, Side, write};
 use lapd_tei::{ENTITY, NO_TEI};
 
-/// A message of TEI management that a terminal sends to the network (Q.921 clause 5.3.1, table 8).
+/// A message of TEI management that a terminal sends to the network (Q.921 clause 5.3.6, table 8).
 #[derive(Clone, Copy, PartialEq, Eq, Debug)]
 pub enum Message {
     /// The terminal asks for any TEI (clause 5.3.2).

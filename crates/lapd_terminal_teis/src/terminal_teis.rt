@@ -204,7 +204,7 @@ impl TerminalTeis {
         self.queue.len() > 0
     }
 
-    /// The type of the message that [`TerminalTeis::offer`] takes next (Q.921 clause 5.3.1, table 8).
+    /// The type of the message that [`TerminalTeis::offer`] takes next (Q.921 clause 5.3.6, table 8).
     pub fn next_type(&self) -> Option<u8>
         ensures { result ≡ option_map type_of (slice_get self.now.waiting 0) }
     {

@@ -73,7 +73,7 @@ IsOf c e answer service tei other = IsBy c e answer service tei other
 abbrev pub ServesMessages : Config → Parts → Type 0
 ServesMessages c parts = (c.side ≡ Network) ⊎ ((is_terminal c ≡ true) × (parts.address.command ≡ true))
 
--- There a UI to the group with SAPI 63 is heard, with this information (Q.921 clauses 3.3.3, 3.3.4 and 5.3.1).
+-- There a UI to the group with SAPI 63 is heard, with this information (Q.921 clauses 3.3.3, 3.3.4 and 5.3.6).
 pub record BringsMessage (c : Config) (e : Event) (info : List ℕ) : Type 0 where
   pub parts : Parts
   pub serves : ServesMessages c parts

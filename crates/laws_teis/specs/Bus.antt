@@ -69,7 +69,7 @@ begun = record { at_network = []; at_terminal = []; way = []; missed = [] }
 abbrev pub network_of : Bus → Past → Network
 network_of b p = network_after b.network b.number p.at_network
 
--- The message of TEI management, if a frame comes to the terminal as one; and whether it removes a TEI (clauses 5.3.1 and 5.3.4).
+-- The message of TEI management, if a frame comes to the terminal as one; and whether it removes a TEI (clauses 5.3.4 and 5.3.6).
 abbrev pub message_in : Config → List ℕ → List ℕ
 message_in c octets = option_map_or (λ (f : Parts). if is_message f && f.address.command then f.info else []) (frame_of c (came c.n201 octets)) []
 

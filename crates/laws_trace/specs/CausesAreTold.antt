@@ -41,12 +41,12 @@ serves (Dm f) state = is_up state || (f && (state == 5 || state == 6))
 serves other state = is_up state
 
 -- TEI management serves the messages by which something comes to happen to it (`by_message`), and no others: on the network's side
--- those of a terminal, and at a terminal those of the network (clause 5.3.1, table 8, and profile).
+-- those of a terminal, and at a terminal those of the network (clause 5.3.6, table 8, and profile).
 abbrev pub serves_information : Config → Managed → List ℕ → Bool
 serves_information c w info = if is_terminal c then is_some (terminal.by_message info (own_of c w)) else is_some (by_message c w info)
 
 -- A frame is by its address for TEI management, which has SAPI 63 and the TEI of the group; or for the link of a service with a
--- TEI on the line, in its state; or for none, by its SAPI, and else by its TEI (clauses 2.9, 3.3.3, 3.3.4 and 5.3.1).
+-- TEI on the line, in its state; or for none, by its SAPI, and else by its TEI (clauses 2.9, 3.3.3, 3.3.4 and 5.3.6).
 abbrev pub unless : Bool → Option Cause
 unless served = if served then None else Some Unserved
 
@@ -57,7 +57,7 @@ by_address w states served is_message a =
 
 -- One that the grammar does not have is served in states 7 and 8 (clauses 2.9, 3.3.1 and 5.8.5). So is an I-frame that was too long
 -- to keep; such a UI, and such an XID, is not (profile). Messages of TEI management come in UI frames, and at a terminal in commands. A
--- trunk's end serves none (clause 5.3.1 and profile).
+-- trunk's end serves none (clause 5.3.6 and profile).
 abbrev pub by_fault : (Address → Option Cause) → ReadFault → Option Cause
 by_fault malformed BadExtension = Some Extension
 by_fault malformed (Undefined a) = malformed a

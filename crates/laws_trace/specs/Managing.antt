@@ -111,7 +111,7 @@ ran_out w check =
     check.before (checks check.tei (Some check.answered) w)
 
 -- What a terminal says, in the information of a UI frame to the group, with SAPI 63: in octets 0F, Ri with its high octet
--- first, the type, and Ai with 1 as its extension bit (clause 5.3.1, its figure and table 8). It asks for any TEI, Ai 127, by
+-- first, the type, and Ai with 1 as its extension bit (clause 5.3.6, its figure and table 8). It asks for any TEI, Ai 127, by
 -- an Ri, as others ask for none (profile); it answers that it has a TEI; or it asks for a check of one. None is a message that is not
 -- served.
 abbrev pub by_message : Config → Managed → List ℕ → Option Managed
@@ -149,7 +149,7 @@ by_request c Down w = record w { check = None; owed = []; orders = if is_some w.
 by_request c other w = w
 
 -- A message in octets: 0F, Ri with its high octet first, the type, and Ai with 1 as its extension bit; a denial has Ai 127, and a
--- check request and a removal have Ri 0 (clause 5.3.1, its figure and table 8).
+-- check request and a removal have Ri 0 (clause 5.3.6, its figure and table 8).
 abbrev pub octets_of : Message → List ℕ
 octets_of (IdentityAssigned ri tei) = 0x0F ∷ (ri / 256) ∷ (ri % 256) ∷ 2 ∷ (2 * tei + 1) ∷ []
 octets_of (IdentityDenied ri) = 0x0F ∷ (ri / 256) ∷ (ri % 256) ∷ 3 ∷ 0xFF ∷ []

@@ -36,7 +36,7 @@ abbrev pub own_on : Config → OfTerminal
 own_on c =
     record { places = replicate c.terminals None; number = unwrap_or c.seed 0 % 65536; procedure = None; owed = []; notes = []; orders = []; begins = []; granted = None }
 
--- The TEIs on the line, by place; and those of them that an Ai names: each by 127, or this one (clause 5.3.1, table 8).
+-- The TEIs on the line, by place; and those of them that an Ai names: each by 127, or this one (clause 5.3.6, table 8).
 abbrev pub teis_of : List (Option ℕ) → List ℕ
 teis_of places = filter_map (λ place. place) places
 
@@ -140,7 +140,7 @@ by_remove [] t = None
 by_remove (tei ∷ []) t = Some (removed tei t)
 by_remove (tei ∷ more) t = Some (record t { notes = RemoveAll ∷ [] })
 
--- What the network says, in octets as in `octets_of`: by type (clause 5.3.1, table 8). None is a message that is not served.
+-- What the network says, in octets as in `octets_of`: by type (clause 5.3.6, table 8). None is a message that is not served.
 abbrev pub by_message : List ℕ → OfTerminal → Option OfTerminal
 by_message (entity ∷ high ∷ low ∷ type ∷ last ∷ []) t =
     if not (entity == 0x0F && last % 2 == 1) then None
@@ -189,7 +189,7 @@ by_event c next t = Some (record t { owed = drop 1 t.owed; begins = take 1 t.owe
 by_event c other t = None
 
 -- A message in octets: 0F, Ri with its high octet first, the type, and Ai with 1 as its extension bit; a request has Ai 127, and a
--- verify Ri 0 (clause 5.3.1, its figure and table 8).
+-- verify Ri 0 (clause 5.3.6, its figure and table 8).
 abbrev pub octets_of : Message → List ℕ
 octets_of (IdentityRequest ri) = 0x0F ∷ (ri / 256) ∷ (ri % 256) ∷ 1 ∷ 0xFF ∷ []
 octets_of (IdentityCheckResponse ri tei) = 0x0F ∷ (ri / 256) ∷ (ri % 256) ∷ 5 ∷ (2 * tei + 1) ∷ []

@@ -22,7 +22,7 @@ use Rattle.laws_trace.specs.Observer.{moment_of}
 use Rattle.laws_trace.specs.Trace.{frame_in}
 
 -- What an answer shows of TEI management: notes of TEIs, orders of T201 and T202, frames with SAPI 63, and whether what management
--- asks for is granted (clauses 5.3.1 to 5.3.5).
+-- asks for is granted (clauses 5.3.1 to 5.3.6).
 abbrev pub is_of_teis : Note → Bool
 is_of_teis (Assigned tei) = true
 is_of_teis (Removed tei) = true
@@ -39,7 +39,7 @@ is_of_line (Start T202) = true
 is_of_line (Stop T202) = true
 is_of_line other = false
 
--- A message goes to the group, TEI 127, in a UI command of the side with SAPI 63 and P=0 (clause 5.3.1).
+-- A message goes to the group, TEI 127, in a UI command of the side with SAPI 63 and P=0 (clause 5.3.6).
 abbrev pub message_text : Config → List ℕ → List ℕ
 message_text c octets =
     spelling (own_side c) (record { address = record { sapi = 63; command = true; tei = 127 }; control = Ui false; info = octets })

@@ -20,7 +20,7 @@ use Rattle.laws_trace.specs.Observer.{moment_of}
 use Rattle.laws_trace.specs.Trace.{frame_in, IsFront}
 use Rattle.laws_trace.specs.Units.{is_ui}
 
--- A UI, except those of TEI management, which have SAPI 63 (Q.921 clauses 3.6.5 and 5.3.1).
+-- A UI, except those of TEI management, which have SAPI 63 (Q.921 clauses 3.6.5 and 5.3.6).
 abbrev pub is_unit : Sender → List ℕ → Bool
 is_unit sender = reads sender (λ (f : Parts). is_ui f.control && not (f.address.sapi == 63))
 

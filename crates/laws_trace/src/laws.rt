@@ -187,7 +187,7 @@ pub fn nothing_is_lost_in_vain()
 /// one.
 ///
 /// **Messages** begin as the line is called for its next frame, before all other frames, the oldest first, whole, each
-/// once, in the octets of clause 5.3.1. At most four are owed. As the line is down none is owed any more, a check that
+/// once, in the octets of clause 5.3.6. At most four are owed. As the line is down none is owed any more, a check that
 /// runs is over, and T201 is stopped.
 ///
 /// **Granted** is exactly this. A TEI of at most 126 is put on a line that does not have it and has room. On the
@@ -210,7 +210,7 @@ pub fn nothing_is_lost_in_vain()
 /// - *No message is owed twice, and none is lost.* A newer request takes the place of an older one that is owed. A verify
 ///   or a response that is owed is enough, for the one procedure and for each TEI. What is owed is withdrawn as its
 ///   procedure ends, or its TEI leaves. Nothing is refused for want of room for a message (Q.921 clauses 4.1.1.5,
-///   5.3.1 to 5.3.5, 5.9.4 and 5.9.7, annex B and profile).
+///   5.3.1 to 5.3.6, 5.9.4 and 5.9.7, annex B and profile).
 pub fn teis_are_managed()
     ensures { Always TeisAreManaged }
 {}
@@ -312,7 +312,7 @@ pub fn news_is_told()
 /// the line, and none runs. At a terminal a UI command has none if its information is one of five messages. By the Ri of
 /// the request that is outstanding it assigns a TEI that may come to the line, or denies one. Or it assigns a TEI on the
 /// line, and no procedure runs. Or it checks or removes TEIs on the line. [`teis_are_managed`] has the TEIs on the line,
-/// the check and the procedure (Q.921 clauses 2.6, 2.7, 2.9, 2.10, 3.3.1 to 3.3.4, 5.3.1 to 5.3.5 and 5.8.5, annex B, and
+/// the check and the procedure (Q.921 clauses 2.6, 2.7, 2.9, 2.10, 3.3.1 to 3.3.4, 5.3.1 to 5.3.6 and 5.8.5, annex B, and
 /// profile).
 pub fn causes_are_told()
     ensures { Always CausesAreTold }

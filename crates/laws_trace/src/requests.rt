@@ -33,7 +33,7 @@ ghost use Rattle.laws_trace.specs.RoomsAreTold.{NoRoomIsTold, RoomsAreTold};
 ///   have one verified, that a procedure of the terminal runs;
 /// - to remove, check or disown a TEI, that the network's side owes four messages, as [`teis_are_managed`] has all this.
 ///
-/// That the line is down is never refused (Q.921 clauses 5.2.2, 5.3.1 to 5.3.5, 5.5.1.1, 5.5.3.1, 5.5.3.2, 5.6.1, 5.6.6
+/// That the line is down is never refused (Q.921 clauses 5.2.2, 5.3.1 to 5.3.6, 5.5.1.1, 5.5.3.1, 5.5.3.2, 5.6.1, 5.6.6
 /// and 5.9.3, annex B and profile).
 pub fn answers_suit_events()
     ensures { Always AnswersSuit }

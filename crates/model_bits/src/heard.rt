@@ -17,7 +17,7 @@ pub enum Cause {
     /// A SAPI that is not served (clauses 2.9 and 3.3.3).
     Sapi,
     /// A TEI that is not on the line; with SAPI 63, layer 2 management, a TEI that is not the group's, 127 (clauses
-    /// 3.3.4 and 5.3.1).
+    /// 3.3.4 and 5.3.6).
     Tei,
     /// A frame with a good check and a known address that is not served: the state of its link does not serve it, or
     /// TEI management does not; it is an overlong UI or XID (profile); or it is for layer 2 management and no UI, or

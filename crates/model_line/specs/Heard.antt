@@ -27,7 +27,7 @@ use Rattle.model_line.specs.Sides.{at_side}
 abbrev pub drop_for : Cause → Aim
 drop_for cause = at_none (dropped cause)
 
--- Layer 2 management has SAPI 63, and its frames are for the group, TEI 127 (Q.921 clauses 3.3.3 and 5.3.1). Of the
+-- Layer 2 management has SAPI 63, and its frames are for the group, TEI 127 (Q.921 clauses 3.3.3 and 5.3.6). Of the
 -- other SAPIs those of the two services are served, and their frames are for the links of a TEI on the line. An unknown
 -- SAPI is told before an unknown TEI (profile).
 abbrev pub management_sapi : ℕ

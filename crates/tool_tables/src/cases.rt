@@ -195,7 +195,13 @@ pub fn unnumbered() -> &'static [(&'static str, Event)] {
     &UNNUMBERED
 }
 
-static UNNUMBERED: [(&str, Event); 14] = [
+/// UI with an octet of information, as the network sends it.
+const UI_RESPONSE: Event = Event::Octets(&[0x02, 0x81, 0x03, 0x41]);
+
+/// UI with an octet more than N201.
+const LONG_UI: Event = Event::Octets(&[0x00, 0x81, 0x03, 1, 2, 3, 4, 5, 6, 7, 8, 9]);
+
+static UNNUMBERED: [(&str, Event); 16] = [
     ("SABME P=1", SABME),
     ("SABME P=0", Event::Plain(Unnumbered::Sabme, false)),
     ("DISC P=1", Event::Plain(Unnumbered::Disc, true)),
@@ -203,6 +209,8 @@ static UNNUMBERED: [(&str, Event); 14] = [
     ("UA F=1", Event::Plain(Unnumbered::Ua, true)),
     ("UA F=0", Event::Plain(Unnumbered::Ua, false)),
     ("UI P=0", Event::Plain(Unnumbered::Ui, false)),
+    ("UI over N201", LONG_UI),
+    ("UI F=0", UI_RESPONSE),
     ("XID P=0", Event::Plain(Unnumbered::Xid, false)),
     ("DM F=1", Event::Plain(Unnumbered::Dm, true)),
     ("DM F=0", DM),
@@ -238,7 +246,7 @@ pub fn numbered() -> &'static [(&'static str, Event)] {
     &NUMBERED
 }
 
-static NUMBERED: [(&str, Event); 26] = [
+static NUMBERED: [(&str, Event); 32] = [
     (
         "I P=0 N(S)=0 N(R)=0",
         Event::Command(Kind::NextInformation, 0, false),
@@ -283,6 +291,12 @@ static NUMBERED: [(&str, Event); 26] = [
     ("RR P=0 N(R)=1", Event::Command(Kind::Ready, 1, false)),
     ("REJ P=0 N(R)=1", Event::Command(Kind::Reject, 1, false)),
     ("RNR P=0 N(R)=1", Event::Command(Kind::NotReady, 1, false)),
+    ("RR F=0 N(R)=1", Event::Response(Kind::Ready, 1, false)),
+    ("REJ F=0 N(R)=1", Event::Response(Kind::Reject, 1, false)),
+    ("RNR F=0 N(R)=1", Event::Response(Kind::NotReady, 1, false)),
+    ("RR P=1 N(R)=1", Event::Command(Kind::Ready, 1, true)),
+    ("REJ P=1 N(R)=1", Event::Command(Kind::Reject, 1, true)),
+    ("RNR P=1 N(R)=1", Event::Command(Kind::NotReady, 1, true)),
     ("RR F=1 N(R)=1", Event::Response(Kind::Ready, 1, true)),
     ("REJ F=1 N(R)=1", Event::Response(Kind::Reject, 1, true)),
     ("RNR F=1 N(R)=1", Event::Response(Kind::NotReady, 1, true)),
@@ -293,7 +307,7 @@ pub fn others() -> &'static [(&'static str, Event)] {
     &OTHERS
 }
 
-static OTHERS: [(&str, Event); 9] = [
+static OTHERS: [(&str, Event); 10] = [
     ("T200 expires", T200),
     ("T203 expires", T203),
     ("clear busy", Event::Ask(LinkRequest::ClearBusy)),
@@ -306,4 +320,5 @@ static OTHERS: [(&str, Event); 9] = [
     ("establish request", ESTABLISH),
     ("release request", RELEASE),
     ("the TEI leaves the line", Event::Clear),
+    ("the line is down", Event::Clear),
 ];

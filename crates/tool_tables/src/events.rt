@@ -3,7 +3,7 @@
 ghost use Rattle.tool_tables.specs.Works.{Works};
 
 use crate::shelved_link::ShelvedLink;
-use lapd_frame::{Control, Refusal};
+use lapd_frame::{Control, ReadFault, Refusal, Side, read};
 use lapd_link::{BareReport, LinkRequest, LinkTimer, Offer, Received};
 use lapd_seq::Seq;
 
@@ -74,6 +74,8 @@ pub enum Event {
     Response(Kind, u8, bool),
     /// What came is malformed.
     Malformed(Malformed),
+    /// These octets come from the user's side.
+    Octets(&'static [u8]),
     /// A timer expires.
     Expire(LinkTimer),
     /// Layer 3 asks for something.
@@ -179,6 +181,7 @@ fn give(shelved: &mut ShelvedLink, event: Event) -> Result<BareReport, Refusal>
         Event::Command(kind, nr, p) => Ok(shelved.hear(true, control_of(kind, nr, p))),
         Event::Response(kind, nr, f) => Ok(shelved.hear(false, control_of(kind, nr, f))),
         Event::Malformed(malformed) => Ok(shelved.receive(received(malformed))),
+        Event::Octets(octets) => Ok(shelved.receive(reading(octets))),
         Event::Expire(timer) => Ok(shelved.expire(timer)),
         Event::Ask(request) => shelved.ask(request),
         Event::Clear => Ok(shelved.clear()),
@@ -190,6 +193,15 @@ fn received(malformed: Malformed) -> Received<'static> {
         Malformed::Undefined => Received::Undefined,
         Malformed::WrongSize => Received::WrongSize,
         Malformed::Overlong => Received::Overlong,
+    }
+}
+
+/// What octets are to the link of their address.
+fn reading(octets: &'static [u8]) -> Received<'static> {
+    match read(Side::User, octets) {
+        Ok(frame) => Received::Frame(frame),
+        Err(ReadFault::Undefined(_)) => Received::Undefined,
+        Err(_) => Received::WrongSize,
     }
 }
 

@@ -294,7 +294,7 @@ enum {
     LAPD_T202 = 4  /* at a terminal: an answer to a request or a verify is awaited; 2,000 ms by default (clause 5.9.7) */
 };
 
-/* A timer of a line. */
+/* A timer of a line; or none, as a report may have it: 0 in each field. */
 typedef struct lapd_timer {
     uint8_t timer;   /* LAPD_T200, LAPD_T203, LAPD_T201 or LAPD_T202 */
     uint8_t service; /* of the link, for T200 and T203; told as 0 for T201 and T202, and not read then */
@@ -364,6 +364,7 @@ typedef struct lapd_report {
     lapd_order orders[LAPD_MOST_ORDERS];
     uint8_t contents[LAPD_MOST_OCTETS];
     uint8_t more;        /* of the next frame: 1 if another waits on its line, so that the next call gives one; otherwise 0 */
+    lapd_timer expired;  /* of lapd_fall_due: the timer that expired; of every other call 0 in each field */
     uint8_t reopened;    /* 1 if a link that waited for room has some again; if it is 0, the next two tell nothing */
     uint8_t reopened_service; /* of that link: LAPD_CALL or LAPD_PACKET */
     uint8_t reopened_tei;     /* of that link: 0 to 126 */
@@ -518,11 +519,11 @@ LAPD_STATUS lapd_request(lapd_card *card, uint32_t line, uint8_t request, uint8_
 /* ---- What happens in time, at a card that keeps its own timers. At another: LAPD_WRONG_CARD ----------------------- */
 
 /*
- * The time is now a moment, in milliseconds from any origin; and the timer that is due first, if one is, expires: the report
- * tells what that led to, at its line, and tells nothing if it led to a frame alone. However late the call is, the timer expires
- * at this moment, and what it starts runs from then on. So call it until it answers LAPD_NO_TIMER: then nothing is due, and
- * calls happen at this moment. At one moment: by line, then T200 before T203 before T201 or T202, by TEI, and call control
- * before packet.
+ * The time is now a moment, in milliseconds from any origin; and the timer that is due first, if one is, expires. The report
+ * has it as `expired`, and tells what that led to, at its line: nothing if it led to a frame alone. However late the call is,
+ * the timer expires at this moment, and what it starts runs from then on. So call it until it answers LAPD_NO_TIMER: then
+ * nothing is due, and calls happen at this moment. At one moment: by line, then T200 before T203 before T201 or T202, by TEI,
+ * and call control before packet.
  * LAPD_WRONG_TIME: a moment before the last one, or 2^63 and later, and nothing has changed. Nothing falls due until the last
  * moment has come again, so take a clock that is never set back, and look at the status that ends the loop. One moment that is
  * far too great stops all timers of the card for good: then free it, and start another.

@@ -282,6 +282,9 @@ public:
     bool reopened() const { return raw_.reopened != 0; }
     service reopened_service() const { return static_cast<service>(raw_.reopened_service); }
     uint8_t reopened_tei() const { return raw_.reopened_tei; }
+    /// Of fall_due: whether a timer expired, and which.
+    bool expired() const { return raw_.expired.timer != 0; }
+    timer expired_timer() const { return timer(raw_.expired); }
     /// The line at which the event happened.
     uint32_t line() const { return raw_.line; }
     bool tells() const { return lapd_tells(&raw_); }

@@ -238,8 +238,9 @@ class _Report(ctypes.Structure):
     _fields_ = [("note_count", ctypes.c_uint8), ("order_count", ctypes.c_uint8), ("cause", ctypes.c_uint8),
                 ("lost", ctypes.c_uint8), ("begun", ctypes.c_uint8), ("delivered", ctypes.c_uint8),
                 ("length", ctypes.c_uint16), ("notes", _Note * 4), ("orders", _Order * 4),
-                ("contents", ctypes.c_uint8 * 260), ("more", ctypes.c_uint8), ("reopened", ctypes.c_uint8),
-                ("reopened_service", ctypes.c_uint8), ("reopened_tei", ctypes.c_uint8), ("line", ctypes.c_uint16)]
+                ("contents", ctypes.c_uint8 * 260), ("more", ctypes.c_uint8), ("expired", _Timer),
+                ("reopened", ctypes.c_uint8), ("reopened_service", ctypes.c_uint8), ("reopened_tei", ctypes.c_uint8),
+                ("line", ctypes.c_uint16)]
     # tools/names: end
 
 
@@ -468,9 +469,10 @@ class Report(NamedTuple):
     more: bool = False  # of the next frame: whether another waits on its line
     reopened: Optional[Tuple[Service, int]] = None  # a link, with its TEI, that was refused contents and has room again
     line: int = 0  # at which the event happened
+    expired: Optional[Timer] = None  # of fall_due: the timer that expired
 
     def __bool__(self) -> bool:
-        return self[:-1] != Report()[:-1]
+        return self[:-2] != Report()[:-2]
 
 
 class Link(NamedTuple):
@@ -516,7 +518,8 @@ def _report(of: _Report) -> Report:
                   tuple(Order(OrderKind(it.order), _timer(it.timer)) for it in of.orders[: of.order_count]),
                   Cause(of.cause) if of.cause else None, of.lost, bool(of.begun),
                   bytes(of.contents[: of.length]) if of.delivered else None, bool(of.more),
-                  (Service(of.reopened_service), of.reopened_tei) if of.reopened else None, of.line)
+                  (Service(of.reopened_service), of.reopened_tei) if of.reopened else None, of.line,
+                  _timer(of.expired) if of.expired.timer else None)
 
 
 def _octets(of: bytes) -> bytes:
@@ -747,7 +750,7 @@ class _Timed(AnyCard):
         _call(self._start, self._at, ctypes.byref(config._raw()), ctypes.byref(self._lengths))
 
     def fall_due(self, now: int) -> Iterator[Report]:
-        """The time is now this moment: what is due falls due, one after the other, and each tells what it led to.
+        """The time is now this moment: what is due falls due, one after the other, and each tells which timer it was and what it led to.
 
         Take all of them, as `for report in card.fall_due(now)` or `list(..)` does: the call alone does nothing. An Error with
         WRONG_TIME: the moment is before the last one, or 2^63 and later."""

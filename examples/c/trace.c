@@ -46,9 +46,18 @@ void trace_heads(trace *log, uint64_t milliseconds, lapd_card *card, const lapd_
     log->heard[line] = heard;
 }
 
+/* What became of a timer, which is named as in an order of lapdsim, by its link. */
+static void trace_timer(const trace *log, const char *what, const lapd_timer *timer) {
+    static const char *const names[] = {"none", "t200", "t203", "t201", "t202"};
+    fprintf(log->to, "%s %s", what, names[timer->timer % 5]);
+    if (timer->timer == LAPD_T200 || timer->timer == LAPD_T203)
+        fprintf(log->to, "%s %u", timer->service == LAPD_PACKET ? "-16" : "", timer->tei);
+    fputc('\n', log->to);
+}
+
 void trace_expiry(trace *log, uint64_t milliseconds, const lapd_report *report) {
     begin(log, milliseconds, report->line, " ");
-    fprintf(log->to, "timer expired\n");
+    trace_timer(log, "expired", &report->expired);
 }
 
 static void trace_note(const trace *log, const lapd_note *note, const lapd_report *report) {
@@ -57,15 +66,6 @@ static void trace_note(const trace *log, const lapd_note *note, const lapd_repor
         fprintf(log->to, " %c", note->error);
     if (note->note == LAPD_DATA_INDICATION || note->note == LAPD_UNIT_INDICATION)
         fprintf(log->to, ", %u octets", report->length);
-    fputc('\n', log->to);
-}
-
-static void trace_order(const trace *log, const lapd_order *order) {
-    static const char *const timers[] = {"", "t200", "t203", "t201", "t202"};
-    const lapd_timer *timer = &order->timer;
-    fprintf(log->to, "%s %s", order->order == LAPD_START ? "start" : "stop", timers[timer->timer % 5]);
-    if (timer->timer == LAPD_T200 || timer->timer == LAPD_T203)
-        fprintf(log->to, "%s %u", timer->service == LAPD_PACKET ? "-16" : "", timer->tei);
     fputc('\n', log->to);
 }
 
@@ -111,7 +111,7 @@ void trace_report(trace *log, uint64_t milliseconds, lapd_card *card, const lapd
     }
     for (unsigned i = 0; i < report->order_count; i++) {
         begin(log, milliseconds, line, " ");
-        trace_order(log, &report->orders[i]);
+        trace_timer(log, report->orders[i].order == LAPD_START ? "start" : "stop", &report->orders[i].timer);
     }
     trace_states(log, milliseconds, line, card);
 }

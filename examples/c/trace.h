@@ -1,14 +1,13 @@
 /*
  * trace.h: a log of what happens at a card, in words: each frame, `<` one that came and `>` one that goes, and below it what
  * it led to: notes, why it was dropped, what was lost, orders for timers (`start t203 64`), and states of links that are others
- * than before. A card that keeps its own timers has no orders: of it the log tells that a timer expired, and the states and
- * frames below say whose.
+ * than before. A card that keeps its own timers has no orders: of it the log tells which timers expired.
  *
  *     0.120 0 < sapi 0 tei 64 command sabme p 1 info -
  *     0.120 0   establish-indication 64
  *     0.120 0   state 64: 4 (TEI assigned) to 7 (multiple frame established)
  *     0.120 0 > sapi 0 tei 64 response ua f 1 info -
- *     10.120 0   timer expired
+ *     10.120 0   expired t203 64
  *     10.120 0   state 64: 7 (multiple frame established) to 8 (timer recovery)
  *     10.120 0 > sapi 0 tei 64 command rr nr 0 p 1
  *
@@ -45,7 +44,7 @@ void trace_frame(trace *log, uint64_t milliseconds, uint32_t line, bool is_sent,
  * in so few. At a card of frames nothing is told. */
 void trace_heads(trace *log, uint64_t milliseconds, lapd_card *card, const lapd_report *report);
 
-/* A timer expired: for a report of lapd_fall_due, before trace_report of it. */
+/* Which timer expired: for a report of lapd_fall_due, before trace_report of it. */
 void trace_expiry(trace *log, uint64_t milliseconds, const lapd_report *report);
 
 /* What a report tells, and which links of its line are in another state than before. */

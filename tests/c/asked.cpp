@@ -94,9 +94,11 @@ void asks_timers(lapd::any_card &card) {
     wants(card.fall_due(0, report) == status::no_timer && card.next_moment(moment) == status::no_timer && moment == 7, "no timer of its own");
     wants(card.assign(1, 64, report) == status::ok && card.fall_due(5000, report) == status::no_timer, "time");
     wants(card.fall_due(4999, report) == status::wrong_time && card.fall_due(uint64_t{1} << 63, report) == status::wrong_time, "wrong times");
-    wants(card.establish(1, service::call, 64, report) == status::ok && report.orders().empty() && report.line() == 1, "a request without orders");
+    wants(card.establish(1, service::call, 64, report) == status::ok && report.orders().empty() && report.line() == 1 && !report.expired(), "a request without orders");
     wants(card.next_moment(moment) == status::ok && moment == 6000, "T200 of its own");
     wants(card.fall_due(5999, report) == status::no_timer && card.fall_due(6000, report) == status::ok && report.line() == 1, "it falls due");
+    const lapd::timer expired = report.expired_timer();
+    wants(report.expired() && expired.kind == lapd::timer_kind::t200 && expired.service == service::call && expired.tei == 64, "another timer fell due");
     wants(card.fall_due(6000, report) == status::no_timer && card.next_moment(moment) == status::ok && moment == 7000, "T200 again");
     wants(card.expire(1, lapd::timer({LAPD_T200, LAPD_CALL, 64}), report) == status::wrong_card, "an expiry that is not its own");
     wants(card.end() == status::ok && card.fall_due(7000, report) == status::no_card && card.next_moment(moment) == status::no_card, "its end");

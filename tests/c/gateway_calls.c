@@ -200,9 +200,9 @@ static unsigned logged(const char *wanted) {
 /* T203 of both links is due; the call comes 20 s late, and asks each terminal once. The log tells of both. */
 static void time_passes(void) {
     advances_to(22499);
-    WANT(takes_none() && are_in(7) && logged("22.499 0   timer expired\n") == 0);
+    WANT(takes_none() && are_in(7) && logged("22.499 0   expired t203 64\n") == 0);
     advances_to(42500);
-    WANT(are_in(8) && is_next(43500) && logged("42.500 0   timer expired\n") == 2);
+    WANT(are_in(8) && is_next(43500) && logged("42.500 0   expired t203 64\n") == 1 && logged("42.500 0   expired t203 65\n") == 1);
     WANT(logged("42.500 0   state 64: 7 (multiple frame established) to 8 (timer recovery)\n") == 1);
     own.log = NULL;
     WANT(fclose(its_log.to) == 0);

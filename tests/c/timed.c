@@ -25,6 +25,8 @@ static lapd_clock timers = LAPD_CLOCK_NONE;
 static uint64_t now;
 static uint32_t seed;
 static unsigned expired, frames, exchanged;
+static const lapd_timer no_timer;
+static const lapd_report before = {.expired = {9, 9, 9}}; /* what a report had before a call */
 static bool for_octets, has_started;
 static uint8_t asked[2]; /* the reference number of the latest frame of TEI management that went */
 static hdlc_sender senders[LINES];
@@ -86,14 +88,18 @@ static void same(uint32_t line, uint32_t status, const lapd_report *own, uint32_
     if (status != LAPD_OK)
         return;
     wants(own->line == line && told->line == line, "another line");
+    wants(memcmp(&own->expired, &no_timer, sizeof no_timer) == 0
+              && memcmp(&told->expired, &no_timer, sizeof no_timer) == 0, "a timer that expired in no lapd_fall_due");
     same_report(line, own, told);
 }
 
-/* A timer has expired at the one card: the same falls due at the other. */
-static void expires(const lapd_report *own) {
-    lapd_report told = {0};
+/* A timer has expired at the one card, and its report names it: the same falls due at the other. */
+static void expires(lapd_report *own) {
+    lapd_report told = before;
     lapd_due due;
-    wants(lapd_clock_due(&timers, now, &due) == LAPD_OK && due.line == own->line, "another timer is due");
+    wants(lapd_clock_due(&timers, now, &due) == LAPD_OK && due.line == own->line
+              && memcmp(&due.timer, &own->expired, sizeof due.timer) == 0, "another timer is due");
+    own->expired = no_timer;
     same(due.line, LAPD_OK, own, lapd_expire(&plain, due.line, &due.timer, &told), &told);
     expired++;
 }
@@ -105,7 +111,7 @@ static void none_is_due(void) {
 
 /* What is due falls due, at both, in one order. */
 static void falls_due(void) {
-    lapd_report own = {0};
+    lapd_report own = before;
     uint32_t status;
     while ((status = lapd_fall_due(&timed, now, &own)) == LAPD_OK)
         expires(&own);
@@ -158,7 +164,7 @@ static uint8_t tei(void) {
 /* ---- What comes and goes -------------------------------------------------------------------------------------------- */
 
 static void octet_comes(uint32_t line, uint8_t octet) {
-    lapd_report own = {0}, told = {0};
+    lapd_report own = before, told = before;
     uint32_t status = lapd_octet(&timed, line, octet, &own);
     same(line, status, &own, lapd_octet(&plain, line, octet, &told), &told);
 }
@@ -168,11 +174,11 @@ static void exchange(uint32_t line, const uint8_t *in, size_t length) {
     uint8_t out[MOST_RUN] = {0}, other[MOST_RUN] = {0};
     bool at = has_moment();
     for (size_t steps = 0, reached = 0; steps < 2 * length;) {
-        lapd_report own = {0}, told = {0}, nothing = {0};
-        size_t before = steps;
+        lapd_report own = before, told = before, nothing = {0};
+        size_t first = steps;
         wants((at ? lapd_exchange_at(&timed, now, line, in, length, out, length, &steps, &own)
                   : lapd_exchange(&timed, line, in, length, out, length, &steps, &own)) == LAPD_OK, "no exchange");
-        if (steps == before) { /* a timer expired */
+        if (steps == first) { /* a timer expired */
             wants(at, "no step");
             expires(&own);
             continue;
@@ -223,7 +229,7 @@ static void frame_comes(void) {
         octets_come(line, from[which], octets[which]);
         return;
     }
-    lapd_report own = {0}, told = {0};
+    lapd_report own = before, told = before;
     uint32_t status = LAPD_OK;
     bool is_done = !has_moment();
     if (is_done)
@@ -238,7 +244,7 @@ static void octets_go(void) {
     uint32_t line = below(LINES);
     for (unsigned left = 10 + below(60); left > 0; left--) {
         uint8_t octet = 0, other = 1;
-        lapd_report own = {0}, told = {0};
+        lapd_report own = before, told = before;
         uint32_t status = lapd_pull(&timed, line, &octet, &own);
         same(line, status, &own, lapd_pull(&plain, line, &other, &told), &told);
         wants(octet == other, "another octet");
@@ -251,7 +257,7 @@ static void frames_go(void) {
     for (uint32_t line = 0; lapd_next_waiting(&timed, line, &line) == LAPD_OK;) {
         uint8_t out[LAPD_MOST_FRAME], other[LAPD_MOST_FRAME];
         size_t length = 0, octets = 1;
-        lapd_report own = {0}, told = {0};
+        lapd_report own = before, told = before;
         uint32_t status = at ? lapd_next_frame_at(&timed, now, line, out, sizeof out, &length, &own)
                              : lapd_next_frame(&timed, line, out, sizeof out, &length, &own);
         if (at && status == LAPD_OK && length == 0) {
@@ -277,7 +283,7 @@ static void is_asked(void) {
         request = LAPD_DATA;
     size_t length = request == LAPD_DATA || request == LAPD_UNIT ? below(18) : 0;
     uint32_t line = below(LINES);
-    lapd_report own = {0}, told = {0};
+    lapd_report own = before, told = before;
     uint32_t status = LAPD_OK;
     bool is_done = !has_moment();
     if (is_done)

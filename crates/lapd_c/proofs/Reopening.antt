@@ -12,7 +12,8 @@ use Rattle.lapd_card.specs.Card as octets
 use Rattle.lapd_store.specs.Store.{Store}
 use Rattle.std.specs.Prelude.{is_some}
 use Rattle.lapd_c.specs.LinkMarks.{is_marked, marks_of, AreMarked, MarksBecome, SetsLink}
-use Rattle.lapd_c.specs.Reopened.{AreShutBelow, TellsReopened, is_open, is_there, is_told, with_reopened}
+use Rattle.lapd_c.specs.declared.plain.timers.PlainTimer.{PlainTimer}
+use Rattle.lapd_c.specs.Reopened.{AreShutBelow, ShowsReopened, TellsReopened, is_open, is_there, is_told, with_reopened}
 use Rattle.lapd_c.specs.Reports.{ShowsPull}
 use Rattle.std.proofs.Common.{min}
 use Rattle.std.proofs.Math.Nat.{min-eq_left}
@@ -100,6 +101,19 @@ still_answered new old a is s = grind (arith, still_told)
 
 pub still_replied : (new old : PlainReport) (a : port.Answer) → new ≡ with_reopened new old → ShowsReply old a → ShowsReply new a
 still_replied new old a is s = grind (arith, still_told, still_pulled)
+
+-- also once it shows which timer fell due
+pub answered_still : (r : PlainReport) (x : PlainTimer) (a : line_event.Answer) → ShowsAnswer r a → ShowsAnswer (record r { expired = x }) a
+answered_still r x (line_event.told t) s = grind arith
+answered_still r x (line_event.refused why) s = s
+answered_still r x (line_event.gave next) s = s
+
+pub reopened_still : (line : ℕ) (m : Card) (old new : List LinkMarks) (r : PlainReport) (x : PlainTimer) → TellsReopened line m old new r → TellsReopened line m old new (record r { expired = x })
+reopened_still line m old new r x h = record { told = h.told; first = h.first; shown = go h.told h.shown; waits = h.waits; of_line = h.of_line }
+  where
+    go : (told : Option ℕ) → ShowsReopened r told → ShowsReopened (record r { expired = x }) told
+    go None s = s
+    go (Some place) s = s
 
 -- and where the card keeps its own timers, all but the orders
 pub settled_answered : (timers : Option CardTimers) (new old : PlainReport) (a : line_event.Answer) → new ≡ settled timers new old → ShowsAnswer old a → ShowsAnswer new (seen_by (is_some timers) a)

@@ -72,4 +72,4 @@ pub use Rattle.lapd_c.specs.Requests.{request_in}
 pub use Rattle.lapd_c.specs.Rooms.{plain_room}
 pub use Rattle.lapd_c.specs.Services.{service_in}
 pub use Rattle.lapd_c.specs.Statuses.{field_status, refusal_status}
-pub use Rattle.lapd_c.specs.Timers.{link_in, order_in, plain_order, timer_in}
+pub use Rattle.lapd_c.specs.Timers.{link_in, no_timer, order_in, plain_order, plain_timer, timer_in}

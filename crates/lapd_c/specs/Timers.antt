@@ -19,6 +19,9 @@ plain_timer (T203 service tei) = record { timer = 2; service = sapi_of service; 
 plain_timer T201 = record { timer = 3; service = 0; tei = 0 }
 plain_timer T202 = record { timer = 4; service = 0; tei = 0 }
 
+abbrev pub no_timer : PlainTimer
+no_timer = record { timer = 0; service = 0; tei = 0 }
+
 abbrev pub plain_order : Order → PlainOrder
 plain_order (Start timer) = record { order = 1; timer = plain_timer timer }
 plain_order (Stop timer) = record { order = 2; timer = plain_timer timer }

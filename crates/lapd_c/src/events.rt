@@ -1,7 +1,7 @@
 //! What happens at a card of either kind: a timer that expires, a request.
 
 ghost use Rattle.std.specs.Prelude.{◌≡◌, ◌≢◌, ◌<◌, None, IfSome, IfOk, IfErr};
-ghost use Rattle.lapd_c.specs.{Obeys, UntimedWithLine, WithLine, refusal_at, seen, timers_of, IsCallAt, IsUntimedCall, IsReopened, ShowsAnswer, WaitsFor, refused_place, refusal_status, request_in, timer_in, card_of, kind_in, marks_at, served_card, IsHandle, HandleStands, Counts, counters_at};
+ghost use Rattle.lapd_c.specs.{no_timer, Obeys, UntimedWithLine, WithLine, refusal_at, seen, timers_of, IsCallAt, IsUntimedCall, IsReopened, ShowsAnswer, WaitsFor, refused_place, refusal_status, request_in, timer_in, card_of, kind_in, marks_at, served_card, IsHandle, HandleStands, Counts, counters_at};
 ghost use Rattle.model_card.specs.Event.{at};
 ghost use Rattle.model_line.specs.Event as line_event;
 ghost use Rattle.lapd_c.specs.Statuses as status;
@@ -35,6 +35,7 @@ pub extern "C" fn lapd_expire(
     ensures counted { UntimedWithLine line handle.old (λ m. IfOk (timer_in timer.now) (λ expired.
         Counts (at line (line_event.expiry expired)) (card_in m) (counters_at handle.old) (counters_at handle.new))) }
     ensures reopened { IsReopened line handle.old handle.new result report.new }
+    ensures expired { result ≡ status.ok → report.new.expired ≡ no_timer }
 {
     lend!(kept of handle);
     if kept.timers.is_some() {
@@ -79,6 +80,7 @@ pub extern "C" fn lapd_request(
     ensures counted { WithLine line handle.old (λ m. IfOk (request_in request service tei contents.now) (λ asked.
         refusal_at line asked (card_in m) ≡ None → Counts (at line (line_event.request asked)) (card_in m) (counters_at handle.old) (counters_at handle.new))) }
     ensures reopened { IsReopened line handle.old handle.new result report.new }
+    ensures expired { result ≡ status.ok → report.new.expired ≡ no_timer }
 {
     lend!(kept of handle, line);
     let asked = or_answer!(request_in(request, service, tei, contents));

@@ -2,7 +2,7 @@
 
 ghost use Rattle.std.specs.Prelude.{◌≡◌, ◌≢◌, ◌≤◌, ◌<◌, ◌*◌, ◌-◌, true, false, not, length, is_some, IfSome};
 ghost use Rattle.std.specs.Option.{option_copied};
-ghost use Rattle.lapd_c.specs.{OctetsWithLine, meant_all, told_at, Leads, told_beside, IsOctetsCall, IsReopened, ShowsReply, octet_of, Shows, contents_or_none, card_of, IsHandle, CardStands, shelf_of, counters_at, tells_nothing, is_exchange, step_event, steps_made, with_step, Exchanged, ExchangedIn, counters_in, all_counted, moments, is_timed, listed, ObeysAll, OrdersLast};
+ghost use Rattle.lapd_c.specs.{no_timer, OctetsWithLine, meant_all, told_at, Leads, told_beside, IsOctetsCall, IsReopened, ShowsReply, octet_of, Shows, contents_or_none, card_of, IsHandle, CardStands, shelf_of, counters_at, tells_nothing, is_exchange, step_event, steps_made, with_step, Exchanged, ExchangedIn, counters_in, all_counted, moments, is_timed, listed, ObeysAll, OrdersLast};
 ghost use Rattle.model_timed.specs.Octets.{orders_in};
 ghost use Rattle.model_card.specs.ports.Card as machine;
 ghost use Rattle.model_card.specs.ports.Card.{answer};
@@ -43,6 +43,7 @@ pub extern "C" fn lapd_exchange(
     ensures counted { OctetsWithLine line handle.old (λ m. is_exchange taken.now given.old steps.old ≡ true
         → counters_at handle.new ≡ all_counted (counters_at handle.old) (moments m.card (meant_all m (steps_made line taken.now steps.old (steps.new - steps.old))))) }
     ensures reopened { IsReopened line handle.old handle.new result report.new }
+    ensures expired { result ≡ status.ok → report.new.expired ≡ no_timer }
 {
     lend!(kept of handle, Octets(card), line);
     if taken.len() != given.len() || *steps > 2 * taken.len() {

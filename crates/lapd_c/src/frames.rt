@@ -2,7 +2,7 @@
 //! lines one waits.
 
 ghost use Rattle.std.specs.Prelude.{◌≡◌, ◌≢◌, ◌==◌, if◌then◌else◌, ◌+◌, ◌≤◌, ◌<◌, true, length, Some, None, IfSome, IfOk, IfErr};
-ghost use Rattle.lapd_c.specs.{FramesWithLine, IsFirstWaiting, has_next, next_waiting, IsCall, IsFramesCall, IsReopened, Obeys, ShowsAnswer, ShowsPull, card_of, kind_in, marks_at, orders_seen, seen, timers_of, IsHandle, FramesStand, Counts, counters_at, frame_comes, fails, goes, next_at, IsGiven};
+ghost use Rattle.lapd_c.specs.{no_timer, FramesWithLine, IsFirstWaiting, has_next, next_waiting, IsCall, IsFramesCall, IsReopened, Obeys, ShowsAnswer, ShowsPull, card_of, kind_in, marks_at, orders_seen, seen, timers_of, IsHandle, FramesStand, Counts, counters_at, frame_comes, fails, goes, next_at, IsGiven};
 ghost use Rattle.model_card.specs.Card as machine;
 ghost use Rattle.model_card.specs.Machine.{after, answer};
 ghost use Rattle.lapd_c.specs.Faults.{fault_in};
@@ -35,6 +35,7 @@ pub extern "C" fn lapd_frame(
     ensures timed { FramesWithLine line handle.old (λ m. Obeys (frame_comes line octets.now m) m handle.old handle.new) }
     ensures counted { FramesWithLine line handle.old (λ m. Counts (frame_comes line octets.now m) m (counters_at handle.old) (counters_at handle.new)) }
     ensures reopened { IsReopened line handle.old handle.new result report.new }
+    ensures expired { result ≡ status.ok → report.new.expired ≡ no_timer }
 {
     // It stands before all else, so that it is cleared once.
     let mut told = BareReport::nothing();
@@ -86,6 +87,7 @@ pub extern "C" fn lapd_frame_failed(
     ensures counted { FramesWithLine line handle.old (λ m.
         IfOk (fault_in cause) (λ fault. Counts (fails line fault) m (counters_at handle.old) (counters_at handle.new))) }
     ensures reopened { IsReopened line handle.old handle.new result report.new }
+    ensures expired { result ≡ status.ok → report.new.expired ≡ no_timer }
 {
     lend!(kept of handle, Frames(card), line);
     let fault = or_answer!(fault_in(cause));
@@ -125,6 +127,7 @@ pub extern "C" fn lapd_next_frame(
     ensures counted { FramesWithLine line handle.old (λ m. m.config.n201 + 4 ≤ length out.old
         → Counts (goes line) m (counters_at handle.old) (counters_at handle.new)) }
     ensures reopened { IsReopened line handle.old handle.new result report.new }
+    ensures expired { result ≡ status.ok → report.new.expired ≡ no_timer }
     ensures unmarked { result ≢ status.ok → marks_at handle.new ≡ marks_at handle.old }
     ensures timers { result ≢ status.ok → timers_of handle.new ≡ timers_of handle.old }
 {

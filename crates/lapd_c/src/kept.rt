@@ -8,7 +8,7 @@ ghost use Rattle.model_card.specs.Machine.{after};
 ghost use Rattle.model_timed.specs.Clock.{Clock, obeyed};
 ghost use Rattle.model_timed.specs.Frames.{orders_at};
 ghost use Rattle.lapd_c.specs.Kept.{LedTo, AreLeftIn, TimersStandIn, orders_by, settled};
-ghost use Rattle.lapd_c.specs.{listed, nothing, Shows, ShowsPull, first_fault, AreMarked, AreUnmarked, MarksBecome, marks_of, IsFirstOpen, TellsReopened, WaitsFor, is_open, is_there, waits_on, waits_there, with_reopened};
+ghost use Rattle.lapd_c.specs.{listed, no_timer, nothing, Shows, ShowsPull, first_fault, AreMarked, AreUnmarked, MarksBecome, marks_of, IsFirstOpen, TellsReopened, WaitsFor, is_open, is_there, waits_on, waits_there, with_reopened};
 ghost use Rattle.model_card.specs.Card as machine;
 ghost use Rattle.lapd_card.specs.FrameCard.{line_count};
 ghost use Rattle.lapd_card.specs.Kinds.{Machine, card_in, AnyStands, FrameCardStands};
@@ -59,6 +59,7 @@ impl KeptCard {
     pub(crate) fn settle(&mut self, line: usize, orders: &[Order], report: &mut PlainReport)
         ensures card { self.new.card ≡ self.old.card }
         ensures rest { report.new ≡ settled self.old.timers report.new report.old }
+        ensures expired { report.new.expired ≡ no_timer }
         ensures tells { (m : Machine) → AnyStands self.old.card m → line < (card_in m).config.lines
             → TellsReopened line (card_in m) self.old.refused self.new.refused report.new }
         ensures untimed { self.old.timers ≡ None → self.new.timers ≡ None }
@@ -86,6 +87,7 @@ impl KeptCard {
     )
         ensures card { self.new.card ≡ self.old.card }
         ensures shown { Shows report.new (record nothing { orders = orders_by (is_some self.old.timers) (listed orders.now) }) }
+        ensures expired { report.new.expired ≡ no_timer }
         ensures tells { (m : Machine) → AnyStands self.old.card m → line < (card_in m).config.lines
             → TellsReopened line (card_in m) self.old.refused self.new.refused report.new }
         ensures untimed { self.old.timers ≡ None → self.new.timers ≡ None }
@@ -115,6 +117,7 @@ impl KeptCard {
     )
         ensures card { self.new.card ≡ self.old.card }
         ensures shown { ShowsPull report.new true more (orders_by (is_some self.old.timers) (listed orders.now)) }
+        ensures expired { report.new.expired ≡ no_timer }
         ensures tells { (m : Machine) → AnyStands self.old.card m → line < (card_in m).config.lines
             → TellsReopened line (card_in m) self.old.refused self.new.refused report.new }
         ensures untimed { self.old.timers ≡ None → self.new.timers ≡ None }
@@ -212,11 +215,12 @@ impl KeptCard {
         }
     }
 
-    /// Tells in the report of a call of a line which link has room again, if one that waits has.
+    /// Tells in the report of a call of a line which link has room again, if one that waits has, and that no timer fell due.
     #[inline(always)]
     pub(crate) fn tell_reopened(&mut self, line: usize, report: &mut PlainReport)
         ensures card { self.new.card ≡ self.old.card }
         ensures rest { report.new ≡ with_reopened report.new report.old }
+        ensures expired { report.new.expired ≡ no_timer }
         ensures timers { self.new.timers ≡ self.old.timers }
         ensures tells { (m : Machine) → AnyStands self.old.card m → line < (card_in m).config.lines
             → TellsReopened line (card_in m) self.old.refused self.new.refused report.new }

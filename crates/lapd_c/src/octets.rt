@@ -1,7 +1,7 @@
 //! What happens at a card of octets: one that comes, and one that goes; which frame a pull began, and which was heard last.
 
 ghost use Rattle.std.specs.Prelude.{◌≡◌, ◌≢◌};
-ghost use Rattle.lapd_c.specs.{OctetsWithLine, head_begun_at, head_heard_at, plain_head, IsOctetsCall, IsReopened, ObeysMeaning, ShowsReply, octet_of, reply_seen, card_of, IsHandle, OctetsStand, CountsMeaning, counters_at};
+ghost use Rattle.lapd_c.specs.{no_timer, OctetsWithLine, head_begun_at, head_heard_at, plain_head, IsOctetsCall, IsReopened, ObeysMeaning, ShowsReply, octet_of, reply_seen, card_of, IsHandle, OctetsStand, CountsMeaning, counters_at};
 ghost use Rattle.model_card.specs.ports.Card as machine;
 ghost use Rattle.model_card.specs.ports.Card.{after, answer};
 ghost use Rattle.model_card.specs.ports.Event.{at};
@@ -29,6 +29,7 @@ pub extern "C" fn lapd_octet(
     ensures timed { OctetsWithLine line handle.old (λ m. ObeysMeaning (at line (port.octet octet)) m handle.old handle.new) }
     ensures counted { OctetsWithLine line handle.old (λ m. CountsMeaning (at line (port.octet octet)) m (counters_at handle.old) (counters_at handle.new)) }
     ensures reopened { IsReopened line handle.old handle.new result report.new }
+    ensures expired { result ≡ status.ok → report.new.expired ≡ no_timer }
 {
     lend!(kept of handle, Octets(card), line);
     match card.hear(line, octet) {
@@ -63,6 +64,7 @@ pub extern "C" fn lapd_pull(
     ensures timed { OctetsWithLine line handle.old (λ m. ObeysMeaning (at line port.pull) m handle.old handle.new) }
     ensures counted { OctetsWithLine line handle.old (λ m. CountsMeaning (at line port.pull) m (counters_at handle.old) (counters_at handle.new)) }
     ensures reopened { IsReopened line handle.old handle.new result report.new }
+    ensures expired { result ≡ status.ok → report.new.expired ≡ no_timer }
 {
     lend!(kept of handle, Octets(card), line);
     let pulled = card.pull(line);

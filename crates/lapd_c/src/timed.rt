@@ -7,7 +7,7 @@ ghost use Rattle.model_line.specs.Event.{expiry};
 ghost use Rattle.model_timed.specs.Clock.{Clock, at_moment, due, next_moment, obeyed, without_first};
 ghost use Rattle.model_timed.specs.Frames.{orders_at};
 ghost use Rattle.lapd_card.specs.Kinds.{Machine, after, answer, card_in};
-ghost use Rattle.lapd_c.specs.{Counts, HandleStands, IsCall, IsHandle, ShowsAnswer, TellsReopened, TimersStandIn, card_of, counters_at, is_timed, kind_in, marks_at, timers_of};
+ghost use Rattle.lapd_c.specs.{Counts, HandleStands, IsCall, IsHandle, ShowsAnswer, TellsReopened, TimersStandIn, card_of, counters_at, is_timed, kind_in, marks_at, plain_timer, timers_of};
 ghost use Rattle.lapd_c.specs.Kept.{without_orders};
 ghost use Rattle.lapd_c.specs.Statuses as status;
 
@@ -16,8 +16,8 @@ use crate::lend::{lend, or_answer};
 use crate::plain::{NO_TIMER, OK, PlainReport, WRONG_CARD, WRONG_TIME};
 use lapd_card::BareReport;
 
-/// The time is now a moment; and the timer that is due first, if one is, expires: the report tells what its expiry led to, at which
-/// line.
+/// The time is now a moment; and the timer that is due first, if one is, expires: the report tells which it was, of which line, and
+/// what its expiry led to.
 #[unsafe(no_mangle)]
 pub extern "C" fn lapd_fall_due(handle: &mut CardHandle, now: u64, report: &mut PlainReport) -> u32
     requires { IsHandle handle.old }
@@ -40,7 +40,7 @@ pub extern "C" fn lapd_fall_due(handle: &mut CardHandle, now: u64, report: &mut 
     // or what is due first falls due.
     ensures due { (m : Machine) (c : Clock) → HandleStands handle.old m → TimersStandIn (timers_of handle.old) (card_in m) c
         → c.now ≤ now → now < 2 ^ 63 → IfSome (due (at_moment now c)) (λ x.
-        (result ≡ status.ok) × (report.new.line ≡ x.line)
+        (result ≡ status.ok) × (report.new.line ≡ x.line) × (report.new.expired ≡ plain_timer x.timer)
         × ShowsAnswer report.new (without_orders (answer (at x.line (expiry x.timer)) m))
         × HandleStands handle.new (after (at x.line (expiry x.timer)) m)
         × TimersStandIn (timers_of handle.new) (card_in (after (at x.line (expiry x.timer)) m))
@@ -85,7 +85,7 @@ fn fall_due(handle: &mut CardHandle, now: u64, report: &mut PlainReport) -> u32
     // or what is due first falls due.
     ensures due { (m : Machine) (c : Clock) → HandleStands handle.old m → TimersStandIn (timers_of handle.old) (card_in m) c
         → c.now ≤ now → now < 2 ^ 63 → IfSome (due (at_moment now c)) (λ x.
-        (result ≡ status.ok) × (report.new.line ≡ x.line)
+        (result ≡ status.ok) × (report.new.line ≡ x.line) × (report.new.expired ≡ plain_timer x.timer)
         × ShowsAnswer report.new (without_orders (answer (at x.line (expiry x.timer)) m))
         × HandleStands handle.new (after (at x.line (expiry x.timer)) m)
         × TimersStandIn (timers_of handle.new) (card_in (after (at x.line (expiry x.timer)) m))
@@ -113,6 +113,7 @@ fn fall_due(handle: &mut CardHandle, now: u64, report: &mut PlainReport) -> u32
     kept.card.expire(line, timer, &mut told);
     report.show(&told, None);
     kept.settle(line, told.orders(), report);
+    report.show_expired(timer);
     OK
 }
 

@@ -2,13 +2,13 @@
 
 ghost use Rattle.std.specs.Prelude.{◌≡◌, ◌≤◌, Bool, [], false, true, length, take, map, min};
 ghost use Rattle.std.specs.Option.{option_copied};
-ghost use Rattle.lapd_c.specs.{listed, told_beside, nothing, plain_note, plain_order, ShowsReopened, with_reopened, Shows, ShowsPull, SameButContents, contents_in, contents_or_none, mark_of, orders_of};
+ghost use Rattle.lapd_c.specs.{listed, told_beside, no_timer, nothing, plain_note, plain_order, plain_timer, ShowsReopened, with_reopened, Shows, ShowsPull, SameButContents, contents_in, contents_or_none, mark_of, orders_of};
 
 use crate::plain::links::service_at;
 use crate::plain::notes::{PlainNote, cause_number};
-use crate::plain::timers::PlainOrder;
+use crate::plain::timers::{PlainOrder, PlainTimer};
 use lapd_card::BareReport;
-use lapd_frame::{MOST_N201, Note, Order, ShortList};
+use lapd_frame::{MOST_N201, Note, Order, ShortList, Timer};
 
 /// The most octets of contents that a configuration allows.
 const MOST_OCTETS: usize = MOST_N201 as usize;
@@ -42,6 +42,8 @@ pub struct PlainReport {
     pub contents: [u8; MOST_OCTETS],
     /// Of the next frame: 1 if another frame waits on its line; otherwise 0.
     pub more: u8,
+    /// Of what falls due: the timer that did; otherwise 0 in each of its fields.
+    pub expired: PlainTimer,
     /// 1 if a link that was refused contents has room again; otherwise 0.
     pub reopened: u8,
     /// If one has, its service: 0 or 16.
@@ -123,14 +125,17 @@ impl PlainReport {
         self.lost = told.lost;
     }
 
-    /// Shows the line, and which link of it has room again, by its place, or that none has that waited for it.
+    /// Shows the line, and which link of it has room again, by its place, or that none has that waited for it; and that no timer
+    /// fell due.
     #[inline(always)]
     pub fn show_reopened(&mut self, line: usize, place: Option<u8>)
         ensures shown { ShowsReopened self.new place }
+        ensures expired { self.new.expired ≡ no_timer }
         ensures line { self.new.line ≡ min line 65535 }
         ensures rest { self.new ≡ with_reopened self.new self.old }
     {
         self.line = line.min(MOST_LINE) as u16;
+        self.expired = PlainTimer::none();
         match place {
             None => self.reopened = 0,
             Some(place) => {
@@ -139,6 +144,13 @@ impl PlainReport {
                 self.reopened_tei = place / 2;
             }
         }
+    }
+
+    /// Shows which timer fell due.
+    pub fn show_expired(&mut self, timer: Timer)
+        ensures { self.new ≡ record self.old { expired = plain_timer timer } }
+    {
+        self.expired.show(timer);
     }
 
     /// The orders that it shows.

@@ -3,17 +3,17 @@
 ghost use Rattle.std.specs.Prelude.{◌≡◌, None, Err, IfSome, IfErr, IsOkAnd};
 ghost use Rattle.lapd_clock.specs.Given.{lengths_of};
 ghost use Rattle.lapd_clock.specs.Timer.{first_out_of_range};
-ghost use Rattle.lapd_c.specs.Timers.{lengths_in, plain_timer, plain_order, timer_in, order_in, link_in};
+ghost use Rattle.lapd_c.specs.Timers.{lengths_in, no_timer, plain_timer, plain_order, timer_in, order_in, link_in};
 
 use crate::plain::statuses::{WRONG_ORDER, WRONG_TEI, WRONG_TIME, WRONG_TIMER, service_in};
 use lapd_clock::Lengths;
 use lapd_frame::{LAST_TEI, Order, Service, Timer};
 
-/// A timer of a line. That of a link names its service by its SAPI, and its TEI; T201 and T202 have 0 in both.
+/// A timer of a line, or none. That of a link names its service by its SAPI, and its TEI; T201 and T202 have 0 in both.
 #[repr(C)]
 #[derive(Clone, Copy)]
 pub struct PlainTimer {
-    /// 1 is T200, 2 is T203, 3 is T201, 4 is T202.
+    /// 1 is T200, 2 is T203, 3 is T201, 4 is T202, and 0 is none.
     pub timer: u8,
     /// 0 or 16.
     pub service: u8,
@@ -73,6 +73,18 @@ pub struct PlainDue {
 }
 
 impl PlainTimer {
+    /// No timer.
+    #[inline(always)]
+    pub fn none() -> PlainTimer
+        ensures { result ≡ no_timer }
+    {
+        PlainTimer {
+            timer: 0,
+            service: 0,
+            tei: 0,
+        }
+    }
+
     /// Shows a timer.
     #[inline(always)]
     pub fn show(&mut self, timer: Timer)

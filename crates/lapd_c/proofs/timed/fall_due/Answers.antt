@@ -11,11 +11,13 @@ use Rattle.lapd_clock.specs.Timer.{Timer}
 use Rattle.lapd_timed.specs.Stands.{TimersStand}
 use Rattle.lapd_c.specs.Cards.{marks_held}
 use Rattle.lapd_c.specs.Counted.{counters_held}
+use Rattle.lapd_c.specs.declared.plain.reports.PlainReport.{PlainReport}
 use Rattle.lapd_c.specs.Kept.{TimersStandIn, without_orders}
 use Rattle.lapd_c.specs.Reopened.{TellsReopened}
 use Rattle.lapd_c.specs.Statuses as status
+use Rattle.lapd_c.specs.Timers.{plain_timer}
 use Rattle.lapd_timed.specs.Places.{named_by}
-use Rattle.lapd_c.proofs.Reopening.{settled_answered, still_stands}
+use Rattle.lapd_c.proofs.Reopening.{answered_still, reopened_still, settled_answered, still_stands}
 use Rattle.lapd_c.proofs.Served.{if_due, led_any, none_due, still_within, there, timed_any, timers_there}
 use Rattle.lapd_c.proofs.Timing.{due-later}
 use Rattle.lapd_c.proofs.WholeFrames.{none_said}
@@ -69,13 +71,17 @@ returns-clause-due c = λ m clock s stood later before.
     let stands = there c.in-Some.ensures.card m s in
     let led = c.expire.ensures.after.stands m stands in
     if_due (due (at_moment c.args.now clock)) c.in-Some-due.value (sym c.in-Some-due.is ∙ c.due.ensures.due (card_in m) (at_moment c.args.now clock) gone)
-    (λ (l : ℕ) (x : Timer). (0 ≡ status.ok) × (c.settle.new.report.line ≡ l) × ShowsAnswer c.settle.new.report (without_orders (answer (at l (expiry x)) m))
+    (λ (l : ℕ) (x : Timer). (0 ≡ status.ok) × (c.show_expired.new.self.line ≡ l) × (c.show_expired.new.self.expired ≡ plain_timer x)
+    × ShowsAnswer c.show_expired.new.self (without_orders (answer (at l (expiry x)) m))
     × AnyStands c.settle.new.self.card (after (at l (expiry x)) m)
     × TimersStandIn c.settle.new.self.timers (card_in (after (at l (expiry x)) m)) (obeyed l (orders_at (at l (expiry x)) (card_in m)) (without_first (at_moment c.args.now clock)))) (
       refl,
-      (c.settle.ensures.tells (after (at line (expiry timer)) m) led (still_within line (at line (expiry timer)) m within)).of_line,
-      settled_answered (Some c.due.new.self) c.settle.new.report c.show.new.self (answer (at line (expiry timer)) m) c.settle.ensures.rest
-          (subst (ShowsAnswer c.show.new.self) (c.expire.ensures.told m stands) (c.show.ensures (omega arith))),
+      ap (λ (r : PlainReport). r.line) c.show_expired.ensures ∙ (c.settle.ensures.tells (after (at line (expiry timer)) m) led (still_within line (at line (expiry timer)) m within)).of_line,
+      ap (λ (r : PlainReport). r.expired) c.show_expired.ensures,
+      subst (λ r. ShowsAnswer r (without_orders (answer (at line (expiry timer)) m))) (sym c.show_expired.ensures)
+          (answered_still c.settle.new.report (plain_timer timer) (without_orders (answer (at line (expiry timer)) m))
+          (settled_answered (Some c.due.new.self) c.settle.new.report c.show.new.self (answer (at line (expiry timer)) m) c.settle.ensures.rest
+          (subst (ShowsAnswer c.show.new.self) (c.expire.ensures.told m stands) (c.show.ensures (omega arith))))),
       still_stands (after (at line (expiry timer)) m) c.settle.ensures.card led,
       timed_any line (expiry timer) m c.settle.new.self.timers (obeyed line (orders_at (at line (expiry timer)) (card_in m)) (without_first (at_moment c.args.now clock)))
           (c.settle.ensures.timed (at line (expiry timer)) (card_in m) (without_first (at_moment c.args.now clock))
@@ -104,6 +110,8 @@ returns-clause-reopened c = λ m clock s stood later before.
     let e = at line (expiry c.in-Some-due.value.1) in
     let within : line < (card_in m).config.lines = subst (λ n. line < n) (sym gone.clock_is.lines) c.in-Some-due.ensures.line in
     if_due (due (at_moment c.args.now clock)) c.in-Some-due.value (sym c.in-Some-due.is ∙ c.due.ensures.due (card_in m) (at_moment c.args.now clock) gone)
-    (λ (l : ℕ) (x : Timer). TellsReopened l (card_in (after (at l (expiry x)) m)) (marks_held c.args.handle.now.slot.card) c.settle.new.self.refused c.settle.new.report)
+    (λ (l : ℕ) (x : Timer). TellsReopened l (card_in (after (at l (expiry x)) m)) (marks_held c.args.handle.now.slot.card) c.settle.new.self.refused c.show_expired.new.self)
+    (subst (TellsReopened line (card_in (after e m)) (marks_held c.args.handle.now.slot.card) c.settle.new.self.refused) (sym c.show_expired.ensures)
+    (reopened_still line (card_in (after e m)) (marks_held c.args.handle.now.slot.card) c.settle.new.self.refused c.settle.new.report (plain_timer c.in-Some-due.value.1)
     (subst (λ marks. TellsReopened line (card_in (after e m)) marks c.settle.new.self.refused c.settle.new.report) (sym (ap marks_held c.in-Some.ensures.card))
-    (c.settle.ensures.tells (after e m) (c.expire.ensures.after.stands m (there c.in-Some.ensures.card m s)) (still_within line e m within)))
+    (c.settle.ensures.tells (after e m) (c.expire.ensures.after.stands m (there c.in-Some.ensures.card m s)) (still_within line e m within)))))

@@ -664,14 +664,16 @@ LAPD_STATUS lapd_lines(lapd_card *card, uint32_t *lines);
 
 /*
  * What octets say, without a check, as a side sent them (LAPD_NETWORK, LAPD_USER or, the same, LAPD_TERMINAL), for a log:
- * in front of `text`, which ends with a 0, the first line that `lapdsim frame` prints of them. What is no frame has the line
- * that tells why.
+ * in front of `text`, which ends with a 0, the first line that `lapdsim frame` prints of them. A message of TEI management stands
+ * in words after its octets: its name, reference number (Ri) and action indicator (Ai). What is no frame has the line that tells
+ * why.
  *
  *     sapi 0 tei 64 command i ns 1 nr 2 p 0 info 0801          an I-frame of the user's side
  *     sapi 0 tei 64 response ua f 1 info -                     UA of the network's side
+ *     sapi 63 tei 127 command ui p 0 info 0F12340281 identity assigned, Ri 1234, Ai 64
  *     frame: bad extension                                     and so: short, undefined, wrong size
  *
- * LAPD_WRONG_LENGTH: `length` is over 1,028, or `room` is too small; 64 and twice the length are enough, so LAPD_MOST_TEXT
+ * LAPD_WRONG_LENGTH: `length` is over 1,028, or `room` is too small; 72 and twice the length are enough, and LAPD_MOST_TEXT
  * for each frame that a card takes or gives. LAPD_BAD_SIDE: it is no side. Nothing is written then. It is of no card, takes
  * no memory, and may be called at any time; of lapd.c it takes 24 KB of stack.
  */

@@ -388,9 +388,10 @@ def turned(octets: bytes) -> bytes:
 
 
 def frame_text(octets: bytes, side: Side = Side.USER) -> str:
-    """What octets say, without a check, as a side sent them: the first line that `lapdsim frame` prints of them."""
+    """What octets say, without a check, as a side sent them: the first line that `lapdsim frame` prints of them, and after it a
+    message of TEI management in words."""
     octets = _octets(octets)
-    text = ctypes.create_string_buffer(2 * len(octets) + 64)
+    text = ctypes.create_string_buffer(2 * len(octets) + 72)
     _call("lapd_frame_text", octets, len(octets), side, text, len(text))
     return _text(text.value)
 

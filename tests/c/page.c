@@ -90,7 +90,7 @@ static uint32_t time_is(uint64_t moment) {   /* all that is due expires */
 }
 
 /* What the page says of its two configurations: that the other one starts, too, and how many octets each takes; and of four lines
- * of basic access. */
+ * of basic access, as README.md has them. */
 static bool is_as_said(void) {
     lapd_card other = LAPD_CARD_NONE;
     lapd_config four = basic;

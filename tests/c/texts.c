@@ -40,7 +40,7 @@ static void in_little_room(const uint8_t *octets, size_t count, uint16_t side, c
               && memcmp(text + octets_of_text, was, sizeof text - octets_of_text) == 0, "just enough room", line);
     wants(side != LAPD_USER || (lapd_frame_text(octets, count, LAPD_TERMINAL, text, sizeof text) == LAPD_OK && strcmp(text, whole) == 0),
           "a terminal says something else", line);
-    wants(octets_of_text <= 64 + 2 * count, "64 and twice the length are too little", line);
+    wants(octets_of_text <= 72 + 2 * count, "72 and twice the length are too little", line);
     wants(count > LAPD_MOST_FRAME || octets_of_text <= LAPD_MOST_TEXT, "LAPD_MOST_TEXT is too little", line);
 }
 

@@ -11,7 +11,8 @@ use lapd_text::write_text;
 const MOST: usize = 1028;
 
 /// Writes what octets say, as a side sent them, without a check, in front of `text`: the line that `lapdsim frame` prints,
-/// or tells of octets that are no frame, with a 0 in place of its line feed.
+/// or tells of octets that are no frame, with a 0 in place of its line feed. A message of TEI management stands in words
+/// after its octets.
 #[unsafe(no_mangle)]
 pub extern "C" fn lapd_frame_text(octets: &[u8], side: u16, text: &mut [u8]) -> u32
     ensures untold { result ≢ status.ok → text.new ≡ text.old }

@@ -7,6 +7,10 @@ unfolding encode_with
 encoded_singly [] = refl
 encoded_singly (octet ∷ more) = ap (λ digits. slice_index upper_digits (octet / 16) ∷ slice_index upper_digits (octet % 16) ∷ digits) (encoded_singly more)
 
+pub two_octets : (high low : ℕ) → encode_upper (high ∷ []) ++ encode_upper (low ∷ []) ≡ encode_upper (high ∷ low ∷ [])
+unfolding encode_with
+two_octets high low = refl
+
 -- one digit in upper case
 upper_digit : (n : ℕ) → n < 16 → to_ascii_uppercase (slice_index lower_digits n) ≡ slice_index upper_digits n
 upper_digit (suc (suc (suc (suc (suc (suc (suc (suc (suc (suc (suc (suc (suc (suc (suc (suc n)))))))))))))))) h = absurd (omega (arith, h))

@@ -22,6 +22,16 @@ pub number_is : (name piece digits more rest : List ℕ) (has : Bool) (number : 
     → piece ≡ (if has then name else []) → digits ≡ number_text [] (value_of number) → more ≡ rest → piece ++ (digits ++ more) ≡ number_text name said ++ rest
 number_is name piece digits more rest has number said e h p d f = grind (arith, piece_is, append_assoc, named)
 
+-- a message of TEI management: name, the two octets of Ri, and Ai
+pub message_is : (name high low pair action : List ℕ) → high ++ low ≡ pair
+    → codes " " ++ (name ++ (codes ", Ri " ++ (high ++ (low ++ (codes ", Ai " ++ (action ++ []))))))
+    ≡ codes " " ++ name ++ codes ", Ri " ++ pair ++ codes ", Ai " ++ action
+message_is name high low pair action e =
+    ap (λ l. codes " " ++ (name ++ (codes ", Ri " ++ (high ++ (low ++ (codes ", Ai " ++ l)))))) (append-nil action)
+    ∙ ap (λ l. codes " " ++ (name ++ (codes ", Ri " ++ l))) (sym (append_assoc high low (codes ", Ai " ++ action)))
+    ∙ ap (λ l. codes " " ++ (name ++ (codes ", Ri " ++ (l ++ (codes ", Ai " ++ action))))) e
+    ∙ simp append_assoc
+
 -- one piece more, and that it has room where all have
 abbrev pub nowhere : Bor (List ℕ)
 nowhere = record { ref_ptr = (0, 0); now = [] }

@@ -44,23 +44,32 @@ pub digits_are : (octets : List ℕ) → length (octets_text octets) ≡ digit_c
 digits_are [] = refl
 digits_are (octet ∷ more) = length-encode_with upper_digits (octet ∷ more) ∙ some_digits (length more)
 
--- a whole line: head, information and end
-pub line_put : (head info old first second new : List ℕ) (end : ℕ) → end ≡ length head + digit_count (length info) → end < length old
+-- a whole line: head, information, what this means, and end
+pub line_put : (head info meaning old first second third new : List ℕ) (end : ℕ) → end ≡ length head + length meaning + digit_count (length info)
+    → end < length old
     → first ≡ take 0 old ++ head ++ drop (0 + length head) old
     → second ≡ take (length head) first ++ octets_text info ++ drop (length head + digit_count (length info)) first
-    → new ≡ take end second ++ (0 ∷ []) ++ drop (end + 1) second
-    → IsPutIn true (head ++ octets_text info ++ codes "\n") old new
-line_put head info old first second new end is within one two three =
-    let words = head ++ octets_text info in
+    → third ≡ take (end - length meaning) second ++ meaning ++ drop (end - length meaning + length meaning) second
+    → new ≡ take end third ++ (0 ∷ []) ++ drop (end + 1) third
+    → IsPutIn true (head ++ octets_text info ++ meaning ++ codes "\n") old new
+line_put head info meaning old first second third new end is within one two three four =
+    let front = head ++ octets_text info in
     let digits = digits_are info in
-    let count : length words ≡ end = length-append head (octets_text info) ∙ ap (λ n. length head + n) digits ∙ sym is in
-    let second_is : second ≡ words ++ drop (length (octets_text info)) (drop (length head) old) =
+    let so_far : length front ≡ length head + digit_count (length info) = length-append head (octets_text info) ∙ ap (λ n. length head + n) digits in
+    let before_meaning : length front ≡ end - length meaning = omega (arith, so_far, is) in
+    let words = front ++ meaning in
+    let count : length words ≡ end = length-append front meaning ∙ omega (arith, so_far, is) in
+    let back = drop (length (octets_text info)) (drop (length head) old) in
+    let second_is : second ≡ front ++ back =
     put_behind head (drop (length head) old) (octets_text info) first second (length head) refl (one ∙ ap (λ n. head ++ drop n old) (omega arith))
     (two ∙ ap (λ n. take (length head) first ++ octets_text info ++ drop (length head + n) first) (sym digits)) in
-    let rest : drop (length (octets_text info)) (drop (length head) old) ≡ drop end old =
-    drop-drop (length (octets_text info)) (length head) old ∙ ap (λ n. drop n old) (ap (λ n. length head + n) digits ∙ sym is) in
-    let whole : second ≡ words ++ drop end old = second_is ∙ ap (λ l. words ++ l) rest in
-    let ended : new ≡ words ++ (0 ∷ []) ++ drop 1 (drop end old) = put_behind words (drop end old) (0 ∷ []) second new end count whole three in
+    let third_is : third ≡ words ++ drop (length meaning) back = put_behind front back meaning second third (end - length meaning) before_meaning second_is three in
+    let rest : drop (length meaning) back ≡ drop end old =
+    ap (drop (length meaning)) (drop-drop (length (octets_text info)) (length head) old)
+    ∙ drop-drop (length meaning) (length head + length (octets_text info)) old
+    ∙ ap (λ n. drop n old) (omega (arith, digits, is)) in
+    let whole : third ≡ words ++ drop end old = third_is ∙ ap (λ l. words ++ l) rest in
+    let ended : new ≡ words ++ (0 ∷ []) ++ drop 1 (drop end old) = put_behind words (drop end old) (0 ∷ []) third new end count whole four in
     let line = words ++ codes "\n" in
     let long : length line ≡ end + 1 = length-append words (codes "\n") ∙ ap (λ n. n + 1) count in
     let before : take (length line - 1) line ≡ words =
@@ -73,9 +82,12 @@ line_put head info old first second new end is within one two three =
     )
 
 -- or no room
-pub no_room : (head info old : List ℕ) → length old ≤ length head + digit_count (length info) → length old < length (head ++ octets_text info ++ codes "\n")
-no_room head info old h =
-    let words = length-append head (octets_text info) ∙ ap (λ n. length head + n) (digits_are info) in
-    let long : length (head ++ octets_text info ++ codes "\n") ≡ length head + digit_count (length info) + 1 =
-    length-append (head ++ octets_text info) (codes "\n") ∙ ap (λ n. n + 1) words in
+pub no_room : (head info meaning old : List ℕ) → length old ≤ length head + length meaning + digit_count (length info)
+    → length old < length (head ++ octets_text info ++ meaning ++ codes "\n")
+no_room head info meaning old h =
+    let front = head ++ octets_text info in
+    let so_far : length front ≡ length head + digit_count (length info) = length-append head (octets_text info) ∙ ap (λ n. length head + n) (digits_are info) in
+    let words : length (front ++ meaning) ≡ length head + length meaning + digit_count (length info) = length-append front meaning ∙ omega (arith, so_far) in
+    let long : length (front ++ meaning ++ codes "\n") ≡ length head + length meaning + digit_count (length info) + 1 =
+    length-append (front ++ meaning) (codes "\n") ∙ ap (λ n. n + 1) words in
     subst (λ n. length old < n) (sym long) (omega (arith, h))

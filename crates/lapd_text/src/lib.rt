@@ -1,12 +1,14 @@
-//! What octets say in words: the line that `lapdsim frame` prints of a frame, and that a program in C logs. No call takes
-//! memory.
+//! What octets say in words: the line that `lapdsim frame` prints of a frame, and the one that a program in C logs. That has
+//! messages of TEI management in words, too. No call takes memory.
 //!
 //! - `digits`: a number in decimal digits, and octets as hexadecimal ones.
 //! - `shown`: the head of a frame's line, [`head_of`], to which its information is joined.
+//! - `messages`: a message of TEI management in words.
 //! - `text`: all of it in room of the caller's, [`write_text`], or why octets are no frame.
 #![tactic(auto)]
 
 mod digits;
+mod messages;
 mod shown;
 mod text;
 

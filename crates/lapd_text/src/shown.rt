@@ -41,7 +41,7 @@ pub fn head_of(frame: &Frame<'_>) -> Head
 }
 
 // Pieces, one after the other.
-fn joined(pieces: &[&[u8]]) -> Head
+pub(crate) fn joined(pieces: &[&[u8]]) -> Head
     requires { length (joined pieces.now) ≤ 128 }
     ensures { result.items ≡ joined pieces.now }
 {

@@ -13,7 +13,8 @@
  * docs/FORMAT.md: `lapdsim run < RECORD` then shows the same. With CAPTURE, the frames of both ways are written there for
  * Wireshark (pcap.c). It ends by a signal (SIGINT, SIGTERM), or if the device goes.
  *
- * @TRIED@
+ * What was tried: all four sides over spans of DAHDI that are joined in software (dahdi_dynamic_loc), with HDLC by DAHDI's software,
+ * against libpri (tests/kernel). It was never tried on hardware, nor with hardhdlc.
  */
 #define _POSIX_C_SOURCE 200809L
 

@@ -119,6 +119,7 @@ static bool wait_until(const unsigned *count, unsigned wanted, const char *what)
 /* ---- A side ------------------------------------------------------------------------------------------------------- */
 
 static pid_t start(const char *path, const char *word) {
+    unlink("/told");
     pid_t child = fork();
     if (child == 0) {
         dup2(open("/told", O_RDWR | O_CREAT | O_TRUNC, 0644), STDERR_FILENO);

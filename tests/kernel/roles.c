@@ -157,6 +157,7 @@ static bool opens(bool is_primary) {
 
 /* What misdn tells goes to a file. */
 static pid_t start(const char *side) {
+    unlink("/told");
     pid_t child = fork();
     if (child == 0) {
         dup2(open("/told", O_RDWR | O_CREAT | O_TRUNC, 0644), STDERR_FILENO);

@@ -35,6 +35,8 @@ SAME(removed, DAHDI_REMOVED, DAHDI_EVENT_REMOVED);
 SAME(of_layer1, DAHDI_ALARMS_OF_LAYER1, (DAHDI_ALARM_RED | DAHDI_ALARM_BLUE | DAHDI_ALARM_NOTOPEN | DAHDI_ALARM_LOS | DAHDI_ALARM_LFA
                                          | DAHDI_ALARM_RECOVER));
 
+enum { MOST_CHANNELS = 64 };
+
 static const char *const addresses[] = {"1:0", "1:1"};
 
 static bool is_ok(int result, const char *what) {
@@ -44,7 +46,7 @@ static bool is_ok(int result, const char *what) {
 }
 
 bool spans_load(void) {
-    return machine_load("/dahdi.ko", "") && machine_load("/dahdi_dynamic.ko", "") && machine_load("/dahdi_dynamic_loc.ko", "");
+    return machine_load("/dahdi.ko", "auto_assign_spans=1") && machine_load("/dahdi_dynamic.ko", "") && machine_load("/dahdi_dynamic_loc.ko", "");
 }
 
 static struct dahdi_dynamic_span description_of(int span) {
@@ -53,24 +55,24 @@ static struct dahdi_dynamic_span description_of(int span) {
     return it;
 }
 
-/* The number of a channel among all of DAHDI's. */
-static int channel_at(const char *path) {
-    int number = -1, file = open(path, O_RDWR | O_NONBLOCK);
-    if (!is_ok(file, path))
-        return -1;
-    is_ok(ioctl(file, DAHDI_CHANNO, &number), "number of a channel");
-    close(file);
-    return number;
+/* The number of the channel of a span, among all of DAHDI's; 0 if there is none. */
+static int channel_of(int control, int span) {
+    for (int number = 1; number < MOST_CHANNELS; number++) {
+        struct dahdi_params it = {.channo = number};
+        if (ioctl(control, DAHDI_GET_PARAMS, &it) == 0 && it.spanno == span)
+            return number;
+    }
+    return 0;
 }
 
 bool span_begins(int span, char *path, unsigned room) {
     struct dahdi_dynamic_span it = description_of(span);
-    int control = open("/dev/dahdi/ctl", O_RDWR);
+    int control = open("/dev/dahdi/ctl", O_RDWR | O_CLOEXEC);
     if (!is_ok(control, "/dev/dahdi/ctl"))
         return false;
     bool good = is_ok(ioctl(control, DAHDI_DYNAMIC_CREATE, &it), "a span");
     snprintf(path, room, "/dev/dahdi/chan/%03d/001", it.spanno);
-    struct dahdi_chanconfig mode = {.chan = good ? channel_at(path) : -1, .sigtype = DAHDI_SIG_HDLCFCS};
+    struct dahdi_chanconfig mode = {.chan = channel_of(control, it.spanno), .sigtype = DAHDI_SIG_HDLCFCS};
     good = good && is_ok(ioctl(control, DAHDI_CHANCONFIG, &mode), "the mode of a channel")
            && is_ok(ioctl(control, DAHDI_STARTUP, &it.spanno), "the start of a span");
     close(control);
@@ -79,7 +81,7 @@ bool span_begins(int span, char *path, unsigned room) {
 
 bool span_ends(int span) {
     struct dahdi_dynamic_span it = description_of(span);
-    int control = open("/dev/dahdi/ctl", O_RDWR);
+    int control = open("/dev/dahdi/ctl", O_RDWR | O_CLOEXEC);
     bool good = is_ok(control, "/dev/dahdi/ctl") && is_ok(ioctl(control, DAHDI_DYNAMIC_DESTROY, &it), "the end of a span");
     close(control);
     return good;
@@ -87,7 +89,7 @@ bool span_ends(int span) {
 
 int span_open(const char *path) {
     struct dahdi_bufferinfo buffers = {.numbufs = 8, .bufsize = 1024};
-    int file = open(path, O_RDWR | O_NONBLOCK);
+    int file = open(path, O_RDWR | O_NONBLOCK | O_CLOEXEC);
     if (is_ok(file, path))
         is_ok(ioctl(file, DAHDI_SET_BUFINFO, &buffers), "buffers");
     return file;

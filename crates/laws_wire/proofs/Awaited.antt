@@ -1,7 +1,8 @@
 -- What is awaited at a station is awaited at the end for which it stands: there a T200 that is long enough is timely, N200 is used up as
 -- its expiry tells, and it runs as its expiry is answered.
 use Rattle.laws_wire.proofs.Vocabulary.{◌≡◌, ℕ, zero, suc, ◌<◌, Bool, true, false, cond, not, ◌||◌, IsTrue, List, [], ◌∷◌, ◌++◌, length, map, Option, None, Some, option_map, refl, sym, ap, subst, ◌∙◌, true≢false, All, flat_map, list_any, option_map_or, nat_lt, ltb-true, All-nil, All-cons, All-append, All-head, All-tail, Seq, Control, Information, ReceiveReady, Service, Parts, spelling}
-use Rattle.laws_wire.proofs.Vocabulary.{TeiAssigned, Established, ControlFrame, LinkTimer, Terms, Link, fresh, frame_of, state_number, is_multiple_frame, may_repeat, course, begun, given_of, is_running, Course, T200, LinkEndpoint, frame_given, with_sent, Config, next, link_in, state_in, state_of, terms, awaits_answer, HasNo, Endpoint, answered, happens, told_by, expiry, is_error, TellNoError, is_poll}
+use Rattle.laws_wire.proofs.Vocabulary.{TeiAssigned, Established, ControlFrame, LinkTimer, Terms, Link, fresh, frame_of, state_number, is_multiple_frame, may_repeat, course, begun, given_of, is_running, Course, T200, LinkEndpoint, frame_given, with_sent, Config, next, link_in, state_in, state_of, terms, awaits_answer, HasNo, Endpoint, answered, happens, told_by, expiry, is_error, TellNoError}
+use Rattle.laws_wire.proofs.Vocabulary.{is_poll}
 use Rattle.laws_wire.proofs.Vocabulary.{is_final, giving, NoneGoes, IsNoneOpen, awaits_in, awaits_reply, IsLongEnough, MayRepeat, is_any_order, runs_t200, Answer, BadTei, NoLink, Refusal, Rests, arith, frames_by, gives_one, is_on-at, le-ltb, link_of, list_any_none, place_of-is, queue_of, told, told_of_link, of_aim, at_timer, place_in, ◌-◌, ◌≤◌, expired, timer_T200, line_answer, line_takes_slot}
 use Rattle.laws_wire.proofs.Vocabulary.{all-right, room_of, orders_for, orders_in, unless, free, own_side}
 use Rattle.model_link.specs.Machine as links

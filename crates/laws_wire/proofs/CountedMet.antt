@@ -1,5 +1,6 @@
 -- The premises of the law on counted expiries are met, by the worked calls that recover from their losses.
-use Rattle.laws_wire.proofs.Vocabulary.{◌≡◌, refl, arith, All, Call, exchanged, reading, side_reading, header_of, control_of, unnumbered_of, supervisory_of, distance_of, named, seq, sends, loses, at_near, doing, doing_all, turns, confirmed, heard_in, StayTimely, IsFullTalk, StayPatient, Counts, counting, uncounted, IsBelow, StayCounted, StaySpared, user, network, begins, loses_three, lost, ℕ, ◌+◌, ◌<◌}
+use Rattle.laws_wire.proofs.Vocabulary.{◌≡◌, refl, arith, All, Call, exchanged, reading, side_reading, header_of, control_of, unnumbered_of, supervisory_of, distance_of, named, seq, sends, loses, at_near, doing, doing_all, turns, confirmed, heard_in, StayTimely, IsFullTalk, StayPatient, Counts, counting, uncounted, IsBelow, StayCounted, StaySpared, user, network, begins, loses_three, lost, ℕ, ◌+◌}
+use Rattle.laws_wire.proofs.Vocabulary.{◌<◌}
 use Rattle.model_line.specs.Line.{tries}
 use Rattle.laws_wire.proofs.Vocabulary.{line_answer}
 use Rattle.laws_wire.proofs.Vocabulary.{line_takes_slot, line_after, tei_refusal, tei_course, ua_is_lost}

@@ -1,5 +1,6 @@
 -- Two stations of which one releases the link where both rest: what each thing that is done makes of them.
-use Rattle.laws_wire.proofs.Vocabulary.{◌≡◌, ℕ, ◌+◌, ◌<◌, Bool, true, false, List, [], ◌∷◌, ◌++◌, cond, refl, sym, ap, subst, ◌∙◌, ◌⊎◌, inl, inr, append-nil, arith, All, nat_lt, flat_map, lt-ltb, All-head, All-tail, Service, Timer, Parts, spelling, Established, ControlFrame, Terms, LinkTimer, T203, Link, may_repeat, frame_of, course, LinkEndpoint, with_link, response, Ua, Dm, IsInRange, begun, Config}
+use Rattle.laws_wire.proofs.Vocabulary.{◌≡◌, ℕ, ◌+◌, ◌<◌, Bool, true, false, List, [], ◌∷◌, ◌++◌, cond, refl, sym, ap, subst, ◌∙◌, ◌⊎◌, inl, inr, append-nil, arith, All, nat_lt, flat_map, lt-ltb, All-head, All-tail, Service, Timer, Parts, spelling, Established, ControlFrame, Terms, LinkTimer, T203, Link, may_repeat, frame_of, course, LinkEndpoint, with_link, response, Ua, Dm, IsInRange, begun}
+use Rattle.laws_wire.proofs.Vocabulary.{Config}
 use Rattle.laws_wire.proofs.Vocabulary.{LineTold, expiry, next, terms, HasNothingToSend, awaits_answer, T200, Endpoint, Wire, happens, EndStep, requests, expires, sends, receives, loses, acting, turned, StepAt, at_near, at_far, doing, doing_all, is_poll, is_final, IsTimelyOf, for_layer_3, IsLeaving, IsTimelyThere, StayTimelyThere, release_confirmed, release_indicated, map, expired, timer_T200}
 use Rattle.laws_wire.proofs.Vocabulary.{timer_T203, own_side}
 use Rattle.laws_wire.proofs.Awaited.{NoneOpen, may-there, long-there, waits-first, goes-first}

@@ -1,5 +1,6 @@
 -- A link that awaits its establishment, as often as SABME was repeated and whatever waits; and what comes of it.
-use Rattle.laws_wire.proofs.Vocabulary.{arith, ◌≡◌, ℕ, ◌+◌, ◌<◌, Bool, true, false, cond, List, [], ◌∷◌, ◌++◌, length, drop, None, Some, refl, sym, ap, subst, ◌∙◌, ◌⊎◌, inl, inr, append-nil, append_assoc, All, nat_lt, lt-ltb, All-nil, All-cons, All-tail, All-append, Sabme, Parts, T203, ControlFrame, Terms, Link, fresh, may_repeat, frame_of, received, expired, course, begun, ◌then◌, with_sent, command}
+use Rattle.laws_wire.proofs.Vocabulary.{arith, ◌≡◌, ℕ, ◌+◌, ◌<◌, Bool, true, false, cond, List, [], ◌∷◌, ◌++◌, length, drop, None, Some, refl, sym, ap, subst, ◌∙◌, ◌⊎◌, inl, inr, append-nil, append_assoc, All, nat_lt, lt-ltb, All-nil, All-cons, All-tail, All-append, Sabme, Parts, T203, ControlFrame, Terms, Link, fresh, may_repeat, frame_of, received, expired, course, begun, ◌then◌, with_sent}
+use Rattle.laws_wire.proofs.Vocabulary.{command}
 use Rattle.laws_wire.proofs.Vocabulary.{frames_of, frames-append, Means, T200, frame, after, Course, code_G}
 use Rattle.model_link.specs.declared.states.State.TheVariants as state
 use Rattle.model_link.specs.Words

@@ -1,5 +1,6 @@
 -- The link of the end that is called, before its caller is up: it has received nothing but SABME.
-use Rattle.laws_wire.proofs.Vocabulary.{◌≡◌, ℕ, ◌+◌, ◌<◌, ◌≤◌, Bool, true, false, cond, ◌||◌, IsTrue, List, [], ◌∷◌, ◌++◌, Option, None, Some, refl, sym, ap, subst, ◌∙◌, ◌⊎◌, inl, inr, append_assoc, eqb-true, ne_eqb, arith, flat_map, list_any, All, All-head, front_rest, Refusal, Parts, State, Established, TimerRecovery, Sabme, LinkTimer, T203, ControlFrame, Terms, Link, is_multiple_frame, may_repeat}
+use Rattle.laws_wire.proofs.Vocabulary.{◌≡◌, ℕ, ◌+◌, ◌<◌, ◌≤◌, Bool, true, false, cond, ◌||◌, IsTrue, List, [], ◌∷◌, ◌++◌, Option, None, Some, refl, sym, ap, subst, ◌∙◌, ◌⊎◌, inl, inr, append_assoc, eqb-true, ne_eqb, arith, flat_map, list_any, All, All-head, front_rest, Refusal, Parts, State, Established, TimerRecovery, Sabme, LinkTimer, T203, ControlFrame, Terms, Link, is_multiple_frame}
+use Rattle.laws_wire.proofs.Vocabulary.{may_repeat}
 use Rattle.laws_wire.proofs.Vocabulary.{has_outstanding, received, requested, expired, offer, course, given, given_of, is_running, begun, frame_given, IsInRange, IsWaitingFrame, LinkEndpoint, frame_of, frames_of, frames-append, kinds-append, has_room, Reports, still, at-first, offer-gave, Calm, Kind, enquiry, report, kind_of, kinds_of, tally, tally-push, one_enquiry, one_answer, one_rejection}
 use Rattle.laws_wire.proofs.Vocabulary.{line, most, is_recovering, Sane, frame, after, Course, ◌then◌, for_layer_3, LinkClearBusy, LinkEvent, LinkRequest, LinkSetBusy, F, granted, refusal, error_f, renewed, carried-reports, rising-reports, timer-stays, timed-after, heeds-after, expires-goes, IsSound, is_information, Every, every-push, Behind, calm-rise}
 use Rattle.model_link.specs.Machine

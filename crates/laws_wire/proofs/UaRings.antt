@@ -1,5 +1,6 @@
 -- Where one end rings, no turn is left and its T200 expires, one round is enough for it to be told of the establishment.
-use Rattle.laws_wire.proofs.Vocabulary.{◌≡◌, ℕ, true, IsTrue, List, [], ◌∷◌, refl, sym, ap, subst, nat_lt, lt-ltb, arith, All, All-head, Service, Timer, Parts, spelling, ControlFrame, Terms, Link, fresh, is_multiple_frame, may_repeat, after, course, IsInRange, LinkEndpoint, with_link, with_sent, Config, LineTold, next, terms, Endpoint, Wire, happens, frame_comes, with_first_of, without_first, expires, sends}
+use Rattle.laws_wire.proofs.Vocabulary.{◌≡◌, ℕ, true, IsTrue, List, [], ◌∷◌, refl, sym, ap, subst, nat_lt, lt-ltb, arith, All, All-head, Service, Timer, Parts, spelling, ControlFrame, Terms, Link, fresh, is_multiple_frame, may_repeat, after, course, IsInRange, LinkEndpoint, with_link, with_sent, Config, LineTold, next, terms, Endpoint, Wire, happens, frame_comes, with_first_of, without_first}
+use Rattle.laws_wire.proofs.Vocabulary.{expires, sends}
 use Rattle.laws_wire.proofs.Vocabulary.{acting, doing_all, confirmed, heard_in, MayRepeat, rounds, timer_T200, own_side}
 use Rattle.model_link.specs.Events as link
 use Rattle.laws_wire.proofs.Acting.{ranges}

@@ -1,5 +1,6 @@
 -- Where both ends are up, neither is busy and no turn is left: once T200 expires, so many rounds are enough for all that is missing, and it stops.
-use Rattle.laws_wire.proofs.Vocabulary.{◌≡◌, true, ℕ, ◌+◌, ◌≤◌, false, List, ◌++◌, length, map, take, None, refl, sym, ap, subst, arith, length-map, length-append, length-take-le, eq-eqb, Service, Timer, Established, T200, Link, may_repeat, given, LinkEndpoint, Ends, with_link, Config, LineTold, next, gave, runs, is_running, IsCutOff, all-recovered, nothing-to_send, awaits_answer, Endpoint, Wire, expires, acting}
+use Rattle.laws_wire.proofs.Vocabulary.{◌≡◌, true, ℕ, ◌+◌, ◌≤◌, false, List, ◌++◌, length, map, take, None, refl, sym, ap, subst, arith, length-map, length-append, length-take-le, eq-eqb, Service, Timer, Established, T200, Link, may_repeat, given, LinkEndpoint, Ends, with_link, Config, LineTold, next, gave, runs, is_running, IsCutOff, all-recovered, nothing-to_send, awaits_answer, Endpoint, Wire}
+use Rattle.laws_wire.proofs.Vocabulary.{expires, acting}
 use Rattle.laws_wire.proofs.Vocabulary.{turned, answered, IsStill, link_of, data_told, heard_in, is_poll, runs_t200, rounds, with_t200_expired, both_expire, BothMayRepeat, StayPatient, expired, timer_T200, two_links_rounds, TwoLinksHasArrived, HasItsTimer, HasNo, TimerRecovery, enquiry_with, expires-one, is_final, rising-low, [], AreFree, free-recovered, flows-low}
 use Rattle.laws_link.specs.two.CutOff as cut_off
 use Rattle.laws_wire.specs.Facing.{line_of}

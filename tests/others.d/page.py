@@ -7,7 +7,8 @@ import links
 import tables
 import teis
 
-PAGE = pathlib.Path(__file__).resolve().parent.parent.parent / 'docs' / 'CONFORMANCE.md'
+ROOT = pathlib.Path(__file__).resolve().parent.parent.parent
+PAGE, README = ROOT / 'docs' / 'CONFORMANCE.md', ROOT / 'README.md'
 BEGIN, END = '<!-- printed by tests/others --page -->', '<!-- end -->'
 STACKS = 'misdn', 'libpri', 'lapd_core'
 TABLES = 'links', 'network', 'terminal'
@@ -23,15 +24,17 @@ def there(table, stack, ours):
     return len(set(teis.cells(table)) - set(teis.NOT_THERE.get((table, stack), ())))
 
 
+def equal(table, stack, ours, blocks):
+    """How many cells are equal, and how many a stack has; None of a table that it does not have."""
+    most = there(table, stack, ours)
+    return None if most is None else (most - sum(it.cells.get(stack, 0) for it in blocks if it.table == table), most)
+
+
 def counted(table, ours, blocks):
     """A row of the first table: of how many cells each stack has, how many are equal."""
     cells = len(ours) if table == 'links' else len(teis.cells(table))
-    row = [PARTS[table], str(cells)]
-    for stack in STACKS:
-        most = there(table, stack, ours)
-        differing = sum(it.cells.get(stack, 0) for it in blocks if it.table == table)
-        row.append('' if most is None else '%d/%d' % (most - differing, most))
-    return '|%s|' % '|'.join(row)
+    pairs = [equal(table, stack, ours, blocks) for stack in STACKS]
+    return '|%s|%d|%s|' % (PARTS[table], cells, '|'.join('%d/%d' % it if it else '' for it in pairs))
 
 
 def row(block):
@@ -58,9 +61,15 @@ def parts():
 
 
 def differences_from(path):
-    """What is wrong with the page."""
+    """What is wrong with the page, and with the numbers of links in README.md."""
     if parts()[1] != printed(path):
-        yield 'it has not what tests/others --page prints (--write)'
+        yield '%s has not what tests/others --page prints (--write)' % PAGE.name
+    ours, blocks = tables.link_cells(path.read_text(encoding='utf-8')), differences.known()
+    pairs = [equal('links', stack, ours, blocks) for stack in STACKS[:2]]
+    for numbers in zip(*pairs):
+        words = '{:,} and {:,}'.format(*numbers)
+        if words not in README.read_text(encoding='utf-8'):
+            yield '%s has no "%s"' % (README.name, words)
 
 
 def write(path):

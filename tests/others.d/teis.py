@@ -49,6 +49,7 @@ TERMINAL = {
 }
 TERMINAL_EVENTS = {
     'T202 expires': 'expire',
+    'assigned by the outstanding Ri, Ai 64': ASSIGNED,
     'assigned by the outstanding Ri, Ai 70': 'hear 2 last 70',
     'assigned by the outstanding Ri, Ai 5': 'hear 2 last 5',
     'assigned by another Ri, Ai 64': 'hear 2 7 64',

@@ -3,8 +3,6 @@
 ghost use Rattle.std.specs.Prelude.{◌≡◌, ℕ, List};
 ghost use Rattle.lapd_link_steps.specs.{runs, expired_step, expire_running, HasRoom, Tells};
 ghost use Rattle.lapd_link_steps.specs.Does.{Does};
-ghost use Rattle.lapd_link_steps.specs.Past.{Past, link_of};
-ghost use Rattle.model_link.specs.Link as machine;
 
 use crate::entity::Entity;
 use crate::report::BareReport;
@@ -39,13 +37,6 @@ impl Entity {
         ensures { result ≡ runs timer self.now.running }
     {
         is_the(timer, self.running)
-    }
-
-    // Whether the command that waits for its answer may go again: RC < N200.
-    pub(crate) fn may_repeat(&self, terms: &Terms) -> bool
-        ensures { (p : Past) → result ≡ machine.may_repeat terms.now (link_of self.now p) }
-    {
-        self.repeats < terms.n200
     }
 
     fn expire_running(&mut self, terms: &Terms, told: &mut BareReport, timer: LinkTimer)

@@ -54,7 +54,7 @@ impl Entity {
         ensures tells { Tells 2 1 told.old told.new }
         ensures does { (info : List ℕ) → Does terms.now info (row.t200_in_6 terms.now) self.old told.old self.new told.new }
     {
-        if self.may_repeat(terms) {
+        if self.repeats < terms.n200 {
             self.command(terms, told, Control::Disc { pf: true });
             self.repeats += 1;
             self.start_timer(told, LinkTimer::T200);

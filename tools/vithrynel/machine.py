@@ -83,7 +83,7 @@ through a module with the sum
 
 The code is proved, each function of it, in Rattle. Proofs end with the code as the kit's compiler has it. From there on nothing
 is proved, and all is tested: that code is compiled for WebAssembly by the kit's clang, its addresses are lowered by wasm-opt,
-and wasm2c writes the module as C."""
+wasm2c writes the module as C, and folded.py of the repository makes statements of its instructions."""
 
 
 def comment(text: str, wasm: str) -> str:

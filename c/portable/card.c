@@ -1,8 +1,5 @@
 /* ---- Cards and clocks: each has a machine of its own -------------------------------------------------------------- */
 
-/* Where what is handed over lies in a machine's memory: the handle, a report, and whatever else a call has. */
-enum { HANDLE = PLACES, REPORT = PLACES + 16, OTHER = REPORT + REPORT_OCTETS, HEAP = OTHER + OTHER_OCTETS };
-
 /* A machine whose heap has so many octets, on which nothing was started; NULL where there is no memory. */
 static machine *new_machine(u64 heap) {
     u64 octets = HEAP + heap;
@@ -13,7 +10,7 @@ static machine *new_machine(u64 heap) {
         return NULL;
     machine *instance = tried.at;
     memset(instance->data, 0, HEAP);
-    instance->octets = octets;
+    instance->octets = (u32)octets;
     init_globals(instance);
     init_memories(instance);
     w2c_module_heap(instance, HEAP, octets);
@@ -132,7 +129,7 @@ typedef u32 ends(machine *instance, u64 handle);
 static uint32_t finish(bool *started, void **at, uint32_t none, ends *call) {
     if (!*started)
         return none;
-    u32 status = call(*at, HANDLE);
+    u32 status = call(machine_of(*at), HANDLE);
     rattle_dealloc(*at);
     *started = false;
     *at = NULL;
@@ -165,7 +162,7 @@ uint32_t lapd_exchange(lapd_card *card, uint32_t line, const uint8_t *in, size_t
         return LAPD_WRONG_POINTER;
     if (!card->started)
         return LAPD_NO_CARD;
-    machine *instance = card->at;
+    machine *instance = machine_of(card->at);
     if (!is_exchange(in_length, out_length, *steps))
         return w2c_lapd_exchange(instance, HANDLE, line, IN, 0, OUT, 1, STEPS, REPORT);
     for (;;) {

@@ -33,6 +33,9 @@ typedef int64_t s64;
 #define UNREACHABLE TRAP()
 #define FUNC_EPILOGUE
 
+/* A place in the memory of the module, whose addresses have 64 bits, of which 32 are used. */
+typedef size_t place;
+
 /* Only the place of a load or a store is tested, not how far ahead of it it goes: that is less than AHEAD, and it takes WIDEST
  * octets at most. So what passes the test stays inside the block that was allocated, which has BEHIND octets more. How large
  * the memory is, LIMIT says. */
@@ -59,17 +62,17 @@ enum { BEHIND = AHEAD + WIDEST };
 #endif
 
 /* Loads and stores: so many bits of memory, read as a signed or unsigned number, as a value of the machine. */
-#define DEFINE_LOAD(name, bits, as, value)                                                  \
-    static inline value name(const machine *instance, u32 most, u64 at, u32 ahead) {        \
-        u##bits octets;                                                                     \
-        TEST(at);                                                                           \
-        memcpy(&octets, instance->data + (size_t)at + ahead, sizeof octets);                \
-        return (value)(as)TURNED_##bits(octets);                                            \
+#define DEFINE_LOAD(name, bits, as, value)                                             \
+    static inline value name(const machine *instance, u32 most, place at, u32 ahead) { \
+        u##bits octets;                                                                \
+        TEST(at);                                                                      \
+        memcpy(&octets, instance->data + at + ahead, sizeof octets);                   \
+        return (value)(as)TURNED_##bits(octets);                                       \
     }
-#define DEFINE_STORE(name, bits, value)                                                     \
-    static inline void name(machine *instance, u32 most, u64 at, u32 ahead, value number) { \
-        u##bits octets = (u##bits)number;                                                   \
-        TEST(at);                                                                           \
-        octets = TURNED_##bits(octets);                                                     \
-        memcpy(instance->data + (size_t)at + ahead, &octets, sizeof octets);                \
+#define DEFINE_STORE(name, bits, value)                                                       \
+    static inline void name(machine *instance, u32 most, place at, u32 ahead, value number) { \
+        u##bits octets = (u##bits)number;                                                     \
+        TEST(at);                                                                             \
+        octets = TURNED_##bits(octets);                                                       \
+        memcpy(instance->data + at + ahead, &octets, sizeof octets);                          \
     }

@@ -2,7 +2,7 @@
 (portable_program.py). A function a step:
 
     machine     wasm2c's output without its own head: the parts are found by what they say
-    plain       its text for a machine whose memory is c/portable's
+    plain       its text for a machine whose memory is c/portable's; folded.py makes expressions of its lines
     asked_for   the loads and stores of c/portable/memory.c that it calls
     comment     what a file begins with: what it was made by
 """
@@ -10,11 +10,12 @@ import re
 from typing import NamedTuple
 
 from .crates import ROOT, sum_of
+from .folded import AHEAD, folded
 from .static_library import NotBuilt
 from .wasm import run, versions
 
-# A load or a store goes less than so far ahead of the place that is tested, and takes eight octets at most.
-AHEAD, WIDEST = 512, 8
+# A load or a store goes less than AHEAD ahead of the place that is tested, and takes so many octets at most.
+WIDEST = 8
 
 
 def content(path: str) -> str:
@@ -48,7 +49,7 @@ def machine(wasm: str, folder: str) -> Machine:
     base = part(body, r"instance->w2c___heap_base = (\d+)ull;", "where the heap begins")
     pages = part(body, r"wasm_rt_allocate_memory\(&instance->w2c_memory, (\d+), \d+\);", "pages of memory")
     body = body.replace(part(body, r"^(static void init_data_instances\([^)]*\) \{\n\}\n)", "data that are put in later"), "")
-    return Machine(plain(fields), plain(body), int(base), int(pages))
+    return Machine(plain(fields), folded(plain(body)), int(base), int(pages))
 
 
 def plain(body: str) -> str:
@@ -81,7 +82,7 @@ Made by {by} of a module with the sum
 
 The code is proved, each function of it, in Rattle. Proofs end with the code as the kit's compiler has it. From there on nothing
 is proved, and all is tested: that code is compiled for WebAssembly by the kit's clang, its addresses are lowered by wasm-opt,
-and wasm2c writes the module as C."""
+wasm2c writes the module as C, and folded.py of the repository makes statements of its instructions."""
 
 
 def comment(text: str, wasm: str) -> str:

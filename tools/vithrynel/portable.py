@@ -9,7 +9,7 @@ import re
 import tempfile
 from typing import Dict, List, Tuple
 
-from .checked import buffers, length_of, tag, tests, wrapped
+from .checked import tag, tests, wrapped
 from .header import Field, Function, Parameter, Struct, functions, numbers, structs
 from .machine import AHEAD, WIDEST, Machine, asked_for, comment, content, machine
 from .static_library import built, module
@@ -25,6 +25,8 @@ NOT_EXPORTED = ("lapd_version",)
 COUNTED = {("lapd_report", "notes"): "note_count", ("lapd_report", "orders"): "order_count", ("lapd_report", "contents"): "length"}
 # What is read of a struct that is handed over, where that is not all.
 READ = {"lapd_report": ("order_count", "orders")}
+# What has no padding, on each processor.
+AS_IT_LIES = ("lapd_report",)
 # What a call reads before it writes it.
 IN_OUT = {("lapd_next_link", "place")}
 # So many of the octets that are handed over say all that the call asks: one more than the longest that is served.
@@ -72,17 +74,43 @@ def field_moved(it: Struct, field: Field, is_put: bool) -> List[str]:
             "    " + moved(field.kind, f"at + {step}", field.at, f"it->{field.name}[i]", is_put)]
 
 
+def blocks_got(it: Struct) -> List[str]:
+    """The statements for a struct that lies here as it does there, but for the order of octets in its numbers: what is told of
+    an array is copied, and the rest as blocks, with what was in the machine's memory where an array has less."""
+    rows: List[str] = []
+    block: List[Field] = []
+
+    def end(to: int) -> None:
+        if block:
+            at = block[0].at
+            rows.append(f"memcpy((u8 *)it + {at}, instance->data + at + {at}, {to - at});")
+            rows.extend(f"if (LAPD_BIG_END_FIRST)\n        {row}" for one in block if one.kind == "uint16_t" for row in field_moved(it, one, False))
+            block.clear()
+
+    for field in it.fields:
+        count = COUNTED.get((it.name, field.name))
+        if field.kind == "uint8_t" and count:
+            end(field.at)
+            rows += [f"if (it->{count} != 0)", *(f"    {row}" for row in field_moved(it, field, False))]
+        else:
+            block.append(field)
+    end(it.octets)
+    return rows
+
+
 def mover(it: Struct, is_put: bool) -> str:
     names = READ.get(it.name) if is_put else None
     rows = [row for one in it.fields if names is None or one.name in names for row in field_moved(it, one, is_put)]
+    if it.name in AS_IT_LIES and not is_put:
+        rows = blocks_got(it)
     what = f"void put_{it.name}(machine *instance, u64 at, const" if is_put else f"void get_{it.name}(const machine *instance, u64 at,"
-    rows = ["FUNC_PROLOGUE;", *rows]
+    rows = ["HANDED;", *rows]
     return f"static inline {what} {tag(it.name)} *it) {{\n" + "".join(f"    {row}\n" for row in rows) + "}\n"
 
 
 def plain_mover(kind: str, is_put: bool) -> str:
     what = f"void put_{kind}(machine *instance, u64 at, const" if is_put else f"void get_{kind}(const machine *instance, u64 at,"
-    return f"static inline {what} {kind} *it) {{\n    FUNC_PROLOGUE;\n    {moved(kind, 'at', 0, '*it', is_put)}\n}}\n"
+    return f"static inline {what} {kind} *it) {{\n    HANDED;\n    {moved(kind, 'at', 0, '*it', is_put)}\n}}\n"
 
 
 def below(name: str) -> List[str]:
@@ -149,22 +177,20 @@ class Call:
         at = self.room(most)
         self.words += [at, f"at_most({length}, {most})"]
         if it.is_const:
-            self.before.append(f"memcpy(instance->data + {at}, {it.name}, at_most({length}, {most}));")
+            self.before.append(f"copy(instance->data + {at}, {it.name}, at_most({length}, {most}));")
         else:
-            self.last.append(f"memcpy({it.name}, instance->data + {at}, at_most(*{rest[0].name}, at_most({length}, {most})));")
+            self.last.append(f"copy({it.name}, instance->data + {at}, at_most(*{rest[0].name}, at_most({length}, {most})));")
 
     def look(self) -> List[str]:
-        """Whether a pointer is null; that of no octets is taken for one to none."""
-        none = [row for it in buffers(self.of) if it.is_const
-                for row in (f"if ({it.name} == NULL && {length_of(self.of, it).name} == 0)", f"    {it.name} = &no_octet;")]
-        return [*none, *wrapped("if (", tests(self.of, "NULL"), ")", " || ", 116).split("\n"), "    return LAPD_WRONG_POINTER;"]
+        """Whether a pointer is null; that of no octets may be."""
+        return [*wrapped("if (", tests(self.of, "NULL"), ")", " || ", 116).split("\n"), "    return LAPD_WRONG_POINTER;"]
 
     def text(self) -> str:
         words = ", ".join(f"{'const ' * one.is_const}{tag(one.kind) if one.kind in structs() else one.kind} "
                           f"{'*' * one.is_pointer}{one.name}" for one in self.of.parameters)
         handle = self.of.parameters[0]
         none = "LAPD_NO_CARD" if handle.kind == "lapd_card" else "LAPD_NO_CLOCK"
-        rows = [*self.look(), f"if (!{handle.name}->started)", f"    return {none};", f"machine *instance = {handle.name}->at;", *self.before,
+        rows = [*self.look(), f"if (!{handle.name}->started)", f"    return {none};", f"machine *instance = machine_of({handle.name}->at);", *self.before,
                 f"u32 status = w2c_{self.of.name}(instance, {', '.join(['HANDLE', *self.words])});"]
         after = self.after + self.last
         if after:
@@ -213,7 +239,7 @@ def own_octets(made: Machine) -> int:
 
 
 def portable(made: Machine, head: str) -> str:
-    struct = (f"/* A card or a clock: WebAssembly's globals and memory. */\ntypedef struct {{\n{made.fields}u64 octets;\n"
+    struct = (f"/* A card or a clock: WebAssembly's globals and memory. */\ntypedef struct {{\n{made.fields}u32 octets;\n"
               "u8 data[];\n} machine;\n")
     movers = marshalling()
     loads = asked_for(content("c/portable/memory.c"), made.functions + movers)
@@ -222,8 +248,7 @@ def portable(made: Machine, head: str) -> str:
         struct, content("c/portable/fixed.c"), loads,
         "/* ---- What wasm2c made of the proved library ---- */\n", made.functions,
         f"enum {{ PLACES = {-(-made.heap_base // 16) * 16}, REPORT_OCTETS = {REPORT}, OTHER_OCTETS = {other_octets()}, RUN = {RUN} }};\n",
-        "/* So many octets of the caller's, or as many of them as say all that a call asks. */\n"
-        "static inline size_t at_most(size_t count, size_t most) {\n    return count < most ? count : most;\n}\n",
+        content("c/portable/handed.c"),
         movers, content("c/portable/card.c"), *(it.text() for it in calls())])
 
 

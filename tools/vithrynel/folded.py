@@ -1,0 +1,468 @@
+"""wasm2c's functions as C that can be read, and that C compilers make better code of. wasm2c writes a line for each instruction
+of WebAssembly, which takes from a stack and puts there; here a line is a statement, with what it takes as expressions in it.
+A function a step:
+
+    statements   a function's lines, each with what it reads, what it sets, and where it goes on
+    alive        which variables of the stack are read after a statement, before they are set
+    folded       the function with expressions: what is taken once stands where it is taken, unless something that it reads
+                 is set between
+
+An address of a load or a store is a place and how far ahead of it the access goes, both as the machine of 64 bits has them: the
+place is not cut to 32 bits, and is what a test is about. So accesses to fields of one struct have one place, and a compiler
+leaves one test of them.
+"""
+import collections
+import re
+from typing import Dict, FrozenSet, Iterable, List, NamedTuple, Optional, Tuple
+
+from .static_library import NotBuilt
+
+SLOT = r"w_[ij]\d+"
+NAME = r"w_[ijlp]\d+|instance->w2c_\w+"
+# An access goes less than so far ahead of the place that is tested. One place is as good as another only where none wraps:
+# an access nearer to 0 than this would lie at the far end of the stack (portable.STACK), where none is.
+AHEAD = 512
+# So long is an expression at most.
+LONGEST = 240
+
+
+class Expression(NamedTuple):
+    """A value: its text, what it reads of variables, and whether it reads memory. A comparison is an int; an atom needs no
+    brackets; what was cut to 32 bits is kept as it was; and so is what a number was added to."""
+    text: str
+    reads: FrozenSet[str] = frozenset()
+    of_memory: bool = False
+    is_test: bool = False
+    is_atom: bool = True
+    is_call: bool = False
+    whole: "Optional[Expression]" = None
+    sum_of: "Optional[Tuple[Expression, int]]" = None
+
+    @property
+    def number(self) -> Optional[int]:
+        found = re.fullmatch(r"(\d+)u(?:ll)?", self.text)
+        return int(found[1]) if found else None
+
+    @property
+    def is_plain(self) -> bool:
+        return self.is_atom and not self.of_memory and "(" not in self.text
+
+    def operand(self) -> str:
+        """As a part of another expression, an unsigned number."""
+        if self.is_test:
+            return f"(u32)({self.text})"
+        return self.text if self.is_atom else f"({self.text})"
+
+    def condition(self) -> str:
+        return self.text
+
+
+def reads(parts: Iterable[Expression]) -> FrozenSet[str]:
+    return frozenset().union(*(it.reads for it in parts))
+
+
+def made(text: str, parts: Iterable[Expression], **more: bool) -> Expression:
+    parts = list(parts)
+    is_of_memory = more.pop("of_memory", False) or any(it.of_memory for it in parts)
+    return Expression(text, reads(parts), is_of_memory, **more)
+
+
+def signed(sign: str, two: Expression) -> str:
+    """A sign and what follows: a number near the top is added as one that is taken away."""
+    for top, ending in ((1 << 64, "ull"), (1 << 32, "u")):
+        if sign == "+" and two.number is not None and two.text == f"{two.number}{ending}" and two.number > top // 2:
+            return f"- {top - two.number}{ending}"
+    return f"{sign} {two.operand()}"
+
+
+class Statement(NamedTuple):
+    """A line: what kind it is, what it sets, its text with what it reads, and the labels that it goes to."""
+    kind: str
+    sets: str
+    text: str
+    reads: Tuple[str, ...]
+    to: Tuple[str, ...]
+
+
+def names_in(text: str) -> Tuple[str, ...]:
+    return tuple(re.findall(NAME, text))
+
+
+def statement(row: str) -> Statement:
+    if row.startswith(("w_B", "w_L", "w2c_Bfunc:")):
+        return Statement("label", "", row.rstrip(" ;").rstrip(":"), (), ())
+    found = re.fullmatch(r"if \((\S+)\) \{goto (\w+);\}", row)
+    if found:
+        return Statement("if", "", found[1], (found[1],), (found[2],))
+    found = re.fullmatch(r"goto (\w+);", row)
+    if found:
+        return Statement("goto", "", "", (), (found[1],))
+    found = re.fullmatch(r"switch \((\S+)\) \{\n(.*)\}", row, re.S)
+    if found:
+        return Statement("switch", "", row, (found[1],), tuple(re.findall(r"goto (\w+);", row)))
+    found = re.fullmatch(r"return (\S+);", row)
+    if found:
+        return Statement("return", "", found[1], (found[1],), ())
+    if row == "UNREACHABLE;":
+        return Statement("end", "", row, (), ())
+    found = re.fullmatch(rf"({NAME}) ([-+*&|^]|<<|>>)= (.*);", row)
+    if found:
+        text = f"{found[1]} {found[2]} {found[3]}"
+        return Statement("set", found[1], text, names_in(text), ())
+    found = re.fullmatch(rf"({NAME}) = (.*);", row)
+    if found:
+        return Statement("set", found[1], found[2], names_in(found[2]), ())
+    if re.fullmatch(r"\w+\(instance.*\);", row):
+        return Statement("do", "", row[:-1], names_in(row), ())
+    raise NotBuilt(f"wasm2c writes another form than that of wabt 1.0.32: {row}")
+
+
+def statements(rows: List[str]) -> List[Statement]:
+    found, at = [], 0
+    while at < len(rows):
+        row = rows[at]
+        if row.startswith("switch"):
+            end = rows.index("}", at)
+            row, at = "\n".join(rows[at:end + 1]), end
+        if row not in ("FUNC_EPILOGUE;", "FUNC_PROLOGUE;"):
+            found.append(statement(row))
+        at += 1
+    return found
+
+
+def alive(of: List[Statement]) -> List[FrozenSet[str]]:
+    """Of each statement the variables of the stack that are read after it, before they are set."""
+    at_label = {it.text: at for at, it in enumerate(of) if it.kind == "label"}
+    before: List[FrozenSet[str]] = [frozenset()] * (len(of) + 1)
+    after: List[FrozenSet[str]] = [frozenset()] * len(of)
+    is_same = False
+    while not is_same:
+        is_same = True
+        for at in range(len(of) - 1, -1, -1):
+            it = of[at]
+            goes_on = frozenset() if it.kind in ("goto", "switch", "return", "end") else before[at + 1]
+            after[at] = goes_on.union(*(before[at_label[to]] for to in it.to))
+            here = after[at] - {it.sets} | {one for one in it.reads if re.fullmatch(SLOT, one)}
+            is_same &= here == before[at]
+            before[at] = here
+    return after
+
+
+def next_of(of: List[Statement]) -> List[Tuple[int, ...]]:
+    """Of each statement those that may be next."""
+    at_label = {it.text: at for at, it in enumerate(of) if it.kind == "label"}
+    goes_on = [() if it.kind in ("goto", "switch", "return", "end") or at + 1 == len(of) else (at + 1,) for at, it in enumerate(of)]
+    return [(*on, *(at_label[to] for to in it.to)) for on, it in zip(goes_on, of)]
+
+
+def is_once(of: List[Tuple[int, ...]], at: int) -> bool:
+    """Whether a statement comes at most once: no way leads from it to itself."""
+    seen, ahead = set(), list(of[at])
+    while ahead:
+        it = ahead.pop()
+        if it == at:
+            return False
+        if it not in seen:
+            seen.add(it)
+            ahead += of[it]
+    return True
+
+
+def surely_set(of: List[Statement], after: List[Tuple[int, ...]], names: Iterable[str]) -> List[FrozenSet[str]]:
+    """Of each statement the variables, of these, that each way to it sets."""
+    known: List[Optional[FrozenSet[str]]] = [None] * len(of)
+    known[0], ahead = frozenset(), [0]
+    names = frozenset(names)
+    while ahead:
+        at = ahead.pop()
+        here = known[at] | ({of[at].sets} & names)
+        for to in after[at]:
+            both = here if known[to] is None else known[to] & here
+            if both != known[to]:
+                known[to] = both
+                ahead.append(to)
+    return [it or frozenset() for it in known]
+
+
+# What is written as a function of two or more, and evaluates them more than once.
+MACRO = r"[A-Z]\w+"
+
+
+class Folding:
+    """A function as it is written: its statements, and which values of the stack are not yet set."""
+
+    def __init__(self, of: List[Statement]) -> None:
+        self.of, self.after = of, alive(of)
+        self.at_label = {it.text: at for at, it in enumerate(of) if it.kind == "label"}
+        self.waiting: Dict[str, Expression] = {}
+        self.rows: List[str] = []
+        self.next_of = next_of(of)
+        self.times = collections.Counter(it.sets for it in of)
+        self.sums: Dict[str, Tuple[str, int]] = {}
+        self.known = surely_set(of, self.next_of, [it for it, times in self.times.items() if times == 1])
+
+    # -- What is set ------------------------------------------------------------------------------------------------------
+
+    def assign(self, name: str, value: Expression) -> None:
+        """Sets a variable; what reads its value of before is set first."""
+        for other in [it for it, of in self.waiting.items() if name in of.reads]:
+            if other in self.waiting:
+                self.settle(other)
+        if value.text != name:
+            self.rows.append(f"{name} = {value.text};")
+
+    def settle(self, name: str) -> None:
+        self.assign(name, self.waiting.pop(name))
+
+    def settle_all(self, is_one: "object") -> None:
+        for name in list(self.waiting):
+            if name in self.waiting and is_one(name, self.waiting[name]):
+                self.settle(name)
+
+    def settle_memory(self) -> None:
+        """Before memory changes: what reads it, or what a call has answered."""
+        self.settle_all(lambda _, it: it.of_memory or it.is_call or any(name.startswith("instance") for name in it.reads))
+
+    # -- What is read -----------------------------------------------------------------------------------------------------
+
+    def value(self, name: str, at: int) -> Expression:
+        """A variable's value: what is read once more after this statement is set first, unless it is plain."""
+        if name not in self.waiting:
+            return Expression(name, frozenset([name]))
+        it = self.waiting[name]
+        is_read_again = name in self.after[at] and self.of[at].sets != name
+        if is_read_again and not it.is_plain or it.is_call or len(it.text) > LONGEST:
+            self.settle(name)
+            return Expression(name, frozenset([name]))
+        if not is_read_again:
+            del self.waiting[name]
+        return it
+
+    def simple(self, name: str, at: int) -> Expression:
+        """The same where it would be evaluated more than once."""
+        if name in self.waiting and not self.waiting[name].is_plain:
+            self.settle(name)
+        return self.value(name, at)
+
+    def expression(self, text: str, at: int) -> Expression:
+        """What stands on the right."""
+        if re.fullmatch(r"\d+u(?:ll)?", text):
+            return Expression(text)
+        if re.fullmatch(NAME, text):
+            return self.value(text, at)
+        found = re.fullmatch(rf"({NAME}) (<<|>>) \(({NAME}) & (\d+)\)", text)
+        if found:
+            one, by = self.value(found[1], at), self.value(found[3], at)
+            bits = f"{by.number & int(found[4])}" if by.number is not None else f"({by.operand()} & {found[4]})"
+            return made(f"{one.operand()} {found[2]} {bits}", (one, by), is_atom=False)
+        found = re.fullmatch(rf"({NAME}) ([-+*&|^]|[<>!=]=?) ({NAME})", text)
+        if found:
+            return self.pair(*found.groups(), at)
+        found = re.fullmatch(rf"!\(({NAME})\)", text)
+        if found:
+            one = self.value(found[1], at)
+            return made(f"!({one.condition()})" if not one.is_atom else f"!{one.text}", (one,), is_test=True)
+        found = re.fullmatch(rf"({NAME}) \? ({NAME}) : ({NAME})", text)
+        if found:
+            return self.choice(*found.groups(), at)
+        found = re.fullmatch(r"\(u(?:32|64)\)\(\(s(\d\d)\)(\S+) (\S+) \(s\d\d\)(\S+)\)", text)
+        if found:
+            one, two = self.value(found[2], at), self.value(found[4], at)
+            cast = f"(s{found[1]})"
+            return made(f"{cast}{one.operand()} {found[3]} {cast}{two.operand()}", (one, two), is_test=True, is_atom=False)
+        found = re.fullmatch(rf"((?:\([us]\d+\))+)\(({NAME})\)", text)
+        if found:
+            return self.cast(found[1], self.value(found[2], at))
+        if text == "(u32)(instance->octets / 65536)":
+            return Expression(text, of_memory=True)
+        found = re.fullmatch(rf"({MACRO})\(({NAME})(?:, ({NAME}))?\)", text)
+        if found:
+            parts = [self.simple(it, at) for it in found.groups()[1:] if it]
+            return made(f"{found[1]}({', '.join(it.operand() for it in parts)})", parts)
+        found = re.fullmatch(r"(i\d\d_load\w*)\((.*)\)", text)
+        if found:
+            place, parts = self.place(found[2], at)
+            return made(f"{found[1]}(instance, LIMIT, {place})", parts, of_memory=True)
+        if re.fullmatch(r"\w+\(instance.*\)", text):
+            return self.call(text, at)
+        raise NotBuilt(f"wasm2c writes another form than that of wabt 1.0.32: {text}")
+
+    def pair(self, first: str, sign: str, second: str, at: int) -> Expression:
+        one, two = self.value(first, at), self.value(second, at)
+        is_test = sign in ("<", ">", "<=", ">=", "==", "!=")
+        it = made(f"{one.operand()} {signed(sign, two)}", (one, two), is_test=is_test, is_atom=False)
+        if sign == "+" and two.number is not None and two.text.endswith("ull"):
+            base, more = one.sum_of or (one, 0)
+            return it._replace(sum_of=(base, more + two.number))
+        return it
+
+    def choice(self, which: str, first: str, second: str, at: int) -> Expression:
+        """Both are there before one is chosen."""
+        for name in (first, second):
+            if name in self.waiting and self.waiting[name].of_memory:
+                self.settle(name)
+        one, two, test = (self.value(it, at) for it in (first, second, which))
+        return made(f"{test.text if test.is_atom else f'({test.text})'} ? {one.operand()} : {two.operand()}", (one, two, test), is_atom=False)
+
+    def cast(self, to: str, one: Expression) -> Expression:
+        it = made(f"{to}{one.text if one.is_atom and not one.is_test else f'({one.text})'}", (one,))
+        return it._replace(whole=one) if to == "(u32)" else it
+
+    def place(self, text: str, at: int) -> Tuple[str, List[Expression]]:
+        """Where a load or a store goes: the place that is tested, and how far ahead of it."""
+        found = re.match(rf"instance, LIMIT, \(u64\)\(({NAME})\)(?: \+ (\d+))?, (\d+)", text)
+        if not found:
+            raise NotBuilt(f"wasm2c writes another form than that of wabt 1.0.32: {text}")
+        it, more, ahead = self.value(found[1], at), int(found[2] or 0), int(found[3])
+        if it.whole is None:
+            whole = it if it.number is not None else made(f"(u64){it.operand()}", (it,))
+        else:
+            whole = it.whole
+        base, added = whole.sum_of or (whole, 0)
+        if base.text in self.sums and base.text in self.known[at]:
+            of, further = self.sums[base.text]
+            if added < AHEAD and added + further + more + ahead < AHEAD:
+                base, added = Expression(of, frozenset([of])), added + further
+        if added + more + ahead < AHEAD:
+            return f"{base.text}, {added + more + ahead}", [base]
+        if added >= 1 << 63:  # less than the base
+            base, added = whole, 0
+        added, ahead = (added + more, ahead) if ahead else (added + more, 0)
+        return f"{base.operand()} + {added}, {ahead}" if added else f"{base.text}, {ahead}", [base]
+
+    def call(self, text: str, at: int) -> Expression:
+        self.settle_memory()
+        name, words = re.fullmatch(r"(\w+)\((.*)\)", text).groups()
+        parts = [self.value(it, at) if re.fullmatch(NAME, it) else Expression(it) for it in words.split(", ")]
+        return made(f"{name}({', '.join(it.text for it in parts)})", parts, of_memory=True, is_call=True)
+
+    def is_fixed(self, name: str, at: int) -> bool:
+        """Whether a variable has, from this statement on, the value that it has here."""
+        if self.times[name] == 0:
+            return name.startswith("w_p")
+        sets = next(one for one, it in enumerate(self.of) if it.sets == name)
+        return self.times[name] == 1 and name in self.known[at] and is_once(self.next_of, sets)
+
+    def note_sum(self, name: str, value: Expression, at: int) -> None:
+        """Notes a variable that is set once, to another that stays as it is, and a number."""
+        if self.times[name] == 1 and value.sum_of and value.sum_of[1] < AHEAD:
+            base, added = value.sum_of
+            if re.fullmatch(r"w_[lp]\d+", base.text) and self.is_fixed(base.text, at):
+                base_of, more = self.sums.get(base.text, (base.text, 0))
+                self.sums[name] = base_of, more + added
+
+    # -- Statements ---------------------------------------------------------------------------------------------------------
+
+    def step(self, at: int) -> None:
+        it = self.of[at]
+        if it.kind != "set" or not re.fullmatch(r"w_[lp]\d+", it.sets) or it.text not in self.waiting:
+            self.settle_all(lambda _, one: one.is_call)
+        if it.kind == "set":
+            self.set(it, at)
+        elif it.kind == "do":
+            self.do(it, at)
+        elif it.kind == "label":
+            self.settle_all(lambda name, _: name in self.after[at])
+            self.waiting.clear()
+            self.rows.append(f"{it.text}:;")
+        else:
+            self.go(it, at)
+
+    def set(self, it: Statement, at: int) -> None:
+        if re.fullmatch(SLOT, it.sets):
+            value = self.expression(it.text, at)
+            for other in [name for name, of in self.waiting.items() if it.sets in of.reads and name != it.sets]:
+                self.settle(other)
+            self.waiting.pop(it.sets, None)
+            if it.sets in self.after[at]:
+                self.waiting[it.sets] = value
+            elif value.is_call:
+                self.rows.append(f"(void){value.text};")
+            return
+        is_kept = it.text in self.after[at] and it.text in self.waiting
+        value = self.waiting.pop(it.text) if it.text in self.waiting else self.expression(it.text, at)
+        if is_kept and value.is_plain and it.sets not in value.reads:
+            self.waiting[it.text] = value
+            self.assign(it.sets, value)
+            return
+        self.note_sum(it.sets, value, at)
+        self.assign(it.sets, value)
+        if is_kept:
+            self.waiting[it.text] = Expression(it.sets, frozenset([it.sets]))
+
+    def do(self, it: Statement, at: int) -> None:
+        found = re.fullmatch(r"(i\d\d_store\w*)\((.*), (\S+)\)", it.text)
+        if found:
+            place, parts = self.place(found[2], at)
+            value = self.value(found[3], at)
+            self.settle_memory()
+            self.rows.append(f"{found[1]}(instance, LIMIT, {place}, {value.text});")
+            return
+        name, words = re.fullmatch(r"(\w+)\((.*)\)", it.text).groups()
+        parts = [self.value(one, at) if re.fullmatch(NAME, one) else Expression(one) for one in words.split(", ")]
+        self.settle_memory()
+        self.rows.append(f"{name}({', '.join(one.text for one in parts)});")
+
+    def go(self, it: Statement, at: int) -> None:
+        value = self.value(it.reads[0], at) if it.reads else None
+        wanted = frozenset().union(*(self.after[self.at_label[to]] for to in it.to)) if it.to else frozenset()
+        self.settle_all(lambda name, _: name in wanted)
+        if it.kind == "if":
+            self.rows.append(f"if ({value.condition()}) goto {it.to[0]};")
+        elif it.kind == "goto":
+            self.rows.append(f"goto {it.to[0]};")
+        elif it.kind == "switch":
+            self.rows += [f"switch ({value.text}) {{", *it.text.split("\n")[1:]]
+        elif it.kind == "return":
+            self.rows.append(f"return {value.text};")
+        else:
+            self.rows.append(it.text)
+        if it.kind != "if":
+            self.waiting.clear()
+
+    def text(self) -> List[str]:
+        for at in range(len(self.of)):
+            self.step(at)
+        return self.rows
+
+
+def declared(kind: str, names: List[str]) -> List[str]:
+    rows, row = [], ""
+    for it in names:
+        if row and len(row) + len(it) > 110:
+            rows.append(row)
+            row = ""
+        row += f", {it}" if row else f"{kind} {it}"
+    return [f"{it};" for it in [*rows, row] if it]
+
+
+# What does more than answer.
+CALL = r"\b(?:w2c_|host_|wasm_rt_)\w+\("
+
+
+def without_unread(rows: List[str]) -> List[str]:
+    """The same without what sets variables that are never read."""
+    while True:
+        times = collections.Counter(it for row in rows for it in re.findall(r"w_l\d+", row))
+        times.subtract(re.match(r"w_l\d+", row)[0] for row in rows if row.startswith("w_l"))
+        rest = [row for row in rows if not re.match(r"w_l\d+ = ", row) or times[row.split()[0]] or re.search(CALL, row)]
+        if len(rest) == len(rows):
+            return rows
+        rows = rest
+
+
+def folded_function(head: str, body: str) -> str:
+    """A function with expressions."""
+    kinds = {name: kind for kind, names in re.findall(r"^(u32|u64) (w_l\d+ = 0[^;]*);\n", body, re.M) for name in re.findall(r"w_l\d+", names)}
+    rows = re.sub(r"^(?:u32|u64) w_[lij]\d+[^;]*;\n", "", body, flags=re.M).rstrip("\n").split("\n")
+    rows = without_unread(Folding(statements([it for it in rows if it])).text())
+    used = sorted(set(re.findall(r"\bw_[ijl]\d+\b", "\n".join(rows))), key=lambda it: int(it[3:]))
+    kinds.update((it, {"i": "u32", "j": "u64"}[it[2]]) for it in used if it[2] != "l")
+    of = {kind: [it + " = 0" * (it[2] == "l") for it in used if kinds[it] == kind] for kind in ("u32", "u64")}
+    return head + "\n".join([*declared("u32", of["u32"]), *declared("u64", of["u64"]), "FUNC_PROLOGUE;", *rows, "}"]) + "\n"
+
+
+def folded(body: str) -> str:
+    """All functions of wasm2c's text with expressions; the rest stays."""
+    return re.sub(r"^(static (?:u32|u64|void) w2c_\w+\([^)]*\) \{\n)(.*?)^\}\n(?=\n|\Z)",
+                  lambda it: folded_function(it[1], it[2]), body, flags=re.M | re.S)

@@ -7,8 +7,8 @@
  *     cc -O2 -I ../../dist -o standby standby.c ../../dist/lapd.c
  *     standby [--t200 MS] [--n200 N] <> LINE 3<> LAYER3
  *
- * LINE is a socket with one frame a datagram, without a check, and LAYER3 one with the messages of standby.h; both processes have
- * both ends of theirs. The order is all that matters:
+ * LINE is a socket with one frame a datagram, without a check, and LAYER3 one with the messages of standby.h. Both processes have
+ * them open, so that one goes on where the other stopped. The order is all that matters:
  *
  *  1. A call goes to the standby, with its moment, before the card is called (send_over, in `make`).
  *  2. What the call led to goes out only then: notes and answers to layer 3, a frame to the line.

@@ -4,6 +4,7 @@ use Rattle.laws_order.proofs.Vocabulary.{any_near, any_far}
 use Rattle.laws_order.proofs.Vocabulary.{IsPossible, any_doing_all, seen_near, seen_far, t200s, IsToldAtLast, IsNotDeactivated, data_noted, data_granted, ends_by, known, IsInStep, FaceInStep, kept_by, StaysEstablished, IsToldOfRelease, news, tei_refusal, tei_course, releases, released, takes_two, far_lasts, awaits, both_release, both_begin_nothing, own_side, heard_side}
 use Rattle.laws_wire.specs.Wire.{acting, at_far, doing, doing_all}
 use Rattle.model_line.specs.Config.{sapi_fault}
+use Rattle.model_line.specs.Line.{tries}
 use Rattle.model_line.specs.Machine as lines
 use Rattle.model_line.specs.Request.{SetBusy}
 use Rattle.laws_order.specs.Worked.{network, user, faces, calls_both, others_speak, both_send, is_busy, goes_again, busy_run, call_far as far_stays, owes, sends_one, sends_more, more_far_stays, busy_waits, clears, cleared_stays, enquires, asks_state, recovers, recovered_stays, early, loses_first, early_stays}

@@ -1,20 +1,20 @@
 /*
- * dahdi.c: a card on a D-channel of DAHDI, the drivers of the telephony cards of the Asterisk PBX. DAHDI has layer 1 and HDLC with its
- * check, by its software or by the hardware (dchan or hardhdlc in its system.conf). The D-channel ends here. A device takes and
- * gives a frame a write and a read, with two octets behind it for the check. Its events are read in between: alarms say whether
- * layer 1 is there, and a fault may come in place of a frame. dchannel.h says what the card and its layer 3 do. No other
- * program, as a PBX, may have the channel.
+ * dahdi.c: a card on a D-channel of DAHDI, the drivers of the telephony cards of the Asterisk PBX. DAHDI has layer 1, and HDLC
+ * with its check, by its software or by the hardware (dchan or hardhdlc in its system.conf). The D-channel ends here. A device
+ * takes and gives a frame a write and a read, with two octets behind it for the check. Its events are read in between: alarms
+ * say whether layer 1 is there, and a fault may come in place of a frame. dchannel.h says what the card and its layer 3 do. No
+ * other program, as a PBX, may have the channel.
  *
  *     cc -O2 -I ../../dist -o dahdi dahdi.c dchannel.c linecard.c trace.c pcap.c ../../dist/lapd.c
  *     dahdi [--trace] DEVICE nt|te|nt-e1|te-e1 [RECORD [CAPTURE]]
  *
- * DEVICE is the channel's: /dev/dahdi/16. Standard error tells what layer 3 is told, and whether layer 1 is there. With --trace it
- * has a log of each frame, note, expiry and state as well (trace.c). With RECORD, all that happens is written there as a script of
- * docs/FORMAT.md: `lapdsim run < RECORD` then shows the same. With CAPTURE, the frames of both ways are written there for
- * Wireshark (pcap.c). It ends by a signal (SIGINT, SIGTERM), or if the device goes.
+ * DEVICE is the channel's: /dev/dahdi/16. Standard error tells what layer 3 is told, and whether layer 1 is there. With --trace
+ * it has a log of each frame, note, expiry and state as well (trace.c). With RECORD, all that happens is written there as a
+ * script of docs/FORMAT.md: `lapdsim run < RECORD` then shows the same. With CAPTURE, the frames of both ways are written there
+ * for Wireshark (pcap.c). It ends by a signal (SIGINT, SIGTERM), or if the device goes.
  *
- * What was tried: all four sides over spans of DAHDI that are joined in software (dahdi_dynamic_loc), with HDLC by DAHDI's software,
- * against libpri (tests/kernel). It was never tried on hardware, nor with hardhdlc.
+ * What was tried: all four sides over spans of DAHDI that are joined in software (dahdi_dynamic_loc), with HDLC by DAHDI's
+ * software, against libpri (tests/kernel). It was never tried on hardware, nor with hardhdlc.
  */
 #define _POSIX_C_SOURCE 200809L
 
@@ -27,12 +27,13 @@
 
 #include "dchannel.h"
 
-enum { CHECK_OCTETS = 2, BUFFERS = 8, BUFFER_OCTETS = 1024, EVENT_WAITS = 500 }; /* errno of a read or a write before an event */
+enum { CHECK_OCTETS = 2, BUFFERS = 8, BUFFER_OCTETS = 1024 };
+enum { EVENT_WAITS = 500 }; /* errno of a read or a write, as long as an event waits */
 
 static const char help[] =
     "\n"
-    "A card on a D-channel of DAHDI, as the network (nt) or a terminal (te) of a basic access, or as either side of a primary rate\n"
-    "access. It answers calls; messages of other protocols go back. Standard error tells what layer 3 is told.\n"
+    "A card on a D-channel of DAHDI, as the network (nt) or a terminal (te) of a basic access, or as either side of a primary\n"
+    "rate access. It answers calls; messages of other protocols go back. Standard error tells what layer 3 is told.\n"
     "\n"
     "  --trace  a log of each frame, note, expiry and state on standard error\n"
     "  DEVICE   the channel, in HDLC mode with its check: /dev/dahdi/16\n"

@@ -25,9 +25,10 @@ typedef struct {
 } dahdi_parameters;
 
 enum {
-    DAHDI_IS_HDLC = 1 << 9 | 1 << 8 | 1 << 7,  /* signalling: HDLC with its check, by DAHDI itself */
-    DAHDI_IS_HARD_HDLC = 1 << 19 | 1 << 7,     /* or by the hardware */
-    DAHDI_ALARMS_OF_LAYER1 = 1 << 3 | 1 << 4 | 1 << 5 | 1 << 8 | 1 << 9 | 1 << 0 /* red, blue, not open, no signal, no frame, recovering */
+    DAHDI_IS_HDLC = 1 << 9 | 1 << 8 | 1 << 7, /* signalling: HDLC with its check, by DAHDI itself */
+    DAHDI_IS_HARD_HDLC = 1 << 19 | 1 << 7,    /* or by the hardware */
+    /* alarms: recovering, red, blue, not open, no signal, no frame; of the other end alone (yellow) is none of them */
+    DAHDI_ALARMS_OF_LAYER1 = 1 << 0 | 1 << 3 | 1 << 4 | 1 << 5 | 1 << 8 | 1 << 9
 };
 
 /* Events of a channel. */

@@ -4,10 +4,7 @@
 #include "dchannel.h"
 
 #include <signal.h>
-#include <stdlib.h>
 #include <string.h>
-#include <time.h>
-#include <unistd.h>
 
 #include "pcap.h"
 #include "q931.h"
@@ -40,8 +37,18 @@ static lapd_config config_of(const dchannel *own) {
     config.side = own->card.side;
     if (own->is_user)
         config.terminals = 1;
-    config.seed = (uint16_t)((unsigned)getpid() * 40503u ^ (unsigned)time(NULL)); /* other terminals have other ones */
     return config;
+}
+
+/* Two octets of the system's source of random numbers: by them the network tells terminals apart that ask for a TEI. */
+static bool is_random(const dchannel *own, uint16_t *seed) {
+    FILE *file = fopen("/dev/urandom", "rb");
+    bool is_read = file != NULL && fread(seed, sizeof *seed, 1, file) == 1;
+    if (file != NULL)
+        fclose(file);
+    if (!is_read)
+        fprintf(stderr, "%s: there is no /dev/urandom\n", own->card.program);
+    return is_read;
 }
 
 /* ---- Layer 3 ------------------------------------------------------------------------------------------------------ */
@@ -225,6 +232,8 @@ static bool begin_teis(dchannel *own) {
 bool dchannel_begin(dchannel *own) {
     lapd_config config = config_of(own);
     struct sigaction end;
+    if (own->card.side == LAPD_TERMINAL && !is_random(own, &config.seed))
+        return false;
     memset(&end, 0, sizeof end); /* without SA_RESTART: a wait is left */
     end.sa_handler = ends;
     sigaction(SIGINT, &end, NULL);

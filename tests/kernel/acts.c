@@ -194,7 +194,8 @@ static void ours_asks_for_tei(int card) {
 static uint32_t check(int card, int tei) {
     lapd_report report;
     lapd_card *own = card_at(card);
-    uint32_t status = ours_is_network() ? lapd_check(own, 0, (uint8_t)tei, &report) : lapd_verify_tei(own, 0, (uint8_t)tei, &report);
+    uint8_t request = ours_is_network() ? LAPD_CHECK : LAPD_VERIFY_TEI;
+    uint32_t status = lapd_request_with(own, 0, request, LAPD_CALL, (uint8_t)tei, NULL, 0, &report);
     if (status == LAPD_REFUSED_CHECK_RUNNING)
         return status;
     note("   ours %d: %s tei %d", card, ours_is_network() ? "check" : "verify", tei);
@@ -237,9 +238,8 @@ static int links_of(int card, lapd_link *links) {
     uint8_t place = 0;
     int count = 0;
     for (lapd_link at; count < MOST_LINKS && lapd_next_link(card_at(card), 0, &place, &at) == LAPD_OK;) {
-        bool is_call = at.service == LAPD_CALL, is_served = plan.side == KERNEL_NT ? is_call || (plan.sapi16 && plan.fixed)
-                                                                                    : (is_primary() && is_call) || is_kernel_link(&at);
-        if (is_served)
+        bool is_call = at.service == LAPD_CALL;
+        if (plan.side == KERNEL_NT ? is_call || (plan.sapi16 && plan.fixed) : (is_primary() && is_call) || is_kernel_link(&at))
             links[count++] = at;
     }
     return count;

@@ -91,7 +91,8 @@ static void link_is_told(int card, const lapd_note *it, const lapd_report *repor
     case LAPD_RELEASE_CONFIRM:
         need(it->note == LAPD_RELEASE_CONFIRM || link->is_up || link->is_establishing, FAULT_OUR_NOTE,
              "a release indication of a link that is down", tei);
-        need(it->note == LAPD_RELEASE_INDICATION || link->is_releasing, FAULT_OUR_NOTE, "a release confirm that was not asked for", tei);
+        need(it->note == LAPD_RELEASE_INDICATION || link->is_releasing, FAULT_OUR_NOTE, "a release confirm that was not asked for",
+             tei);
         link->is_up = link->is_establishing = link->is_releasing = false;
         streams_told(TO_KERNEL, service, tei);
         break;

@@ -29,7 +29,8 @@ def words_of(words, **more):
 
 def newest():
     """The package of today's kernel, and its version, as apt knows them."""
-    found = re.search(r"^Depends:.*?\b(linux-image-\S+) \(= (\S+)\)", words_of(["apt-cache", "show", "--no-all-versions", META]) or "", re.M)
+    shown = words_of(["apt-cache", "show", "--no-all-versions", META]) or ""
+    found = re.search(r"^Depends:.*?\b(linux-image-\S+) \(= (\S+)\)", shown, re.M)
     if not found:
         raise Missing(f"apt knows no {META} (apt-get update)")
     return found.groups()

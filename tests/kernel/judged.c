@@ -49,7 +49,8 @@ static void end_of_kernel_link(int number) {
     if (plan.side == KERNEL_NT && (link->channel == 0 || link->is_gone))
         return;
     if (link->is_establishing || link->is_releasing)
-        fault(FAULT_STUCK, "kernel %d tei %d: %s is not answered", number, link->tei, link->is_establishing ? "establish" : "release");
+        fault(FAULT_STUCK, "kernel %d tei %d: %s is not answered", number, link->tei,
+              link->is_establishing ? "establish" : "release");
     if (!link->is_up)
         return;
     if (link->tei == GROUP || !is_up_at_ours(link->service, link->tei))
@@ -92,8 +93,8 @@ static void print_run(unsigned seed, const stream_counts *it) {
     wire_counts frames = wires_count();
     printf("%s seed=%u ", faults() == 0 ? "good" : "BAD", seed);
     plan_print(stdout);
-    printf(": messages %u in %u out %u given up, units %u of %u, frames %u out %u in %u lost, assigned %u removed %u+%u restarts %u "
-           "checks %u collisions %u doubled %u/%u refused %u down %u, errors",
+    printf(": messages %u in %u out %u given up, units %u of %u, frames %u out %u in %u lost, assigned %u removed %u+%u "
+           "restarts %u checks %u collisions %u doubled %u/%u refused %u down %u, errors",
            it->in, it->out, it->lost, it->units_got, it->units, frames.sent, frames.heard, frames.lost, our_counts.assigned,
            our_counts.removed, our_counts.removals, our_counts.restarts, our_counts.checks, acts_collisions(), our_counts.doubled,
            kernel_doubled(), our_counts.refusals, kernel_deactivations());

@@ -26,7 +26,8 @@ static bool is_basic_network(void) {
 }
 
 static void add_link(int file, int device, int channel, int service, int tei) {
-    kernel_links[kernel_link_count++] = (kernel_link){.file = file, .device = device, .channel = channel, .service = service, .tei = tei};
+    kernel_link link = {.file = file, .device = device, .channel = channel, .service = service, .tei = tei};
+    kernel_links[kernel_link_count++] = link;
 }
 
 /* With a socket of layer 1 of ours the kernel's device is the other one of a pair. */
@@ -193,8 +194,12 @@ void kernel_read(void) {
     for (int i = 0; i < kernel_files(); i++)
         for (ssize_t length; (length = recv(kernel_links[i].file, in, sizeof in, MSG_DONTWAIT)) >= (ssize_t)sizeof head;) {
             memcpy(&head, in, sizeof head);
-            indication it = {.primitive = head.primitive, .channel = (int)(head.id >> 16), .service = (head.id & 255) == PACKET_SAPI,
-                             .tei = head.id >> 8 & 127, .octets = in + sizeof head, .length = (size_t)length - sizeof head};
+            indication it = {.primitive = head.primitive,
+                             .channel = (int)(head.id >> 16),
+                             .service = (head.id & 255) == PACKET_SAPI,
+                             .tei = head.id >> 8 & 127,
+                             .octets = in + sizeof head,
+                             .length = (size_t)length - sizeof head};
             told(&kernel_links[i], &it);
         }
 }

@@ -1,5 +1,6 @@
 """DAHDI's modules for Debian's kernel of the day: built from its dahdi-source with the headers of that kernel, by apt, and kept
 beside it."""
+import functools
 import os
 import re
 import shutil
@@ -16,6 +17,7 @@ ccflags-y := -I$(src)/../../include -I$(src) -w
 """
 
 
+@functools.lru_cache(None)
 def headers_of(folder):
     """The packages of the headers of a kernel that is kept, with what they depend on, and of DAHDI."""
     name, version = re.fullmatch(r"linux-image-(\S+)_([^_]+)", os.path.basename(folder)).groups()
@@ -34,12 +36,12 @@ def unpacked(folder, work):
     if not archive:
         raise Missing("dahdi-source has no source")
     subprocess.run(["tar", "xf", archive[0], "-C", work], check=True)
-    found = [f"{work}/usr/src/{it}" for it in os.listdir(f"{work}/usr/src") if it.startswith("linux-headers-") and "common" not in it]
-    with open(f"{found[0]}/Makefile", "r+", encoding="utf-8") as file: # it includes another by where that would be installed
+    headers = f"{work}/usr/src/{headers_of(folder)[0].partition('=')[0]}"
+    with open(f"{headers}/Makefile", "r+", encoding="utf-8") as file:  # it includes another by where that would be installed
         text = file.read().replace("/usr/src/", f"{work}/usr/src/")
         file.seek(0)
         file.write(text)
-    return found[0]
+    return headers
 
 
 def build(folder, work):
@@ -50,7 +52,8 @@ def build(folder, work):
         file.write('#define DAHDI_VERSION "of dahdi-source"\n')
     with open(f"{source}/drivers/dahdi/Kbuild", "w", encoding="utf-8") as file:
         file.write(KBUILD)
-    said = subprocess.run(["make", "-C", headers, f"M={source}/drivers/dahdi", "modules"], capture_output=True, text=True, check=False)
+    said = subprocess.run(["make", "-C", headers, f"M={source}/drivers/dahdi", "modules"], capture_output=True, text=True,
+                          check=False)
     if said.returncode != 0:
         raise Missing("DAHDI can't be built for this kernel: " + " ".join(said.stderr.split())[-300:])
     os.makedirs(f"{folder}/dahdi", exist_ok=True)

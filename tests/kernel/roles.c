@@ -6,7 +6,8 @@
  * Then the same with one message in three seconds, for longer than l1oip keeps layer 1 up (65 s): layer 1 is lost and found again,
  * and the link has to be established anew each time. A message that was in transit then may be lost, one for each loss.
  *
- * A line for each: `good` or `BAD`, and what was. For tests/kernel/run alone.
+ * A line for each: `good` or `BAD`, and what was. After a run of the second kind the lines of misdn's record, and of what it told,
+ * follow: `record nt in 0 00817F`. For tests/kernel/run alone.
  */
 #define _GNU_SOURCE
 
@@ -161,7 +162,7 @@ static pid_t start(const char *side) {
     pid_t child = fork();
     if (child == 0) {
         dup2(open("/told", O_RDWR | O_CREAT | O_TRUNC, 0644), STDERR_FILENO);
-        execl("/misdn", "misdn", "0", side, (char *)NULL);
+        execl("/misdn", "misdn", "0", side, "/record", (char *)NULL);
         perror("roles: misdn");
         _exit(1);
     }
@@ -175,15 +176,14 @@ static bool ends(pid_t child) {
     return waitpid(child, &status, 0) == child && status == 0;
 }
 
-/* The end of what misdn told. */
-static void show_told(void) {
-    char told[3000];
-    FILE *file = fopen("/told", "r");
-    if (file == NULL)
-        return;
-    fseek(file, -(long)sizeof told, SEEK_END);
-    printf("%.*s\n", (int)fread(told, 1, sizeof told, file), told);
-    fclose(file);
+/* The lines of a file, each after a name and the side. */
+static void show(const char *path, const char *name, const char *side) {
+    char line[1024];
+    FILE *file = fopen(path, "r");
+    while (file != NULL && fgets(line, sizeof line, file) != NULL)
+        printf("%s %s %s", name, side, line);
+    if (file != NULL)
+        fclose(file);
 }
 
 static bool is_good(void) {
@@ -209,11 +209,13 @@ static bool play(const char *side, bool is_slow) {
     converse();
     bool good = is_good();
     good = ends(child) && good;
-    printf("%s misdn %s%s: %u of %u messages came back, %u wrong, %u missing, %u up, %u down, %.1f s\n", good ? "good" : "BAD", side,
-           is_slow ? " slow" : "", peer.came, is_slow ? peer.sent : peer.wanted, peer.wrong, peer.missing, peer.ups, peer.downs,
-           (double)(machine_now() - peer.began) / 1000);
-    if (!good)
-        show_told();
+    printf("%s misdn %s%s: %u of %u messages came back, %u wrong, %u missing, %u up, %u down, %.1f s\n", good ? "good" : "BAD",
+           side, is_slow ? " slow" : "", peer.came, is_slow ? peer.sent : peer.wanted, peer.wrong, peer.missing, peer.ups,
+           peer.downs, (double)(machine_now() - peer.began) / 1000);
+    if (!good || is_slow) {
+        show("/record", "record", side);
+        show("/told", "told", side);
+    }
     close(peer.file);
     return l1oip_unload() && good;
 }

@@ -1,5 +1,5 @@
-/* spans.c: two spans of DAHDI that are each other's end. See spans.h. Its calls are those of the package, and so this file compares
- * them with what examples/c/dahdi.h has. */
+/* spans.c: two spans of DAHDI that are each other's end. See spans.h. It calls DAHDI by the names of its own header, and compares
+ * those with what examples/c/dahdi.h has. */
 #define _GNU_SOURCE
 
 #include "spans.h"
@@ -32,8 +32,8 @@ SAME(aborted, DAHDI_ABORTED, DAHDI_EVENT_ABORT);
 SAME(overrun, DAHDI_OVERRUN, DAHDI_EVENT_OVERRUN);
 SAME(bad_check, DAHDI_BAD_CHECK, DAHDI_EVENT_BADFCS);
 SAME(removed, DAHDI_REMOVED, DAHDI_EVENT_REMOVED);
-SAME(of_layer1, DAHDI_ALARMS_OF_LAYER1, (DAHDI_ALARM_RED | DAHDI_ALARM_BLUE | DAHDI_ALARM_NOTOPEN | DAHDI_ALARM_LOS | DAHDI_ALARM_LFA
-                                         | DAHDI_ALARM_RECOVER));
+SAME(of_layer1, DAHDI_ALARMS_OF_LAYER1, (DAHDI_ALARM_RED | DAHDI_ALARM_BLUE | DAHDI_ALARM_NOTOPEN | DAHDI_ALARM_LOS
+                                         | DAHDI_ALARM_LFA | DAHDI_ALARM_RECOVER));
 
 enum { MOST_CHANNELS = 64 };
 
@@ -46,7 +46,8 @@ static bool is_ok(int result, const char *what) {
 }
 
 bool spans_load(void) {
-    return machine_load("/dahdi.ko", "auto_assign_spans=1") && machine_load("/dahdi_dynamic.ko", "") && machine_load("/dahdi_dynamic_loc.ko", "");
+    return machine_load("/dahdi.ko", "auto_assign_spans=1") && machine_load("/dahdi_dynamic.ko", "")
+           && machine_load("/dahdi_dynamic_loc.ko", "");
 }
 
 static struct dahdi_dynamic_span description_of(int span) {

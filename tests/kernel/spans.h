@@ -9,7 +9,7 @@ enum { SPAN_OURS = 0, SPAN_PEERS = 1 };
 /* Loads DAHDI. */
 bool spans_load(void);
 
-/* A span of the two is there, with the path of its channel; or is no more: then layer 1 of the other is lost. False: why is told. */
+/* A span of the two is there, with the path of its channel; or it ends, and layer 1 of the other is lost. False: why is told. */
 bool span_begins(int span, char *path, unsigned room);
 bool span_ends(int span);
 

@@ -37,8 +37,8 @@ void streams_begin(unsigned seed) {
 
 /* Of what its octets are made. */
 static uint64_t state_of(bool is_unit, way to, int service, int tei, unsigned number) {
-    return mixed((uint64_t)run_seed << 40 ^ (uint64_t)is_unit << 39 ^ (uint64_t)to << 38 ^ (uint64_t)service << 37 ^ (uint64_t)tei << 30
-                 ^ number);
+    return mixed((uint64_t)run_seed << 40 ^ (uint64_t)is_unit << 39 ^ (uint64_t)to << 38 ^ (uint64_t)service << 37
+                 ^ (uint64_t)tei << 30 ^ number);
 }
 
 /* How many they are: most often few, and at times as many as may be. */
@@ -130,8 +130,8 @@ void data_came(way to, int service, int tei, const uint8_t *octets, size_t lengt
     if (number > it->want && to == TO_OURS)
         read_kernel();
     if (number > it->want && number > it->safe && !it->is_unjudged)
-        fault(FAULT_GAP, "%s tei %d: %u to %u are missing before %u; those before %u may be", way_text(to), tei, it->want, number - 1,
-              number, it->safe);
+        fault(FAULT_GAP, "%s tei %d: %u to %u are missing before %u; those before %u may be", way_text(to), tei, it->want,
+              number - 1, number, it->safe);
     it->lost += number - it->want;
     it->want = number + 1;
     it->got++;

@@ -53,9 +53,8 @@ def moved(kind: str, at: str, ahead: int, value: str, is_put: bool) -> str:
     if width == 8:
         return f"instance->data[{to}] = {value};" if is_put else f"{value} = instance->data[{to}];"
     assert ahead < AHEAD
-    words = f"(instance, LIMIT, {at}, {ahead}"
     cast = "u32" if width < 64 else "u64"
-    return f"{STORES[width]}{words}, ({cast}){value});" if is_put else f"{value} = ({kind}){LOADS[width]}{words});"
+    return f"{STORES[width]}(AT({at}, {ahead}), ({cast}){value});" if is_put else f"{value} = ({kind}){LOADS[width]}(AT({at}, {ahead}));"
 
 
 def field_moved(it: Struct, field: Field, is_put: bool) -> List[str]:
@@ -124,7 +123,8 @@ def marshalling() -> str:
     for it in functions():
         for one in it.parameters[1:] if it.name != "lapd_frame_text" else ():
             if one.is_pointer and (one.kind in structs() or not one.is_const):
-                for kind in below(one.kind) if one.kind in structs() else [one.kind]:
+                is_whole = one.kind not in structs() or one.kind in AS_IT_LIES and not one.is_const
+                for kind in [one.kind] if is_whole else below(one.kind):
                     wanted[kind, one.is_const] = None
                     if (it.name, one.name) in IN_OUT:
                         wanted[kind, True] = None
@@ -183,7 +183,8 @@ class Call:
 
     def look(self) -> List[str]:
         """Whether a pointer is null; that of no octets may be."""
-        return [*wrapped("if (", tests(self.of, "NULL"), ")", " || ", 116).split("\n"), "    return LAPD_WRONG_POINTER;"]
+        seldom = [re.sub(r"^\((\w+ == NULL) && ", r"(UNLIKELY(\1) && ", it) for it in tests(self.of, "NULL")]
+        return [*wrapped("if (", seldom, ")", " || ", 116).split("\n"), "    return LAPD_WRONG_POINTER;"]
 
     def text(self) -> str:
         words = ", ".join(f"{'const ' * one.is_const}{tag(one.kind) if one.kind in structs() else one.kind} "
@@ -192,7 +193,7 @@ class Call:
         none = "LAPD_NO_CARD" if handle.kind == "lapd_card" else "LAPD_NO_CLOCK"
         rows = [*self.look(), f"if (!{handle.name}->started)", f"    return {none};", f"machine *instance = machine_of({handle.name}->at);", *self.before,
                 f"u32 status = w2c_{self.of.name}(instance, {', '.join(['HANDLE', *self.words])});"]
-        after = self.after + self.last
+        after = [*self.after[:-1], *self.last, *self.after[-1:]]
         if after:
             rows += ["if (status == LAPD_OK) {", *(f"    {row}" for row in after), "}"]
         rows.append("return status;")

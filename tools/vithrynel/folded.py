@@ -436,8 +436,6 @@ def declared(kind: str, names: List[str]) -> List[str]:
     return [f"{it};" for it in [*rows, row] if it]
 
 
-# A function of so many statements at most, with no loop and no call, may well be part of those that call it.
-SMALL = 32
 # What does more than answer.
 CALL = r"\b(?:w2c_|host_|wasm_rt_)\w+\("
 
@@ -461,8 +459,6 @@ def folded_function(head: str, body: str) -> str:
     used = sorted(set(re.findall(r"\bw_[ijl]\d+\b", "\n".join(rows))), key=lambda it: int(it[3:]))
     kinds.update((it, {"i": "u32", "j": "u64"}[it[2]]) for it in used if it[2] != "l")
     of = {kind: [it + " = 0" * (it[2] == "l") for it in used if kinds[it] == kind] for kind in ("u32", "u64")}
-    if len(rows) <= SMALL and not any(re.search(CALL, it) or it.startswith("w_L") for it in rows):
-        head = head.replace("static ", "static inline ", 1)
     return head + "\n".join([*declared("u32", of["u32"]), *declared("u64", of["u64"]), "FUNC_PROLOGUE;", *rows, "}"]) + "\n"
 
 

@@ -183,8 +183,7 @@ class Call:
 
     def look(self) -> List[str]:
         """Whether a pointer is null; that of no octets may be."""
-        seldom = [re.sub(r"^\((\w+ == NULL) && ", r"(UNLIKELY(\1) && ", it) for it in tests(self.of, "NULL")]
-        return [*wrapped("if (", seldom, ")", " || ", 116).split("\n"), "    return LAPD_WRONG_POINTER;"]
+        return [*wrapped("if (", tests(self.of, "NULL"), ")", " || ", 116).split("\n"), "    return LAPD_WRONG_POINTER;"]
 
     def text(self) -> str:
         words = ", ".join(f"{'const ' * one.is_const}{tag(one.kind) if one.kind in structs() else one.kind} "
@@ -193,7 +192,7 @@ class Call:
         none = "LAPD_NO_CARD" if handle.kind == "lapd_card" else "LAPD_NO_CLOCK"
         rows = [*self.look(), f"if (!{handle.name}->started)", f"    return {none};", f"machine *instance = machine_of({handle.name}->at);", *self.before,
                 f"u32 status = w2c_{self.of.name}(instance, {', '.join(['HANDLE', *self.words])});"]
-        after = [*self.after[:-1], *self.last, *self.after[-1:]]
+        after = self.after + self.last
         if after:
             rows += ["if (status == LAPD_OK) {", *(f"    {row}" for row in after), "}"]
         rows.append("return status;")

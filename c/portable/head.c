@@ -61,18 +61,23 @@ enum { BEHIND = AHEAD + WIDEST };
 #define TURNED_64(x) (x)
 #endif
 
+/* What an access may reach from its place. A compiler then has one address for all that is reached from there. */
+typedef struct {
+    u8 octets[AHEAD + WIDEST];
+} reach;
+
+#define AT(at, ahead) &reached(instance, LIMIT, at)->octets[ahead]
+
 /* Loads and stores: so many bits of memory, read as a signed or unsigned number, as a value of the machine. */
-#define DEFINE_LOAD(name, bits, as, value)                                             \
-    static inline value name(const machine *instance, u32 most, place at, u32 ahead) { \
-        u##bits octets;                                                                \
-        TEST(at);                                                                      \
-        memcpy(&octets, instance->data + at + ahead, sizeof octets);                   \
-        return (value)(as)TURNED_##bits(octets);                                       \
+#define DEFINE_LOAD(name, bits, as, value)           \
+    static inline value name(const u8 *from) {       \
+        u##bits octets;                              \
+        memcpy(&octets, from, sizeof octets);        \
+        return (value)(as)TURNED_##bits(octets);     \
     }
-#define DEFINE_STORE(name, bits, value)                                                       \
-    static inline void name(machine *instance, u32 most, place at, u32 ahead, value number) { \
-        u##bits octets = (u##bits)number;                                                     \
-        TEST(at);                                                                             \
-        octets = TURNED_##bits(octets);                                                       \
-        memcpy(instance->data + at + ahead, &octets, sizeof octets);                          \
+#define DEFINE_STORE(name, bits, value)              \
+    static inline void name(u8 *to, value number) {  \
+        u##bits octets = (u##bits)number;            \
+        octets = TURNED_##bits(octets);              \
+        memcpy(to, &octets, sizeof octets);          \
     }

@@ -1,3 +1,9 @@
+/* What lies at a place, which is tested. */
+static inline reach *reached(const machine *instance, u32 most, place at) {
+    TEST(at);
+    return (reach *)((u8 *)instance->data + at);
+}
+
 DEFINE_LOAD(i32_load, 32, u32, u32)
 DEFINE_LOAD(i32_load8_s, 8, s8, u32)
 DEFINE_LOAD(i32_load8_u, 8, u8, u32)

@@ -282,7 +282,7 @@ class Folding:
         found = re.fullmatch(r"(i\d\d_load\w*)\((.*)\)", text)
         if found:
             place, parts = self.place(found[2], at)
-            return made(f"{found[1]}(instance, LIMIT, {place})", parts, of_memory=True)
+            return made(f"{found[1]}(AT({place}))", parts, of_memory=True)
         if re.fullmatch(r"\w+\(instance.*\)", text):
             return self.call(text, at)
         raise NotBuilt(f"wasm2c writes another form than that of wabt 1.0.32: {text}")
@@ -396,7 +396,7 @@ class Folding:
             place, parts = self.place(found[2], at)
             value = self.value(found[3], at)
             self.settle_memory()
-            self.rows.append(f"{found[1]}(instance, LIMIT, {place}, {value.text});")
+            self.rows.append(f"{found[1]}(AT({place}), {value.text});")
             return
         name, words = re.fullmatch(r"(\w+)\((.*)\)", it.text).groups()
         parts = [self.value(one, at) if re.fullmatch(NAME, one) else Expression(one) for one in words.split(", ")]

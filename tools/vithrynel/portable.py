@@ -53,9 +53,8 @@ def moved(kind: str, at: str, ahead: int, value: str, is_put: bool) -> str:
     if width == 8:
         return f"instance->data[{to}] = {value};" if is_put else f"{value} = instance->data[{to}];"
     assert ahead < AHEAD
-    words = f"(instance, LIMIT, {at}, {ahead}"
     cast = "u32" if width < 64 else "u64"
-    return f"{STORES[width]}{words}, ({cast}){value});" if is_put else f"{value} = ({kind}){LOADS[width]}{words});"
+    return f"{STORES[width]}(AT({at}, {ahead}), ({cast}){value});" if is_put else f"{value} = ({kind}){LOADS[width]}(AT({at}, {ahead}));"
 
 
 def field_moved(it: Struct, field: Field, is_put: bool) -> List[str]:
@@ -124,7 +123,8 @@ def marshalling() -> str:
     for it in functions():
         for one in it.parameters[1:] if it.name != "lapd_frame_text" else ():
             if one.is_pointer and (one.kind in structs() or not one.is_const):
-                for kind in below(one.kind) if one.kind in structs() else [one.kind]:
+                is_whole = one.kind not in structs() or one.kind in AS_IT_LIES and not one.is_const
+                for kind in [one.kind] if is_whole else below(one.kind):
                     wanted[kind, one.is_const] = None
                     if (it.name, one.name) in IN_OUT:
                         wanted[kind, True] = None

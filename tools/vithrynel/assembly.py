@@ -23,6 +23,7 @@ CONDITIONS = {"x86-64": "defined(__x86_64__) && !defined(__ILP32__)",
               "aarch64": "defined(__aarch64__) && !defined(__AARCH64EB__) && !defined(__ILP32__)"}
 # Text in place of an object, without what only the kit's own linker reads.
 AS_TEXT = ["-S", "-fno-verbose-asm", "-fno-addrsig"]
+STRING = re.compile(r'"(?:[^"\\]|\\.)*"')
 HEAD = """\
 /*
  * lapd.S: the whole of lapd.h as assembler text, for x86-64 and for 64-bit ARM with the low octet first, as ELF has them.
@@ -64,12 +65,14 @@ def text(processor: str, over_gate: bool) -> str:
 
 
 def plain(assembler: str) -> str:
-    """Without comments and empty lines. What is left has nothing that the preprocessor would take for its own."""
+    """Without comments and empty lines. What is left has nothing that the preprocessor would take for its own; so a question
+    mark is told by its number, as two begin a trigraph."""
     lines = [it.rstrip() for it in assembler.splitlines()]
     lines = [it for it in lines if it and not re.match(r"\s*(#|//)", it)]
+    lines = [it.replace("?", r"\077") if re.match(r"\s*\.asci[iz]\b", it) else it for it in lines]
     for it in lines:
-        if re.search(r"#\s|//|/\*|'", re.sub(r'"[^"]*"', "", it)):
-            raise NotBuilt(f"clang writes a comment or a quote that is not expected: {it.strip()}")
+        if re.search(r"#\s|//|/\*|'|\?\?", STRING.sub("", it)):
+            raise NotBuilt(f"clang writes a comment or a quote that is not expected: {it.strip()[:80]}")
     return "\n".join(lines) + "\n"
 
 

@@ -96,19 +96,31 @@ def of_wrong_tables(dist, path):
 
 def of_wrong_libraries(dist):
     """Of a library in which one call is another; and where null pointers are not looked at."""
+    objects = f"{dist.folder}/objects"
+    os.makedirs(objects)
+    said = run(["sh", "-ec", 'cd "$0" && cc -O1 "-I$1" -c "$1"/tests/*.c "$1/lapd.S" "$1/lapd_malloc.c"', objects, dist.files], timeout=LONG)
+    check("check compiles, file by file", said.returncode == 0, said.stderr.decode()[:600])
+    found = [f"{objects}/{it}" for it in sorted(os.listdir(objects))]
+
     def tells(name):
         asked, head, body = WRONG[name]
         source = f"{dist.folder}/{name}.c"
         with open(source, "w", encoding="ascii") as file:
             real, wrap = (head.replace("@", f"__{it}_{name}") for it in ("real", "wrap"))
             file.write(f'#include "lapd.h"\n{real};\n{wrap};\n{wrap} {{ {body.replace("!", f"__real_{name}")} }}\n')
-        path = built(dist, name, "cc", "-O1", f"-Wl,--wrap={name}", source, *code(dist, "lapd.S"))
+        path = linked(f"check-{name}", f"-Wl,--wrap={name}", source, *found)
         for part in asked.split() if path else ():
             said = run([path, f"{dist.files}/tests/scripts.txt", part], timeout=LONG)
             check(f"check {part} tells of a wrong {name}", said.returncode in (1, 3), said.stdout.decode()[-300:])
 
+    def linked(name, *words):
+        path = f"{dist.folder}/{name}"
+        said = run(["cc", f"-I{dist.files}", "-o", path, *words], timeout=LONG)
+        check(f"{name} is linked", said.returncode == 0, said.stderr.decode()[:600])
+        return path if said.returncode == 0 else None
+
     in_parallel(tells, WRONG)
-    path = built(dist, "without looking", "cc", "-O1", "-DLAPD_CHECKED_H", *code(dist, "lapd.S"))
+    path = linked("check-without-looking", "-DLAPD_CHECKED_H", f"{dist.files}/tests/null.c", *(it for it in found if not it.endswith("/null.o")))
     check("check null tells of null pointers that are not looked at", path and run([path, f"{dist.files}/tests/scripts.txt", "null"]).returncode != 0, "it passes")
 
 

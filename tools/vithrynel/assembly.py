@@ -18,9 +18,11 @@ from .wasm import clang, logic, put
 
 NAME = "lapd_c"
 WRITTEN = ("lapd.S", "lapd_malloc.c", "lapd.h", "lapd_checked.h", "lapd_memory.h")
-# How C's preprocessor knows a processor, and the order of its octets and the width of its addresses.
+# How C's preprocessor knows a processor, the order of its octets and the width of its addresses; and of ARM the systems that
+# keep the register x18 for themselves, which Linux and the BSDs leave to the compiler.
 CONDITIONS = {"x86-64": "defined(__x86_64__) && !defined(__ILP32__)",
-              "aarch64": "defined(__aarch64__) && !defined(__AARCH64EB__) && !defined(__ILP32__)"}
+              "aarch64": "defined(__aarch64__) && !defined(__AARCH64EB__) && !defined(__ILP32__) "
+                         "&& !defined(__ANDROID__) && !defined(__Fuchsia__)"}
 # Text in place of an object, without what only the kit's own linker reads.
 AS_TEXT = ["-S", "-fno-verbose-asm", "-fno-addrsig"]
 STRING = re.compile(r'"(?:[^"\\]|\\.)*"')
@@ -40,7 +42,8 @@ HEAD = """\
 {sums}
  */
 """
-ERROR = '#error "lapd.S is for x86-64 and for little-endian 64-bit ARM, as ELF: compile lapd.c in place of lapd.S and lapd_malloc.c"'
+ERROR = ('#error "lapd.S is for x86-64 and for little-endian 64-bit ARM, as ELF (of ARM not Android): '
+         'compile lapd.c in place of lapd.S and lapd_malloc.c"')
 
 
 def words_for(processor: str, to: str) -> List[str]:

@@ -3,7 +3,7 @@ what CMake has there. Places that they name are those of the folder that is take
 import os
 import re
 import sys
-from typing import Dict
+from typing import Dict, Set, Tuple
 
 from .crates import ROOT
 from .machine import content
@@ -17,8 +17,6 @@ FOLDERS = {"examples": "examples/c", "tests": "tests/c/check"}
 FILES = {**{f"tests/{name}{end}": f"tests/c/{name}{end}" for name in ("station", "words", "hdlc") for end in (".c", ".h")},
          "packages.cmake": "c/dist/packages.cmake", "copyright": "c/dist/copyright"}
 PAGE = "EMBEDDING.md"
-# Of what the files are made that are no copies.
-MADE_OF = ("docs/EMBEDDING.md", "tests/scripts")
 # Places in the repository, and in the folder that is taken.
 IN_CODE = (("../../../examples/c/", "../examples/"), ("../../dist", ".."))
 IN_PAGE = (("../dist/", ""), ("examples/c/", "examples/"), ("-I dist ", "-I . "), ("dist/", ""))
@@ -27,13 +25,14 @@ Pages that are named without a link, as MACHINE.md, are in docs/ of the reposito
 """
 
 
-def moved(text: str, places: "tuple[tuple[str, str], ...]") -> str:
+def moved(text: str, places: Tuple[Tuple[str, str], ...]) -> str:
+    """A text with places of the folder in place of the repository's."""
     for here, there in places:
         text = text.replace(here, there)
     return text
 
 
-def page(there: "set[str]") -> str:
+def page(there: Set[str]) -> str:
     """EMBEDDING.md: a link to what is not there is none."""
     text = moved(content(f"docs/{PAGE}"), IN_PAGE)
     text = re.sub(r"\[([^]]+)\]\(([^)#]+)[^)]*\)", lambda it: it[0] if it[2] in there else it[1], text)

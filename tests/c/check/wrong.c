@@ -205,6 +205,14 @@ static void wrong_clock(void) {
     ANSWERS(LAPD_NO_TIMER, lapd_clock_next(&clock, &own.moment));
 }
 
+/* The configuration with another value of the field at this place. */
+static lapd_config with(unsigned at, unsigned value) {
+    lapd_config it = of_card;
+    uint16_t field = (uint16_t)value;
+    memcpy((char *)&it + at * sizeof field, &field, sizeof field);
+    return it;
+}
+
 /* No card and no clock begins with a field out of range, by one too little and by one too much. */
 static void bad_fields(void) {
     enum { FIELDS = 13, AT_SEED = 11 };
@@ -214,17 +222,11 @@ static void bad_fields(void) {
     static const uint16_t least[FIELDS] = {1, 1, 1, 1, 1, 1, 2, 1, 8, 0, 0, 0, 0};
     static const uint16_t most[FIELDS] = {64, 8, 127, 127, 127, 16, 16, 8192, 260, 10, 2, 65535, 62};
     for (unsigned at = 0; at < FIELDS; at++) {
-        uint16_t fields[FIELDS];
-        lapd_config config;
-        memcpy(fields, &of_card, sizeof fields);
-        fields[at] = (uint16_t)(most[at] + 1);
-        memcpy(&config, fields, sizeof config);
+        const lapd_config too_much = with(at, most[at] + 1u), too_little = with(at, least[at] - 1u);
         if (at != AT_SEED)
-            ANSWERS(bad[at], lapd_card_start(&none, &config));
-        fields[at] = (uint16_t)(least[at] - 1);
-        memcpy(&config, fields, sizeof config);
+            ANSWERS(bad[at], lapd_card_start(&none, &too_much));
         if (least[at] > 0)
-            ANSWERS(bad[at], lapd_clock_start(&no_clock, &config));
+            ANSWERS(bad[at], lapd_clock_start(&no_clock, &too_little));
     }
 }
 

@@ -41,9 +41,11 @@ def assemblers():
 def objects(dist):
     """What each assembler makes of lapd.S, and that another processor is told of lapd.c."""
     in_parallel(lambda it: an_object(dist, *it), assemblers().items())
-    for flag in ("-U__x86_64__", "-D__ILP32__", "-U__ELF__"):
-        said = run(["cc", flag, "-c", f"{dist.files}/lapd.S", "-o", f"{dist.folder}/none.o"])
-        check(f"lapd.S with {flag}", said.returncode != 0 and b"compile lapd.c in place of lapd.S" in said.stderr, said.stderr.decode()[-300:])
+    arm = TARGETS["aarch64"].compiler
+    for words in (["cc", "-U__x86_64__"], ["cc", "-D__ILP32__"], ["cc", "-U__ELF__"], *[[arm, "-D__ANDROID__"]] * bool(shutil.which(arm))):
+        said = run([*words, "-c", f"{dist.files}/lapd.S", "-o", f"{dist.folder}/none.o"])
+        is_told = said.returncode != 0 and b"compile lapd.c in place of lapd.S" in said.stderr
+        check(f"lapd.S by {' '.join(words)}", is_told, said.stderr.decode()[-300:])
 
 
 def an_object(dist, name, how):

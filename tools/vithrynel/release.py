@@ -7,7 +7,7 @@
 import hashlib
 import os
 import tempfile
-from typing import Dict, List
+from typing import Dict, List, Set
 
 from .assembly import assembly, memory
 from .crates import ROOT, sum_of
@@ -80,13 +80,24 @@ def release(over_gate: bool) -> Dict[str, bytes]:
     return made
 
 
+def named(to: str) -> Set[str]:
+    """What a folder's sums name."""
+    if not os.path.exists(f"{to}/{SUMS}"):
+        return set()
+    with open(f"{to}/{SUMS}", encoding="ascii") as file:
+        return {it.rstrip("\n").split("  ", 1)[1] for it in file}
+
+
 def written(to: str, over_gate: bool = False) -> List[str]:
-    """All files in a folder; their names."""
-    made = release(over_gate)
+    """All files in a folder, from which those of an earlier release go that are none any more; their names."""
+    made, before = release(over_gate), named(to)
     with tempfile.TemporaryDirectory(prefix="release-") as folder:
         for name, octets in made.items():
             os.makedirs(os.path.dirname(f"{folder}/{name}"), exist_ok=True)
             with open(f"{folder}/{name}", "wb") as file:
                 file.write(octets)
         put(folder, list(made), to)
+    for name in before - set(made):
+        if os.path.exists(f"{to}/{name}"):
+            os.remove(f"{to}/{name}")
     return list(made)

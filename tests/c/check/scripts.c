@@ -21,7 +21,7 @@ typedef struct {
     size_t length, room;
 } text;
 
-enum { MOST_NAME = 80, LEAST_SCRIPTS = 400 };
+enum { MOST_NAME = 80, MOST_COUNT = 100000, LEAST_SCRIPTS = 400 };
 
 static struct {
     char name[MOST_NAME], fault[MOST_NAME];
@@ -48,6 +48,15 @@ static int digit(char c) {
     return c >= '0' && c <= '9' ? c - '0' : c >= 'A' && c <= 'F' ? c - 'A' + 10 : -1;
 }
 
+/* Reads how often a sign stands there, as X\{N}. Answers how many signs that took, or 0. */
+static size_t read_count(const char *at, size_t left, size_t *count) {
+    size_t taken = 3;
+    *count = 0;
+    for (; taken < left && at[taken] >= '0' && at[taken] <= '9' && *count < MOST_COUNT; taken++)
+        *count = *count * 10 + (size_t)digit(at[taken]);
+    return taken < left && at[taken] == '}' ? taken + 1 : 0;
+}
+
 /* Adds what a sign means that begins here. Answers how many signs that took; 0 for what is no part of a table. */
 static size_t add_sign(text *to, const char *at, size_t left) {
     if (at[0] == '\\' && left >= 4 && at[1] == 'x' && digit(at[2]) >= 0 && digit(at[3]) >= 0) {
@@ -56,12 +65,10 @@ static size_t add_sign(text *to, const char *at, size_t left) {
     }
     if (at[0] == '\\')
         return 0;
-    size_t taken = 1, count = 1;
-    if (left >= 4 && at[1] == '\\' && at[2] == '{')
-        for (count = 0, taken = 3; taken < left && at[taken] != '}'; taken++)
-            count = count * 10 + (size_t)digit(at[taken]);
-    taken += taken > 1; /* the brace that ends it */
-    for (; count > 0; count--)
+    size_t count = 1, taken = 1;
+    if (left >= 3 && at[1] == '\\' && at[2] == '{')
+        taken = read_count(at, left, &count);
+    for (; taken > 0 && count > 0; count--)
         add(to, at[0]);
     return taken;
 }

@@ -20,7 +20,8 @@ HEADER = {it.name for it in functions()}
 CROSS = "aarch64-linux-gnu-"
 # What lapd_malloc.c is compiled with, and what first.c says then.
 OUT_OF_MEMORY = b"out of memory\n"
-MEMORIES = {"": FIRST, "-DLAPD_MALLOC": FIRST, "-DLAPD_HEAP_OCTETS=100000": FIRST, "-DLAPD_SYMBOLS": FIRST, "-DLAPD_HEAP_OCTETS=9000": OUT_OF_MEMORY}
+MEMORIES = {"": FIRST, "-DLAPD_MALLOC": FIRST, "-DLAPD_HEAP_OCTETS=100000": FIRST, "-DLAPD_SYMBOLS": FIRST,
+            "-DLAPD_HEAP_OCTETS=9000": OUT_OF_MEMORY}
 # How a program is linked.
 LINKS = {"as the compiler has it": (), "position-independent": ("-fPIE", "-pie", "-Wl,-z,text"), "at fixed addresses": ("-fno-pie", "-no-pie"),
          "without shared libraries": ("-static",), "both": ("-static-pie",), "without what is not called": ("-Wl,--gc-sections",)}
@@ -40,9 +41,11 @@ def assemblers():
 def objects(dist):
     """What each assembler makes of lapd.S, and that another processor is told of lapd.c."""
     in_parallel(lambda it: an_object(dist, *it), assemblers().items())
-    for flag in ("-U__x86_64__", "-D__ILP32__", "-U__ELF__"):
-        said = run(["cc", flag, "-c", f"{dist.files}/lapd.S", "-o", f"{dist.folder}/none.o"])
-        check(f"lapd.S with {flag}", said.returncode != 0 and b"compile lapd.c in place of lapd.S" in said.stderr, said.stderr.decode()[-300:])
+    arm = TARGETS["aarch64"].compiler
+    for words in (["cc", "-U__x86_64__"], ["cc", "-D__ILP32__"], ["cc", "-U__ELF__"], *[[arm, "-D__ANDROID__"]] * bool(shutil.which(arm))):
+        said = run([*words, "-c", f"{dist.files}/lapd.S", "-o", f"{dist.folder}/none.o"])
+        is_told = said.returncode != 0 and b"compile lapd.c in place of lapd.S" in said.stderr
+        check(f"lapd.S by {' '.join(words)}", is_told, said.stderr.decode()[-300:])
 
 
 def an_object(dist, name, how):
@@ -68,7 +71,8 @@ def symbols(name, prefix, path):
     check(f"{name}: functions by name and size", len(sized) > len(HEADER) and not wrong, wrong[:5])
     tables = run([f"{prefix}readelf", "--debug-dump=frames", path]).stdout.decode().count(" FDE ")
     check(f"{name}: a table for each function", tables == len(sized), f"{tables} of {len(sized)}")
-    stack = re.search(r"\.note\.GNU-stack +PROGBITS +\S+ +\S+ +\S+ +\S+ +(\S*) ", run([f"{prefix}readelf", "-SW", path]).stdout.decode())
+    sections = run([f"{prefix}readelf", "-SW", path]).stdout.decode()
+    stack = re.search(r"\.note\.GNU-stack +PROGBITS +\S+ +\S+ +\S+ +\S+ +(\S*) ", sections)
     check(f"{name}: a stack without code", stack and "X" not in stack[1], stack)
 
 
@@ -88,7 +92,8 @@ def is_of(dist, processor):
 def same_instructions(name, objdump, proved, path):
     """What an assembler makes of the text has the instructions of the proved archive."""
     wanted, found = instructions(objdump, proved), instructions(objdump, path)
-    check(f"{name}: the functions of lapd.S", wanted.keys() == found.keys() and len(wanted) > len(HEADER), sorted(wanted.keys() ^ found.keys())[:5])
+    is_same = wanted.keys() == found.keys() and len(wanted) > len(HEADER)
+    check(f"{name}: the functions of lapd.S", is_same, sorted(wanted.keys() ^ found.keys())[:5])
     others = [it for it in wanted if wanted[it] != found.get(it)]
     check(f"{name}: the instructions of lapd.S", not others and sum(map(len, wanted.values())) > 10000, others[:5])
 
@@ -119,7 +124,8 @@ def links_by(dist, name, how):
         ran = run([*runner, f"{at}/first"]) if said.returncode == 0 else said
         check(f"{name}: lapd_malloc.c {flag}", ran.stdout + ran.stderr == wanted, (said.stderr + ran.stdout + ran.stderr).decode()[:600])
     if name != "toolchain":
-        said = run([*words, "-std=c99", *STRICT, f"-I{dist.files}", "-o", f"{at}/unwound", f"{HERE}/unwound.c", f"{dist.files}/lapd.S"])
+        sources = f"{HERE}/unwound.c", f"{dist.files}/lapd.S"
+        said = run([*words, "-std=c99", *STRICT, f"-I{dist.files}", "-o", f"{at}/unwound", *sources])
         ran = run([*runner, f"{at}/unwound"]) if said.returncode == 0 else said
         check(f"{name}: who called is found", ran.returncode == 0, ran.stderr.decode()[:600])
         shared(dist, name, words, prefix, at)
@@ -136,7 +142,8 @@ def made(dist, at, words, flags):
 def shared(dist, name, words, prefix, at):
     """A shared library has no relocation in its text, and exports what lapd.h declares and defines."""
     sources = f"{dist.files}/lapd.S", f"{dist.files}/lapd_malloc.c"
-    said = run([*words, "-O2", "-shared", "-fPIC", "-DLAPD_SYMBOLS", "-Wl,-z,text", "-Wl,-z,defs", f"-I{dist.files}", "-o", f"{at}/liblapd.so.1", *sources])
+    flags = "-O2", "-shared", "-fPIC", "-DLAPD_SYMBOLS", "-Wl,-z,text", "-Wl,-z,defs", f"-I{dist.files}"
+    said = run([*words, *flags, "-o", f"{at}/liblapd.so.1", *sources])
     check(f"{name}: a shared library", said.returncode == 0 and not said.stderr, said.stderr.decode()[:600])
     if said.returncode == 0:
         rows = [it.split() for it in run([f"{prefix}nm", "-D", "--defined-only", f"{at}/liblapd.so.1"]).stdout.decode().splitlines()]

@@ -8,7 +8,7 @@ from typing import Dict, List, NamedTuple
 HEAD = re.compile(r"^[0-9a-f]+ <(.*)>:$")
 LINE = re.compile(r"^ *([0-9a-f]+):\t(\S.*?)\s*(?:// .*|# [0-9a-f]+ <.*)?$")
 RELOCATION = re.compile(r"^\t+[0-9a-f]+: R_(\S+)\t(.*)$")
-PLACE = re.compile(r"\b([0-9a-f]+) <[^>]*(?:>[^<>]*)*>$")
+PLACE = re.compile(r"\b([0-9a-f]+) <.*>$")
 PADDING = re.compile(r"^(?:(?:data16|cs) )*(?:nop[wl]?\b|xchg +%ax,%ax$)")
 # A call to a function of the same file: assemblers differ in what they name it, and linkers in nothing.
 CALLS = {"X86_64_PC32", "X86_64_PLT32"}

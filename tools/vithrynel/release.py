@@ -24,8 +24,8 @@ from .static_library import HOST, module
 from .wasm import kit_version, put, versions
 
 # What is copied, from where.
-COPIED = {"lapd.h": "include/lapd.h", "lapd_checked.h": "include/lapd_checked.h", "lapd_memory.h": "include/lapd_memory.h", "lapd.hpp": "include/lapd.hpp",
-          "lapd.py": "bindings/python/lapd.py", "lapd.3": "man/lapd.3",
+COPIED = {"lapd.h": "include/lapd.h", "lapd_checked.h": "include/lapd_checked.h", "lapd_memory.h": "include/lapd_memory.h",
+          "lapd.hpp": "include/lapd.hpp", "lapd.py": "bindings/python/lapd.py", "lapd.3": "man/lapd.3",
           "lapdsim.1": "man/lapdsim.1", "lapdsim.5": "man/lapdsim.5"}
 SUMS = "SHA256SUMS"
 # What is written of texts of the repository.

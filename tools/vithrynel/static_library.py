@@ -116,9 +116,8 @@ def words_of_build(crates: Dict[str, List[str]], name: str, processor: str, tool
     words += [] if is_program(name) else ["--crate-type", "staticlib"]
     words += ["--toolchain", toolchain, "--backend", "llvm"]
     words += [f"--target={PROCESSORS[processor].target}", f"--cpu={PROCESSORS[processor].cpu}", "-o", to]
-    if not are_of_gate(crates, below):
-        # `rt lib` and `rt run` left what they checked of the crate itself, too
-        words += ["--incremental", "out/incremental"]
+    # What was checked of the crate itself, by `rt lib`, `rt run` or for the other processor, is not checked again.
+    words += ["--incremental", "out/incremental"]
     os.makedirs(f"{ROOT}/crates/{name}/out", exist_ok=True)
     os.makedirs(os.path.dirname(to), exist_ok=True)
     return [f"{root}/bin/rattle", "build", *words]

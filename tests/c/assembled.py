@@ -135,7 +135,7 @@ def made(dist, at, words, flags):
     """first.c with lapd.S."""
     if os.path.exists(f"{at}/first"):
         os.remove(f"{at}/first")
-    sources = f"{dist.files}/first.c", f"{dist.files}/lapd.S", f"{dist.files}/lapd_malloc.c"
+    sources = f"{dist.files}/examples/first.c", f"{dist.files}/lapd.S", f"{dist.files}/lapd_malloc.c"
     return run([*words, "-std=c99", *STRICT, "-pedantic", "-O2", *flags, f"-I{dist.files}", "-o", f"{at}/first", *sources], timeout=LONG)
 
 

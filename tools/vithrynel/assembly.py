@@ -72,7 +72,7 @@ def plain(assembler: str) -> str:
     mark is told by its number, as two begin a trigraph."""
     lines = [it.rstrip() for it in assembler.splitlines()]
     lines = [it for it in lines if it and not re.match(r"\s*(#|//)", it)]
-    lines = [it.replace("?", r"\077") if re.match(r"\s*\.asci[iz]\b", it) else it for it in lines]
+    lines = [it.replace("?", r"\077") if re.match(r"\s*\.(asci[iz]|string)\b", it) else it for it in lines]
     for it in lines:
         if re.search(r"#\s|//|/\*|'|\?\?", STRING.sub("", it)):
             raise NotBuilt(f"clang writes a comment or a quote that is not expected: {it.strip()[:80]}")

@@ -26,7 +26,7 @@ TESTS, TESTED_SOON = "cmake -S dist -B built && cmake --build built && (cd built
 # Programs of examples/c with their files; first.c and wire.c are played, as they ask for no line.
 EXAMPLES = {"first": (), "wire": ("trace",), "terminal": ("linecard", "trace"), "clock": ("trace",), "exchange": ("linecard", "pcap", "trace"),
             "hardware": ("linecard", "pcap", "trace"), "misdn": ("dchannel", "linecard", "pcap", "trace"),
-            "dahdi": ("dchannel", "linecard", "pcap", "trace")}
+            "dahdi": ("dchannel", "linecard", "pcap", "trace"), "standby": ()}
 # Parts of examples/c that are no programs.
 PARTS_OF_EXAMPLES = {"dchannel", "linecard", "pcap", "trace", "gateway"}
 # A card that a program with little memory can't have, of a script and as lapd.h counts.

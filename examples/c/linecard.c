@@ -155,9 +155,7 @@ static bool pass(linecard *own) {
 /* Milliseconds until a timer falls due, for poll, and so many at most. */
 static int patience(linecard *own, int most) {
     uint64_t moment, left = LONGEST_WAIT;
-    if (lapd_next_moment(&own->card, &moment) != LAPD_OK)
-        return most;
-    if (moment < own->now + left)
+    if (lapd_next_moment(&own->card, &moment) == LAPD_OK && moment < own->now + left)
         left = moment <= own->now ? 0 : moment - own->now;
     return most >= 0 && (uint64_t)most < left ? most : (int)left;
 }

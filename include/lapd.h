@@ -63,11 +63,11 @@
  * pointer what owns memory, and nothing is proved of two questions at once.
  *
  * Everything else is tested. Each function says by its status what was wrong, and then nothing has changed: neither
- * the card or clock, nor what the other pointers point to. There are three exceptions: LAPD_NO_PLACE of
- * lapd_clock_apply_report; a link waits for room after LAPD_REFUSED_QUEUE_FULL of lapd_data; and it is the moment of
- * lapd_fall_due after its LAPD_NO_TIMER. A loop in these comments ends at the first status that is not LAPD_OK: look at which it
- * is. If several things are wrong, the first is told: that a pointer is null, that
- * there is no card or clock, that the card is of the other kind, the line, the other arguments in their order. A
+ * the card or clock, nor what the other pointers point to. There are four exceptions: LAPD_NO_PLACE of
+ * lapd_clock_apply_report; a link waits for room after LAPD_REFUSED_QUEUE_FULL of lapd_data; it is the moment of
+ * lapd_fall_due after its LAPD_NO_TIMER; and *is_done of lapd_frame_at and lapd_request_at is written. A loop in these comments
+ * ends at the first status that is not LAPD_OK: look at which it is. If several things are wrong, the first is told: that a pointer
+ * is null, that there is no card or clock, that the card is of the other kind, the line, the other arguments in their order. A
  * refusal of a request is told last.
  */
 #ifndef LAPD_H

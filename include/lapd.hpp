@@ -211,7 +211,8 @@ inline const char *text(status of) { return lapd_status_text(static_cast<uint32_
 inline const char *text(cause of) { return lapd_cause_text(static_cast<uint8_t>(of)); }
 
 /// What octets say, without a check, as a side sent them (LAPD_NETWORK, LAPD_USER or LAPD_TERMINAL): the first line that
-/// `lapdsim frame` prints of them, and a message of TEI management in words, in front of the room, with a 0 at its end. LAPD_MOST_TEXT is room for each frame of a card.
+/// `lapdsim frame` prints of them, and a message of TEI management in words, in front of the room, with a 0 at its end.
+/// LAPD_MOST_TEXT is room for each frame of a card.
 inline status frame_text(octets of, uint16_t side, span<char> to) {
     return static_cast<status>(lapd_frame_text(at(of), of.size(), side, at(to), to.size()));
 }

@@ -138,10 +138,10 @@ static bool give(void) {
 static bool take(void) {
     uint8_t frame[BUFFER_OCTETS];
     ssize_t length;
-    while ((length = read(channel, frame, sizeof frame)) >= 0)
+    while ((length = read(channel, frame, sizeof frame)) > 0)
         if (length > CHECK_OCTETS && !dchannel_frame(&own, frame, (size_t)length - CHECK_OCTETS))
             return false;
-    return errno == EAGAIN || errno == EVENT_WAITS || fails("it gives no frame");
+    return length == 0 || errno == EAGAIN || errno == EVENT_WAITS || fails("it gives no frame");
 }
 
 /* Serves the line until a signal ends it. */

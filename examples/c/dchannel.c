@@ -99,12 +99,12 @@ bool dchannel_up(dchannel *own) {
     return good;
 }
 
-/* Which links were up is noted first. */
+/* Which links were up, or were to come up, is noted first. */
 static void note_links(dchannel *own) {
     uint8_t place = 0;
     for (lapd_link link; lapd_next_link(&own->card.card, 0, &place, &link) == LAPD_OK;)
         if (link.service == LAPD_CALL)
-            own->was_up[link.tei] = link.state >= 7;
+            own->was_up[link.tei] = link.state == 5 || link.state >= 7;
 }
 
 bool dchannel_down(dchannel *own) {

@@ -17,7 +17,7 @@ typedef struct {
     bool is_primary;      /* primary rate, and not basic access */
     bool is_up;           /* layer 1 is there */
     FILE *capture;        /* or NULL */
-    bool was_up[127];     /* by TEI: its link was up as layer 1 was lost */
+    bool was_up[127];     /* by TEI: its link was up, or was to come up, as layer 1 was lost */
 } dchannel;
 
 /* Reads the words [--trace] DEVICE nt|te|nt-e1|te-e1 [RECORD [CAPTURE]], and opens the files. True: it did, and the program goes

@@ -7,7 +7,7 @@
 #include <string.h>
 #include <time.h>
 
-enum { FIRST_AUTOMATIC_TEI = 64, LONGEST_WAIT = 10000 };
+enum { FIRST_AUTOMATIC_TEI = 64, LONGEST_WAIT = 10000, MOST_RECORDED_WAIT = 3600000 };
 
 const lapd_config linecard_config = LAPD_BASIC_ACCESS;
 const lapd_lengths linecard_lengths = LAPD_DEFAULT_LENGTHS;
@@ -126,15 +126,23 @@ static uint64_t monotonic(void) {
     return (uint64_t)time.tv_sec * 1000 + (uint64_t)time.tv_nsec / 1000000;
 }
 
+/* It is this moment now, in the record, too: what is asked for at an expiry comes after it there. */
+static void go_on_to(linecard *own, uint64_t moment) {
+    while (own->now < moment) {
+        uint64_t step = moment - own->now < MOST_RECORDED_WAIT ? moment - own->now : MOST_RECORDED_WAIT;
+        if (own->record != NULL)
+            fprintf(own->record, "wait %llu\n", (unsigned long long)step);
+        own->now += step;
+    }
+}
+
 /* Time goes on to now. */
 static bool pass(linecard *own) {
     static lapd_report report;
     uint64_t moment = monotonic() - own->start, next;
     uint32_t status = LAPD_OK;
-    if (own->record != NULL && moment > own->now)
-        fprintf(own->record, "wait %llu\n", (unsigned long long)(moment - own->now));
     while (status != LAPD_NO_TIMER || own->now < moment) {
-        own->now = lapd_next_moment(&own->card, &next) == LAPD_OK && next < moment ? next : moment;
+        go_on_to(own, lapd_next_moment(&own->card, &next) == LAPD_OK && next < moment ? next : moment);
         status = lapd_fall_due(&own->card, own->now, &report);
         if (status == LAPD_OK && own->log != NULL)
             trace_expiry(own->log, own->now, &report);
@@ -147,9 +155,7 @@ static bool pass(linecard *own) {
 /* Milliseconds until a timer falls due, for poll, and so many at most. */
 static int patience(linecard *own, int most) {
     uint64_t moment, left = LONGEST_WAIT;
-    if (lapd_next_moment(&own->card, &moment) != LAPD_OK)
-        return most;
-    if (moment < own->now + left)
+    if (lapd_next_moment(&own->card, &moment) == LAPD_OK && moment < own->now + left)
         left = moment <= own->now ? 0 : moment - own->now;
     return most >= 0 && (uint64_t)most < left ? most : (int)left;
 }

@@ -51,9 +51,9 @@ bool linecard_ask(linecard *own, const char *name, uint8_t request, uint8_t tei)
 /* Layer 3 sends a message on the link of this note. */
 bool linecard_send(linecard *own, const lapd_note *note, const uint8_t *octets, size_t length);
 
-/* Waits until the line is ready, for so many milliseconds at most (-1: for any time), and no longer than until a timer falls due.
- * Then it is now, own->now: each timer that fell due meanwhile expires at its own moment. So nobody waits without telling the
- * time. The line may be NULL. */
+/* Waits until the line is ready, for so many milliseconds at most (-1: it doesn't matter), and no longer than until a timer falls
+ * due, nor than ten seconds: so who looks for a signal after it sees one that came just before it. Then it is now, own->now: each
+ * timer that fell due meanwhile expires at its own moment. So nobody waits without telling the time. The line may be NULL. */
 bool linecard_wait(linecard *own, struct pollfd *line, int most);
 
 /* Time starts, with the card: this is what its start answered. */

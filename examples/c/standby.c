@@ -20,7 +20,7 @@
  * killed process had read, but not yet sent over, are lost. The frame is repeated by its sender (T200), and the request by layer 3.
  * Calls that only ask (lapd_next_moment and so on) change nothing, and need not be sent.
  */
-#define _DEFAULT_SOURCE
+#define _POSIX_C_SOURCE 200809L
 
 #include <errno.h>
 #include <poll.h>
@@ -50,9 +50,12 @@ static const char help[] =
     "  LINE    a socket with one frame a datagram, without a check\n"
     "  LAYER3  a socket with the messages of standby.h\n";
 
-/* A call of the card's, with all its words. */
+/* Calls of the card's, and that there is none any more. */
+typedef enum { TIME, FRAME, REQUEST, NEXT_FRAME, END } call_kind;
+
+/* A call, with all its words. */
 typedef struct {
-    enum { TIME, FRAME, REQUEST, NEXT_FRAME, END } what;
+    call_kind what;
     uint64_t now;
     uint32_t number; /* of a request */
     uint8_t request, service, tei;
@@ -188,7 +191,7 @@ static void tell(void) {
         const lapd_note *note = &report->notes[i];
         bool is_of_contents = note->note == LAPD_DATA_INDICATION || note->note == LAPD_UNIT_INDICATION;
         standby_message message = {.kind = STANDBY_TOLD, .what = note->note, .service = note->service, .tei = note->tei,
-                                   .error = note->error, .length = is_of_contents ? report->length : 0,
+                                   .error = note->error, .length = is_of_contents ? report->length : (uint16_t)0,
                                    .number = last.told - report->note_count + 1 + i};
         memcpy(message.contents, report->contents, message.length);
         say(&message);
@@ -281,15 +284,17 @@ static void serve(void) {
 
 /* ---- Its start ---------------------------------------------------------------------------------------------------- */
 
-/* Reads an option's number, and takes both words off; false if it is another word, or no number. */
+/* Reads an option's number, and takes both words off; false if it is another word, or no number: then the words stay. */
 static bool is_option(const char *name, int *words, char ***word, unsigned long *number) {
     if (*words < 3 || strcmp((*word)[1], name) != 0)
         return false;
     char *end;
     *number = strtoul((*word)[2], &end, 10);
+    if ((*word)[2][0] < '0' || (*word)[2][0] > '9' || *end != 0 || *number > 3600000)
+        return false;
     *words -= 2;
     *word += 2;
-    return (*word)[0][0] >= '0' && (*word)[0][0] <= '9' && *end == 0 && *number <= 3600000;
+    return true;
 }
 
 int main(int words, char **word) {

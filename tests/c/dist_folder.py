@@ -347,6 +347,7 @@ def embedding(dist):
     links = re.findall(r"\]\(([^)\s#]*)", text)
     missing = [it for it in [*links, *re.findall(r"`((?:examples|dist|tests|tools|docs|include|man)/[\w./-]+)`", text)] if not os.path.exists(f"{dist.files}/{it}")]
     check("EMBEDDING.md names what is there", links and not missing, missing)
+    check("EMBEDDING.md names no folder of the repository", not re.search(r"^    .*\bdist\b", text, re.M), "dist")
     shown = re.findall(r"^    (cc .*&& \./first)$", text, re.M)
     check("EMBEDDING.md shows a program", shown, "none")
     for command in shown:

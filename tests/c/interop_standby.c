@@ -147,8 +147,8 @@ static void answered(const standby_message *message) {
 /* A message of the terminal: RELEASE COMPLETE of the oldest enquiry that has none, or one of its call. */
 static void message_came(const uint8_t *octets, size_t length) {
     uint8_t answer[Q931_MOST_ANSWER];
-    if (length >= 4 && octets[0] == 8 && octets[1] == 1 && octets[3] == RELEASE_COMPLETE && enquiries > answers) {
-        if (octets[2] != (0x80 | (answers % REFERENCES + 1)))
+    if (length >= 4 && octets[0] == 8 && octets[1] == 1 && (octets[2] & 0x80) != 0 && octets[3] == RELEASE_COMPLETE) {
+        if (answers == enquiries || octets[2] != (0x80 | (answers % REFERENCES + 1)))
             fail("a message is missing, came twice, or out of order");
         answers++;
         return;

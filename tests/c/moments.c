@@ -1,8 +1,9 @@
 /*
  * moments.c: what lapd.h says at its top. A program that has waited, and does not tell its card the time, starts timers in the
- * past, and they expire too soon: of the two T201 that a check has, one is over at once, and no status tells it. With a call that takes the moment with what came (lapd_frame_at,
- * lapd_request_at, lapd_next_frame_at, lapd_exchange_at) timers run from the moment that it took, and what fell due before is told
- * first, a timer a call. For tests alone; tests/c/timed.c compares these calls with lapd_fall_due at random.
+ * past, and they expire too soon: of the two T201 that a check has, one is over at once, and no status tells it. With a call that
+ * takes the moment with what came (lapd_frame_at, lapd_request_at, lapd_next_frame_at, lapd_exchange_at) timers run from the moment
+ * that it took, and what fell due before is told first, a timer a call. For tests alone; tests/c/timed.c compares these calls with
+ * lapd_fall_due at random.
  */
 #include <stdio.h>
 #include <string.h>

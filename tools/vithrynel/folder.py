@@ -18,8 +18,9 @@ FILES = {**{f"tests/{name}{end}": f"tests/c/{name}{end}" for name in ("station",
          "packages.cmake": "c/dist/packages.cmake", "copyright": "c/dist/copyright"}
 PAGE = "EMBEDDING.md"
 # Places in the repository, and in the folder that is taken.
-IN_CODE = (("../../../examples/c/", "../examples/"), ("../../dist", ".."))
-IN_PAGE = (("../dist/", ""), ("examples/c/", "examples/"), ("-I dist ", "-I . "), ("dist/", ""))
+IN_CODE = (("../../../examples/c/", "../examples/"), ("../../dist", ".."), ("docs/FORMAT.md", "lapdsim.5"))
+IN_PAGE = (("../dist/", ""), ("examples/c/", "examples/"), ("-I dist ", "-I . "), ("PYTHONPATH=dist ", "PYTHONPATH=. "),
+           ("dist/", ""))
 BEGIN = """\
 Pages that are named without a link, as MACHINE.md, are in docs/ of the repository.
 """

@@ -67,9 +67,13 @@ def differences_from(path):
     ours, blocks = tables.link_cells(path.read_text(encoding='utf-8')), differences.known()
     pairs = [equal('links', stack, ours, blocks) for stack in STACKS[:2]]
     for numbers in zip(*pairs):
-        words = '{:,} and {:,}'.format(*numbers)
-        if words not in README.read_text(encoding='utf-8'):
-            yield '%s has no "%s"' % (README.name, words)
+        yield from says('{:,} and {:,}'.format(*numbers))
+
+
+def says(words):
+    """What is wrong if README.md does not say so."""
+    if words not in README.read_text(encoding='utf-8'):
+        yield '%s has no "%s"' % (README.name, words)
 
 
 def write(path):

@@ -1,5 +1,25 @@
 /*
- * lapd.h: a line card that ends ISDN D-channels (ITU-T Q.921, modulo 128), for C99 and C++.
+ * lapd.h: a line card that ends ISDN D-channels (ITU-T Q.921, modulo 128), for C99 and C++. A program is a loop around one, which
+ * reads the time once, after it has waited:
+ *
+ *     uint64_t until = 0;
+ *     for (;;) {
+ *         ... wait (poll): for a frame, for room in a controller, for somebody who asks, and until the moment `until` at most ...
+ *         uint64_t now = ... milliseconds of a clock that is never set back ...
+ *         while ((status = lapd_fall_due(&card, now, &report)) == LAPD_OK)
+ *             ... what the report tells, of report.line ...
+ *         if (status != LAPD_NO_TIMER)
+ *             ... a fault: with LAPD_WRONG_TIME the clock was set back, and no timer falls due ...
+ *         ... lapd_frame or lapd_request, for what came, and what its report tells ...
+ *         for (uint32_t line = 0; lapd_next_waiting(&card, line, &line) == LAPD_OK; line++)
+ *             ... lapd_next_frame, if the controller of this line has room; its report, and the frame ...
+ *         if (lapd_next_moment(&card, &until) != LAPD_OK)
+ *             until = UINT64_MAX;
+ *     }
+ *
+ * All that a card does it does at the moment that lapd_fall_due was told last. Without that call after the wait, timers begin in
+ * the past and expire too soon: a check, for example, can take a good TEI off. No status tells that. Calls that take the moment
+ * with what came cannot forget it: lapd_frame_at, lapd_request_at, lapd_next_frame_at and lapd_exchange_at.
  *
  * A card takes what comes from its lines and answers with notes for layer 3, orders for timers, and what to send. It
  * is the network's side of its lines or, where `side` of its configuration says so, the user's: a private exchange's
@@ -9,20 +29,23 @@
  * octets: lapd_card_start.
  *
  * A card has no callbacks, starts no thread, prints nothing, sets no errno, and takes memory in its start alone, as a
- * clock does. The library comes in two ways, with this header for both:
+ * clock does. The library comes in three ways, with this header for each:
  *
- *  - as one file in C99, lapd.c, for every processor of 32 or 64 bits, x86-64 among them: cc program.c lapd.c. A program
- *    without malloc has one region of memory (-DLAPD_HEAP_OCTETS=N), or two functions of its own (-DLAPD_OWN_MEMORY).
- *  - built by the toolchain, for Linux on every x86-64 and 64-bit ARM processor. Link as pkg-config says of lapd, for the
- *    archives, or of lapd-shared (-llapd); or in CMake with lapd::lapd of find_package(lapd). A program without malloc
- *    brings three functions of its own.
+ *  - as assembler text, lapd.S, for x86-64 and 64-bit ARM with ELF, as Linux has it: cc program.c lapd.S lapd_malloc.c. This
+ *    is the proved code, as the toolchain compiles it. Proofs end with the module of the toolchain's compiler: that LLVM makes
+ *    these instructions of it rightly is only tested.
+ *  - as one file in C99, lapd.c, for every processor of 32 or 64 bits: cc program.c lapd.c. It is made of the same module in
+ *    more steps, each of which is only tested.
+ *  - built by the toolchain, for Linux on x86-64 and 64-bit ARM, with the instructions of lapd.S. Link as pkg-config says of
+ *    lapd, for the archives, or of lapd-shared (-llapd); or in CMake with lapd::lapd of find_package(lapd).
  *
- * lapd_memory.h declares the functions of memory.
+ * A program without malloc has one region of memory (-DLAPD_HEAP_OCTETS=N for lapd.c or lapd_malloc.c), or functions of its
+ * own (-DLAPD_OWN_MEMORY), which lapd_memory.h declares.
  *
- * A call that answers a status answers LAPD_WRONG_POINTER to a null pointer: by lapd.c always, and with a library of the
- * toolchain's if the program is compiled with -DLAPD_CHECKED, by lapd_checked.h. So compile a program that is not finished yet;
- * in C++ all its files or none, as an inline function has one definition. A pointer to octets may be null there if its length is
- * 0. Calls that answer no status, as lapd_tells, lapd_note_text and lapd_card_octets, look at no pointer.
+ * A call that answers a status answers LAPD_WRONG_POINTER to a null pointer: by lapd.c always, and with lapd.S or a library of the
+ * toolchain's if the program is compiled with -DLAPD_CHECKED, by lapd_checked.h. So compile a program that is not finished yet; in
+ * C++ all its files or none, as an inline function has one definition. A pointer to octets may be null there if its length is 0.
+ * Calls that answer no status, as lapd_tells, lapd_note_text and lapd_card_octets, look at no pointer.
  *
  * What the caller promises, and no call can test:
  *
@@ -40,11 +63,11 @@
  * pointer what owns memory, and nothing is proved of two questions at once.
  *
  * Everything else is tested. Each function says by its status what was wrong, and then nothing has changed: neither
- * the card or clock, nor what the other pointers point to. There are three exceptions: LAPD_NO_PLACE of
- * lapd_clock_apply_report; a link waits for room after LAPD_REFUSED_QUEUE_FULL of lapd_data; and it is the moment of
- * lapd_fall_due after its LAPD_NO_TIMER. A loop in these comments ends at the first status that is not LAPD_OK: look at which it
- * is. If several things are wrong, the first is told: that a pointer is null, that
- * there is no card or clock, that the card is of the other kind, the line, the other arguments in their order. A
+ * the card or clock, nor what the other pointers point to. There are four exceptions: LAPD_NO_PLACE of
+ * lapd_clock_apply_report; a link waits for room after LAPD_REFUSED_QUEUE_FULL of lapd_data; it is the moment of
+ * lapd_fall_due after its LAPD_NO_TIMER; and *is_done of lapd_frame_at and lapd_request_at is written. A loop in these comments
+ * ends at the first status that is not LAPD_OK: look at which it is. If several things are wrong, the first is told: that a pointer
+ * is null, that there is no card or clock, that the card is of the other kind, the line, the other arguments in their order. A
  * refusal of a request is told last.
  */
 #ifndef LAPD_H
@@ -203,6 +226,20 @@ enum {
     LAPD_TERMINAL = 2 /* a terminal, whose TEIs the network assigns, checks and removes (clause 5.3) */
 };
 
+/*
+ * Initialisers of a configuration of one line, with the standard's windows, N201 and N200 (clauses 5.9.2, 5.9.3 and 5.9.5), and
+ * with a slot for each place of each queue, so that no request is refused as LAPD_REFUSED_POOL_FULL. They are the network's, and
+ * fit the other sides, too. Basic access has 16 kbit/s, a bus with up to eight TEIs, and windows of 1 and 3; primary rate has 64
+ * kbit/s, one TEI, and windows of 7.
+ *
+ *     lapd_config gateway = LAPD_BASIC_ACCESS;     lapd_config phone = LAPD_BASIC_ACCESS;
+ *     gateway.lines = 4;                           phone.terminals = 1;          a TEI alone takes less memory
+ *     gateway.slots *= gateway.lines;              phone.side = LAPD_TERMINAL;
+ *                                                  phone.seed = ... a random number ...
+ */
+#define LAPD_BASIC_ACCESS { 1, 8, 1, 3, 8, 4, 4, 132, 260, 3, LAPD_NETWORK, 0, 0 }
+#define LAPD_PRIMARY_RATE { 1, 1, 7, 7, 8, 4, 4, 20, 260, 3, LAPD_NETWORK, 0, 0 }
+
 /* ---- What is told ----------------------------------------------------------------------------------------------- */
 
 enum {
@@ -257,7 +294,7 @@ enum {
     LAPD_T202 = 4  /* at a terminal: an answer to a request or a verify is awaited; 2,000 ms by default (clause 5.9.7) */
 };
 
-/* A timer of a line. */
+/* A timer of a line; or none, as a report may have it: 0 in each field. */
 typedef struct lapd_timer {
     uint8_t timer;   /* LAPD_T200, LAPD_T203, LAPD_T201 or LAPD_T202 */
     uint8_t service; /* of the link, for T200 and T203; told as 0 for T201 and T202, and not read then */
@@ -327,6 +364,7 @@ typedef struct lapd_report {
     lapd_order orders[LAPD_MOST_ORDERS];
     uint8_t contents[LAPD_MOST_OCTETS];
     uint8_t more;        /* of the next frame: 1 if another waits on its line, so that the next call gives one; otherwise 0 */
+    lapd_timer expired;  /* of lapd_fall_due: the timer that expired; of every other call 0 in each field */
     uint8_t reopened;    /* 1 if a link that waited for room has some again; if it is 0, the next two tell nothing */
     uint8_t reopened_service; /* of that link: LAPD_CALL or LAPD_PACKET */
     uint8_t reopened_tei;     /* of that link: 0 to 126 */
@@ -361,6 +399,9 @@ typedef struct lapd_lengths {
     uint32_t t202;
 } lapd_lengths;
 
+/* An initialiser of lengths, with these defaults. */
+#define LAPD_DEFAULT_LENGTHS { 1000, 10000, 1000, 2000 }
+
 /*
  * Starts a card of octets that keeps its own timers: no clock is needed, and no order is to be carried out. It is at moment 0,
  * and its calls happen at the moment that lapd_fall_due was told last. So tell it the time first: a timer that another call
@@ -370,17 +411,7 @@ typedef struct lapd_lengths {
 LAPD_STATUS lapd_card_start_timed(lapd_card *card, const lapd_config *config, const lapd_lengths *lengths);
 
 /*
- * Starts a card of frames that keeps its own timers in the same way.
- *
- *     uint32_t status;
- *     while ((status = lapd_fall_due(&card, now(), &report)) == LAPD_OK)
- *         ... what the report tells of report.line, if anything
- *     if (status != LAPD_NO_TIMER)
- *         ... a fault: with LAPD_WRONG_TIME the clock was set back, and no timer falls due
- *     if a frame came:  lapd_frame(&card, line, frame, length, &report);  ... what the report tells
- *     for (uint32_t line = 0; lapd_next_waiting(&card, line, &line) == LAPD_OK; line++)
- *         ... lapd_next_frame, where the controller of this line has room
- *     ... and so on, when a frame has come, a controller has room again, or the moment of lapd_next_moment is there
+ * Starts a card of frames that keeps its own timers in the same way: the loop at the top is around one.
  */
 LAPD_STATUS lapd_card_start_frames_timed(lapd_card *card, const lapd_config *config, const lapd_lengths *lengths);
 
@@ -488,11 +519,11 @@ LAPD_STATUS lapd_request(lapd_card *card, uint32_t line, uint8_t request, uint8_
 /* ---- What happens in time, at a card that keeps its own timers. At another: LAPD_WRONG_CARD ----------------------- */
 
 /*
- * The time is now a moment, in milliseconds from any origin; and the timer that is due first, if one is, expires: the report
- * tells what that led to, at its line, and tells nothing if it led to a frame alone. However late the call is, the timer expires
- * at this moment, and what it starts runs from then on. So call it until it answers LAPD_NO_TIMER: then nothing is due, and
- * calls happen at this moment. At one moment: by line, then T200 before T203 before T201 or T202, by TEI, and call control
- * before packet.
+ * The time is now a moment, in milliseconds from any origin; and the timer that is due first, if one is, expires. The report
+ * has it as `expired`, and tells what that led to, at its line: nothing if it led to a frame alone. However late the call is,
+ * the timer expires at this moment, and what it starts runs from then on. So call it until it answers LAPD_NO_TIMER: then
+ * nothing is due, and calls happen at this moment. At one moment: by line, then T200 before T203 before T201 or T202, by TEI,
+ * and call control before packet.
  * LAPD_WRONG_TIME: a moment before the last one, or 2^63 and later, and nothing has changed. Nothing falls due until the last
  * moment has come again, so take a clock that is never set back, and look at the status that ends the loop. One moment that is
  * far too great stops all timers of the card for good: then free it, and start another.
@@ -598,7 +629,7 @@ enum {
     LAPD_TOLD_UNASSIGNED = 62, LAPD_TOLD_REMOVE_ALL = 63,
     /* control frames and messages that found no room to wait */
     LAPD_LOST = 64,
-    /* messages of TEI management heard and begun (clause 5.3.1, table 8), by their type. They are the UI frames above with
+    /* messages of TEI management heard and begun (clause 5.3.6, table 8), by their type. They are the UI frames above with
      * SAPI 63 and FF as the second octet (TEI 127 and its extension bit) whose information begins with the entity identifier 15,
      * well formed or not, served or not. The network's side begins those that assign, deny, check
      * and remove, and hears the others; a terminal begins the others */
@@ -633,14 +664,16 @@ LAPD_STATUS lapd_lines(lapd_card *card, uint32_t *lines);
 
 /*
  * What octets say, without a check, as a side sent them (LAPD_NETWORK, LAPD_USER or, the same, LAPD_TERMINAL), for a log:
- * in front of `text`, which ends with a 0, the first line that `lapdsim frame` prints of them. What is no frame has the line
- * that tells why.
+ * in front of `text`, which ends with a 0, the first line that `lapdsim frame` prints of them. A message of TEI management stands
+ * in words after its octets: its name, reference number (Ri) and action indicator (Ai). What is no frame has the line that tells
+ * why.
  *
  *     sapi 0 tei 64 command i ns 1 nr 2 p 0 info 0801          an I-frame of the user's side
  *     sapi 0 tei 64 response ua f 1 info -                     UA of the network's side
+ *     sapi 63 tei 127 command ui p 0 info 0F12340281 identity assigned, Ri 1234, Ai 64
  *     frame: bad extension                                     and so: short, undefined, wrong size
  *
- * LAPD_WRONG_LENGTH: `length` is over 1,028, or `room` is too small; 64 and twice the length are enough, so LAPD_MOST_TEXT
+ * LAPD_WRONG_LENGTH: `length` is over 1,028, or `room` is too small; 72 and twice the length are enough, and LAPD_MOST_TEXT
  * for each frame that a card takes or gives. LAPD_BAD_SIDE: it is no side. Nothing is written then. It is of no card, takes
  * no memory, and may be called at any time; of lapd.c it takes 24 KB of stack.
  */
@@ -775,6 +808,69 @@ LAPD_INLINE_STATUS lapd_request_with(lapd_card *card, uint32_t line, uint8_t req
     for (size_t i = 0; i < length; i++)
         copy[i] = contents[i];
     return lapd_request(card, line, request, service, tei, copy, length, report);
+}
+
+/*
+ * A frame came, at this moment, to a card of frames that keeps its own timers. This tells the card the time by lapd_fall_due, and
+ * hands the frame over by lapd_frame once nothing is due. A call does one of both: *is_done is false after the expiry of a timer,
+ * which the report tells, and true after the frame. So call it until it is done:
+ *
+ *     for (bool is_done = false; !is_done && status == LAPD_OK;)
+ *         if ((status = lapd_frame_at(&card, now, line, frame, length, &is_done, &report)) == LAPD_OK)
+ *             ... what the report tells, of report.line ...
+ *
+ * Its statuses are those of both, except LAPD_NO_TIMER. If lapd_frame answers another than LAPD_OK, it is this moment already.
+ *
+ * That it is a call, and no test with LAPD_CHECKED, has a reason: a card reads no clock, so no test sees how old its moment is.
+ */
+LAPD_INLINE_STATUS lapd_frame_at(lapd_card *card, uint64_t now, uint32_t line, const uint8_t *octets, size_t length,
+                                 bool *is_done, lapd_report *report) {
+    if (card == LAPD_NULL || (octets == LAPD_NULL && length != 0) || is_done == LAPD_NULL || report == LAPD_NULL)
+        return LAPD_WRONG_POINTER;
+    uint32_t status = lapd_fall_due(card, now, report);
+    *is_done = status == LAPD_NO_TIMER;
+    return *is_done ? lapd_frame(card, line, octets, length, report) : status;
+}
+
+/* Somebody asks for something at this moment, as by lapd_request_with, and otherwise as with lapd_frame_at. Layer 3 that asks
+ * while it is told a report needs no moment: it is that of the report. */
+LAPD_INLINE_STATUS lapd_request_at(lapd_card *card, uint64_t now, uint32_t line, uint8_t request, uint8_t service,
+                                   uint8_t tei, const uint8_t *contents, size_t length, bool *is_done,
+                                   lapd_report *report) {
+    if (card == LAPD_NULL || (contents == LAPD_NULL && length != 0) || is_done == LAPD_NULL || report == LAPD_NULL)
+        return LAPD_WRONG_POINTER;
+    uint32_t status = lapd_fall_due(card, now, report);
+    *is_done = status == LAPD_NO_TIMER;
+    return *is_done ? lapd_request_with(card, line, request, service, tei, contents, length, report) : status;
+}
+
+/* A controller has room at this moment: the time first, as with lapd_frame_at, and then the next frame by lapd_next_frame. After
+ * the expiry of a timer *length is 0, and out is as it was. LAPD_NO_FRAME: nothing is due, and no frame waits.
+ *
+ *     while ((status = lapd_next_frame_at(&card, now, line, out, sizeof out, &length, &report)) == LAPD_OK)
+ *         ... if length is not 0, out[0] to out[length - 1] to the controller; what the report tells, of report.line ...
+ */
+LAPD_INLINE_STATUS lapd_next_frame_at(lapd_card *card, uint64_t now, uint32_t line, uint8_t *out, size_t room,
+                                      size_t *length, lapd_report *report) {
+    if (card == LAPD_NULL || (out == LAPD_NULL && room != 0) || length == LAPD_NULL || report == LAPD_NULL)
+        return LAPD_WRONG_POINTER;
+    uint32_t status = lapd_fall_due(card, now, report);
+    if (status == LAPD_NO_TIMER)
+        return lapd_next_frame(card, line, out, room, length, report);
+    if (status == LAPD_OK)
+        *length = 0;
+    return status;
+}
+
+/* Octets come and go at this moment, at a card of octets that keeps its own timers: the time first, as with lapd_frame_at, and
+ * then lapd_exchange. After the expiry of a timer *steps is as it was; go on as long as there are steps. */
+LAPD_INLINE_STATUS lapd_exchange_at(lapd_card *card, uint64_t now, uint32_t line, const uint8_t *in, size_t in_length,
+                                    uint8_t *out, size_t out_length, size_t *steps, lapd_report *report) {
+    if (card == LAPD_NULL || (in == LAPD_NULL && in_length != 0) || (out == LAPD_NULL && out_length != 0)
+        || steps == LAPD_NULL || report == LAPD_NULL)
+        return LAPD_WRONG_POINTER;
+    uint32_t status = lapd_fall_due(card, now, report);
+    return status == LAPD_NO_TIMER ? lapd_exchange(card, line, in, in_length, out, out_length, steps, report) : status;
 }
 
 /* Asks for the link (DL-ESTABLISH request). */

@@ -8,15 +8,14 @@
  *         for (lapd::note note : report.notes())
  *             tell(report.line(), note.text(), note.tei);
  *     };
- *     lapd::status is = card.start(config, lengths);
+ *     lapd::status is = card.start(lapd::basic_access, lapd::default_lengths);
  *     if (is != lapd::status::ok)
  *         return fail(lapd::text(is));
- *     while ((is = card.fall_due(now(), report)) == lapd::status::ok) // one timer after the other
- *         layer_3();
- *     if (is != lapd::status::no_timer) // wrong_time: the clock was set back
- *         return fail(lapd::text(is));
- *     if (card.frame(0, octets, report) == lapd::status::ok)
- *         layer_3();
+ *     for (bool is_done = false; !is_done; layer_3()) { // each timer that is due by now, and then the frame
+ *         is = card.frame_at(now(), 0, octets, is_done, report);
+ *         if (is != lapd::status::ok) // wrong_time: the clock was set back
+ *             return fail(lapd::text(is));
+ *     }
  *
  * lapd.h says of each call what it does, and what the caller promises. Here a status can't go unseen: the compiler warns.
  * A card and a clock are neither copied nor moved, since the handle inside mustn't be.
@@ -95,6 +94,7 @@ private:
 // ---- Enums: the numbers of lapd.h -----------------------------------------------------------------------------------
 
 enum class [[nodiscard]] status : uint32_t {
+    // tools/names: LAPD_OK
     ok = LAPD_OK,
     refused_bad_tei = LAPD_REFUSED_BAD_TEI,
     refused_no_link = LAPD_REFUSED_NO_LINK,
@@ -137,12 +137,19 @@ enum class [[nodiscard]] status : uint32_t {
     bad_n201 = LAPD_BAD_N201,
     bad_n200 = LAPD_BAD_N200,
     bad_side = LAPD_BAD_SIDE,
-    bad_sapi = LAPD_BAD_SAPI
+    bad_sapi = LAPD_BAD_SAPI,
+    // tools/names: end
 };
 
-enum class service : uint8_t { call = LAPD_CALL, packet = LAPD_PACKET };
+enum class service : uint8_t {
+    // tools/names: LAPD_CALL
+    call = LAPD_CALL,
+    packet = LAPD_PACKET,
+    // tools/names: end
+};
 
 enum class note_kind : uint8_t {
+    // tools/names: LAPD_ESTABLISH_INDICATION
     establish_indication = LAPD_ESTABLISH_INDICATION,
     establish_confirm = LAPD_ESTABLISH_CONFIRM,
     release_indication = LAPD_RELEASE_INDICATION,
@@ -156,15 +163,29 @@ enum class note_kind : uint8_t {
     xid_indication = LAPD_XID_INDICATION,
     denied = LAPD_DENIED,
     unassigned = LAPD_UNASSIGNED,
-    remove_all = LAPD_REMOVE_ALL
+    remove_all = LAPD_REMOVE_ALL,
+    // tools/names: end
 };
 
-enum class timer_kind : uint8_t { t200 = LAPD_T200, t203 = LAPD_T203, t201 = LAPD_T201, t202 = LAPD_T202 };
+enum class timer_kind : uint8_t {
+    // tools/names: LAPD_T200
+    t200 = LAPD_T200,
+    t203 = LAPD_T203,
+    t201 = LAPD_T201,
+    t202 = LAPD_T202,
+    // tools/names: end
+};
 
-enum class order_kind : uint8_t { start = LAPD_START, stop = LAPD_STOP };
+enum class order_kind : uint8_t {
+    // tools/names: LAPD_START
+    start = LAPD_START,
+    stop = LAPD_STOP,
+    // tools/names: end
+};
 
 enum class cause : uint8_t {
     none = 0,
+    // tools/names: LAPD_ABORT
     abort = LAPD_ABORT,
     ragged = LAPD_RAGGED,
     too_short = LAPD_SHORT,
@@ -172,7 +193,8 @@ enum class cause : uint8_t {
     extension = LAPD_EXTENSION,
     sapi = LAPD_SAPI,
     tei = LAPD_TEI,
-    unserved = LAPD_UNSERVED
+    unserved = LAPD_UNSERVED,
+    // tools/names: end
 };
 
 /// Of a link; `none` where the TEI is not on the line.
@@ -189,7 +211,8 @@ inline const char *text(status of) { return lapd_status_text(static_cast<uint32_
 inline const char *text(cause of) { return lapd_cause_text(static_cast<uint8_t>(of)); }
 
 /// What octets say, without a check, as a side sent them (LAPD_NETWORK, LAPD_USER or LAPD_TERMINAL): the first line that
-/// `lapdsim frame` prints of them, in front of the room, with a 0 at its end. LAPD_MOST_TEXT is room for each frame of a card.
+/// `lapdsim frame` prints of them, and a message of TEI management in words, in front of the room, with a 0 at its end.
+/// LAPD_MOST_TEXT is room for each frame of a card.
 inline status frame_text(octets of, uint16_t side, span<char> to) {
     return static_cast<status>(lapd_frame_text(at(of), of.size(), side, at(to), to.size()));
 }
@@ -198,6 +221,14 @@ inline status frame_text(octets of, uint16_t side, span<char> to) {
 constexpr bool is_refusal(status of) {
     return of == status::refused_wrong_side || (of >= status::refused_bad_tei && of <= status::refused_control_full);
 }
+
+// ---- The usual configurations -----------------------------------------------------------------------------------------
+
+/// One line, as the network's side; as lapd.h says at LAPD_BASIC_ACCESS. `lapd_config mine = lapd::basic_access;` is a copy to
+/// change.
+inline constexpr lapd_config basic_access = LAPD_BASIC_ACCESS;
+inline constexpr lapd_config primary_rate = LAPD_PRIMARY_RATE;
+inline constexpr lapd_lengths default_lengths = LAPD_DEFAULT_LENGTHS;
 
 // ---- What is told ---------------------------------------------------------------------------------------------------
 
@@ -252,6 +283,9 @@ public:
     bool reopened() const { return raw_.reopened != 0; }
     service reopened_service() const { return static_cast<service>(raw_.reopened_service); }
     uint8_t reopened_tei() const { return raw_.reopened_tei; }
+    /// Of fall_due: whether a timer expired, and which.
+    bool expired() const { return raw_.expired.timer != 0; }
+    timer expired_timer() const { return timer(raw_.expired); }
     /// The line at which the event happened.
     uint32_t line() const { return raw_.line; }
     bool tells() const { return lapd_tells(&raw_); }
@@ -294,6 +328,13 @@ public:
     status fall_due(uint64_t now, report &to) { return of(lapd_fall_due(&card_, now, to.raw())); }
     /// When the first timer falls due; status::no_timer if none runs.
     status next_moment(uint64_t &moment) { return of(lapd_next_moment(&card_, &moment)); }
+    /// A request (LAPD_ESTABLISH to LAPD_VERIFY_TEI) with its moment: while a timer is due, that falls due, and is_done is false;
+    /// then the request is made, and it is true. So call it until it is done.
+    status request_at(uint64_t now, uint32_t line, uint8_t request, service by, uint8_t tei, octets contents, bool &is_done,
+                      report &to) {
+        return of(lapd_request_at(&card_, now, line, request, number(by), tei, contents.data(), contents.size(), &is_done,
+                                  to.raw()));
+    }
 
     status establish(uint32_t line, service by, uint8_t tei, report &to) {
         return of(lapd_establish(&card_, line, number(by), tei, to.raw()));
@@ -376,6 +417,10 @@ public:
     status exchange(uint32_t line, octets in, span<uint8_t> out, size_t &steps, report &to) {
         return of(lapd_exchange(&card_, line, at(in), in.size(), at(out), out.size(), &steps, to.raw()));
     }
+    /// With the moment, at a card that keeps its own timers: no step is made while a timer is due, which falls due.
+    status exchange_at(uint64_t now, uint32_t line, octets in, span<uint8_t> out, size_t &steps, report &to) {
+        return of(lapd_exchange_at(&card_, now, line, at(in), in.size(), at(out), out.size(), &steps, to.raw()));
+    }
     status begun(uint32_t line, lapd_head &to) { return of(lapd_begun(&card_, line, &to)); }
     status heard(uint32_t line, lapd_head &to) { return of(lapd_heard(&card_, line, &to)); }
 };
@@ -391,6 +436,10 @@ public:
     status frame(uint32_t line, octets came, report &to) {
         return of(lapd_frame(&card_, line, at(came), came.size(), to.raw()));
     }
+    /// With the moment, at a card that keeps its own timers: is_done is false after a timer that falls due, and true after the frame.
+    status frame_at(uint64_t now, uint32_t line, octets came, bool &is_done, report &to) {
+        return of(lapd_frame_at(&card_, now, line, at(came), came.size(), &is_done, to.raw()));
+    }
     status failed(uint32_t line, cause why, report &to) {
         return of(lapd_frame_failed(&card_, line, static_cast<uint8_t>(why), to.raw()));
     }
@@ -398,6 +447,14 @@ public:
     status next_frame(uint32_t line, span<uint8_t> room, octets &goes, report &to) {
         size_t length = 0;
         const status is = of(lapd_next_frame(&card_, line, at(room), room.size(), &length, to.raw()));
+        if (is == status::ok)
+            goes = {room.data(), length};
+        return is;
+    }
+    /// With the moment, at a card that keeps its own timers: `goes` is empty after a timer that falls due.
+    status next_frame_at(uint64_t now, uint32_t line, span<uint8_t> room, octets &goes, report &to) {
+        size_t length = 0;
+        const status is = of(lapd_next_frame_at(&card_, now, line, at(room), room.size(), &length, to.raw()));
         if (is == status::ok)
             goes = {room.data(), length};
         return is;

@@ -2,13 +2,11 @@
 
     import lapd
 
-    # Basic access: windows of 1 for call control and 3 for packet mode (Q.921, 5.9.5)
-    config = lapd.Config(lines=1, terminals=8, k=1, k16=3, queue=8, unit_queue=4, control=4, slots=64, n201=260, n200=3)
-    with lapd.TimedFrameCard(config) as card:
-        list(card.fall_due(now=5000))                           # the time first: timers run from then on
+    with lapd.TimedFrameCard(lapd.BASIC_ACCESS) as card:        # or a Config of one's own
         card.assign(0, 64)
-        report = card.frame(0, bytes.fromhex("00817F"))         # SABME of TEI 64
-        print([str(note) for note in report.notes])             # ['establish-indication']
+        sabme = bytes.fromhex("00817F")                         # a frame of TEI 64, and its moment:
+        for report in card.at(5000, card.frame, 0, sabme):      # what is due by then, and then the frame
+            print([str(note) for note in report.notes])         # ['establish-indication']
         octets, report = card.next_frame(0)                     # UA: 008173
         for report in card.fall_due(now=15000):                 # T203: the terminal is asked whether it is still there
             octets, report = card.next_frame(report.line)       # RR, P=1: 02810101
@@ -31,7 +29,7 @@ import dataclasses
 import enum
 import functools
 import os
-from typing import Any, Dict, Iterator, List, NamedTuple, Optional, Tuple, TypeVar
+from typing import Any, Callable, Dict, Iterator, List, NamedTuple, Optional, Tuple, TypeVar
 
 # ---- Numbers of lapd.h ---------------------------------------------------------------------------------------------------
 
@@ -39,6 +37,7 @@ from typing import Any, Dict, Iterator, List, NamedTuple, Optional, Tuple, TypeV
 class Status(enum.IntEnum):
     """What a call answers; a later library may have more."""
 
+    # tools/names: LAPD_OK
     OK = 0
     REFUSED_BAD_TEI = 1
     REFUSED_NO_LINK = 2
@@ -50,6 +49,7 @@ class Status(enum.IntEnum):
     REFUSED_TABLE_FULL = 8
     REFUSED_CHECK_RUNNING = 9
     REFUSED_CONTROL_FULL = 10
+    REFUSED_WRONG_SIDE = 29
     NO_CARD = 11
     NO_CLOCK = 12
     SECOND_START = 13
@@ -61,6 +61,7 @@ class Status(enum.IntEnum):
     WRONG_LENGTH = 19
     WRONG_ORDER = 20
     WRONG_TIME = 21
+    WRONG_POINTER = 30
     NO_MEMORY = 22
     NO_TIMER = 23
     NO_PLACE = 24
@@ -68,8 +69,6 @@ class Status(enum.IntEnum):
     WRONG_CARD = 26
     WRONG_CAUSE = 27
     NO_FRAME = 28
-    REFUSED_WRONG_SIDE = 29
-    WRONG_POINTER = 30
     BAD_LINES = 33
     BAD_TERMINALS = 34
     BAD_K = 35
@@ -82,6 +81,7 @@ class Status(enum.IntEnum):
     BAD_N200 = 42
     BAD_SIDE = 43
     BAD_SAPI = 44
+    # tools/names: end
 
     @classmethod
     def _missing_(cls, value: Any) -> Optional["Status"]:
@@ -93,17 +93,22 @@ class Status(enum.IntEnum):
 
 
 class Side(enum.IntEnum):
+    # tools/names: LAPD_NETWORK
     NETWORK = 0
     USER = 1
     TERMINAL = 2
+    # tools/names: end
 
 
 class Service(enum.IntEnum):
+    # tools/names: LAPD_CALL
     CALL = 0
     PACKET = 16
+    # tools/names: end
 
 
 class NoteKind(enum.IntEnum):
+    # tools/names: LAPD_ESTABLISH_INDICATION
     ESTABLISH_INDICATION = 1
     ESTABLISH_CONFIRM = 2
     RELEASE_INDICATION = 3
@@ -118,23 +123,29 @@ class NoteKind(enum.IntEnum):
     DENIED = 12
     UNASSIGNED = 13
     REMOVE_ALL = 14
+    # tools/names: end
 
 
 class TimerKind(enum.IntEnum):
+    # tools/names: LAPD_T200
     T200 = 1
     T203 = 2
     T201 = 3
     T202 = 4
+    # tools/names: end
 
 
 class OrderKind(enum.IntEnum):
+    # tools/names: LAPD_START
     START = 1
     STOP = 2
+    # tools/names: end
 
 
 class Cause(enum.IntEnum):
     """Why a frame, or what stood for one, was dropped."""
 
+    # tools/names: LAPD_ABORT
     ABORT = 1
     RAGGED = 2
     SHORT = 3
@@ -143,12 +154,14 @@ class Cause(enum.IntEnum):
     SAPI = 6
     TEI = 7
     UNSERVED = 8
+    # tools/names: end
 
     def __str__(self) -> str:
         return _text(library().lapd_cause_text(self))
 
 
 class Request(enum.IntEnum):
+    # tools/names: LAPD_ESTABLISH
     ESTABLISH = 1
     RELEASE = 2
     DATA = 3
@@ -163,6 +176,7 @@ class Request(enum.IntEnum):
     DISOWN = 12
     ASK_TEI = 13
     VERIFY_TEI = 14
+    # tools/names: end
 
 
 class State(enum.IntEnum):
@@ -176,66 +190,102 @@ class State(enum.IntEnum):
     TIMER_RECOVERY = 8
 
 
+# tools/names: LAPD_GROUP_TEI
 GROUP_TEI = 127
-MOST_NOTES, MOST_ORDERS, MOST_OCTETS, MOST_FRAME = 4, 4, 260, 264
+MOST_NOTES = 4
+MOST_ORDERS = 4
+MOST_OCTETS = 260
+MOST_FRAME = 264
+MOST_LINES = 64
+MOST_TEXT = 592
+# tools/names: end
+# tools/names: LAPD_COUNTERS
 COUNTERS = 79
+# tools/names: end
 
 # ---- Structs of lapd.h ---------------------------------------------------------------------------------------------------
 
 
 class _Config(ctypes.Structure):
-    _fields_ = [(name, ctypes.c_uint16) for name in ("lines", "terminals", "k", "k16", "queue", "unit_queue", "control",
-                                                     "slots", "n201", "n200", "side", "seed", "sapi")]
+    # tools/names: lapd_config
+    _fields_ = [("lines", ctypes.c_uint16), ("terminals", ctypes.c_uint16), ("k", ctypes.c_uint16),
+                ("k16", ctypes.c_uint16), ("queue", ctypes.c_uint16), ("unit_queue", ctypes.c_uint16),
+                ("control", ctypes.c_uint16), ("slots", ctypes.c_uint16), ("n201", ctypes.c_uint16),
+                ("n200", ctypes.c_uint16), ("side", ctypes.c_uint16), ("seed", ctypes.c_uint16), ("sapi", ctypes.c_uint16)]
+    # tools/names: end
 
 
 class _Note(ctypes.Structure):
-    _fields_ = [(name, ctypes.c_uint8) for name in ("note", "service", "tei", "error")]
+    # tools/names: lapd_note
+    _fields_ = [("note", ctypes.c_uint8), ("service", ctypes.c_uint8), ("tei", ctypes.c_uint8), ("error", ctypes.c_uint8)]
+    # tools/names: end
 
 
 class _Timer(ctypes.Structure):
-    _fields_ = [(name, ctypes.c_uint8) for name in ("timer", "service", "tei")]
+    # tools/names: lapd_timer
+    _fields_ = [("timer", ctypes.c_uint8), ("service", ctypes.c_uint8), ("tei", ctypes.c_uint8)]
+    # tools/names: end
 
 
 class _Order(ctypes.Structure):
+    # tools/names: lapd_order
     _fields_ = [("order", ctypes.c_uint8), ("timer", _Timer)]
+    # tools/names: end
 
 
 class _Report(ctypes.Structure):
-    _fields_ = [*((name, ctypes.c_uint8) for name in ("note_count", "order_count", "cause", "lost", "begun", "delivered")),
-                ("length", ctypes.c_uint16), ("notes", _Note * MOST_NOTES), ("orders", _Order * MOST_ORDERS),
-                ("contents", ctypes.c_uint8 * MOST_OCTETS),
-                *((name, ctypes.c_uint8) for name in ("more", "reopened", "reopened_service", "reopened_tei")),
+    # tools/names: lapd_report
+    _fields_ = [("note_count", ctypes.c_uint8), ("order_count", ctypes.c_uint8), ("cause", ctypes.c_uint8),
+                ("lost", ctypes.c_uint8), ("begun", ctypes.c_uint8), ("delivered", ctypes.c_uint8),
+                ("length", ctypes.c_uint16), ("notes", _Note * 4), ("orders", _Order * 4),
+                ("contents", ctypes.c_uint8 * 260), ("more", ctypes.c_uint8), ("expired", _Timer),
+                ("reopened", ctypes.c_uint8), ("reopened_service", ctypes.c_uint8), ("reopened_tei", ctypes.c_uint8),
                 ("line", ctypes.c_uint16)]
+    # tools/names: end
 
 
 class _Lengths(ctypes.Structure):
-    _fields_ = [(name, ctypes.c_uint32) for name in ("t200", "t203", "t201", "t202")]
+    # tools/names: lapd_lengths
+    _fields_ = [("t200", ctypes.c_uint32), ("t203", ctypes.c_uint32), ("t201", ctypes.c_uint32), ("t202", ctypes.c_uint32)]
+    # tools/names: end
 
 
 class _Handle(ctypes.Structure):
     """A card or a clock; zeroed it is none."""
 
+    # tools/names: lapd_card
     _fields_ = [("started", ctypes.c_bool), ("at", ctypes.c_void_p)]
+    # tools/names: end
 
 
 class _Link(ctypes.Structure):
-    _fields_ = [(name, ctypes.c_uint8) for name in ("service", "tei", "state")]
+    # tools/names: lapd_link
+    _fields_ = [("service", ctypes.c_uint8), ("tei", ctypes.c_uint8), ("state", ctypes.c_uint8)]
+    # tools/names: end
 
 
 class _Room(ctypes.Structure):
+    # tools/names: lapd_room
     _fields_ = [("pool", ctypes.c_uint32), ("queue", ctypes.c_uint8), ("va", ctypes.c_uint8)]
+    # tools/names: end
 
 
 class _Head(ctypes.Structure):
+    # tools/names: lapd_head
     _fields_ = [("length", ctypes.c_uint16), ("octets", ctypes.c_uint8 * 4)]
+    # tools/names: end
 
 
 class _Counters(ctypes.Structure):
-    _fields_ = [("values", ctypes.c_uint64 * COUNTERS)]
+    # tools/names: lapd_counters
+    _fields_ = [("values", ctypes.c_uint64 * 79)]
+    # tools/names: end
 
 
 class _Due(ctypes.Structure):
+    # tools/names: lapd_due
     _fields_ = [("line", ctypes.c_uint32), ("timer", _Timer)]
+    # tools/names: end
 
 
 # ---- The library ---------------------------------------------------------------------------------------------------------
@@ -338,9 +388,10 @@ def turned(octets: bytes) -> bytes:
 
 
 def frame_text(octets: bytes, side: Side = Side.USER) -> str:
-    """What octets say, without a check, as a side sent them: the first line that `lapdsim frame` prints of them."""
+    """What octets say, without a check, as a side sent them: the first line that `lapdsim frame` prints of them, and after it a
+    message of TEI management in words."""
     octets = _octets(octets)
-    text = ctypes.create_string_buffer(2 * len(octets) + 64)
+    text = ctypes.create_string_buffer(2 * len(octets) + 72)
     _call("lapd_frame_text", octets, len(octets), side, text, len(text))
     return _text(text.value)
 
@@ -355,7 +406,7 @@ def _turned() -> bytes:
 
 @dataclasses.dataclass(frozen=True)
 class Config:
-    """How large a card is, and the limits of its lines and links, as lapd.h says at lapd_config."""
+    """How large a card is, and the limits of its lines and links, as lapd.h says at lapd_config, in its order."""
 
     lines: int
     terminals: int
@@ -368,8 +419,8 @@ class Config:
     n201: int
     n200: int
     side: Side = Side.NETWORK
-    sapi: int = 0  # of the second service: 1 to 62; 0 means 16
     seed: int = 0  # of a terminal: its first reference number, 0 to 65535, at random, as of random.randrange(65536)
+    sapi: int = 0  # of the second service: 1 to 62; 0 means 16
 
     def _raw(self) -> _Config:
         """A number that no field of the C struct holds is told as the largest, which is in no range, except of the seed: there
@@ -377,6 +428,11 @@ class Config:
         _whole(ctypes.c_uint16, self.seed)
         words = dataclasses.asdict(self)
         return _Config(**{name: it if 0 <= it <= 0xFFFF else 0xFFFF for name, it in words.items()})
+
+
+# One line, as the network's side; as lapd.h says at LAPD_BASIC_ACCESS. Others are dataclasses.replace(BASIC_ACCESS, lines=4, ..).
+BASIC_ACCESS = Config(lines=1, terminals=8, k=1, k16=3, queue=8, unit_queue=4, control=4, slots=132, n201=260, n200=3)
+PRIMARY_RATE = Config(lines=1, terminals=1, k=7, k16=7, queue=8, unit_queue=4, control=4, slots=20, n201=260, n200=3)
 
 
 class Note(NamedTuple):
@@ -414,9 +470,10 @@ class Report(NamedTuple):
     more: bool = False  # of the next frame: whether another waits on its line
     reopened: Optional[Tuple[Service, int]] = None  # a link, with its TEI, that was refused contents and has room again
     line: int = 0  # at which the event happened
+    expired: Optional[Timer] = None  # of fall_due: the timer that expired
 
     def __bool__(self) -> bool:
-        return self[:-1] != Report()[:-1]
+        return self[:-2] != Report()[:-2]
 
 
 class Link(NamedTuple):
@@ -462,7 +519,8 @@ def _report(of: _Report) -> Report:
                   tuple(Order(OrderKind(it.order), _timer(it.timer)) for it in of.orders[: of.order_count]),
                   Cause(of.cause) if of.cause else None, of.lost, bool(of.begun),
                   bytes(of.contents[: of.length]) if of.delivered else None, bool(of.more),
-                  (Service(of.reopened_service), of.reopened_tei) if of.reopened else None, of.line)
+                  (Service(of.reopened_service), of.reopened_tei) if of.reopened else None, of.line,
+                  _timer(of.expired) if of.expired.timer else None)
 
 
 def _octets(of: bytes) -> bytes:
@@ -693,12 +751,18 @@ class _Timed(AnyCard):
         _call(self._start, self._at, ctypes.byref(config._raw()), ctypes.byref(self._lengths))
 
     def fall_due(self, now: int) -> Iterator[Report]:
-        """The time is now this moment: what is due falls due, one after the other, and each tells what it led to.
+        """The time is now this moment: what is due falls due, one after the other, and each tells which timer it was and what it led to.
 
         Take all of them, as `for report in card.fall_due(now)` or `list(..)` does: the call alone does nothing. An Error with
         WRONG_TIME: the moment is before the last one, or 2^63 and later."""
         while _unless(Status.NO_TIMER, "lapd_fall_due", self._at, now, ctypes.byref(self._told)):
             yield _report(self._told)
+
+    def at(self, now: int, call: Callable[..., Report], *words: Any) -> Iterator[Report]:
+        """A call with its moment, as `card.at(now, card.frame, 0, octets)`: what is due by then falls due, and then the call is
+        made; each tells what it led to. So nobody forgets to tell the time. Take all of them, as of fall_due."""
+        yield from self.fall_due(now)
+        yield call(*words)
 
     def next_moment(self) -> Optional[int]:
         """The moment of the timer that falls due first; None where none runs."""

@@ -3,8 +3,8 @@
  *
  *  - lapd.c with -DLAPD_OWN_MEMORY asks for two, rattle_alloc and rattle_dealloc. Without that it needs no more than
  *    lapd.h.
- *  - liblapd.a asks for all three. A program that links liblapd_malloc.a, as pkg-config has it, or heap.c, needs no more
- *    than lapd.h.
+ *  - lapd.S and liblapd.a ask for all three. A program with lapd_malloc.c, or that links liblapd_malloc.a, as pkg-config has
+ *    it, or heap.c, needs no more than lapd.h.
  *
  * The library calls them in lapd_card_start, lapd_clock_start and the two frees alone.
  */
@@ -27,7 +27,7 @@ typedef struct {
 /* A block of so many octets, which begins at a multiple of the alignment: a power of two, and 16 at most. */
 rattle_tried rattle_alloc(size_t octets, size_t alignment);
 
-/* For liblapd.a alone: the block with another size; what it held stays, as far as it fits. If there is none, the old
+/* For lapd.S and liblapd.a alone: the block with another size; what it held stays, as far as it fits. If there is none, the old
  * block stays. */
 rattle_tried rattle_realloc(void *at, size_t old_octets, size_t octets, size_t alignment);
 

@@ -20,9 +20,8 @@ static void tell(uint32_t line, const lapd_report *report) {
 }
 
 int main(void) {
-    /* basic access: windows of 1 for call control and 3 for packet mode (Q.921, 5.9.5) */
-    static const lapd_config config = {.lines = 1, .terminals = 8, .k = 1, .k16 = 3, .queue = 8, .unit_queue = 4,
-                                       .control = 4, .slots = 64, .n201 = 260, .n200 = 3};
+    lapd_config config = LAPD_BASIC_ACCESS;
+    config.slots = 64; /* as the script has it: fewer than all queues have places */
     static const uint8_t sabme[] = {0x7E, 0x00, 0x81, 0xEF, 0x50, 0xB1, 0xFD, 0xFC};
     static lapd_report report;
     lapd_card card = LAPD_CARD_NONE;

@@ -1,0 +1,64 @@
+/* A script's lines as words, numbers and octets: the language of lapdsim.5. For tests alone. */
+#ifndef WORDS_H
+#define WORDS_H
+
+#include <stdbool.h>
+#include <stddef.h>
+#include <stdint.h>
+
+#ifdef __cplusplus
+extern "C" {
+#endif
+
+enum { MOST_LINE = 4096, MOST_WORDS = 16 };
+
+/* What a line can be faulty in, in the order in which it is told. */
+typedef enum {
+    NO_FAULT,
+    TOO_LONG,
+    UNKNOWN_WORD,
+    BAD_NUMBER_OF_WORDS,
+    BAD_NUMBER,
+    BAD_OCTETS,
+    BAD_CAUSE,
+    NO_CARD,
+    SECOND_CARD,
+    BAD_CARD,
+    WRONG_CARD,
+    BAD_LINE,
+    BAD_FRAME,
+    TIME_OVER,
+    NO_MEMORY
+} fault;
+
+const char *fault_text(fault kind);
+
+typedef enum { CARD, RX, IN, PULL, FAILED, NEXT, WAIT, TIMERS, STORED, COUNTERS, MESSAGES, DOWN, REQUEST } verbs;
+
+/* A line that was read: what it says, before a card is asked. */
+typedef struct {
+    verbs verb;
+    uint8_t request, service; /* of a REQUEST */
+    uint8_t cause;            /* of FAILED, as in a report */
+    bool for_frames;          /* of a CARD */
+    bool user;                /* of a CARD: it is the user's side of its lines */
+    bool terminal;            /* of a CARD: it is a terminal, whose seed follows */
+    uint32_t seed;
+    uint32_t sapi;            /* of a CARD: the SAPI of the second service */
+    uint32_t numbers[10];     /* of a card its ten; else the line, then what follows it */
+    uint8_t octets[MOST_LINE / 2];
+    size_t length;
+} command;
+
+/* Reads the next line of standard input, up to its line feed or the end: its first MOST_LINE octets, and how many it has.
+ * Answers false where nothing is left. */
+bool next_line(char *line, size_t *length);
+
+/* Reads a line without its line feed. */
+fault read_command(const char *line, size_t length, command *read);
+
+#ifdef __cplusplus
+}
+#endif
+
+#endif

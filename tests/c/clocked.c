@@ -146,7 +146,12 @@ uint32_t clocked_fall_due(lapd_card *card, uint64_t now, lapd_report *report) {
         return LAPD_WRONG_TIME;
     it->now = now;
     uint32_t status = lapd_clock_due(&it->timers, now, &due);
-    return status == LAPD_OK ? obeyed(card, due.line, lapd_expire(card, due.line, &due.timer, report), report) : status;
+    if (status != LAPD_OK)
+        return status;
+    status = obeyed(card, due.line, lapd_expire(card, due.line, &due.timer, report), report);
+    if (status == LAPD_OK)
+        report->expired = due.timer;
+    return status;
 }
 
 uint32_t clocked_next_moment(lapd_card *card, uint64_t *moment) {

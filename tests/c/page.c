@@ -9,7 +9,6 @@
 
 #include "lapd.h"
 
-static const lapd_config basic = LAPD_BASIC_ACCESS, primary = LAPD_PRIMARY_RATE;
 static uint64_t time_now;
 
 static int fail(const char *text) {
@@ -72,6 +71,7 @@ static void layer_3(const lapd_report *of) {
         printf("%u dropped %s\n", of->line, lapd_cause_text(of->cause));
 }
 
+static const lapd_config basic = LAPD_BASIC_ACCESS, primary = LAPD_PRIMARY_RATE;
 static const lapd_lengths lengths = LAPD_DEFAULT_LENGTHS;
 static lapd_card card = LAPD_CARD_NONE;
 static lapd_report report;

@@ -341,7 +341,7 @@ def folded_function(head: str, body: str) -> str:
     kinds = {name: kind for kind, names in re.findall(r"^(u32|u64) (w_l\d+ = 0[^;]*);\n", body, re.M) for name in re.findall(r"w_l\d+", names)}
     rows = re.sub(r"^(?:u32|u64) w_[lij]\d+[^;]*;\n", "", body, flags=re.M).rstrip("\n").split("\n")
     rows = without_unread(Folding(statements([it for it in rows if it])).text())
-    used = sorted(set(re.findall(r"\bw_[ijl]\d+\b", "\n".join(rows))), key=lambda it: int(it[3:]))
+    used = sorted(set(re.findall(r"\bw_[ijl]\d+\b", "\n".join(rows))), key=lambda it: (int(it[3:]), it))
     kinds.update((it, {"i": "u32", "j": "u64"}[it[2]]) for it in used if it[2] != "l")
     of = {kind: [it + " = 0" * (it[2] == "l") for it in used if kinds[it] == kind] for kind in ("u32", "u64")}
     return head + "\n".join([*declared("u32", of["u32"]), *declared("u64", of["u64"]), "FUNC_PROLOGUE;", *rows, "}"]) + "\n"

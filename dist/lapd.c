@@ -6018,7 +6018,7 @@ i32_store8(AT(w_p0, 0), w_l4);
 
 static void w2c_f36(machine *instance, u64 w_p0, u64 w_p1, u64 w_p2) {
 u32 w_l9 = 0, w_l10 = 0, w_l11 = 0;
-u64 w_l3 = 0, w_j3, w_l4 = 0, w_l5 = 0, w_l6 = 0, w_l7 = 0, w_l8 = 0;
+u64 w_j3, w_l3 = 0, w_l4 = 0, w_l5 = 0, w_l6 = 0, w_l7 = 0, w_l8 = 0;
 FUNC_PROLOGUE;
 w_l3 = instance->w2c_g0 - 48ull;
 instance->w2c_g0 = w_l3;

@@ -1865,7 +1865,7 @@ return w_l6;
 }
 
 static u32 w2c_f11(machine *instance, u64 w_p0, u64 w_p1) {
-u32 w_i0, w_i1, w_l2 = 0, w_i2, w_i3, w_i4, w_i5;
+u32 w_i0, w_i1, w_i2, w_l2 = 0, w_i3, w_i4, w_i5;
 u64 w_j0, w_j1, w_l3 = 0, w_l4 = 0, w_l5 = 0, w_l6 = 0;
 FUNC_PROLOGUE;
 w_l2 = 0u;
@@ -21149,7 +21149,7 @@ return w_l6;
 
 static void w2c_f109(machine *instance, u64 w_p0, u64 w_p1) {
 u32 w_i0, w_l12 = 0;
-u64 w_j0, w_l2 = 0, w_j2, w_l3 = 0, w_l4 = 0, w_l5 = 0, w_l6 = 0, w_l7 = 0, w_l8 = 0, w_l9 = 0, w_l10 = 0;
+u64 w_j0, w_j2, w_l2 = 0, w_l3 = 0, w_l4 = 0, w_l5 = 0, w_l6 = 0, w_l7 = 0, w_l8 = 0, w_l9 = 0, w_l10 = 0;
 u64 w_l11 = 0;
 FUNC_PROLOGUE;
 w_l2 = instance->w2c_g0 - 8336ull;

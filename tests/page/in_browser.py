@@ -12,7 +12,16 @@ from vithrynel.story import COMMENT
 from wanted import Played
 
 MANY = 40  # scripts that are shown in one go
-AWAY = 2.0  # seconds for which the page may be away at most
+AWAY = 2.0  # seconds for which the page may be away at most, on a machine that does nothing else
+# Work of a known length, in the page: where it takes longer than on such a machine, all else does, too.
+PACE = """(() => {
+    const begun = performance.now();
+    let it = 0;
+    for (let i = 0; i < 5e7; i++)
+        it = (Math.imul(it, 31) + i) | 0;
+    return performance.now() - begun + 0 * it;
+})()"""
+QUIET = 0.1  # seconds that it takes there
 TRIES = 8  # of which the best counts, since a busy machine also makes tasks longer; none comes after one that is short enough
 LOST = "conversation/frame-lost"  # the script of the menu in which a frame is lost
 
@@ -255,7 +264,8 @@ def links(page: Page, scripts: List[Played]) -> Iterator[str]:
 
 def away_for(page: Page, name: str, script: str) -> float:
     """For how many seconds at most the page is away while it plays a script: as a clock in the page has it, and no longer
-    than it had the processor between two moments of that clock, since other tests run beside this one."""
+    than it had the processor between two moments of that clock, since other tests run beside this one; and as many fewer as
+    the machine is slower now than one that does nothing else."""
     page.open()
     page.browser.value("watch()")
     page.browser.watch_tasks()
@@ -266,7 +276,8 @@ def away_for(page: Page, name: str, script: str) -> float:
     away, longest = page.browser.value("away") / 1000, page.browser.longest_stretch("awake")
     if os.environ.get("PAGE_TIMES"):
         print(f"page: {name}: away {away:.2f} s, {longest:.2f} s of the processor, done after {took:.2f} s")
-    return min(away, longest)
+    slower = max(1, page.browser.value(PACE, 90) / 1000 / QUIET)
+    return min(away, longest) / slower
 
 
 def is_awake(page: Page, scripts: List[Played]) -> Iterator[str]:

@@ -21,7 +21,7 @@ PACE = """(() => {
         it = (Math.imul(it, 31) + i) | 0;
     return performance.now() - begun + 0 * it;
 })()"""
-QUIET = 0.1  # seconds that it takes there
+QUIET = 0.45  # seconds that it takes there at most, as measured in Chromium (0.38 to 0.44)
 TRIES = 8  # of which the best counts, since a busy machine also makes tasks longer; none comes after one that is short enough
 LOST = "conversation/frame-lost"  # the script of the menu in which a frame is lost
 

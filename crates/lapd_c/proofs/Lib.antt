@@ -14,3 +14,5 @@ pub mod Linking
 pub mod Reopening
 pub mod Timing
 pub mod Ordering
+pub mod Calling
+pub mod Said

@@ -1,7 +1,7 @@
--- The timers of a card as it begins.
+-- A start of a card or of a clock, and the timers of a card as it begins.
 use Rattle.lapd_c.proofs.Vocabulary.{◌≡◌, ℕ, Result, Ok, IfOk, IfSome, Option, Some, None, refl, sym, ap, subst, ◌∙◌, Config, IsInRange, card_in}
-use Rattle.std.specs.Prelude.{Err}
-use Rattle.std.proofs.Common.{IsOkAnd}
+use Rattle.std.specs.Prelude.{◌⊎◌, Err, false, is_some}
+use Rattle.std.proofs.Common.{IsOkAnd, true≢false}
 use Rattle.std.specs.Result.{result_ok}
 use Rattle.model_card.specs.declared.kinds.CardKind.{CardKind}
 use Rattle.model_card.specs.declared.kinds.CardKind.TheVariants as kinds
@@ -10,6 +10,10 @@ use Rattle.lapd_timed.specs.declared.card_timers.CardTimers.{CardTimers}
 use Rattle.model_card.specs.Card as cards
 use Rattle.model_timed.specs.Clock.{Clock}
 use Rattle.lapd_c.specs.Calls.{fresh}
+use Rattle.lapd_c.specs.Config.{config_fault}
+use Rattle.lapd_c.specs.Starts.{IsStart}
+use Rattle.lapd_c.specs.Statuses as status
+use Rattle.lapd_c.specs.declared.plain.config.PlainConfig.{PlainConfig}
 
 fresh-card : (kind : CardKind) (d : Config) → card_in (fresh kind d) ≡ cards.fresh d
 fresh-card kinds.Octets d = refl
@@ -41,3 +45,19 @@ pub read-meets : {A E B : Type 0} (P : A → Type 0) (wrong : Option B) (r : Res
     → IfSome wrong (λ _. r ≡ Err e) → (wrong ≡ None → IsOkAnd r P) → r ≡ Ok a → P a
 read-meets P None r a e _ ok is = subst (λ x. IsOkAnd x P) is (ok refl)
 read-meets P (Some w) r a e err _ is = subst (λ x. IfOk x P) (sym err ∙ is) tt
+
+-- of a handle that holds nothing
+holds-none : {X : Type 0} (P : X → Type 0) (o : Option X) → is_some o ≡ false → IfSome o P
+holds-none P None none = tt
+holds-none P (Some x) none = absurd (true≢false none)
+
+-- where the configuration is read, one starts, or there is no memory
+pub read-starts : {H X C : Type 0} (held : H → Option X) (config : PlainConfig) (old new : H) (result : ℕ) (r : Result C ℕ) (c : C)
+    → is_some (held old) ≡ false → IfSome (config_fault config) (λ wrong. r ≡ Err wrong) → r ≡ Ok c
+    → (result ≡ status.ok) ⊎ (result ≡ status.no_memory) → (result ≡ status.no_memory → new ≡ old) → IsStart held config old new result
+read-starts held config old new result r c none fault is ends kept = record {
+  second = holds-none (λ _. (result ≡ status.second_start) × (new ≡ old)) (held old) none;
+  fault = λ _. none-wrong (λ wrong. (result ≡ wrong) × (new ≡ old)) (config_fault config) r c fault is;
+  otherwise = λ _ _. ends;
+  no_memory = kept;
+}

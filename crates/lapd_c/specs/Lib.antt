@@ -31,7 +31,10 @@ pub mod Frames
 pub mod Exchange
 pub mod Counted
 pub mod Calls
+pub mod CalledBy
+pub mod Asked
 pub mod AsBefore
+pub mod Said
 -- the words of the contracts, from where they are defined
 pub use Rattle.lapd_card.specs.Counted.{counters_in}
 pub use Rattle.lapd_card.specs.Kinds.{alone, card_in, CardStands, FrameCardStands, Machine, shelf_of, with_ports}
@@ -54,9 +57,11 @@ pub use Rattle.model_line.specs.Config.{first_fault}
 pub use Rattle.model_line.specs.Event.{nothing}
 pub use Rattle.lapd_c.specs.Answers.{octet_of, ShowsAnswer, ShowsReply}
 pub use Rattle.lapd_c.specs.Calls.{Begins, FramesWithLine, fresh, HasBegun, IsCall, IsCallAt, IsCardStart, IsFramesCall, IsOctetsCall, IsReopened, IsTimedStart, IsUntimedCall, OctetsWithLine, refusal_at, UntimedWithLine, WithLine}
+pub use Rattle.lapd_c.specs.Asked.{expire_asked, failed_asked, frame_asked, next_frame_asked, octet_asked, pull_asked, request_asked}
+pub use Rattle.lapd_c.specs.CalledBy.{Called, Unchanged}
 pub use Rattle.lapd_c.specs.Starts.{IsStart}
 pub use Rattle.lapd_c.specs.Cards.{card_of, FramesStand, IsHandle, kind_in, marks_at, OctetsStand, served_card, HandleStands}
-pub use Rattle.lapd_c.specs.Config.{config_fault, config_in, sapi_in, seed_in, side_in}
+pub use Rattle.lapd_c.specs.Config.{config_fault, config_in, reading_in, sapi_in, seed_in, side_in}
 pub use Rattle.lapd_c.specs.Counted.{counters_at, Counts, CountsMeaning}
 pub use Rattle.lapd_c.specs.Counters.{plain_counters}
 pub use Rattle.lapd_c.specs.Exchange.{Exchanged, ExchangedIn, is_exchange, OrdersLast, tells_nothing, step_event, steps_made, with_step}

@@ -68,6 +68,9 @@ bad_side = 43
 abbrev pub bad_sapi : ℕ
 bad_sapi = 44
 
+abbrev pub bad_reading : ℕ
+bad_reading = 45
+
 -- Why a request was refused.
 abbrev pub refusal_status : Refusal → ℕ
 refusal_status BadTei = 1

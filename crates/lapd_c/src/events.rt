@@ -1,7 +1,7 @@
 //! What happens at a card of either kind: a timer that expires, a request.
 
 ghost use Rattle.std.specs.Prelude.{◌≡◌, ◌≢◌, ◌<◌, None, IfSome, IfOk, IfErr};
-ghost use Rattle.lapd_c.specs.{no_timer, Obeys, UntimedWithLine, WithLine, refusal_at, seen, timers_of, IsCallAt, IsUntimedCall, IsReopened, ShowsAnswer, WaitsFor, refused_place, refusal_status, request_in, timer_in, card_of, kind_in, marks_at, served_card, IsHandle, HandleStands, Counts, counters_at};
+ghost use Rattle.lapd_c.specs.{Called, expire_asked, request_asked, no_timer, Obeys, UntimedWithLine, WithLine, refusal_at, seen, timers_of, IsCallAt, IsUntimedCall, IsReopened, ShowsAnswer, WaitsFor, refused_place, refusal_status, request_in, timer_in, card_of, kind_in, marks_at, served_card, IsHandle, HandleStands, Counts, counters_at};
 ghost use Rattle.model_card.specs.Event.{at};
 ghost use Rattle.model_line.specs.Event as line_event;
 ghost use Rattle.lapd_c.specs.Statuses as status;
@@ -23,6 +23,16 @@ pub extern "C" fn lapd_expire(
     timer: &PlainTimer,
     report: &mut PlainReport,
 ) -> u32
+    requires { IsHandle handle.old }
+    ensures called { Called (expire_asked line timer.now) handle.old handle.new result report.new }
+    ensures unchanged { result ≢ status.ok → (card_of handle.new ≡ card_of handle.old) × (report.new ≡ report.old) }
+{
+    expire(handle, line, timer, report)
+}
+
+// What `lapd_expire` does.
+#[inline(always)]
+fn expire(handle: &mut CardHandle, line: u32, timer: &PlainTimer, report: &mut PlainReport) -> u32
     requires { IsHandle handle.old }
     // The expiries of a card that keeps its own timers are its own.
     ensures call { IsUntimedCall line handle.old handle.new result }
@@ -53,6 +63,26 @@ pub extern "C" fn lapd_expire(
 /// Asks for something at a line.
 #[unsafe(no_mangle)]
 pub extern "C" fn lapd_request(
+    handle: &mut CardHandle,
+    line: u32,
+    request: u8,
+    service: u8,
+    tei: u8,
+    contents: &[u8],
+    report: &mut PlainReport,
+) -> u32
+    requires { IsHandle handle.old }
+    ensures called { Called (request_asked line request service tei contents.now) handle.old handle.new result report.new }
+    ensures unchanged { result ≢ status.ok → (served_card handle.new ≡ served_card handle.old) × (timers_of handle.new ≡ timers_of handle.old) × (report.new ≡ report.old) }
+    ensures waits { result ≢ status.ok
+        → WaitsFor (refused_place result request service tei) line (marks_at handle.old) (marks_at handle.new) }
+{
+    ask(handle, line, request, service, tei, contents, report)
+}
+
+// What `lapd_request` does.
+#[inline(always)]
+fn ask(
     handle: &mut CardHandle,
     line: u32,
     request: u8,

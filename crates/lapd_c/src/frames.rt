@@ -2,7 +2,7 @@
 //! lines one waits.
 
 ghost use Rattle.std.specs.Prelude.{◌≡◌, ◌≢◌, ◌==◌, if◌then◌else◌, ◌+◌, ◌≤◌, ◌<◌, true, length, Some, None, IfSome, IfOk, IfErr};
-ghost use Rattle.lapd_c.specs.{no_timer, FramesWithLine, IsFirstWaiting, has_next, next_waiting, IsCall, IsFramesCall, IsReopened, Obeys, ShowsAnswer, ShowsPull, card_of, kind_in, marks_at, orders_seen, seen, timers_of, IsHandle, FramesStand, Counts, counters_at, frame_comes, fails, goes, next_at, IsGiven};
+ghost use Rattle.lapd_c.specs.{Called, Unchanged, failed_asked, frame_asked, next_frame_asked, no_timer, FramesWithLine, IsFirstWaiting, has_next, next_waiting, IsCall, IsFramesCall, IsReopened, Obeys, ShowsAnswer, ShowsPull, card_of, kind_in, marks_at, orders_seen, seen, timers_of, IsHandle, FramesStand, Counts, counters_at, frame_comes, fails, goes, next_at, IsGiven};
 ghost use Rattle.model_card.specs.Card as machine;
 ghost use Rattle.model_card.specs.Machine.{after, answer};
 ghost use Rattle.lapd_c.specs.Faults.{fault_in};
@@ -26,6 +26,16 @@ pub extern "C" fn lapd_frame(
     octets: &[u8],
     report: &mut PlainReport,
 ) -> u32
+    requires { IsHandle handle.old }
+    ensures called { Called (frame_asked line octets.now) handle.old handle.new result report.new }
+    ensures unchanged { result ≢ status.ok → (card_of handle.new ≡ card_of handle.old) × (report.new ≡ report.old) }
+{
+    frame(handle, line, octets, report)
+}
+
+// What `lapd_frame` does.
+#[inline(always)]
+fn frame(handle: &mut CardHandle, line: u32, octets: &[u8], report: &mut PlainReport) -> u32
     requires { IsHandle handle.old }
     ensures call { IsFramesCall line handle.old handle.new result }
     ensures unchanged { result ≢ status.ok → (card_of handle.new ≡ card_of handle.old) × (report.new ≡ report.old) }
@@ -77,6 +87,16 @@ pub extern "C" fn lapd_frame_failed(
     report: &mut PlainReport,
 ) -> u32
     requires { IsHandle handle.old }
+    ensures called { Called (failed_asked line cause) handle.old handle.new result report.new }
+    ensures unchanged { result ≢ status.ok → (card_of handle.new ≡ card_of handle.old) × (report.new ≡ report.old) }
+{
+    frame_failed(handle, line, cause, report)
+}
+
+// What `lapd_frame_failed` does.
+#[inline(always)]
+fn frame_failed(handle: &mut CardHandle, line: u32, cause: u8, report: &mut PlainReport) -> u32
+    requires { IsHandle handle.old }
     ensures call { IsFramesCall line handle.old handle.new result }
     ensures unchanged { result ≢ status.ok → (card_of handle.new ≡ card_of handle.old) × (report.new ≡ report.old) }
     ensures wrong_cause { FramesWithLine line handle.old (λ m. IfErr (fault_in cause) (λ wrong. result ≡ wrong)) }
@@ -102,6 +122,24 @@ pub extern "C" fn lapd_frame_failed(
 /// and tells how long it is, and whether another waits after it. There has to be room for the longest: N201 octets and four.
 #[unsafe(no_mangle)]
 pub extern "C" fn lapd_next_frame(
+    handle: &mut CardHandle,
+    line: u32,
+    out: &mut [u8],
+    count: &mut usize,
+    report: &mut PlainReport,
+) -> u32
+    requires { IsHandle handle.old }
+    ensures called { Called (next_frame_asked line (length out.old)) handle.old handle.new result report.new }
+    ensures unchanged { result ≢ status.ok → Unchanged handle.old handle.new × (out.new ≡ out.old) × (count.new ≡ count.old) × (report.new ≡ report.old) }
+    ensures written { FramesWithLine line handle.old (λ m. m.config.n201 + 4 ≤ length out.old
+        → IfSome (next_at line m) (λ next. IsGiven next out.old out.new count.new)) }
+{
+    next_frame(handle, line, out, count, report)
+}
+
+// What `lapd_next_frame` does.
+#[inline(always)]
+fn next_frame(
     handle: &mut CardHandle,
     line: u32,
     out: &mut [u8],

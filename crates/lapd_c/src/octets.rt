@@ -1,7 +1,7 @@
 //! What happens at a card of octets: one that comes, and one that goes; which frame a pull began, and which was heard last.
 
 ghost use Rattle.std.specs.Prelude.{◌≡◌, ◌≢◌};
-ghost use Rattle.lapd_c.specs.{no_timer, OctetsWithLine, head_begun_at, head_heard_at, plain_head, IsOctetsCall, IsReopened, ObeysMeaning, ShowsReply, octet_of, reply_seen, card_of, IsHandle, OctetsStand, CountsMeaning, counters_at};
+ghost use Rattle.lapd_c.specs.{Called, octet_asked, pull_asked, no_timer, OctetsWithLine, head_begun_at, head_heard_at, plain_head, IsOctetsCall, IsReopened, ObeysMeaning, ShowsReply, octet_of, reply_seen, card_of, IsHandle, OctetsStand, CountsMeaning, counters_at};
 ghost use Rattle.model_card.specs.ports.Card as machine;
 ghost use Rattle.model_card.specs.ports.Card.{after, answer};
 ghost use Rattle.model_card.specs.ports.Event.{at};
@@ -20,6 +20,16 @@ pub extern "C" fn lapd_octet(
     octet: u8,
     report: &mut PlainReport,
 ) -> u32
+    requires { IsHandle handle.old }
+    ensures called { Called (octet_asked line octet) handle.old handle.new result report.new }
+    ensures unchanged { result ≢ status.ok → (card_of handle.new ≡ card_of handle.old) × (report.new ≡ report.old) }
+{
+    take_octet(handle, line, octet, report)
+}
+
+// What `lapd_octet` does.
+#[inline(always)]
+fn take_octet(handle: &mut CardHandle, line: u32, octet: u8, report: &mut PlainReport) -> u32
     requires { IsHandle handle.old }
     ensures call { IsOctetsCall line handle.old handle.new result }
     ensures unchanged { result ≢ status.ok → (card_of handle.new ≡ card_of handle.old) × (report.new ≡ report.old) }
@@ -54,6 +64,17 @@ pub extern "C" fn lapd_pull(
     octet: &mut u8,
     report: &mut PlainReport,
 ) -> u32
+    requires { IsHandle handle.old }
+    ensures called { Called (pull_asked line) handle.old handle.new result report.new }
+    ensures unchanged { result ≢ status.ok → (card_of handle.new ≡ card_of handle.old) × (octet.new ≡ octet.old) × (report.new ≡ report.old) }
+    ensures written { OctetsWithLine line handle.old (λ m. octet.new ≡ octet_of (answer (at line port.pull) m)) }
+{
+    pull(handle, line, octet, report)
+}
+
+// What `lapd_pull` does.
+#[inline(always)]
+fn pull(handle: &mut CardHandle, line: u32, octet: &mut u8, report: &mut PlainReport) -> u32
     requires { IsHandle handle.old }
     ensures call { IsOctetsCall line handle.old handle.new result }
     ensures unchanged { result ≢ status.ok

@@ -1,6 +1,8 @@
 -- The grammar read backwards: `reading` finds what the octets spell, and the first fault where they spell nothing.
-use Rattle.lapd_frame.proofs.Vocabulary.{◌≡◌, ℕ, ◌+◌, ◌*◌, ◌/◌, ◌%◌, ◌<◌, ◌≤◌, ◌⊎◌, inl, inr, Bool, true, false, IsTrue, cond, ◌==◌, refl, ap, sym, ◌∙◌, subst, List, [], ◌∷◌, ◌++◌, length, drop, slice_index, Option, Some, None, Result, Ok, Err, IfOk, IsOkAnd, ◌↔◌, length-append, lit<, zero, suc, arith, eqb-true, eqb_tells, All-nil, All-cons, All-head, All-tail, Side, Address, Control, Information}
-use Rattle.lapd_frame.proofs.Vocabulary.{ReceiveReady, ReceiveNotReady, Reject, Sabme, Disc, Ui, Ua, Dm, Frmr, Xid, ReadFault, BadExtension, Undefined, WrongSize, Short, Long, Frame, is_short, has_bad_extension, HasAddress, HasControl, IsFault, Parts, parts_of, cr_bit, address_field, allows, takes, row, one_of, IsFrame, spelling, Spells, AreOctets, exactly, IsLong, address_of, control_of, checked}
+use Rattle.lapd_frame.proofs.Vocabulary.{◌≡◌, ℕ, ◌+◌, ◌*◌, ◌/◌, ◌%◌, ◌<◌, ◌≤◌, ◌⊎◌, inl, inr, Bool, true, false, IsTrue, cond, ◌==◌, refl, ap, sym, ◌∙◌, subst, List, [], ◌∷◌, ◌++◌, length, drop, slice_index, Option, Some, None, Result, Ok, Err, IfOk, IsOkAnd, ◌↔◌, length-append, lit<, zero, suc, arith, eqb-true, eqb_tells, ne_eqb, All-nil, All-cons, All-head, All-tail, Side, Address, Control}
+use Rattle.lapd_frame.proofs.Vocabulary.{Information}
+use Rattle.lapd_frame.proofs.Vocabulary.{ReceiveReady, ReceiveNotReady, Reject, Sabme, Disc, Ui, Ua, Dm, Frmr, Xid, ReadFault, BadExtension, Undefined, WrongSize, Short, Long, Frame, is_short, has_bad_extension, HasAddress, HasControl, IsFault, Parts, parts_of, cr_bit, address_field, allows, takes, row, one_of, IsFrame, spelling, Spells, AreOctets, exactly, IsLong, is_ui, is_unit, address_of}
+use Rattle.lapd_frame.proofs.Vocabulary.{control_of, checked}
 use Rattle.lapd_frame.proofs.Vocabulary.{header_of, start_of, sized, completed, reading, outcome_of, long_kind, long_of}
 use Rattle.lapd_frame.proofs.AddressField.{address-found, extension-again, address-again}
 use Rattle.lapd_frame.proofs.ControlField.{HasField, two_octets, one_octet, control-found, control-again}
@@ -355,3 +357,20 @@ long-found side octets (Err fault) small long e = fault-found side octets fault 
 
 pub long-is : (side : Side) (octets : List ℕ) (r : Result Long ReadFault) → AreOctets octets → 9 ≤ length octets → r ≡ long_of (reading side octets) → IsLong side octets r
 long-is side octets r small long e = subst (IsLong side octets) (sym e) (long-found side octets _ small long refl)
+
+-- The third octet of a frame tells whether it is UI.
+unit-field : (first second : ℕ) (c : Control) (info : List ℕ) → is_unit (first ∷ second ∷ ((row c).field ++ info)) ≡ is_ui c
+unit-field first second (Information ns nr pf) info =
+    rw (ne_eqb (2 * ns.value) 0x03 (λ h. omega (arith, h)), ne_eqb (2 * ns.value) 0x13 (λ h. omega (arith, h))) refl
+unit-field first second (ReceiveReady nr pf) info = refl
+unit-field first second (ReceiveNotReady nr pf) info = refl
+unit-field first second (Reject nr pf) info = refl
+unit-field first second (Sabme true) info = refl
+unit-field first second (Sabme false) info = refl
+unit-field first second control info = grind arith
+
+pub unit_told : (side : Side) (f : Parts) (head rest : List ℕ) → length head ≡ 4 → Spells side f (head ++ rest) → is_unit head ≡ is_ui f.control
+unit_told side f (a ∷ b ∷ c ∷ more) rest four s =
+    let same : is_unit (a ∷ b ∷ c ∷ (more ++ rest)) ≡ is_unit (spelling side f) = ap is_unit s.octets_are in
+    same ∙ unit-field (4 * f.address.sapi + 2 * cr_bit side f.address.command) (2 * f.address.tei + 1) f.control f.info
+unit_told side f few rest four s = absurd (grind arith)

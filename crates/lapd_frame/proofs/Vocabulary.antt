@@ -8,7 +8,7 @@ pub use Rattle.std.proofs.lemmas.Slice.{drop-append-drop}
 pub use Rattle.model_bits.specs.StuffingLaws.{AreOctets}
 pub use Rattle.lapd_frame.specs.Faults.{HasAddress, HasControl, IsFault, has_bad_extension, is_short}
 pub use Rattle.lapd_frame.specs.Grammar.{IsFrame, Parts, Spells, address_field, allows, cr_bit, exactly, head_of, one_of, parts_of, row, second_octet, spelling, takes}
-pub use Rattle.lapd_frame.specs.Overlong.{IsLong}
+pub use Rattle.lapd_frame.specs.Overlong.{IsLong, is_ui, is_unit}
 pub use Rattle.lapd_frame.specs.Reading.{address_of, checked, completed, long_kind, long_of, outcome_of, sized, start_of}
 unfoldable pub use Rattle.lapd_frame.specs.Reading.{control_of, header_of, reading, supervisory_of, unnumbered_of}
 pub use Rattle.lapd_frame.specs.declared.addresses.Address.{Address}

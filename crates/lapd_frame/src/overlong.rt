@@ -2,7 +2,8 @@
 
 ghost use Rattle.std.specs.Prelude.{◌≡◌, ℕ, ◌≤◌, List, length, ◌++◌};
 ghost use Rattle.model_bits.specs.StuffingLaws.{AreOctets};
-ghost use Rattle.lapd_frame.specs.{IsLong, reading, long_of, long_reading};
+ghost use Rattle.lapd_frame.specs.{IsLong, Parts, Spells, is_ui, is_unit, reading, long_of, long_reading};
+ghost use Rattle.lapd_frame.specs.declared.addresses.Side.{Side};
 
 use crate::addresses::{Address, Side};
 use crate::controls::Control;
@@ -33,6 +34,16 @@ pub fn read_long(side: Side, octets: &[u8; 4]) -> Result<Long, ReadFault>
     ensures reading { (rest : List ℕ) → 5 ≤ length rest → result ≡ long_of (reading side (octets.now ++ rest)) }
 {
     kind(side, octets)
+}
+
+/// Whether the first four octets of a frame are those of UI, by the third of them (Q.921 clause 3.6.3, table 5).
+#[tactic(auto, using(crate::proofs::Spelling::unit_told))]
+pub fn is_unit(octets: &[u8; 4]) -> bool
+    ensures kept { result ≡ is_unit octets.now }
+    // Whatever follows them, it tells UI from all other frames.
+    ensures grammar { (side : Side) (frame : Parts) (rest : List ℕ) → Spells side frame (octets.now ++ rest) → result ≡ is_ui frame.control }
+{
+    octets[2] == 0x03 || octets[2] == 0x13
 }
 
 // What `read_long` answers.

@@ -1,10 +1,13 @@
 -- What is heard, by whom it is for.
 use Rattle.lapd_line.proofs.Vocabulary.{Result, Sender, ReadFault, heard_side, reading}
-use Rattle.lapd_line.proofs.Vocabulary.{management_of, arith, ◌≡◌, ℕ, Bool, true, false, not, ◌&&◌, nat_le, ◌==◌, ◌≤◌, List, [], ◌∷◌, Option, Some, None, Err, length, drop, sym, ap, ◌∙◌, cond, subst, eqb-true, drop_of_length-le, Address, Side, Note, Service, ShortList, Parts, service_of, listed, Unserved, Control, Management, Owned, Store, Config, LineTold, Line, addressed, at_place}
+use Rattle.lapd_line.proofs.Vocabulary.{places_of, arith, ◌≡◌, ℕ, Bool, true, false, not, ◌&&◌, nat_le, ◌==◌, ◌≤◌, List, [], ◌∷◌, Option, Some, None, Err, length, drop, sym, ap, ◌∙◌, cond, subst, eqb-true, drop_of_length-le, Address, Side, Note, Service, ShortList, Parts, service_of, listed, Unserved, Control, Owned, Store, Config, LineTold, Line, addressed, at_place}
 use Rattle.lapd_line.proofs.Vocabulary.{to_service}
-use Rattle.lapd_line.proofs.Vocabulary.{group_tei, drop_for, message_of, aim_of_long, aim_of_reading, Aim, at_none, at_management, of_aim, group_told, told_of_ui, told_of_group, told_at, managed_at, at_side, is_network, is_terminal, serves_messages, dropped, Network, User, Call, refl, ◌||◌, Addressee, LinkLayer, BareReport, addressee, of_service, aim_at, is_ui, message_at, group_service}
+use Rattle.lapd_line.proofs.Vocabulary.{group_tei, drop_for, message_of, aim_of_long, aim_of_reading, aim_of_unnumbered, reaches_link, unless_at_link, Aim, at_none, at_management, of_aim, group_told, told_of_ui, told_of_group, told_at, managed_at, at_side, is_network, is_terminal, serves_messages, dropped, Network, User, Call, refl, ◌||◌, Addressee, LinkLayer, BareReport, addressee, of_service}
+use Rattle.lapd_line.proofs.Vocabulary.{aim_at, is_ui, message_at, group_service}
 use Rattle.lapd_line.proofs.Vocabulary.{LayerStands, Serves, always, told_in, IsClear}
+use Rattle.lapd_frame.specs.declared.readings.Reading.{Reading}
 use Rattle.lapd_frame.specs.declared.notes.Note.TheVariants as notes
+use Rattle.lapd_tei.specs.Table.{Places}
 use Rattle.model_link.specs.Events as link
 use Rattle.lapd_tei.specs.Events as teis
 use Rattle.lapd_line.specs.declared.addressing.Addressee.TheVariants as to
@@ -37,14 +40,14 @@ module _ (l : Line) (what : link.Received) (to_management : Aim) where
   at_place-aimed : (service : Service) (tei : ℕ) (o : Option ℕ) → at_place service tei what o ≡ aim_at (aims.at_place service tei o) what to_management
   at_place-aimed service tei o = grind arith
 
-  to_service-aimed : (tei : ℕ) (o : Option Service) → to_service l tei what o ≡ aim_at (of_service l.management tei o) what to_management
+  to_service-aimed : (tei : ℕ) (o : Option Service) → to_service l tei what o ≡ aim_at (of_service l.management.places tei o) what to_management
   to_service-aimed tei o = grind (arith, at_place-aimed)
 
-  addressed-aimed : (address : Address) → addressed l address what to_management ≡ aim_at (addressee l.management address) what to_management
+  addressed-aimed : (address : Address) → addressed l address what to_management ≡ aim_at (addressee l.management.places address) what to_management
   addressed-aimed address = grind (arith, to_service-aimed)
 
 pub aimed : (e : LinkLayer) (s : Store) (others : List Owned) (m : Line) (address : Address) (what : link.Received) (to_management : Aim) (whom : Addressee)
-    → whom ≡ addressee (management_of e.teis) address → LayerStands e s others m → addressed m address what to_management ≡ aim_at whom what to_management
+    → whom ≡ addressee (places_of e.teis) address → LayerStands e s others m → addressed m address what to_management ≡ aim_at whom what to_management
 aimed e s others m address what to_management whom is st = grind (arith, addressed-aimed)
 
 -- octets that are no more than so many have nothing after them
@@ -52,8 +55,15 @@ pub nothing_after : (octets : List ℕ) (n : ℕ) → length octets ≤ n → []
 nothing_after octets n h = sym (drop_of_length-le octets h)
 
 -- a fault is the same of a frame that was too long
-pub long_fault : (c : Config) (m : Line) (fault : ReadFault) → aim_of_long m (Err fault) ≡ aim_of_reading c m (Err fault)
-long_fault c m fault = grind arith
+pub long_fault : (c : Config) (unit : Bool) (m : Line) (fault : ReadFault) → aim_of_long c.reading unit m (Err fault) ≡ aim_of_reading c m (Err fault)
+long_fault c unit m fault = grind arith
+
+-- UI or XID that was too long
+pub unnumbered_reaches : (reading : Reading) (unit : Bool) (aim : Aim) → reaches_link reading unit ≡ true → aim_of_unnumbered reading unit aim ≡ aim
+unnumbered_reaches reading unit aim is = grind arith
+
+pub unnumbered_unserved : (reading : Reading) (unit : Bool) (aim : Aim) → reaches_link reading unit ≡ false → aim_of_unnumbered reading unit aim ≡ unless_at_link aim
+unnumbered_unserved reading unit aim is = grind arith
 
 -- a frame of layer 2 management
 pub message_of_ui : (c : Config) (parts : Parts) → is_ui parts.control ≡ true → serves_messages c parts.address ≡ true → message_at c parts ≡ at_management (teis.message parts.info)
@@ -74,8 +84,8 @@ not_ours c parts other =
     either false = refl
 
 -- its SAPI is that of no service
-pub managed_sapi : (m : Management) (address : Address) → to.Management ≡ addressee m address → service_of address.sapi ≡ None
-managed_sapi m address is = grind (arith, eqb-true)
+pub managed_sapi : (places : Places) (address : Address) → to.Management ≡ addressee places address → service_of address.sapi ≡ None
+managed_sapi places address is = grind (arith, eqb-true)
 
 -- what a frame is, and what is told of one to the group, by whether it is a UI
 ui_rows : (c : Config) (service : Service) (k : Control) (info : List ℕ) (told : LineTold)

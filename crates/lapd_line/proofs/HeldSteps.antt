@@ -4,9 +4,10 @@ use Rattle.lapd_line.proofs.Vocabulary.{Terms, frame_of, held, IsWaitingFrame, C
 use Rattle.lapd_frame.specs.Grammar.{spelling}
 use Rattle.lapd_tei.specs.Machine as tei
 use Rattle.lapd_terminal.specs.Machine as terminals
+use Rattle.model_line.proofs.Checks.{nothing-held, unused-none}
 use Rattle.model_line.proofs.StoredBounds.{managed_few}
 use Rattle.model_line.specs.Stored.{held_most}
-use Rattle.lapd_line.proofs.Vocabulary.{true, false, IsInRange, Managing, Own, held_by, is_terminal, management_of, own_of, ranges_of, terminal_in}
+use Rattle.lapd_line.proofs.Vocabulary.{true, false, sym, subst, IsInRange, IsOfSide, Managing, Own, held_by, is_terminal, is_terminals, management_of, own_of, ranges_of, terminal_in}
 use Rattle.lapd_line.specs.declared.managing.Managing.TheVariants as kind
 use Rattle.model_link.specs.Link as machine
 use Rattle.lapd_line.proofs.LayerSteps.{beside_links, links_part}
@@ -78,11 +79,14 @@ received_few n201 octets = gap_few (room_for n201) (λ g. length (unstuffed (rev
 
 -- what TEI management holds, of either kind
 pub managed_is : (e : LinkLayer) (store : Store) (others : List Owned) (m : Line) → LayerStands e store others m → held_by e.teis ≡ tei.held m.management + terminals.held (terminal_in m)
-managed_is e store others m st = go e.teis st.management st.own
+managed_is e store others m st = go e.teis st.management st.own st.kind
   where
-    go : (x : Managing) → m.management ≡ management_of x → m.own ≡ own_of x → held_by x ≡ tei.held m.management + terminals.held (terminal_in m)
-    go (kind.Network b) management own = omega (arith, ap tei.held management, ap (λ (o : Own). length o.waiting) own)
-    go (kind.Terminal b) management own = omega (arith, ap tei.held management, ap (λ (o : Own). length o.waiting) own)
+    go : (x : Managing) → m.management ≡ management_of e.config x → m.own ≡ own_of x → is_terminals x ≡ is_terminal e.config
+        → held_by x ≡ tei.held m.management + terminals.held (terminal_in m)
+    go (kind.Network b) management own side = omega (arith, ap tei.held management, ap (λ (o : Own). length o.waiting) own)
+    go (kind.Terminal b) management own side =
+        let unused = (subst (λ x. IsOfSide x m.management m.own) (sym side) st.sound.own).1 in
+        omega (arith, ap length unused.remembered, ap length unused.waiting, nothing-held m.management (unused-none m.management unused), ap (λ (o : Own). length o.waiting) own)
 
 pub most_few : (c : Config) → IsInRange c → held_most c ≤ 72
 most_few c ranged =

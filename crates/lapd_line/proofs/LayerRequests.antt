@@ -1,5 +1,6 @@
 -- Requests, and why they are refused.
-use Rattle.lapd_line.proofs.Vocabulary.{management_of, ◌≡◌, ℕ, ◌+◌, ◌||◌, Bool, true, false, not, ◌≤◌, nat_lt, List, [], ◌∷◌, length, Option, Some, None, refl, sym, ap, subst, ◌∙◌, cond, arith, option_map_or, ltb-false, none-some, prefix_len, list_any, Refusal, BadTei, NoLink, WrongState, Service, serves, Terms, Places, is_on, place_of, IsAt, is_on-at, place_of-is, Config, Line, has_tei, link_of}
+use Rattle.lapd_line.proofs.Vocabulary.{management_of, places_of, ◌≡◌, ℕ, ◌+◌, ◌||◌, Bool, true, false, not, ◌≤◌, nat_lt, List, [], ◌∷◌, length, Option, Some, None, refl, sym, ap, subst, ◌∙◌, cond, arith, option_map_or, ltb-false, none-some, prefix_len, list_any, Refusal, BadTei, NoLink, WrongState, Service, serves, Terms, Places, is_on, place_of, IsAt, is_on-at, place_of-is, Config, Line}
+use Rattle.lapd_line.proofs.Vocabulary.{has_tei, link_of}
 use Rattle.lapd_line.proofs.Vocabulary.{link_in}
 use Rattle.lapd_line.proofs.Vocabulary.{place_in, terms, link_number, with_link, refusal, Establish, Release, Data, SetBusy, ClearBusy, Assign, Remove, Check, Owned, Store, Link, told_with, at_link, of_aim, told_of_link, at_requested, Marks, LinkLayer, BareReport, LayerStands, Standing, Serves, Sets, TellsOf, HasTerms, Refuses, machine_at, told_in, link_refusal, management_refusal, Deactivate}
 use Rattle.lapd_line.proofs.Vocabulary.{AskTei, Disown, Managing, Own, Request, VerifyTei, has_management, is_network, is_terminal, is_terminals, own_of, terminal_with}
@@ -48,7 +49,7 @@ no_network c is = grind arith
 
 module _ (c : Config) (full : Bool) (l : Line) where
   abbrev Rows : Request → TeiRequest → ℕ → Managing → Type 0
-  Rows r asked tei x = is_terminals x ≡ is_terminal c → l.management ≡ management_of x → l.own ≡ own_of x → refusal c full r l ≡ management_refusal c asked tei x
+  Rows r asked tei x = is_terminals x ≡ is_terminal c → l.management ≡ management_of c x → l.own ≡ own_of x → refusal c full r l ≡ management_refusal c asked tei x
 
   abbrev sided : Bool → Bool → Option Refusal → Option Refusal
   sided may bad rest = cond (not may) (Some WrongSide) (cond bad (Some BadTei) rest)
@@ -84,7 +85,7 @@ module _ (c : Config) (full : Bool) (l : Line) where
   ask_rows : (tei : ℕ) (x : Managing) → Rows AskTei tei_request.Ask tei x
   ask_rows tei (kind.Network m) k management own = wrong (is_terminal c) false _ _ (sym k)
   ask_rows tei (kind.Terminal t) k management own =
-      ap (λ m. sided (is_terminal c) false (asks m l.own)) management ∙ ap (λ o. sided (is_terminal c) false (asks (management_of (kind.Terminal t)) o)) own
+      ap (λ m. sided (is_terminal c) false (asks m l.own)) management ∙ ap (λ o. sided (is_terminal c) false (asks (management_of c (kind.Terminal t)) o)) own
 
   abbrev verifies : ℕ → Management → Own → Option Refusal
   verifies tei m own = terminals.refusal (terminals.verify tei) (terminal_with m own)
@@ -93,7 +94,7 @@ module _ (c : Config) (full : Bool) (l : Line) where
   verify_rows tei (kind.Network m) k management own = wrong (is_terminal c) (nat_lt 126 tei) _ _ (sym k)
   verify_rows tei (kind.Terminal t) k management own =
       ap (λ m. sided (is_terminal c) (nat_lt 126 tei) (verifies tei m l.own)) management
-      ∙ ap (λ o. sided (is_terminal c) (nat_lt 126 tei) (verifies tei (management_of (kind.Terminal t)) o)) own
+      ∙ ap (λ o. sided (is_terminal c) (nat_lt 126 tei) (verifies tei (management_of c (kind.Terminal t)) o)) own
 
   pub all_rows : (asked : TeiRequest) (tei : ℕ) (x : Managing) → Rows (request_asked asked tei) asked tei x
   all_rows tei_request.Assign tei x = assign_rows tei x
@@ -125,6 +126,10 @@ module _ (e : LinkLayer) (s : Store) (others : List Owned) (m : Line) (st : Laye
 pub granted_same : (t : Terms) (m : machine.Link) (full : Bool) (request : link.Request) → links.refusal t m full request ≡ None → links.refusal t m false request ≡ None
 granted_same t m full request = grind (arith, nat_lt)
 
+-- a TEI of a terminal
+pub low_tei : (tei : ℕ) → tei ≤ 126 → nat_lt 126 tei ≡ false
+low_tei tei low = grind (arith, nat_lt)
+
 -- a TEI without a place is not on the line
 none_any : {X : Type 0} (p : X → Bool) (xs : List X) → length xs ≤ prefix_len (λ x. not (p x)) xs → list_any p xs ≡ false
 none_any p [] e = refl
@@ -139,18 +144,18 @@ off_line places tei = grind (arith, nat_lt, none-some, none_any, ltb-false)
 
 -- where the link of a request is, the link refuses, or not
 module _ (e : LinkLayer) (s : Store) (others : List Owned) (m : Line) (st : LayerStands e s others m) (service : Service) (tei : ℕ) (full : Bool) (request : link.Request) where
-  pub no_link : nat_lt 126 tei ≡ false → place_of tei (management_of e.teis).places ≡ None → link_refusal e.config full service tei request m ≡ Some NoLink
+  pub no_link : nat_lt 126 tei ≡ false → place_of tei (places_of e.teis) ≡ None → link_refusal e.config full service tei request m ≡ Some NoLink
   no_link low none =
       ap (λ b. cond b (Some BadTei) (cond (not (has_tei tei m)) (Some NoLink) (links.refusal (terms e.config service tei) (link_of service tei m) full request))) low
-      ∙ ap (λ b. cond (not b) (Some NoLink) (links.refusal (terms e.config service tei) (link_of service tei m) full request)) (ap (λ t. is_on tei t.places) st.management ∙ off_line (management_of e.teis).places tei none)
+      ∙ ap (λ b. cond (not b) (Some NoLink) (links.refusal (terms e.config service tei) (link_of service tei m) full request)) (ap (λ t. is_on tei t.places) st.management ∙ off_line (places_of e.teis) tei none)
 
-  pub asked : (place number : ℕ) (why : Option Refusal) → nat_lt 126 tei ≡ false → place_of tei (management_of e.teis).places ≡ Some place → (place ≤ 8 → number ≡ link_number place service)
+  pub asked : (place number : ℕ) (why : Option Refusal) → nat_lt 126 tei ≡ false → place_of tei (places_of e.teis) ≡ Some place → (place ≤ 8 → number ≡ link_number place service)
       → Refuses number full request e.links s why → link_refusal e.config full service tei request m ≡ why
   asked place number why low here exact refuses =
-      let at = (place_of-is (management_of e.teis).places tei place here).1 in
+      let at = (place_of-is (places_of e.teis) tei place here).1 in
       let n = named e s others m service tei place st at in
       let same : number ≡ link_number place service = numbered e s tei place (others, m, st) at exact in
-      let on : has_tei tei m ≡ true = ap (λ t. is_on tei t.places) st.management ∙ is_on-at (management_of e.teis).places place tei at in
+      let on : has_tei tei m ≡ true = ap (λ t. is_on tei t.places) st.management ∙ is_on-at (places_of e.teis) place tei at in
       let this : link_of service tei m ≡ machine_at m.links (link_number place service) = ap (λ o. option_map_or (link_in m service) o machine.fresh) (ap (λ t. place_of tei t.places) st.management ∙ here) in
       ap (λ b. cond b (Some BadTei) (cond (not (has_tei tei m)) (Some NoLink) (links.refusal (terms e.config service tei) (link_of service tei m) full request))) low
       ∙ ap (λ b. cond (not b) (Some NoLink) (links.refusal (terms e.config service tei) (link_of service tei m) full request)) on
@@ -159,29 +164,29 @@ module _ (e : LinkLayer) (s : Store) (others : List Owned) (m : Line) (st : Laye
 
 -- a deactivation is refused where there is no link, and granted where there is one
 module _ (e : LinkLayer) (s : Store) (others : List Owned) (m : Line) (st : LayerStands e s others m) (service : Service) (tei : ℕ) where
-  pub deactivated_refused : nat_lt 126 tei ≡ false → place_of tei (management_of e.teis).places ≡ None → refusal e.config false (Deactivate service tei) m ≡ Some NoLink
+  pub deactivated_refused : nat_lt 126 tei ≡ false → place_of tei (places_of e.teis) ≡ None → refusal e.config false (Deactivate service tei) m ≡ Some NoLink
   deactivated_refused low none =
       ap (λ b. cond b (Some BadTei) (cond (not (has_tei tei m)) (Some NoLink) None)) low
-      ∙ ap (λ b. cond (not b) (Some NoLink) None) (ap (λ t. is_on tei t.places) st.management ∙ off_line (management_of e.teis).places tei none)
+      ∙ ap (λ b. cond (not b) (Some NoLink) None) (ap (λ t. is_on tei t.places) st.management ∙ off_line (places_of e.teis) tei none)
 
-  pub deactivated_granted : (place : ℕ) → nat_lt 126 tei ≡ false → place_of tei (management_of e.teis).places ≡ Some place → refusal e.config false (Deactivate service tei) m ≡ None
+  pub deactivated_granted : (place : ℕ) → nat_lt 126 tei ≡ false → place_of tei (places_of e.teis) ≡ Some place → refusal e.config false (Deactivate service tei) m ≡ None
   deactivated_granted place low here =
-      let at = (place_of-is (management_of e.teis).places tei place here).1 in
+      let at = (place_of-is (places_of e.teis) tei place here).1 in
       ap (λ b. cond b (Some BadTei) (cond (not (has_tei tei m)) (Some NoLink) None)) low
-      ∙ ap (λ b. cond (not b) (Some NoLink) None) (ap (λ t. is_on tei t.places) st.management ∙ is_on-at (management_of e.teis).places place tei at)
+      ∙ ap (λ b. cond (not b) (Some NoLink) None) (ap (λ t. is_on tei t.places) st.management ∙ is_on-at (places_of e.teis) place tei at)
 
 -- what is granted is the same, whether the pool is full or not
 same_step : (t : Terms) (l : machine.Link) (full : Bool) (request : link.Request) → links.refusal t l full request ≡ None → answers.course t (link.requested request full) l ≡ answers.course t (link.requested request false) l
 same_step t l full request granted = grind (arith, granted_same)
 
 pub asked_serves : (e : LinkLayer) (s t : Store) (new : List Link) (has_frame : Marks) (service : Service) (tei place number : ℕ) (full : Bool) (request : link.Request) (answer : BareReport) (outcome : BareReport) {looked : Bool}
-    → Standing e s → place_of tei (management_of e.teis).places ≡ Some place → (place ≤ 8 → number ≡ link_number place service)
+    → Standing e s → place_of tei (places_of e.teis) ≡ Some place → (place ≤ 8 → number ≡ link_number place service)
     → TellsOf number new looked → Sets number looked e.has_frame has_frame → Refuses number full request e.links s None
     → all.Serves number (link.requested request full) [] e.links s new t answer
     → told_in [] outcome ≡ told_of_link (told_with [] answer)
     → Serves (λ m. at_requested service tei request (place_in m tei)) [] e s (record e { links = new; has_frame = has_frame }) t outcome
 asked_serves e s t new has_frame service tei place number full request answer outcome standing here exact looks sets refuses served told =
-    let at = (place_of-is (management_of e.teis).places tei place here).1 in
+    let at = (place_of-is (places_of e.teis) tei place here).1 in
     let same : number ≡ link_number place service = numbered e s tei place standing at exact in
     let whole = at_link_serves {octets = []} {outcome = outcome} standing at exact looks sets served told in
     record {
@@ -191,7 +196,7 @@ asked_serves e s t new has_frame service tei place number full request answer ou
       told = λ others m st. whole.told others m st ∙ ap (λ o. o.told) (one others m st at same);
     }
   where
-    one : (others : List Owned) (m : Line) → LayerStands e s others m → IsAt (management_of e.teis).places place tei → number ≡ link_number place service
+    one : (others : List Owned) (m : Line) → LayerStands e s others m → IsAt (places_of e.teis) place tei → number ≡ link_number place service
         → of_aim e.config (at_link service tei place (link.requested request full)) m ≡ of_aim e.config (at_requested service tei request (place_in m tei)) m
     one others m st at same =
         let n = named e s others m service tei place st at in

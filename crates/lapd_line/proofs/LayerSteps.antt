@@ -1,5 +1,5 @@
 -- What a call on the links does to the entities of a line.
-use Rattle.lapd_line.proofs.Vocabulary.{management_of, ◌≡◌, ℕ, ◌<◌, ◌≤◌, List, ◌++◌, length, slice_get, Option, Some, refl, sym, ap, subst, ◌∙◌, arith, append_assoc, get_or, None, Owned, Holds, Store, SameLimits, Service, Link, told_with, state_number, IsAt, place_of, at-within, place_of-is, Line, link_number, link_count, service_at, place_at, tei_at, terms, state_in, state_of, at_link}
+use Rattle.lapd_line.proofs.Vocabulary.{management_of, places_of, ◌≡◌, ℕ, ◌<◌, ◌≤◌, List, ◌++◌, length, slice_get, Option, Some, refl, sym, ap, subst, ◌∙◌, arith, append_assoc, get_or, None, Owned, Holds, Store, SameLimits, Service, Link, told_with, state_number, IsAt, place_of, at-within, place_of-is, Line, link_number, link_count, service_at, place_at, tei_at, terms, state_in, state_of, at_link}
 use Rattle.lapd_line.proofs.Vocabulary.{told_of_link, IsSound}
 use Rattle.lapd_line.proofs.Vocabulary.{place_at-number, service_at-number, number_within, aim_sound, ranges_of, LinkLayer, BareReport, told_in, unit_pairs, UnitRing, AreFor, Marks, Sets, AreAwake, TellsOf, Bool, LinksStand, HasTerms, links_pairs, terms_in, machine_at, LinkFits, LayerStands, Standing, Serves, always, Config, Managing, is_terminal, is_terminals, own_of, All, zip}
 use Rattle.std.specs.Option.{option_map}
@@ -12,7 +12,7 @@ use Rattle.lapd_line.proofs.LinkSteps.{same_many}
 -- The entities stand again where the links are as they were, and what else differs is said anew.
 pub stands_as : {e : LinkLayer} {s : Store} {others : List Owned} {m : Line} → LayerStands e s others m → (teis : Managing) (units : UnitRing) (t : Store) (rest : List Owned) (l : Line)
     → (l.links ≡ m.links) × (l.turn ≡ m.turn) × (l.management.places ≡ m.management.places) × (units.capacity ≡ e.units.capacity)
-    → e.config.n201 ≤ t.width → IsSound e.config l → (l.management ≡ management_of teis) × (l.own ≡ own_of teis) × (is_terminals teis ≡ is_terminal e.config) → AreFor units.waiting l.units → Holds t ((links_pairs e.links l.links ++ unit_pairs units.waiting l.units) ++ rest)
+    → e.config.n201 ≤ t.width → IsSound e.config l → (l.management ≡ management_of e.config teis) × (l.own ≡ own_of teis) × (is_terminals teis ≡ is_terminal e.config) → AreFor units.waiting l.units → Holds t ((links_pairs e.links l.links ++ unit_pairs units.waiting l.units) ++ rest)
     → LayerStands (record e { teis = teis; units = units }) t rest l
 stands_as {e} st teis units t rest l same wide sound management addressed held = record {
   range = st.range;
@@ -74,7 +74,7 @@ pub record Named (e : LinkLayer) (service : Service) (tei place : ℕ) : Type 0 
   pub few : link_number place service < link_count e.config
   pub has_terms : HasTerms e.links (link_number place service) (terms e.config service tei)
 
-pub named : (e : LinkLayer) (s : Store) (others : List Owned) (m : Line) (service : Service) (tei place : ℕ) → LayerStands e s others m → IsAt (management_of e.teis).places place tei → Named e service tei place
+pub named : (e : LinkLayer) (s : Store) (others : List Owned) (m : Line) (service : Service) (tei place : ℕ) → LayerStands e s others m → IsAt (places_of e.teis) place tei → Named e service tei place
 named e s others m service tei place st at =
     let number = link_number place service in
     let at' : IsAt m.management.places place tei = subst (λ t. IsAt t.places place tei) (sym st.management) at in
@@ -88,33 +88,33 @@ named e s others m service tei place st at =
     }
 
 -- at most eight places
-pub few_places : (e : LinkLayer) (s : Store) (others : List Owned) (m : Line) → LayerStands e s others m → length (management_of e.teis).places ≤ 8
+pub few_places : (e : LinkLayer) (s : Store) (others : List Owned) (m : Line) → LayerStands e s others m → length (places_of e.teis) ≤ 8
 few_places e s others m st = omega (arith, ap (λ t. length t.places) st.management, st.sound.places, (ranges_of e.config st.range).terminals.most)
 
 -- so the number of a link is exact
-pub numbered : (e : LinkLayer) (s : Store) (tei place : ℕ) {result number : ℕ} → Standing e s → IsAt (management_of e.teis).places place tei → (place ≤ 8 → result ≡ number) → result ≡ number
-numbered e s tei place (others, m, st) at h = h (omega (arith, at-within (management_of e.teis).places place tei at, few_places e s others m st))
+pub numbered : (e : LinkLayer) (s : Store) (tei place : ℕ) {result number : ℕ} → Standing e s → IsAt (places_of e.teis) place tei → (place ≤ 8 → result ≡ number) → result ≡ number
+numbered e s tei place (others, m, st) at h = h (omega (arith, at-within (places_of e.teis) place tei at, few_places e s others m st))
 
 -- for calls on its links
 pub links_standing : {e : LinkLayer} {s : Store} → Standing e s → (c : Config) × (others : List Owned) × (ms : List machine.Link) × LinksStand c e.links s others ms
 links_standing {e} {s} (others, m, st) = (e.config, beside_links e m others, m.links, links_part e s others m st)
 
-pub number_there : {e : LinkLayer} {s : Store} (service : Service) {tei place number : ℕ} → Standing e s → IsAt (management_of e.teis).places place tei → (place ≤ 8 → number ≡ link_number place service) → number < length e.links
+pub number_there : {e : LinkLayer} {s : Store} (service : Service) {tei place number : ℕ} → Standing e s → IsAt (places_of e.teis) place tei → (place ≤ 8 → number ≡ link_number place service) → number < length e.links
 number_there {e} {s} service {tei} {place} (others, m, st) at exact =
     subst (λ n. n < length e.links) (sym (numbered e s tei place (others, m, st) at exact)) (named e s others m service tei place st at).within
 
 -- it is so after a call that keeps the parameters, and has its mark
-pub number_still : {e : LinkLayer} {s : Store} (new : List Link) (service : Service) {tei place number : ℕ} → Standing e s → IsAt (management_of e.teis).places place tei → (place ≤ 8 → number ≡ link_number place service)
+pub number_still : {e : LinkLayer} {s : Store} (new : List Link) (service : Service) {tei place number : ℕ} → Standing e s → IsAt (places_of e.teis) place tei → (place ≤ 8 → number ≡ link_number place service)
     → terms_in new ≡ terms_in e.links → number < length new
 number_still {e} new service standing at exact same = omega (arith, number_there service standing at exact, same_many new e.links same)
 
-pub number_low : {e : LinkLayer} {s : Store} (service : Service) {tei place number : ℕ} → Standing e s → IsAt (management_of e.teis).places place tei → (place ≤ 8 → number ≡ link_number place service) → number < 64
+pub number_low : {e : LinkLayer} {s : Store} (service : Service) {tei place number : ℕ} → Standing e s → IsAt (places_of e.teis) place tei → (place ≤ 8 → number ≡ link_number place service) → number < 64
 number_low {e} {s} service (others, m, st) at exact =
     omega (arith, number_there service (others, m, st) at exact, st.count, (ranges_of e.config st.range).terminals.most)
 
 -- an event of a link
 pub at_link_serves : {e : LinkLayer} {s t : Store} {new : List Link} {has_frame : Marks} {service : Service} {tei place number : ℕ} {what : event.Event} {info octets : List ℕ} {answer : BareReport} {outcome : BareReport} {looked : Bool}
-    → Standing e s → IsAt (management_of e.teis).places place tei → (place ≤ 8 → number ≡ link_number place service) → TellsOf number new looked → Sets number looked e.has_frame has_frame
+    → Standing e s → IsAt (places_of e.teis) place tei → (place ≤ 8 → number ≡ link_number place service) → TellsOf number new looked → Sets number looked e.has_frame has_frame
     → links.Serves number what info e.links s new t answer → told_in octets outcome ≡ told_of_link (told_with info answer)
     → Serves (always (at_link service tei place what)) octets e s (record e { links = new; has_frame = has_frame }) t outcome
 at_link_serves {e} {s} {t} {new} {has_frame} {service} {tei} {place} {number} {what} {info} {answer = answer} {looked = looked} standing at exact looks sets serves is_told =
@@ -137,12 +137,12 @@ at_link_serves {e} {s} {t} {new} {has_frame} {service} {tei} {place} {number} {w
     }
 
 -- the state of a link of a TEI on the line
-pub state_is : (e : LinkLayer) (s : Store) (others : List Owned) (m : Line) (service : Service) (tei place number : ℕ) (result : Option ℕ) → LayerStands e s others m → place_of tei (management_of e.teis).places ≡ Some place
+pub state_is : (e : LinkLayer) (s : Store) (others : List Owned) (m : Line) (service : Service) (tei place number : ℕ) (result : Option ℕ) → LayerStands e s others m → place_of tei (places_of e.teis) ≡ Some place
     → (place ≤ 8 → number ≡ link_number place service)
     → (number < length e.links → LinksStand e.config e.links s (beside_links e m others) m.links → result ≡ Some (state_number (machine_at m.links number).state))
     → result ≡ state_of service tei m
 state_is e s others m service tei place number result st is named_so h =
-    let at = (place_of-is (management_of e.teis).places tei place is).1 in
+    let at = (place_of-is (places_of e.teis) tei place is).1 in
     let n = named e s others m service tei place st at in
     let same : number ≡ link_number place service = numbered e s tei place (others, m, st) at named_so in
     h (subst (λ x. x < length e.links) (sym same) n.within) (links_part e s others m st)

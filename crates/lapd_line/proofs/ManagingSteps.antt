@@ -13,7 +13,7 @@ use Rattle.lapd_terminal.proofs.Served.{leads}
 use Rattle.model_line.proofs.Managed.{idle_course}
 use Rattle.lapd_line.specs.declared.managing.Managing.{Managing}
 use Rattle.lapd_line.specs.declared.managing.Managing.TheVariants as kind
-use Rattle.lapd_line.specs.Managing.{management_of, own_of, is_terminals, offered_by, without_message}
+use Rattle.lapd_line.specs.Managing.{management_of, places_of, own_of, is_terminals, offered_by, without_message}
 use Rattle.lapd_line.specs.TeiChanges.{Finds, Leads, IsAnswerTo, Answers}
 
 -- At a side that is no terminal's an event of TEI management is the network's,
@@ -47,7 +47,7 @@ network_answers e b n outcome range after told c = record { kind = refl; leads =
 
 -- A terminal has served one: it has found what the line has.
 its_terminal : (c : Config) (b : Terminal) (m : Line) → Finds c (kind.Terminal b) m → terminal_in m ≡ b
-its_terminal c b m f = ap (λ x. terminal_with x m.own) f.management ∙ ap (terminal_with (management_of (kind.Terminal b))) f.own
+its_terminal c b m f = ap (λ x. terminal_with x m.own) f.management ∙ ap (terminal_with (management_of c (kind.Terminal b))) f.own
 
 terminal_leads : (c : Config) (aim : Aim) (e : terminals.Event) (b n : Terminal) (outcome : TeiOutcome) → terminal_laws.IsInRange e → n ≡ terminals.after e b
     → outcome.change ≡ (terminals.told e b).change → told_of_management (told_of outcome) ≡ told_of_terminal (terminals.told e b)
@@ -97,10 +97,10 @@ idle_leads c aim x outcome change told m f is proper = record {
   effect =
       is
       ∙ ap (λ y. of_change c None nothing (record m { management = y })) f.management
-      ∙ ap (λ y. of_change c None nothing (record m { management = management_of x; own = y })) f.own
-      ∙ ap (λ o. of_change c o nothing (record m { management = management_of x; own = own_of x })) (sym change)
-      ∙ ap (λ t. of_change c outcome.change t (record m { management = management_of x; own = own_of x })) (sym told);
-  moves = subst (λ o. Moves m.management.places o (management_of x).places) (sym change) (ap (λ y. y.places) (sym f.management));
+      ∙ ap (λ y. of_change c None nothing (record m { management = management_of c x; own = y })) f.own
+      ∙ ap (λ o. of_change c o nothing (record m { management = management_of c x; own = own_of x })) (sym change)
+      ∙ ap (λ t. of_change c outcome.change t (record m { management = management_of c x; own = own_of x })) (sym told);
+  moves = subst (λ o. Moves m.management.places o (places_of x)) (sym change) (ap (λ y. y.places) (sym f.management));
   sound = aim_sound c f.range m aim f.sound proper;
 }
 
@@ -120,8 +120,8 @@ no_t202 b outcome change told c = record {
 }
 
 -- A message that waits is taken.
-pub message_of_kind : (c : Config) (x : Managing) (m : Line) → is_terminals x ≡ is_terminal c → m.management ≡ management_of x → m.own ≡ own_of x
-    → message_taken c m ≡ option_map (λ octets. record { frame = octets; orders = []; line = record m { management = management_of (without_message x); own = own_of (without_message x) } }) (offered_by c.side x)
+pub message_of_kind : (c : Config) (x : Managing) (m : Line) → is_terminals x ≡ is_terminal c → m.management ≡ management_of c x → m.own ≡ own_of x
+    → message_taken c m ≡ option_map (λ octets. record { frame = octets; orders = []; line = record m { management = management_of c (without_message x); own = own_of (without_message x) } }) (offered_by c.side x)
 message_of_kind c (kind.Network b) m is management own =
     ap (λ b. cond b (option_map (with_own_message m) (terminals.offered (terminal_in m))) (option_map (with_message m) (teis.offered c.side m.management))) (sym is)
     ∙ ap (λ x. option_map (λ octets. record { frame = octets; orders = []; line = record m { management = teis.after_offer x } }) (teis.offered c.side x)) management
@@ -129,5 +129,5 @@ message_of_kind c (kind.Network b) m is management own =
 message_of_kind c (kind.Terminal b) m is management own =
     ap (λ b. cond b (option_map (with_own_message m) (terminals.offered (terminal_in m))) (option_map (with_message m) (teis.offered c.side m.management))) (sym is)
     ∙ ap (λ x. option_map (λ octets. record { frame = octets; orders = []; line = with_terminal (terminals.after_offer x) m }) (terminals.offered x))
-    (ap (λ x. terminal_with x m.own) management ∙ ap (terminal_with (management_of (kind.Terminal b))) own)
+    (ap (λ x. terminal_with x m.own) management ∙ ap (terminal_with (management_of c (kind.Terminal b))) own)
     ∙ ap (λ x. option_map (λ octets. record { frame = octets; orders = []; line = record m { management = record x { places = b.places }; own = own_of (without_message (kind.Terminal b)) } }) (terminals.offered b)) management

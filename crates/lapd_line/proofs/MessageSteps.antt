@@ -25,11 +25,11 @@ type_counted type = option_map_or (type_shown Begun) type []
 -- a frame of TEI management has its message
 of_message : (side : Side) (message : Message) → message_shown Begun (frame_of side message) ≡ type_shown Begun (type_of message)
 of_message Network (IdentityAssigned ri tei) = refl
-of_message Network (IdentityDenied ri) = refl
+of_message Network (IdentityDenied ri tei) = refl
 of_message Network (IdentityCheckRequest tei) = refl
 of_message Network (IdentityRemove tei) = refl
 of_message User (IdentityAssigned ri tei) = refl
-of_message User (IdentityDenied ri) = refl
+of_message User (IdentityDenied ri tei) = refl
 of_message User (IdentityCheckRequest tei) = refl
 of_message User (IdentityRemove tei) = refl
 
@@ -81,7 +81,7 @@ of_own_message (IdentityCheckResponse ri tei) = refl
 of_own_message (IdentityVerify tei) = refl
 
 -- so what is taken shows the message that waits first
-pub message_is : (c : Config) (x : Managing) (m : Line) → is_terminals x ≡ is_terminal c → m.management ≡ management_of x → m.own ≡ own_of x → {k : Taken} → taken c m ≡ Some k
+pub message_is : (c : Config) (x : Managing) (m : Line) → is_terminals x ≡ is_terminal c → m.management ≡ management_of c x → m.own ≡ own_of x → {k : Taken} → taken c m ≡ Some k
     → message_shown Begun k.frame ≡ type_counted (first_type x)
 message_is c x m same management own {k} is = by_kind x (sym (ap (λ o. option_or o rest) (message_of_kind c x m same management own)) ∙ is)
   where
@@ -93,7 +93,7 @@ message_is c x m same management own {k} is = by_kind x (sym (ap (λ o. option_o
     others (Some x) some is = of_unit c m (some ∙ is)
 
     to_taken : Managing → List ℕ → Taken
-    to_taken x octets = record { frame = octets; orders = []; line = record m { management = management_of (without_message x); own = own_of (without_message x) } }
+    to_taken x octets = record { frame = octets; orders = []; line = record m { management = management_of c (without_message x); own = own_of (without_message x) } }
 
     of_network : (x : Managing) (o : Option Message) → option_or (option_map (to_taken x) (option_map (frame_of c.side) o)) rest ≡ Some k → message_shown Begun k.frame ≡ type_counted (option_map type_of o)
     of_network x None is = none_shown k.frame (others (unit_taken c m) refl is)

@@ -1,13 +1,13 @@
 -- A message of TEI management is taken, or none waits.
 use Rattle.lapd_line.proofs.Vocabulary.{◌≡◌, ℕ, List, [], ◌∷◌, drop, slice_get, Option, Some, None, IfSome, option_or, option_map, refl, sym, ap, subst, ◌∙◌, arith, none-some, Owned, Store, Side, Config, Line, Taken, message_taken, unit_taken, first_taken, round, IsSound, TakesSoundly, taken_sound, LinkLayer, LayerStands, Loading, Loads, Took, Takes, room_in, reference_in, Managing, is_terminals}
-use Rattle.lapd_line.proofs.Vocabulary.{management_of, offered_by, own_of, is_some, false, false≢true}
+use Rattle.lapd_line.proofs.Vocabulary.{management_of, places_of, offered_by, own_of, is_some, false, false≢true}
 use Rattle.lapd_line.specs.Managing.{Gives, without_message}
 use Rattle.lapd_line.specs.declared.managing.Managing.TheVariants as kind
 use Rattle.lapd_line.proofs.LayerSteps.{stands_as}
 use Rattle.lapd_line.proofs.ManagingSteps.{message_of_kind}
 
 -- The table stays, and the kind.
-same_places : (x : Managing) → (management_of (without_message x)).places ≡ (management_of x).places
+same_places : (x : Managing) → (places_of (without_message x)) ≡ (places_of x)
 same_places (kind.Network m) = refl
 same_places (kind.Terminal t) = refl
 
@@ -26,7 +26,7 @@ none_left side (kind.Terminal t) none = ap (λ ms. kind.Terminal (record t { wai
 
 module _ (e : LinkLayer) (s : Store) (new : Managing) (f g : Loading) where
   abbrev without : Line → Line
-  without m = record m { management = management_of (without_message e.teis); own = own_of (without_message e.teis) }
+  without m = record m { management = management_of e.config (without_message e.teis); own = own_of (without_message e.teis) }
 
   pub message_loaded : {octets : List ℕ} → Gives e.config.side (Some octets) e.teis new → room_in g ≡ room_in f → reference_in g ≡ reference_in f → Loads octets f g
       → Takes (λ c m. message_taken c m) e s f (record e { teis = new }) s g (Some [])
@@ -48,7 +48,7 @@ module _ (e : LinkLayer) (s : Store) (new : Managing) (f g : Loading) where
       stood : (others : List Owned) (m : Line) → LayerStands e s others m → LayerStands (record e { teis = new }) s others (without m)
       stood others m st =
           stands_as st new e.units s others (without m) (refl, refl, same_places e.teis ∙ sym (ap (λ t. t.places) st.management), refl) st.wide (sound m st)
-          (ap management_of (sym gave.after), ap own_of (sym gave.after), ap is_terminals gave.after ∙ same_kind e.teis ∙ st.kind) st.addressed st.held
+          (ap (management_of e.config) (sym gave.after), ap own_of (sym gave.after), ap is_terminals gave.after ∙ same_kind e.teis ∙ st.kind) st.addressed st.held
 
   pub no_message_loaded : Gives e.config.side None e.teis new → Takes (λ c m. message_taken c m) e s f (record e { teis = new }) s f None
   no_message_loaded gave = subst (λ x. Takes (λ c m. message_taken c m) e s f (record e { teis = x }) s f None) (sym same) (record {
@@ -65,7 +65,7 @@ module _ (e : LinkLayer) (s : Store) (new : Managing) (f g : Loading) where
       is : {others : List Owned} (m : Line) → LayerStands e s others m → message_taken e.config m ≡ None
       is m st =
           message_of_kind e.config e.teis m st.kind st.management st.own
-          ∙ ap (option_map (λ os. record { frame = os; orders = []; line = record m { management = management_of (without_message e.teis); own = own_of (without_message e.teis) } })) (sym gave.offered)
+          ∙ ap (option_map (λ os. record { frame = os; orders = []; line = record m { management = management_of e.config (without_message e.teis); own = own_of (without_message e.teis) } })) (sym gave.offered)
 
 -- It is seen at once that none waits.
 not_some : {X : Type 0} (x : Option X) → is_some x ≡ false → x ≡ None

@@ -68,6 +68,7 @@ without_unit e s t others m u st is free =
     stands_as st e.teis (without_oldest e.units) t others (record m { units = drop 1 m.units }) (refl, refl, refl, refl) (subst (λ x. e.config.n201 ≤ x.width) (sym free) st.wide)
     (record {
       management = st.sound.management;
+      reading = st.sound.reading;
       own = st.sound.own;
       places = st.sound.places;
       count = st.sound.count;

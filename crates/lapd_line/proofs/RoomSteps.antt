@@ -1,5 +1,5 @@
 -- The room of a link of a line.
-use Rattle.lapd_line.proofs.Vocabulary.{management_of, ◌≡◌, ℕ, ◌<◌, ◌≤◌, Bool, true, false, not, nat_lt, List, length, Option, Some, None, Result, Err, sym, ap, subst, ◌∙◌, cond, option_map_or, ok_or, Refusal, BadTei, NoLink, Service, Owned, Store, is_on, place_of, is_on-at, place_of-is, Room, Terms, room_of, Config, Line, has_tei, link_in, link_number, link_of, terms, unless, LinkLayer}
+use Rattle.lapd_line.proofs.Vocabulary.{places_of, ◌≡◌, ℕ, ◌<◌, ◌≤◌, Bool, true, false, not, nat_lt, List, length, Option, Some, None, Result, Err, sym, ap, subst, ◌∙◌, cond, option_map_or, ok_or, Refusal, BadTei, NoLink, Service, Owned, Store, is_on, place_of, is_on-at, place_of-is, Room, Terms, room_of, Config, Line, has_tei, link_in, link_number, link_of, terms, unless, LinkLayer}
 use Rattle.lapd_line.proofs.Vocabulary.{LayerStands, HasTerms}
 use Rattle.lapd_line.proofs.Vocabulary.{LinksStand, machine_at}
 use Rattle.model_link.specs.Link as machine
@@ -12,21 +12,21 @@ module _ (e : LinkLayer) (s : Store) (others : List Owned) (m : Line) (st : Laye
   abbrev by_tests : Bool → Bool → Result Room Refusal
   by_tests bad on = unless (cond bad (Some BadTei) (cond (not on) (Some NoLink) None)) (room_of (terms e.config service tei) free (link_of service tei m))
 
-  pub room_none : nat_lt 126 tei ≡ false → place_of tei (management_of e.teis).places ≡ None → Err NoLink ≡ room_in e.config free service tei m
+  pub room_none : nat_lt 126 tei ≡ false → place_of tei (places_of e.teis) ≡ None → Err NoLink ≡ room_in e.config free service tei m
   room_none low none =
-      ap (by_tests false) (sym (ap (λ t. is_on tei t.places) st.management ∙ off_line (management_of e.teis).places tei none))
+      ap (by_tests false) (sym (ap (λ t. is_on tei t.places) st.management ∙ off_line (places_of e.teis) tei none))
       ∙ ap (λ b. by_tests b (has_tei tei m)) (sym low)
 
-  pub room_there : (place number : ℕ) (found : Option Room) → nat_lt 126 tei ≡ false → place_of tei (management_of e.teis).places ≡ Some place
+  pub room_there : (place number : ℕ) (found : Option Room) → nat_lt 126 tei ≡ false → place_of tei (places_of e.teis) ≡ Some place
       → (place ≤ 8 → number ≡ link_number place service)
       → ((c : Config) (t : Terms) (others : List Owned) (ms : List machine.Link) → number < length e.links → HasTerms e.links number t
       → LinksStand c e.links s others ms → found ≡ Some (room_of t free (machine_at ms number)))
       → ok_or found NoLink ≡ room_in e.config free service tei m
   room_there place number found low here exact is =
-      let at = (place_of-is (management_of e.teis).places tei place here).1 in
+      let at = (place_of-is (places_of e.teis) tei place here).1 in
       let n = named e s others m service tei place st at in
       let same : number ≡ link_number place service = numbered e s tei place (others, m, st) at exact in
-      let on : has_tei tei m ≡ true = ap (λ t. is_on tei t.places) st.management ∙ is_on-at (management_of e.teis).places place tei at in
+      let on : has_tei tei m ≡ true = ap (λ t. is_on tei t.places) st.management ∙ is_on-at (places_of e.teis) place tei at in
       let this : link_of service tei m ≡ machine_at m.links (link_number place service) = ap (λ o. option_map_or (link_in m service) o machine.fresh) (ap (λ t. place_of tei t.places) st.management ∙ here) in
       ap (λ o. ok_or o NoLink)
       (is e.config (terms e.config service tei) (beside_links e m others) m.links (subst (λ x. x < length e.links) (sym same) n.within)

@@ -1,6 +1,6 @@
 -- Changes of the table, and the links that follow them.
 use Rattle.lapd_line.proofs.Vocabulary.{◌≡◌, ◌≢◌, ℕ, ◌<◌, ◌≤◌, List, [], ◌++◌, length, get_or, set, slice_get, Some, None, refl, sym, ap, subst, ◌∙◌, arith, append_assoc, ⊎_elim, cases_eq, length-map, length-set, get_or-set_same, get_or-set_other, none-some, same_Some, slice_get-set_same, slice_get-set_other, Owned, Holds, Store, Service, Call, Packet, Link, BareReport, told_with, terms_of}
-use Rattle.lapd_line.proofs.Vocabulary.{Gained, Left, TeiOutcome, HasJoined, HasLeft, Managing, management_of, own_of, Aim, told_of, Line, link_number, link_count, service_at, place_at, tei_at, terms, link_at, of_aim, of_change, told_of_link, told_of_management, with_cleared, with_opened, IsSound, IsSoundAt, IsInRange, place_at-number, service_at-number}
+use Rattle.lapd_line.proofs.Vocabulary.{Gained, Left, TeiOutcome, HasJoined, HasLeft, Managing, management_of, places_of, own_of, Aim, told_of, Line, link_number, link_count, service_at, place_at, tei_at, terms, link_at, of_aim, of_change, told_of_link, told_of_management, with_cleared, with_opened, IsSound, IsSoundAt, IsInRange, place_at-number, service_at-number}
 use Rattle.lapd_line.proofs.Vocabulary.{number_within, ranges_of, other_place, LinkLayer, told_in, unit_pairs, Marks, Sets, AreAwake, false, LinksStand, HasTerms, links_pairs, terms_in, machine_at, LayerStands, Serves, always, IsAnswerTo, with_management, Config, Terms, listed, cleared-tells, cleared-orders, LinkTold, Changing, Moves}
 use Rattle.model_link.specs.Events as event
 use Rattle.model_link.specs.Link as machine
@@ -24,7 +24,7 @@ both_cleared {c} {second = second} t1 t2 others ms has_one has_two one two stand
     (one.told c t1 others ms has_one stand, two.goes_on c t2 others _ has after_one, two.told c t2 others _ has after_one)
 
 -- the link of a free place is as it begins
-free_link : {e : LinkLayer} {s : Store} {others : List Owned} {m : Line} (service : Service) (place : ℕ) → LayerStands e s others m → place < length (management_of e.teis).places → get_or (management_of e.teis).places place None ≡ None
+free_link : {e : LinkLayer} {s : Store} {others : List Owned} {m : Line} (service : Service) (place : ℕ) → LayerStands e s others m → place < length (places_of e.teis) → get_or (places_of e.teis) place None ≡ None
     → machine_at m.links (link_number place service) ≡ machine.fresh
 free_link {e} {m = m} service place st within free =
     let number = link_number place service in
@@ -39,12 +39,12 @@ module _ (e : LinkLayer) (before : Managing) (aim : Aim) (outcome : TeiOutcome) 
   leads s others m st = is.leads m (record { range = st.range; sound = st.sound; kind = st.kind; management = st.management; own = st.own })
 
   -- the table has moved as it is told
-  pub moved : (s : Store) (others : List Owned) (m : Line) → LayerStands (with_management before e) s others m → Moves (management_of before).places outcome.change (management_of e.teis).places
-  moved s others m st = subst (λ x. Moves x.places outcome.change (management_of e.teis).places) st.management (leads s others m st).moves
+  pub moved : (s : Store) (others : List Owned) (m : Line) → LayerStands (with_management before e) s others m → Moves (places_of before) outcome.change (places_of e.teis)
+  moved s others m st = subst (λ x. Moves x.places outcome.change (places_of e.teis)) st.management (leads s others m st).moves
 
   -- what the machine makes of it
   pub followed : (s : Store) (others : List Owned) (m : Line) → LayerStands (with_management before e) s others m
-      → of_aim e.config aim m ≡ of_change e.config outcome.change (told_of_management (told_of outcome)) (record m { management = management_of e.teis; own = own_of e.teis })
+      → of_aim e.config aim m ≡ of_change e.config outcome.change (told_of_management (told_of outcome)) (record m { management = management_of e.config e.teis; own = own_of e.teis })
   followed s others m st = (leads s others m st).effect
 
   -- so they stand again, where the links do
@@ -52,10 +52,10 @@ module _ (e : LinkLayer) (before : Managing) (aim : Aim) (outcome : TeiOutcome) 
       → LayerStands (with_management before e) s others m
       → LinksStand e.config new t (unit_pairs e.units.waiting m.units ++ others) ms
       → length new ≡ length e.links
-      → ((number tei : ℕ) → number < link_count e.config → get_or (management_of e.teis).places (place_at number) None ≡ Some tei → HasTerms new number (terms e.config (service_at number) tei))
+      → ((number tei : ℕ) → number < link_count e.config → get_or (places_of e.teis) (place_at number) None ≡ Some tei → HasTerms new number (terms e.config (service_at number) tei))
       → AreAwake has_frame new ms
-      → (of_aim e.config aim m).line ≡ record m { management = management_of e.teis; own = own_of e.teis; links = ms }
-      → LayerStands (record e { links = new; has_frame = has_frame }) t others (record m { management = management_of e.teis; own = own_of e.teis; links = ms })
+      → (of_aim e.config aim m).line ≡ record m { management = management_of e.config e.teis; own = own_of e.teis; links = ms }
+      → LayerStands (record e { links = new; has_frame = has_frame }) t others (record m { management = management_of e.config e.teis; own = own_of e.teis; links = ms })
   rebuilt s t others m new ms has_frame st stand count has_terms are_awake line = record {
     range = st.range;
     wide = stand.wide;
@@ -80,14 +80,14 @@ module _ (e : LinkLayer) (before : Managing) (aim : Aim) (outcome : TeiOutcome) 
     config = refl;
     limits = record { slots = refl; width = refl };
     stands = λ others m st.
-        let same : (management_of e.teis).places ≡ (management_of before).places = subst (λ c. Moves (management_of before).places c (management_of e.teis).places) none (moved s others m st) in
-        let all : of_aim e.config aim m ≡ record { line = record m { management = management_of e.teis; own = own_of e.teis }; told = told_of_management (told_of outcome) } =
-        followed s others m st ∙ ap (λ c. of_change e.config c (told_of_management (told_of outcome)) (record m { management = management_of e.teis; own = own_of e.teis })) none in
+        let same : (places_of e.teis) ≡ (places_of before) = subst (λ c. Moves (places_of before) c (places_of e.teis)) none (moved s others m st) in
+        let all : of_aim e.config aim m ≡ record { line = record m { management = management_of e.config e.teis; own = own_of e.teis }; told = told_of_management (told_of outcome) } =
+        followed s others m st ∙ ap (λ c. of_change e.config c (told_of_management (told_of outcome)) (record m { management = management_of e.config e.teis; own = own_of e.teis })) none in
         subst (λ l. LayerStands e s others l) (sym (ap (λ x. x.line) all))
         (rebuilt s s others m e.links m.links e.has_frame st (links_part (with_management before e) s others m st) refl
         (λ number tei few at. st.terms number tei few (ap (λ b. get_or b.places (place_at number) None) st.management ∙ ap (λ p. get_or p (place_at number) None) (sym same) ∙ at))
         st.has_frame (ap (λ x. x.line) all));
-    told = λ others m st. told ∙ ap (λ x. x.told) (sym (followed s others m st ∙ ap (λ c. of_change e.config c (told_of_management (told_of outcome)) (record m { management = management_of e.teis; own = own_of e.teis })) none));
+    told = λ others m st. told ∙ ap (λ x. x.told) (sym (followed s others m st ∙ ap (λ c. of_change e.config c (told_of_management (told_of outcome)) (record m { management = management_of e.config e.teis; own = own_of e.teis })) none));
   }
 
   -- A TEI has come to the line.
@@ -102,12 +102,12 @@ module _ (e : LinkLayer) (before : Managing) (aim : Aim) (outcome : TeiOutcome) 
     config = refl;
     limits = record { slots = refl; width = refl };
     stands = λ others m st.
-        let there : HasJoined (management_of before).places (management_of e.teis).places tei place = subst (λ c. Moves (management_of before).places c (management_of e.teis).places) gained (moved s others m st) in
-        let all : of_aim e.config aim m ≡ record { line = with_opened place (record m { management = management_of e.teis; own = own_of e.teis }); told = told_of_management (told_of outcome) } =
-        followed s others m st ∙ ap (λ c. of_change e.config c (told_of_management (told_of outcome)) (record m { management = management_of e.teis; own = own_of e.teis })) gained in
+        let there : HasJoined (places_of before) (places_of e.teis) tei place = subst (λ c. Moves (places_of before) c (places_of e.teis)) gained (moved s others m st) in
+        let all : of_aim e.config aim m ≡ record { line = with_opened place (record m { management = management_of e.config e.teis; own = own_of e.teis }); told = told_of_management (told_of outcome) } =
+        followed s others m st ∙ ap (λ c. of_change e.config c (told_of_management (told_of outcome)) (record m { management = management_of e.config e.teis; own = own_of e.teis })) gained in
         subst (λ l. LayerStands (record e { links = two }) s others l) (sym (ap (λ x. x.line) all))
         (rebuilt s s others m two _ e.has_frame st (second _ _ (first _ _ (links_part (with_management before e) s others m st))) count (has_terms s others m st there) (are_awake s others m st there) (ap (λ x. x.line) all));
-    told = λ others m st. told ∙ ap (λ x. x.told) (sym (followed s others m st ∙ ap (λ c. of_change e.config c (told_of_management (told_of outcome)) (record m { management = management_of e.teis; own = own_of e.teis })) gained));
+    told = λ others m st. told ∙ ap (λ x. x.told) (sym (followed s others m st ∙ ap (λ c. of_change e.config c (told_of_management (told_of outcome)) (record m { management = management_of e.config e.teis; own = own_of e.teis })) gained));
   }
     where
       call : ℕ
@@ -123,20 +123,20 @@ module _ (e : LinkLayer) (before : Managing) (aim : Aim) (outcome : TeiOutcome) 
       count = sym (length-map two terms_of) ∙ ap (λ l. length l) all_terms ∙ length-set _ packet _ ∙ length-set _ call _ ∙ length-map e.links terms_of
 
       -- they were asleep, as the place was free, and begin with nothing to give
-      are_awake : (s' : Store) (others : List Owned) (m : Line) → LayerStands (with_management before e) s' others m → HasJoined (management_of before).places (management_of e.teis).places tei place
+      are_awake : (s' : Store) (others : List Owned) (m : Line) → LayerStands (with_management before e) s' others m → HasJoined (places_of before) (places_of e.teis) tei place
           → AreAwake e.has_frame two (set (set m.links call machine.fresh) packet machine.fresh)
       are_awake s' others m st there =
           awake_begun e.has_frame one two (set m.links call machine.fresh) packet (λ other apart. ap (λ l. slice_get l other) second_terms ∙ slice_get-set_other (terms_in one) packet other _ apart)
           (get_or-set_other m.links call packet machine.fresh machine.fresh (λ q. omega (arith, q)) ∙ free_link {e = with_management before e} Packet place st there.within there.was_free)
           (awake_begun e.has_frame e.links one m.links call (λ other apart. ap (λ l. slice_get l other) first_terms ∙ slice_get-set_other (terms_in e.links) call other _ apart) (free_link {e = with_management before e} Call place st there.within there.was_free) st.has_frame)
 
-      has_terms : (s' : Store) (others : List Owned) (m : Line) → LayerStands (with_management before e) s' others m → HasJoined (management_of before).places (management_of e.teis).places tei place
-          → (number tei' : ℕ) → number < link_count e.config → get_or (management_of e.teis).places (place_at number) None ≡ Some tei' → HasTerms two number (terms e.config (service_at number) tei')
+      has_terms : (s' : Store) (others : List Owned) (m : Line) → LayerStands (with_management before e) s' others m → HasJoined (places_of before) (places_of e.teis) tei place
+          → (number tei' : ℕ) → number < link_count e.config → get_or (places_of e.teis) (place_at number) None ≡ Some tei' → HasTerms two number (terms e.config (service_at number) tei')
       has_terms s' others m st there number tei' few at =
           subst (λ l. slice_get l number ≡ Some (terms e.config (service_at number) tei')) (sym all_terms)
           (⊎_elim here away (cases_eq (place_at number) place))
         where
-          places_are : get_or (set (management_of before).places place (Some tei)) (place_at number) None ≡ Some tei'
+          places_are : get_or (set (places_of before) place (Some tei)) (place_at number) None ≡ Some tei'
           places_are = ap (λ p. get_or p (place_at number) None) (sym there.is_there) ∙ at
 
           long : length (terms_in e.links) ≡ link_count e.config
@@ -147,7 +147,7 @@ module _ (e : LinkLayer) (before : Managing) (aim : Aim) (outcome : TeiOutcome) 
 
           here : place_at number ≡ place → slice_get (set (set (terms_in e.links) call (terms e.config Call tei)) packet (terms e.config Packet tei)) number ≡ Some (terms e.config (service_at number) tei')
           here same =
-              let tei_is : tei ≡ tei' = same_Some _ _ (sym (get_or-set_same (management_of before).places place (Some tei) None there.within) ∙ ap (λ p. get_or (set (management_of before).places place (Some tei)) p None) (sym same) ∙ places_are) in
+              let tei_is : tei ≡ tei' = same_Some _ _ (sym (get_or-set_same (places_of before) place (Some tei) None there.within) ∙ ap (λ p. get_or (set (places_of before) place (Some tei)) p None) (sym same) ∙ places_are) in
               let long_one = length-set (terms_in e.links) call (terms e.config Call tei) in
               ⊎_elim
               (λ n. subst (λ x. slice_get (set (set (terms_in e.links) call (terms e.config Call tei)) packet (terms e.config Packet tei)) x ≡ Some (terms e.config (service_at x) tei')) (sym n)
@@ -162,7 +162,7 @@ module _ (e : LinkLayer) (before : Managing) (aim : Aim) (outcome : TeiOutcome) 
           away other =
               slice_get-set_other _ packet number _ (λ p. other_place number place Packet other p)
               ∙ slice_get-set_other _ call number _ (λ p. other_place number place Call other p)
-              ∙ st.terms number tei' few (ap (λ b. get_or b.places (place_at number) None) st.management ∙ sym (get_or-set_other (management_of before).places place (place_at number) (Some tei) None other) ∙ places_are)
+              ∙ st.terms number tei' few (ap (λ b. get_or b.places (place_at number) None) st.management ∙ sym (get_or-set_other (places_of before) place (place_at number) (Some tei) None other) ∙ places_are)
 
   -- A TEI has left the line.
   pub left : (s u t : Store) (octets : List ℕ) (o : BareReport) (tei place : ℕ) (one two : List Link) (call packet : BareReport) (mid has_frame : Marks) → outcome.change ≡ Some (Left tei place)
@@ -175,19 +175,19 @@ module _ (e : LinkLayer) (before : Managing) (aim : Aim) (outcome : TeiOutcome) 
     config = refl;
     limits = record { slots = second.limits.slots ∙ first.limits.slots; width = second.limits.width ∙ first.limits.width };
     stands = λ others m st.
-        let all = followed s others m st ∙ ap (λ c. of_change e.config c (told_of_management (told_of outcome)) (record m { management = management_of e.teis; own = own_of e.teis })) gone in
+        let all = followed s others m st ∙ ap (λ c. of_change e.config c (told_of_management (told_of outcome)) (record m { management = management_of e.config e.teis; own = own_of e.teis })) gone in
         subst (λ l. LayerStands (record e { links = two; has_frame = has_frame }) t others l) (sym (ap (λ x. x.line) all))
         (rebuilt s t others m two _ has_frame st (both s others m st).1 (same_many two e.links same_terms) (has_terms s others m st) (are_awake m st.has_frame) (ap (λ x. x.line) all));
     told = λ others m st.
-        let all = followed s others m st ∙ ap (λ c. of_change e.config c (told_of_management (told_of outcome)) (record m { management = management_of e.teis; own = own_of e.teis })) gone in
+        let all = followed s others m st ∙ ap (λ c. of_change e.config c (told_of_management (told_of outcome)) (record m { management = management_of e.config e.teis; own = own_of e.teis })) gone in
         told
         ∙ ap (λ x. with_cleared (told_of_link x) (told_of_link (told_with [] packet)) (told_of_management (told_of outcome))) (both s others m st).0
         ∙ ap (λ x. with_cleared (told_of_link (answers.told (terms e.config Call tei) event.cleared (machine_at m.links (link_number place Call)))) (told_of_link x) (told_of_management (told_of outcome))) (both s others m st).2
         ∙ sym (ap (λ x. x.told) all);
   }
     where
-      there : (s' : Store) (others : List Owned) (m : Line) → LayerStands (with_management before e) s' others m → HasLeft (management_of before).places (management_of e.teis).places tei place
-      there s' others m st = subst (λ c. Moves (management_of before).places c (management_of e.teis).places) gone (moved s' others m st)
+      there : (s' : Store) (others : List Owned) (m : Line) → LayerStands (with_management before e) s' others m → HasLeft (places_of before) (places_of e.teis) tei place
+      there s' others m st = subst (λ c. Moves (places_of before) c (places_of e.teis)) gone (moved s' others m st)
 
       one_of : List machine.Link → List machine.Link
       one_of ms = set ms (link_number place Call) (answers.after (terms e.config Call tei) event.cleared (machine_at ms (link_number place Call)))
@@ -212,14 +212,14 @@ module _ (e : LinkLayer) (before : Managing) (aim : Aim) (outcome : TeiOutcome) 
           (awake_cleared e.has_frame mid e.links one m.links (link_number place Call) sleeps first.terms h)
 
       has_terms : (s' : Store) (others : List Owned) (m : Line) → LayerStands (with_management before e) s' others m
-          → (number tei' : ℕ) → number < link_count e.config → get_or (management_of e.teis).places (place_at number) None ≡ Some tei' → HasTerms two number (terms e.config (service_at number) tei')
+          → (number tei' : ℕ) → number < link_count e.config → get_or (places_of e.teis) (place_at number) None ≡ Some tei' → HasTerms two number (terms e.config (service_at number) tei')
       has_terms s' others m st number tei' few at =
           let gone_from = there s' others m st in
-          let places_are : get_or (set (management_of before).places place None) (place_at number) None ≡ Some tei' = ap (λ p. get_or p (place_at number) None) (sym gone_from.is_free) ∙ at in
+          let places_are : get_or (set (places_of before) place None) (place_at number) None ≡ Some tei' = ap (λ p. get_or p (place_at number) None) (sym gone_from.is_free) ∙ at in
           subst (λ l. slice_get l number ≡ Some (terms e.config (service_at number) tei')) (sym same_terms)
           (⊎_elim
-          (λ same. absurd (none-some tei' (sym (get_or-set_same (management_of before).places place None None gone_from.within) ∙ ap (λ p. get_or (set (management_of before).places place None) p None) (sym same) ∙ places_are)))
-          (λ other. st.terms number tei' few (ap (λ b. get_or b.places (place_at number) None) st.management ∙ sym (get_or-set_other (management_of before).places place (place_at number) None None other) ∙ places_are))
+          (λ same. absurd (none-some tei' (sym (get_or-set_same (places_of before) place None None gone_from.within) ∙ ap (λ p. get_or (set (places_of before) place None) p None) (sym same) ∙ places_are)))
+          (λ other. st.terms number tei' few (ap (λ b. get_or b.places (place_at number) None) st.management ∙ sym (get_or-set_other (places_of before) place (place_at number) None None other) ∙ places_are))
           (cases_eq (place_at number) place))
 
 -- What is known where a TEI has come to a place, before its links begin; and where it has left, before they are cleared.
@@ -244,14 +244,14 @@ module _ (e : LinkLayer) (s : Store) (tei place : ℕ) where
     pub has : (service : Service) {number : ℕ} → (place ≤ 8 → number ≡ link_number place service) → HasTerms e.links number (terms e.config service tei)
 
 -- there are such links, whose numbers are exact
-link_within : {e : LinkLayer} {s : Store} {others : List Owned} {m : Line} (service : Service) (place : ℕ) {number : ℕ} → LayerStands e s others m → place < length (management_of e.teis).places → number ≡ link_number place service → number < length e.links
+link_within : {e : LinkLayer} {s : Store} {others : List Owned} {m : Line} (service : Service) (place : ℕ) {number : ℕ} → LayerStands e s others m → place < length (places_of e.teis) → number ≡ link_number place service → number < length e.links
 link_within {e} service place st within is =
     let low : place < e.config.terminals = omega (arith, within, st.sound.places, ap (λ t. length t.places) st.management) in
     omega (arith, is, st.count, number_within place e.config.terminals service low)
 
 pub coming : {e : LinkLayer} {s : Store} {outcome : TeiOutcome} {tei place : ℕ} → Changing e s outcome → outcome.change ≡ Some (Gained tei place) → Coming e s tei place
 coming {e} {s} {outcome} {tei} {place} (aim, before, is, (others, m, st)) gained =
-    let there : HasJoined (management_of before).places (management_of e.teis).places tei place = subst (λ c. Moves (management_of before).places c (management_of e.teis).places) gained (moved e before aim outcome is s others m st) in
+    let there : HasJoined (places_of before) (places_of e.teis) tei place = subst (λ c. Moves (places_of before) c (places_of e.teis)) gained (moved e before aim outcome is s others m st) in
     let few = few_places (with_management before e) s others m st in
     record {
       others = unit_pairs e.units.waiting m.units ++ others;
@@ -266,7 +266,7 @@ coming {e} {s} {outcome} {tei} {place} (aim, before, is, (others, m, st)) gained
 
 pub going : {e : LinkLayer} {s : Store} {outcome : TeiOutcome} {tei place : ℕ} → Changing e s outcome → outcome.change ≡ Some (Left tei place) → Going e s tei place
 going {e} {s} {outcome} {tei} {place} (aim, before, is, (others, m, st)) gone =
-    let there : HasLeft (management_of before).places (management_of e.teis).places tei place = subst (λ c. Moves (management_of before).places c (management_of e.teis).places) gone (moved e before aim outcome is s others m st) in
+    let there : HasLeft (places_of before) (places_of e.teis) tei place = subst (λ c. Moves (places_of before) c (places_of e.teis)) gone (moved e before aim outcome is s others m st) in
     let few = few_places (with_management before e) s others m st in
     record {
       others = unit_pairs e.units.waiting m.units ++ others;

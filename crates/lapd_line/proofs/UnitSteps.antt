@@ -1,5 +1,5 @@
 -- Unit data that is asked to be sent: why it is refused, and where it waits.
-use Rattle.lapd_line.proofs.Vocabulary.{management_of, ◌≡◌, ℕ, ◌≤◌, ◌<◌, ◌==◌, ◌&&◌, ◌||◌, Bool, true, false, not, nat_lt, nat_le, cond, List, [], ◌∷◌, ◌++◌, length, Option, Some, None, refl, sym, ap, subst, ◌∙◌, arith, ltb-false, leb-false, map-append, length-map, Refusal, BadTei, NoLink, TooLong, QueueFull, PoolFull, Service, Owned, Holds, pairs_of, Store, SameLimits, with_contents, used_slots}
+use Rattle.lapd_line.proofs.Vocabulary.{places_of, ◌≡◌, ℕ, ◌≤◌, ◌<◌, ◌==◌, ◌&&◌, ◌||◌, Bool, true, false, not, nat_lt, nat_le, cond, List, [], ◌∷◌, ◌++◌, length, Option, Some, None, refl, sym, ap, subst, ◌∙◌, arith, ltb-false, leb-false, map-append, length-map, Refusal, BadTei, NoLink, TooLong, QueueFull, PoolFull, Service, Owned, Holds, pairs_of, Store, SameLimits, with_contents, used_slots}
 use Rattle.lapd_line.proofs.Vocabulary.{Keeps-put}
 use Rattle.lapd_line.proofs.Vocabulary.{Places, is_on, place_of, place_of-is, is_on-at, Config, nothing, Line, UnitData, at_units, of_aim, refusal, unit_contents, last_unit_tei, IsProper, aim_sound, unit_tei, LinkLayer, BareReport, QueuedUnit, LayerStands, Standing, Serves, always, told_in, UnitRing, AreFor, messages_of, unit_pairs, slot_of, with_newest}
 use Rattle.std.specs.Option.{is_some}
@@ -36,7 +36,7 @@ waiting e s others m st = sym (length-map e.units.waiting slot_of) ∙ as_many e
 
 -- No row before those for room holds: then these two are the answer.
 pub room_is_left : (e : LinkLayer) (s : Store) (others : List Owned) (m : Line) (service : Service) (tei octets : ℕ) (contents : List ℕ) (full : Bool) (answer : Option Refusal)
-    → LayerStands e s others m → length contents ≡ octets → nat_lt (last_unit_tei e.config.side) tei ≡ false → ((tei == 127) || is_on tei (management_of e.teis).places) ≡ true → nat_lt e.config.n201 octets ≡ false
+    → LayerStands e s others m → length contents ≡ octets → nat_lt (last_unit_tei e.config.side) tei ≡ false → ((tei == 127) || is_on tei (places_of e.teis)) ≡ true → nat_lt e.config.n201 octets ≡ false
     → answer ≡ cond (nat_le e.config.unit_queue (length e.units.waiting)) (Some QueueFull) (cond full (Some PoolFull) None)
     → answer ≡ refusal e.config full (asked.Unit service tei contents) m
 room_is_left e s others m service tei octets contents full answer st size low found short is =

@@ -43,7 +43,7 @@ pub use Rattle.lapd_frame.specs.declared.services.Service.TheVariants.{Call, Pac
 pub use Rattle.lapd_frame.specs.declared.short_lists.ShortList.{ShortList}
 pub use Rattle.lapd_frame.specs.declared.timers.Order.{Order}
 pub use Rattle.lapd_frame.specs.declared.timers.Timer.{Timer}
-pub use Rattle.lapd_line.specs.Addressing.{addressee, aim_at, group_service, is_ui, message_at, of_service, serves_messages}
+pub use Rattle.lapd_line.specs.Addressing.{addressee, aim_at, group_service, is_ui, message_at, of_service, reaches_link, serves_messages}
 pub use Rattle.lapd_line.specs.Awake.{AreAwake, TellsOf, gives, gives_at}
 pub use Rattle.lapd_line.specs.Counted.{bare_shown, with_counted}
 pub use Rattle.lapd_line.specs.LinkLayer.{Serves, Standing, LayerStands, aim_of_event, always}
@@ -54,7 +54,7 @@ pub use Rattle.lapd_line.specs.Octets.{OctetsLead, OctetsStand, octets_config}
 pub use Rattle.lapd_line.specs.Ports.{IsLoaded, IsSaid, PortStands, Pulls, latest_frame, or_latest, with_frame}
 pub use Rattle.lapd_line.specs.Pulls.{HasTaken, Takes, TakesNext, Took, orders_taken}
 pub use Rattle.lapd_line.specs.Reports.{IsClear, gave_in, pulled_of, report_told, told_beside, told_in}
-pub use Rattle.lapd_line.specs.Managing.{first_type, held_by, is_terminals, management_of, offered_by, own_of}
+pub use Rattle.lapd_line.specs.Managing.{first_type, held_by, is_terminals, management_of, offered_by, own_of, places_of}
 pub use Rattle.lapd_line.specs.declared.managing.Managing.{Managing}
 pub use Rattle.lapd_line.specs.Requests.{asked_aim, link_refusal, management_refusal}
 pub use Rattle.lapd_line.specs.Stands.{Leads, LeadsIfHeard, LineStands, answer_if_heard, config_of, pairs_of as line_pairs}
@@ -117,7 +117,7 @@ pub use Rattle.model_line.specs.Laws.{orders_in}
 pub use Rattle.model_line.specs.Line.{Line, Own, UnitData, is_terminal, terminal_in, terminal_with, with_terminal, fresh_line, has_tei, link_at, link_count, link_in, link_number, link_of, place_at, place_in, service_at, state_in, state_of, tei_at, terms, terms_at, window, with_link}
 pub use Rattle.model_line.specs.Machine.{unless_refused, unless_refused_told}
 unfoldable pub use Rattle.model_line.specs.Machine.{after, answer}
-pub use Rattle.model_line.specs.Heard.{addressed, aim_of_long, aim_of_reading, at_place, drop_for, group_tei, heard_side, message_of, to_service, unless_at_link}
+pub use Rattle.model_line.specs.Heard.{addressed, aim_of_long, aim_of_reading, aim_of_unnumbered, at_place, drop_for, group_tei, heard_side, message_of, to_service, unless_at_link}
 pub use Rattle.model_line.specs.Taken.{Taken, first_taken, line_of, link_taken, message_taken, next_of, own_side, round, taken, unit_taken, with_given_frame, with_message, with_own_message, with_unit}
 pub use Rattle.model_line.specs.Refusal.{Row, bad_tei, bad_tei_or_group, first_that_holds, no_link, no_link_nor_group, pool_full, queue_full, refusal, too_long, unit_queue_full, wrong_state}
 pub use Rattle.model_line.specs.Request.{AskTei, Assign, Check, ClearBusy, Data, Deactivate, Disown, Down, Establish, Release, Remove, Request, SetBusy, Unit, VerifyTei, request_of}

@@ -6,10 +6,12 @@ use Rattle.lapd_frame.specs.declared.controls.Control.{Control}
 use Rattle.lapd_frame.specs.declared.controls.Control.TheVariants as control
 use Rattle.lapd_frame.specs.declared.services.Service.{Service}
 use Rattle.lapd_frame.specs.Grammar.{Parts}
+use Rattle.lapd_frame.specs.Readings.{by_reading}
+use Rattle.lapd_frame.specs.declared.readings.Reading.{Reading}
 use Rattle.lapd_frame.specs.Services.{service_of}
 use Rattle.model_link.specs.Events as link
 use Rattle.lapd_tei.specs.Events as teis
-use Rattle.lapd_tei.specs.Machine.{Management, place}
+use Rattle.lapd_tei.specs.Table.{Places, place_of}
 use Rattle.lapd_tei.specs.Sound.{IsAt}
 use Rattle.model_line.specs.declared.config.Config.{Config}
 use Rattle.model_line.specs.Heard.{management_sapi, group_tei, drop_for}
@@ -23,14 +25,14 @@ abbrev pub at_place : Service → ℕ → Option ℕ → Addressee
 at_place service tei None = to.Nobody Tei
 at_place service tei (Some place) = to.Link service tei place
 
-abbrev pub of_service : Management → ℕ → Option Service → Addressee
-of_service m tei None = to.Nobody Sapi
-of_service m tei (Some service) = at_place service tei (place tei m)
+abbrev pub of_service : Places → ℕ → Option Service → Addressee
+of_service places tei None = to.Nobody Sapi
+of_service places tei (Some service) = at_place service tei (place_of tei places)
 
-abbrev pub addressee : Management → Address → Addressee
-addressee m address =
+abbrev pub addressee : Places → Address → Addressee
+addressee places address =
     if address.sapi == management_sapi then (if address.tei == group_tei then to.Management else to.Nobody Tei)
-    else of_service m address.tei (service_of address.sapi)
+    else of_service places address.tei (service_of address.sapi)
 
 -- Of the frames of layer 2 management, UI alone is served.
 abbrev pub is_ui : Control → Bool
@@ -55,6 +57,10 @@ serves_group c parts =
 abbrev pub group_service : Config → Parts → Option Service
 group_service c parts = if serves_group c parts then service_of parts.address.sapi else None
 
+-- Whether UI, if the bit is set, or else XID that is too long to keep is something to its link: by annex B UI is.
+abbrev pub reaches_link : Reading → Bool → Bool
+reaches_link reading unit = unit && by_reading reading false true
+
 -- What a frame is to the line, by its addressee: something for a link, or for layer 2 management.
 abbrev pub aim_at : Addressee → link.Received → Aim → Aim
 aim_at to.Management what to_management = to_management
@@ -62,7 +68,7 @@ aim_at (to.Link service tei place) what to_management = at_link service tei plac
 aim_at (to.Nobody cause) what to_management = drop_for cause
 
 -- A link's TEI is at its place.
-abbrev pub IsAtPlace : Management → Addressee → Type 0
-IsAtPlace m to.Management = Unit {0}
-IsAtPlace m (to.Link service tei place) = IsAt m.places place tei
-IsAtPlace m (to.Nobody cause) = Unit {0}
+abbrev pub IsAtPlace : Places → Addressee → Type 0
+IsAtPlace places to.Management = Unit {0}
+IsAtPlace places (to.Link service tei place) = IsAt places place tei
+IsAtPlace places (to.Nobody cause) = Unit {0}

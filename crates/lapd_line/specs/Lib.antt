@@ -54,7 +54,7 @@ pub use Rattle.model_line.specs.Counts.{may_send}
 pub use Rattle.model_line.specs.Effect.{at_link, at_management, at_no_link, at_terminal, at_units, told_of_link, told_of_management, with_cleared, without_units}
 pub use Rattle.model_line.specs.Event.{Answer, dropped, hears, nothing, told}
 pub use Rattle.model_line.specs.Expiry.{aim_of_expiry, at_timer}
-pub use Rattle.model_line.specs.Heard.{addressed, aim_of_long, aim_of_reading, drop_for, heard_side, unless_at_link}
+pub use Rattle.model_line.specs.Heard.{addressed, aim_of_long, aim_of_reading, aim_of_unnumbered, drop_for, heard_side, unless_at_link}
 pub use Rattle.model_line.specs.Line.{Line, is_terminal, link_count, state_of, terms, window}
 pub use Rattle.model_line.specs.Machine.{answer}
 pub use Rattle.model_line.specs.Refusal.{refusal}
@@ -70,7 +70,7 @@ pub use Rattle.model_link.specs.Rises.{held}
 pub use Rattle.model_link.specs.Room.{room_of}
 pub use Rattle.model_link.specs.Told.{starts}
 pub use Rattle.model_link.specs.declared.terms.Terms.{Terms}
-pub use Rattle.lapd_line.specs.Addressing.{IsAtPlace, addressee, group_service, is_ui, message_at, serves_group, serves_messages}
+pub use Rattle.lapd_line.specs.Addressing.{IsAtPlace, addressee, group_service, is_ui, message_at, reaches_link, serves_group, serves_messages}
 pub use Rattle.lapd_line.specs.Awake.{TellsOf}
 pub use Rattle.lapd_line.specs.Counted.{bare_shown, with_counted}
 pub use Rattle.lapd_line.specs.LinkLayer.{Serves, Standing, aim_of_event, always}
@@ -81,7 +81,7 @@ pub use Rattle.lapd_line.specs.Octets.{OctetsLead, OctetsStand, octets_config}
 pub use Rattle.lapd_line.specs.Ports.{IsLoaded, IsSaid, PortStands, latest_frame, latest_in, or_latest, with_frame}
 pub use Rattle.lapd_line.specs.Pulls.{Takes, TakesNext, orders_taken}
 pub use Rattle.lapd_line.specs.Reports.{IsClear, answer_of_request, delivered_in, gave_in, octets_of, pulled_of, report_told, told_in, told_beside, without_contents, written}
-pub use Rattle.lapd_line.specs.Managing.{Gives, IsBegunBy, first_type, held_by, is_terminals, management_of, offered_by, own_of}
+pub use Rattle.lapd_line.specs.Managing.{Gives, IsBegunBy, first_type, held_by, is_terminals, management_of, offered_by, own_of, places_of}
 pub use Rattle.lapd_line.specs.Requests.{asked_aim, is_bad, link_refusal, management_refusal, may_ask, network_refusal, refusal_at, request_asked, terminal_refusal}
 pub use Rattle.lapd_line.specs.Rounds.{IsFirstAround}
 pub use Rattle.lapd_line.specs.Stands.{Leads, LeadsIfHeard, answer_if_heard, config_of}

@@ -25,7 +25,7 @@ pub record LayerStands (e : LinkLayer) (store : Store) (others : List Owned) (m 
   pub wide : e.config.n201 ≤ store.width
   pub sound : IsSound e.config m
   -- TEI management is of the kind that the configuration says
-  pub management : m.management ≡ management_of e.teis
+  pub management : m.management ≡ management_of e.config e.teis
   pub own : m.own ≡ own_of e.teis
   pub kind : is_terminals e.teis ≡ is_terminal e.config
   pub count : length e.links ≡ link_count e.config

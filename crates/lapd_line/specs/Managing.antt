@@ -3,7 +3,8 @@ use Rattle.std.specs.Prelude.{◌≡◌, ℕ, ◌+◌, Bool, true, false, List, 
 use Rattle.lapd_frame.specs.declared.addresses.Side.{Side}
 use Rattle.lapd_tei.specs.Events as teis
 use Rattle.lapd_tei.specs.Machine as tei
-use Rattle.lapd_tei.specs.Machine.{Management}
+use Rattle.lapd_tei.specs.Machine.{Management, empty}
+use Rattle.lapd_tei.specs.Table.{Places}
 use Rattle.lapd_tei.specs.Messages as messages
 use Rattle.lapd_terminal.specs.Events as terminals
 use Rattle.lapd_terminal.specs.Machine as terminal
@@ -13,10 +14,19 @@ use Rattle.model_line.specs.Line.{Line, Own, fresh_line, is_terminal}
 use Rattle.lapd_line.specs.declared.managing.Managing.{Managing}
 use Rattle.lapd_line.specs.declared.managing.Managing.TheVariants as kind
 
--- The table, with what the network's side has beside it; and what a terminal has. Each kind has nothing of the other's.
-abbrev pub management_of : Managing → Management
-management_of (kind.Network m) = m
-management_of (kind.Terminal t) = record { places = t.places; remembered = []; check = None; waiting = [] }
+-- The table of the TEIs.
+abbrev pub places_of : Managing → Places
+places_of (kind.Network m) = m.places
+places_of (kind.Terminal t) = t.places
+
+-- The table, with what the network's side has beside it, of which a terminal has what a line begins with; and what a terminal
+-- has. The network's side has nothing of it.
+abbrev pub beside_table : Config → Managing → Management
+beside_table c (kind.Network m) = m
+beside_table c (kind.Terminal t) = empty c.reading c.terminals
+
+abbrev pub management_of : Config → Managing → Management
+management_of c x = record (beside_table c x) { places = places_of x }
 
 abbrev pub own_of : Managing → Own
 own_of (kind.Network m) = record { number = 0; procedure = None; waiting = [] }
@@ -28,7 +38,7 @@ is_terminals (kind.Terminal t) = true
 
 -- As a line begins.
 pub record IsBegunBy (c : Config) (x : Managing) : Type 0 where
-  pub management : management_of x ≡ (fresh_line c).management
+  pub management : management_of c x ≡ (fresh_line c).management
   pub own : own_of x ≡ (fresh_line c).own
   pub kind : is_terminals x ≡ is_terminal c
 

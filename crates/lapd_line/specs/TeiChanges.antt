@@ -11,19 +11,19 @@ use Rattle.model_line.specs.Sound.{IsInRange, IsSound}
 use Rattle.lapd_line.specs.declared.link_layer.LinkLayer.{LinkLayer}
 use Rattle.lapd_line.specs.declared.managing.Managing.{Managing}
 use Rattle.lapd_line.specs.LinkLayer.{Standing}
-use Rattle.lapd_line.specs.Managing.{management_of, own_of, is_terminals}
+use Rattle.lapd_line.specs.Managing.{management_of, places_of, own_of, is_terminals}
 
 -- A line that stands for it, and how the aim leads that line on: the table has moved as is told, and the rest is to follow.
 pub record Finds (c : Config) (x : Managing) (m : Line) : Type 0 where
   pub range : IsInRange c
   pub sound : IsSound c m
   pub kind : is_terminals x ≡ is_terminal c
-  pub management : m.management ≡ management_of x
+  pub management : m.management ≡ management_of c x
   pub own : m.own ≡ own_of x
 
 pub record Leads (c : Config) (aim : Aim) (now : Managing) (outcome : TeiOutcome) (m : Line) : Type 0 where
-  pub effect : of_aim c aim m ≡ of_change c outcome.change (told_of_management (told_of outcome)) (record m { management = management_of now; own = own_of now })
-  pub moves : Moves m.management.places outcome.change (management_of now).places
+  pub effect : of_aim c aim m ≡ of_change c outcome.change (told_of_management (told_of outcome)) (record m { management = management_of c now; own = own_of now })
+  pub moves : Moves m.management.places outcome.change (places_of now)
   pub sound : IsSound c (of_aim c aim m).line
 
 -- This was told of the event, which found TEI management so.

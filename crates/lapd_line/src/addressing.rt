@@ -1,14 +1,16 @@
 //! What a line hears, and which of its entities it is for.
 
 ghost use Rattle.std.specs.Prelude.{◌≡◌, ℕ, ◌≤◌, List, [], drop, length, Ok, Err};
-ghost use Rattle.lapd_line.specs.{heard_of, parts_of, long_reading, start_of, Unserved, dropped, addressed, aim_of_long, aim_of_reading, drop_for, heard_side, unless_at_link, is_network, serves_messages, management_of, told_at, is_ui, received_of, info_of, addressee, group_service, message_at, IsAtPlace, Standing, Serves, always, aim_of_event, octets_of, told_in, IsClear};
+ghost use Rattle.lapd_line.specs.{heard_of, parts_of, long_reading, start_of, Unserved, dropped, addressed, aim_of_long, aim_of_reading, aim_of_unnumbered, reaches_link, drop_for, heard_side, unless_at_link, is_network, serves_messages, places_of, told_at, is_ui, received_of, info_of, addressee, group_service, message_at, IsAtPlace, Standing, Serves, always, aim_of_event, octets_of, told_in, IsClear};
+ghost use Rattle.lapd_frame.specs.Overlong.{is_unit};
 ghost use Rattle.lapd_frame.specs.Senders.{reading};
 ghost use Rattle.model_link.specs.Events as link;
 
 use crate::link_layer::LinkLayer;
 use crate::reports::tell_drop;
 use lapd_frame::{
-    Address, Control, Frame, GROUP, Long, MANAGEMENT, Note, ReadFault, Service, ShortList, Side,
+    Address, Control, Frame, GROUP, Long, MANAGEMENT, Note, ReadFault, Reading, Service, ShortList,
+    Side, is_unit,
 };
 use lapd_link::{BareReport, Received};
 use lapd_store::Shelf;
@@ -30,6 +32,13 @@ fn is_ui(control: Control) -> bool
     ensures { result ≡ is_ui control }
 {
     matches!(control, Control::Ui { .. })
+}
+
+/// Whether a UI frame, or if `unit` is false an XID frame, that is too long to keep is something to its link.
+fn reaches_link(reading: Reading, unit: bool) -> bool
+    ensures { result ≡ reaches_link reading unit }
+{
+    unit && matches!(reading, Reading::AnnexB)
 }
 
 /// Whether it is the network's side.
@@ -187,7 +196,7 @@ impl LinkLayer {
     fn overlong<S: Shelf>(&mut self, head: &[u8; 4], report: &mut BareReport, shelf: &mut S)
         requires stands { Standing self.old (S.store shelf.old) }
         requires clear { IsClear report.old }
-        ensures { Serves (λ m. aim_of_long m (long_reading (heard_side self.old.config) head.now)) [] self.old (S.store shelf.old) self.new (S.store shelf.new) report.new }
+        ensures { Serves (λ m. aim_of_long self.old.config.reading (is_unit head.now) m (long_reading (heard_side self.old.config) head.now)) [] self.old (S.store shelf.old) self.new (S.store shelf.new) report.new }
     {
         match self.config.heard_side().read_long(head) {
             Ok(Long::Information(address)) => self.malformed(
@@ -197,7 +206,9 @@ impl LinkLayer {
                 report,
                 shelf,
             ),
-            Ok(Long::Unnumbered(address)) => self.unserved(address, report, shelf),
+            Ok(Long::Unnumbered(address)) => {
+                self.unnumbered(address, is_unit(head), report, shelf)
+            }
             Err(fault) => self.faulty(fault, 0, report, shelf),
         }
     }
@@ -227,7 +238,27 @@ impl LinkLayer {
         }
     }
 
-    /// A UI or XID frame that is too long to keep: no link serves it (profile).
+    /// A UI or XID frame that is too long to keep. By annex B's reading UI is a frame over N201 to its link (Q.921 clause
+    /// 5.8.5).
+    #[cold]
+    fn unnumbered<S: Shelf>(
+        &mut self,
+        address: Address,
+        unit: bool,
+        report: &mut BareReport,
+        shelf: &mut S,
+    )
+        requires stands { Standing self.old (S.store shelf.old) }
+        requires clear { IsClear report.old }
+        ensures { Serves (λ m. aim_of_unnumbered self.old.config.reading unit (addressed m address link.overlong (drop_for Unserved))) [] self.old (S.store shelf.old) self.new (S.store shelf.new) report.new }
+    {
+        if reaches_link(self.config.reading, unit) {
+            return self.malformed(address, Received::Overlong, 0, report, shelf);
+        }
+        self.unserved(address, report, shelf)
+    }
+
+    /// A UI or XID frame that is too long to keep, and that no link serves.
     #[cold]
     fn unserved<S: Shelf>(&mut self, address: Address, report: &mut BareReport, shelf: &mut S)
         requires stands { Standing self.old (S.store shelf.old) }
@@ -264,8 +295,8 @@ impl LinkLayer {
     /// For whom a frame is.
     #[inline(always)]
     fn addressee(&self, address: Address) -> Addressee
-        ensures is { result ≡ addressee (management_of self.now.teis) address }
-        ensures at { IsAtPlace (management_of self.now.teis) result }
+        ensures is { result ≡ addressee (places_of self.now.teis) address }
+        ensures at { IsAtPlace (places_of self.now.teis) result }
     {
         if address.sapi == MANAGEMENT {
             return if address.tei == GROUP {

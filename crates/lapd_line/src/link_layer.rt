@@ -1,7 +1,7 @@
 //! The data link layer entities of a line: TEI management, the links, and the unit data that waits.
 
 ghost use Rattle.std.specs.Prelude.{◌≡◌, ℕ, ◌≤◌, List, drop};
-ghost use Rattle.lapd_line.specs.{at_link, received_of, info_of, IsAt, Standing, Serves, always, IsClear, management_of};
+ghost use Rattle.lapd_line.specs.{at_link, received_of, info_of, IsAt, Standing, Serves, always, IsClear, places_of};
 ghost use Rattle.model_link.specs.Events as event;
 ghost use Rattle.model_line.specs.Line as machine;
 
@@ -52,7 +52,7 @@ impl LinkLayer {
         report: &mut BareReport,
         shelf: &mut S,
     )
-        requires at { IsAt (management_of self.old.teis).places place tei }
+        requires at { IsAt (places_of self.old.teis) place tei }
         requires clear { IsClear report.old }
         requires stands { Standing self.old (S.store shelf.old) }
         ensures { (octets : List ℕ) → info_of received.entry ≡ drop start octets
@@ -78,7 +78,7 @@ impl LinkLayer {
         report: &mut BareReport,
         shelf: &mut S,
     )
-        requires at { IsAt (management_of self.old.teis).places place tei }
+        requires at { IsAt (places_of self.old.teis) place tei }
         requires clear { IsClear report.old }
         requires stands { Standing self.old (S.store shelf.old) }
         ensures { (octets : List ℕ) → info_of received.entry ≡ drop start octets

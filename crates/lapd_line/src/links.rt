@@ -180,6 +180,6 @@ impl Links {
         ensures stands { (store : Store) (others : List Owned) (ms : List machine.Link) → LinksStand config.now self.old store others ms
             → LinksStand config.now self.new store others (set ms number machine.fresh) }
     {
-        self.all[number].open(config.terms(service, tei));
+        self.all[number].with_terms(config.terms(service, tei));
     }
 }

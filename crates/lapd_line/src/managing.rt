@@ -2,11 +2,11 @@
 
 ghost use Rattle.std.specs.Prelude.{◌≡◌, ◌≤◌, ◌<◌, false, length, None, Some, IfOk, IfErr, IfSome, OnOk, OnErr, is_some};
 ghost use Rattle.lapd_frame.specs.declared.addresses.Side.{Side as Spelt};
-ghost use Rattle.lapd_line.specs.Managing.{management_of, own_of, is_terminals, offered_by, first_type, held_by, IsBegunBy, Gives};
+ghost use Rattle.lapd_line.specs.Managing.{places_of, is_terminals, own_of, offered_by, first_type, held_by, IsBegunBy, Gives};
 ghost use Rattle.lapd_line.specs.Requests.{asked_aim, is_bad, refusal_at};
 ghost use Rattle.lapd_line.specs.TeiChanges.{IsAnswerTo, Answers};
-ghost use Rattle.lapd_tei.specs.Machine.{place};
 ghost use Rattle.lapd_tei.specs.Outcome.{IsShort, told_of};
+ghost use Rattle.lapd_tei.specs.Table.{place_of};
 ghost use Rattle.lapd_tei.specs.Events as teis;
 ghost use Rattle.lapd_terminal.specs.Events as terminals;
 ghost use Rattle.lapd_terminal.specs.Outcome.{told_of as terminal_told_of};
@@ -101,7 +101,7 @@ impl Managing {
             Some(seed) if config.is_terminal() => {
                 Ok(Managing::Terminal(TerminalTeis::start(places, seed)))
             }
-            _ => Ok(Managing::Network(Teis::start(alloc, places)?)),
+            _ => Ok(Managing::Network(Teis::start_as(alloc, places, config.reading)?)),
         }
     }
 
@@ -171,8 +171,8 @@ impl Managing {
     /// The place of a TEI in the table, `None` if it is not on the line.
     #[inline(always)]
     pub fn place(&self, tei: u8) -> Option<usize>
-        ensures place { result ≡ place tei (management_of self.now) }
-        ensures within { IfSome result (λ place. place < length (management_of self.now).places) }
+        ensures place { result ≡ place_of tei (places_of self.now) }
+        ensures within { IfSome result (λ place. place < length (places_of self.now)) }
     {
         match self {
             Managing::Network(own) => own.place(tei),
@@ -212,7 +212,7 @@ impl Managing {
         }
     }
 
-    /// How many octets are held: eight for each message that waits, and what is remembered.
+    /// How many octets are held: eight for each message that waits, what is remembered, and one while a check is due.
     pub fn held(&self) -> u32
         ensures { result ≡ held_by self.now }
     {

@@ -86,7 +86,7 @@ impl FrameLine {
     }
 
     /// How many octets the line stores beside those in slots of the shelf: of control frames and messages that wait, and of
-    /// assignments that are remembered. It keeps nothing of the frames that come and go.
+    /// assignments that are remembered, and one while a check is due. It keeps nothing of the frames that come and go.
     pub fn held(&self) -> u32
         requires { (store : Store) × (others : List Owned) × (m : machine.Line) × LineStands self.now store others m }
         ensures held { (store : Store) (others : List Owned) (m : machine.Line) → LineStands self.now store others m

@@ -1,7 +1,7 @@
 //! What layer 3 and management ask for.
 
 ghost use Rattle.std.specs.Prelude.{◌≡◌, ◌≤◌, ◌==◌, ◌||◌, ℕ, false, List, [], length, Some, None, IfOk, IfErr, OnOk, OnErr, nat_le};
-ghost use Rattle.lapd_line.specs.{Service, Owned, Store, used_slots, Answers, IsShort, is_on, management_of, Line, at_units, refusal, request_of, aim_of_request, at_deactivated, at_requested, last_unit_tei, asked_aim, is_bad, link_refusal, network_refusal, request_asked, terminal_refusal, may_ask, Standing, Serves, always, IsClear};
+ghost use Rattle.lapd_line.specs.{Service, Owned, Store, used_slots, Answers, IsShort, is_on, places_of, Line, at_units, refusal, request_of, aim_of_request, at_deactivated, at_requested, last_unit_tei, asked_aim, is_bad, link_refusal, network_refusal, request_asked, terminal_refusal, may_ask, Standing, Serves, always, IsClear};
 ghost use Rattle.lapd_line.specs.declared.managing.Managing.TheVariants as kind;
 ghost use Rattle.model_line.specs.Line as machine;
 ghost use Rattle.model_line.specs.Request as asked;
@@ -314,7 +314,7 @@ impl LinkLayer {
 
     /// Whether there may be someone for unit data: the group, or a terminal whose TEI is on the line.
     fn has_receiver(&self, tei: u8) -> bool
-        ensures { result ≡ ((tei == 127) || is_on tei (management_of self.now.teis).places) }
+        ensures { result ≡ ((tei == 127) || is_on tei (places_of self.now.teis)) }
     {
         tei == GROUP || self.teis.place(tei).is_some()
     }

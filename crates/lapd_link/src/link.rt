@@ -2,11 +2,12 @@
 
 ghost use Rattle.std.specs.Prelude.{◌≡◌, List, ◌≤◌, IfOk};
 ghost use Rattle.lapd_link.specs.{Store, Owned, Holds, TeiAssigned, address_at, held, terms_of};
+ghost use Rattle.lapd_frame.specs.declared.readings.Reading.TheVariants.{Profile};
 ghost use Rattle.model_link.specs.Link as machine;
 ghost use Rattle.model_link.specs.Sound.{IsInRange};
 
 use crate::fault::StartFault;
-use lapd_frame::{Address, Service};
+use lapd_frame::{Address, Reading, Service};
 use lapd_link_steps::Entity;
 use lapd_store::SlotQueue;
 use model_link::Terms;
@@ -56,16 +57,43 @@ impl Link {
                 n200: 0,
                 queue,
                 control,
+                reading: Reading::Profile,
             },
             entity,
             queue: slots,
         })
     }
 
-    /// A TEI comes to the line, and the link is its from now on. The link has to be in state 4, and is as one that begins, with
-    /// these parameters. They have to be in range (`range`), with the capacities of the start. That holds on the shelf for which it
-    /// stood, if that is at least as wide as N201 (`fresh`).
-    pub fn open(&mut self, terms: Terms)
+    /// The TEI (0 to 126) comes to the line, and the link is its from now on. The link has to be in state 4, and is as one that
+    /// begins, with a window of `k` (1 to its queue's capacity), `n200` repeats (0 to 10) and at most `n201` octets of information
+    /// (8 to 260, and no wider than the shelf). It reads the tables as the profile does; [`Link::with_terms`] says another reading.
+    pub fn open(&mut self, service: Service, tei: u8, k: u8, n200: u8, n201: u16)
+        requires tei { tei ≤ 126 }
+        requires k_low { 1 ≤ k }
+        requires k_high { k ≤ (terms_of self.old).queue }
+        requires n200 { n200 ≤ 10 }
+        requires n201_low { 8 ≤ n201 }
+        requires n201_high { n201 ≤ 260 }
+        requires down { (store : Store) × (others : List Owned) × (m : machine.Link) × LinkStands self.old store others m × (m.state ≡ TeiAssigned) }
+        ensures terms { terms_of self.new ≡ record (terms_of self.old) { service = service; tei = tei; k = k; n200 = n200; n201 = n201; reading = Profile } }
+        ensures fresh { (store : Store) (others : List Owned) (m : machine.Link) → n201 ≤ store.width → LinkStands self.old store others m → LinkStands self.new store others machine.fresh }
+    {
+        let Terms { queue, control, .. } = self.terms;
+        self.with_terms(Terms {
+            service,
+            tei,
+            k,
+            n201,
+            n200,
+            queue,
+            control,
+            reading: Reading::Profile,
+        });
+    }
+
+    /// The same with these parameters, which have to be in range (`range`), with the capacities of the start. That holds on the shelf
+    /// for which it stood, if that is at least as wide as N201 (`fresh`).
+    pub fn with_terms(&mut self, terms: Terms)
         requires range { IsInRange terms }
         requires queue { terms.queue ≡ (terms_of self.old).queue }
         requires control { terms.control ≡ (terms_of self.old).control }

@@ -11,6 +11,6 @@ pub enum Received<'a> {
     Undefined,
     /// A frame of wrong size (clause 5.8.5).
     WrongSize,
-    /// An I-frame that was too long to keep (clause 5.8.5).
+    /// An I-frame that was too long to keep, or UI that annex B's reading tells of (clauses 3.6.11 and 5.8.5).
     Overlong,
 }

@@ -1,7 +1,11 @@
 -- How steps are put together. The answer for a row is the chain of its words.
 use Rattle.lapd_link_steps.proofs.Vocabulary.{◌≡◌, ℕ, Bool, true, false, IsTrue, cond, ◌+◌, ◌⊎◌, List, Option, Some, None, MatchOption, inl, inr, refl, sym, ap, subst, arith, ◌∙◌, Seq, IsNamed, named, WindowStands, State, Terms, Link, Sent, Course, Step, ◌then◌, nothing, depending_on, by_bit, changed, acknowledge, by_number, pending_is, start, T200, failed, Entity, BareReport, Past, past_of}
 use Rattle.lapd_link_steps.proofs.Vocabulary.{link_of, course_of, Fits, Agrees, Does, DoesBy}
+use Rattle.lapd_frame.specs.Readings.{by_reading}
 use Rattle.lapd_frame.specs.declared.notes.ErrorCode.TheVariants as code
+use Rattle.lapd_frame.specs.declared.readings.Reading.{Reading}
+use Rattle.lapd_frame.specs.declared.readings.Reading.TheVariants.{Profile, AnnexB}
+use Rattle.model_link.specs.Words.{read_as}
 use Rattle.model_link.specs.Offers as offers
 use Rattle.model_link.specs.Words as word
 use Rattle.lapd_seq.specs.declared.windows.Window.{Window}
@@ -153,6 +157,15 @@ bit_yes {info = info} {f} {e} {t = t} b g is done =
 pub bit_no : {terms : Terms} {info : List ℕ} {g : Step} {e e' : Entity} {t t' : BareReport} (b : Bool) (f : Step) → b ≡ false → Does terms info g e t e' t' → Does terms info (by_bit b f g) e t e' t'
 bit_no {info = info} {g} {e} {t = t} b f is done =
     same_step (λ messages p fits. ap (λ (v : Bool). by_bit v f g (course_of info e t p)) (sym is)) done
+
+-- the reading, known before
+pub as_profile : {terms : Terms} (read : Terms) {info : List ℕ} {f : Step} {e e' : Entity} {t t' : BareReport} (g : Step) → read.reading ≡ Profile → Does terms info f e t e' t' → Does terms info (read_as read f g) e t e' t'
+as_profile read {info = info} {f} {e} {t = t} g is done =
+    same_step (λ messages p fits. ap (λ (r : Reading). by_reading r (f (course_of info e t p)) (g (course_of info e t p))) (sym is)) done
+
+pub as_annex_b : {terms : Terms} (read : Terms) {info : List ℕ} {g : Step} {e e' : Entity} {t t' : BareReport} (f : Step) → read.reading ≡ AnnexB → Does terms info g e t e' t' → Does terms info (read_as read f g) e t e' t'
+as_annex_b read {info = info} {g} {e} {t = t} f is done =
+    same_step (λ messages p fits. ap (λ (r : Reading). by_reading r (f (course_of info e t p)) (g (course_of info e t p))) (sym is)) done
 
 -- the state, known before
 pub by_state : {terms : Terms} {info : List ℕ} (f : State → Step) {e e' : Entity} {t t' : BareReport} (state : State) → e.state ≡ state → Does terms info (f state) e t e' t' → Does terms info (λ c. f c.link.state c) e t e' t'

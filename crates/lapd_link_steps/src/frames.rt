@@ -37,7 +37,7 @@ impl Entity {
         }
     }
 
-    /// A frame came that is undefined (error L), of wrong size (N), or an I-frame that was too long to keep (O).
+    /// A frame came that is undefined (error L), of wrong size (N), or an I-frame or UI that was too long to keep (O).
     pub fn malformed(&mut self, terms: &Terms, told: &mut BareReport, code: ErrorCode)
         requires { HasRoom 2 2 told.old }
         ensures tells { Tells 2 2 told.old told.new }
@@ -47,7 +47,7 @@ impl Entity {
         match self.state {
             State::Established | State::TimerRecovery => self.failed(terms, told, code),
             State::TeiAssigned | State::AwaitingEstablishment | State::AwaitingRelease => {
-                told.leave_unserved();
+                told.malformed(terms, code);
             }
         }
     }

@@ -1,8 +1,10 @@
 //! Timers that expire.
 
-ghost use Rattle.std.specs.Prelude.{◌≡◌, ℕ, List};
+ghost use Rattle.std.specs.Prelude.{◌≡◌, ℕ, ◌<◌, true, List};
 ghost use Rattle.lapd_link_steps.specs.{runs, expired_step, expire_running, HasRoom, Tells};
 ghost use Rattle.lapd_link_steps.specs.Does.{Does};
+ghost use Rattle.lapd_link_steps.specs.Past.{Past, link_of};
+ghost use Rattle.model_link.specs.Link.{may_repeat};
 
 use crate::entity::Entity;
 use crate::report::BareReport;
@@ -32,6 +34,14 @@ impl Entity {
         }
     }
 
+    // Whether a command or an enquiry that was not answered goes again: RC is less than N200, so it can be counted.
+    pub(crate) fn may_repeat(&self, terms: &Terms) -> bool
+        ensures machine { (past : Past) → result ≡ may_repeat terms.now (link_of self.now past) }
+        ensures counted { result ≡ true → (self.now.repeats < terms.now.n200) × (self.now.repeats < 255) }
+    {
+        self.repeats < terms.n200
+    }
+
     // Whether the timer runs.
     pub(crate) fn runs(&self, timer: LinkTimer) -> bool
         ensures { result ≡ runs timer self.now.running }
@@ -47,7 +57,7 @@ impl Entity {
         match (self.state, timer) {
             (State::AwaitingEstablishment, LinkTimer::T200) => self.t200_in_5(terms, told),
             (State::AwaitingRelease, LinkTimer::T200) => self.t200_in_6(terms, told),
-            (State::Established, _) => self.timer_in_7(terms, told),
+            (State::Established, _) => self.timer_in_7(terms, told, timer),
             (State::TimerRecovery, LinkTimer::T200) => self.t200_in_8(terms, told),
             // In state 4 no timer runs, and T203 runs in state 7 alone.
             (State::TeiAssigned, _) => {}

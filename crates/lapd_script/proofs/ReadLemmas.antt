@@ -1,6 +1,6 @@
 -- What is read of words that stand in references, and of lines with too many.
-use Rattle.lapd_script.proofs.Vocabulary.{◌≡◌, ℕ, Bool, true, false, cond, List, [], ◌∷◌, length, take, drop, get_or, Some, Ok, Err, Result, Option, refl, sym, ap, ◌∙◌, Bor, arith, IsErr, IsErrAnd, false≢true, FaultKind, BadNumberOfWords, Config, Word, Ask, texts, word_named, carries_octets, read_words, read_after, read_as, card_numbers, nine_numbers, three_numbers}
-use Rattle.lapd_script.proofs.Vocabulary.{side_numbers, for_sapi, more_numbers, names_sapi}
+use Rattle.lapd_script.proofs.Vocabulary.{◌≡◌, ℕ, Bool, true, false, cond, List, [], ◌∷◌, length, take, drop, get_or, Some, Ok, Err, Result, Option, refl, sym, ap, ◌∙◌, Bor, arith, IsErr, IsErrAnd, false≢true, FaultKind, BadNumberOfWords, Config, Word, Ask, texts, word_named, carries_octets, read_words, read_after, read_as, card_numbers, for_annex_b, nine_numbers, sapi_numbers, three_numbers}
+use Rattle.lapd_script.proofs.Vocabulary.{side_numbers, for_sapi, more_numbers, names_annex_b, names_sapi}
 use Rattle.std.specs.Prelude.{◌-◌, ◌&&◌, nat_le, bytes_eq, codes, zero, suc}
 use Rattle.lapd_script.specs.declared.word.Word.TheVariants.{Card}
 use Rattle.lapd_script.specs.Meaning.{card}
@@ -30,7 +30,7 @@ texts_front (suc n) (w ∷ words) = ap (λ rest. w.now ∷ rest) (texts_front n 
 
 -- the last word but one of a card line may be `sapi`, with a number behind it
 pub sapi_given : (words : List (Bor (List ℕ))) (count : ℕ) → count ≡ length words
-    → card_numbers (texts words) ≡ cond (nat_le 2 count && bytes_eq (at words (count - 2)) (codes "sapi"))
+    → sapi_numbers (texts words) ≡ cond (nat_le 2 count && bytes_eq (at words (count - 2)) (codes "sapi"))
     (for_sapi (side_numbers (texts (take (count - 2) words))) (at words (count - 1))) (side_numbers (texts words))
 sapi_given words count is =
     ap (λ n. cond (nat_le 2 n && bytes_eq (get_or (texts words) (n - 2) []) (codes "sapi"))
@@ -41,6 +41,18 @@ sapi_given words count is =
     (for_sapi (side_numbers front) (get_or (texts words) (count - 1) [])) (side_numbers (texts words))) (texts_front (count - 2) words)
     ∙ ap (λ last. cond (nat_le 2 count && bytes_eq (at words (count - 2)) (codes "sapi"))
     (for_sapi (side_numbers (texts (take (count - 2) words))) last) (side_numbers (texts words))) (texts_at words (count - 1))
+
+-- and the last one `annex-b`
+pub annex_b_given : (words : List (Bor (List ℕ))) (count : ℕ) → count ≡ length words
+    → card_numbers (texts words) ≡ cond (nat_le 1 count && bytes_eq (at words (count - 1)) (codes "annex-b"))
+    (for_annex_b (sapi_numbers (texts (take (count - 1) words)))) (sapi_numbers (texts words))
+annex_b_given words count is =
+    ap (λ n. cond (nat_le 1 n && bytes_eq (get_or (texts words) (n - 1) []) (codes "annex-b"))
+    (for_annex_b (sapi_numbers (take (n - 1) (texts words)))) (sapi_numbers (texts words))) (texts_length words ∙ sym is)
+    ∙ ap (λ word. cond (nat_le 1 count && bytes_eq word (codes "annex-b"))
+    (for_annex_b (sapi_numbers (take (count - 1) (texts words)))) (sapi_numbers (texts words))) (texts_at words (count - 1))
+    ∙ ap (λ front. cond (nat_le 1 count && bytes_eq (at words (count - 1)) (codes "annex-b"))
+    (for_annex_b (sapi_numbers front)) (sapi_numbers (texts words))) (texts_front (count - 1) words)
 
 abbrev grouped : Result (ℕ × ℕ × ℕ) FaultKind → Result (ℕ × ℕ × ℕ) FaultKind → Result (ℕ × ℕ × ℕ) FaultKind → Result Config FaultKind
 grouped ra rb rc = do
@@ -87,11 +99,10 @@ either : {A : Type 0} (t : Bool) (x : A) → cond t x x ≡ x
 either true x = refl
 either false x = refl
 
--- so many words are too many for each first word, and so are more
-too_many : (word : Word) (a b c d e f g h i j k l m n o : List ℕ) (more : List (List ℕ))
-    → read_as word (a ∷ b ∷ c ∷ d ∷ e ∷ f ∷ g ∷ h ∷ i ∷ j ∷ k ∷ l ∷ m ∷ n ∷ o ∷ more) ≡ Err BadNumberOfWords
-too_many (Ask what) a b c d e f g h i j k l m n o more = either (carries_octets what) (Err BadNumberOfWords)
-too_many (Card kind) a b c d e f g h i j k l m n o more = go (names_sapi words)
+-- so many words are too many for a card line, without `annex-b`,
+too_many_numbers : (a b c d e f g h i j k l m n o : List ℕ) (more : List (List ℕ))
+    → sapi_numbers (a ∷ b ∷ c ∷ d ∷ e ∷ f ∷ g ∷ h ∷ i ∷ j ∷ k ∷ l ∷ m ∷ n ∷ o ∷ more) ≡ Err BadNumberOfWords
+too_many_numbers a b c d e f g h i j k l m n o more = go (names_sapi words)
   where
     words : List (List ℕ)
     words = a ∷ b ∷ c ∷ d ∷ e ∷ f ∷ g ∷ h ∷ i ∷ j ∷ k ∷ l ∷ m ∷ n ∷ o ∷ more
@@ -99,21 +110,39 @@ too_many (Card kind) a b c d e f g h i j k l m n o more = go (names_sapi words)
     shorter : length words - 2 ≡ suc (suc (suc (suc (suc (suc (suc (suc (suc (suc (suc (suc (suc (length more)))))))))))))
     shorter = omega arith
 
-    go : (b : Bool) → (cond b (for_sapi (side_numbers (take (length words - 2) words)) (get_or words (length words - 1) [])) (side_numbers words) >>= (λ numbers. Ok (card kind numbers))) ≡ Err BadNumberOfWords
-    go true = ap (λ n. for_sapi (side_numbers (take n words)) (get_or words (length words - 1) []) >>= (λ numbers. Ok (card kind numbers))) shorter
+    go : (b : Bool) → cond b (for_sapi (side_numbers (take (length words - 2) words)) (get_or words (length words - 1) [])) (side_numbers words) ≡ Err BadNumberOfWords
+    go true = ap (λ n. for_sapi (side_numbers (take n words)) (get_or words (length words - 1) [])) shorter
     go false = refl
-too_many _ a b c d e f g h i j k l m n o more = refl
 
-pub taken_words : (word : Word) (words : List (List ℕ)) → read_as word (take 15 words) ≡ read_as word words
-taken_words word (a ∷ b ∷ c ∷ d ∷ e ∷ f ∷ g ∷ h ∷ i ∷ j ∷ k ∷ l ∷ m ∷ n ∷ o ∷ more) = too_many word a b c d e f g h i j k l m n o [] ∙ sym (too_many word a b c d e f g h i j k l m n o more)
+-- so many are for each first word, and so are more
+too_many : (word : Word) (a b c d e f g h i j k l m n o p : List ℕ) (more : List (List ℕ))
+    → read_as word (a ∷ b ∷ c ∷ d ∷ e ∷ f ∷ g ∷ h ∷ i ∷ j ∷ k ∷ l ∷ m ∷ n ∷ o ∷ p ∷ more) ≡ Err BadNumberOfWords
+too_many (Ask what) a b c d e f g h i j k l m n o p more = either (carries_octets what) (Err BadNumberOfWords)
+too_many (Card kind) a b c d e f g h i j k l m n o p more = go (names_annex_b words)
+  where
+    words : List (List ℕ)
+    words = a ∷ b ∷ c ∷ d ∷ e ∷ f ∷ g ∷ h ∷ i ∷ j ∷ k ∷ l ∷ m ∷ n ∷ o ∷ p ∷ more
+
+    shorter : length words - 1 ≡ suc (suc (suc (suc (suc (suc (suc (suc (suc (suc (suc (suc (suc (suc (suc (length more)))))))))))))))
+    shorter = omega arith
+
+    go : (b : Bool) → (cond b (for_annex_b (sapi_numbers (take (length words - 1) words))) (sapi_numbers words) >>= (λ numbers. Ok (card kind numbers))) ≡ Err BadNumberOfWords
+    go true =
+        ap (λ n. for_annex_b (sapi_numbers (take n words)) >>= (λ numbers. Ok (card kind numbers))) shorter
+        ∙ ap (λ read. for_annex_b read >>= (λ numbers. Ok (card kind numbers))) (too_many_numbers a b c d e f g h i j k l m n o (take (length more) (p ∷ more)))
+    go false = ap (λ read. read >>= (λ numbers. Ok (card kind numbers))) (too_many_numbers a b c d e f g h i j k l m n o (p ∷ more))
+too_many _ a b c d e f g h i j k l m n o p more = refl
+
+pub taken_words : (word : Word) (words : List (List ℕ)) → read_as word (take 16 words) ≡ read_as word words
+taken_words word (a ∷ b ∷ c ∷ d ∷ e ∷ f ∷ g ∷ h ∷ i ∷ j ∷ k ∷ l ∷ m ∷ n ∷ o ∷ p ∷ more) = too_many word a b c d e f g h i j k l m n o p [] ∙ sym (too_many word a b c d e f g h i j k l m n o p more)
 taken_words word _ = refl
 
 abbrev first_word : List (List ℕ) → List ℕ
 first_word [] = []
 first_word (name ∷ more) = name
 
--- where the first sixteen words are these, they say what all the words say
-pub read_taken : (all : List (List ℕ)) (name : List ℕ) (words : List (List ℕ)) (word : Option Word) → name ∷ words ≡ take 16 all → word ≡ word_named name → read_after word words ≡ read_words all
+-- where the first seventeen words are these, they say what all the words say
+pub read_taken : (all : List (List ℕ)) (name : List ℕ) (words : List (List ℕ)) (word : Option Word) → name ∷ words ≡ take 17 all → word ≡ word_named name → read_after word words ≡ read_words all
 read_taken all name words word e w = grind (arith, taken_words)
 
 -- the exit of a `?`

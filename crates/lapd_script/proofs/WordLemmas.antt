@@ -24,20 +24,20 @@ texts_push words word more = rw map-append (append_assoc (texts words) (word.now
 length-texts : (words : List (Bor (List ℕ))) → length (texts words) ≡ length words
 length-texts words = length-map words (λ (word : Bor (List ℕ)). word.now)
 
--- where sixteen words are taken, those past them are left out,
-pub texts_full : (words : List (Bor (List ℕ))) (more all : List (List ℕ)) → texts words ++ more ≡ all → length words ≡ 16 → texts words ≡ take 16 all
+-- where seventeen words are taken, those past them are left out,
+pub texts_full : (words : List (Bor (List ℕ))) (more all : List (List ℕ)) → texts words ++ more ≡ all → length words ≡ 17 → texts words ≡ take 17 all
 texts_full words more all e n =
-    subst (λ list. texts words ≡ take 16 list) e
+    subst (λ list. texts words ≡ take 17 list) e
     (subst (λ (k : ℕ). texts words ≡ take k (texts words ++ more)) (length-texts words ∙ n) (sym (take-append_seam (texts words) more)))
 
 -- and where there are fewer, all of them are taken
-pub texts_all : (words : List (Bor (List ℕ))) (all : List (List ℕ)) → texts words ≡ all → length words ≤ 16 → texts words ≡ take 16 all
-texts_all words all e short = subst (λ list. texts words ≡ take 16 list) e (sym (take_all 16 (texts words) (rw length-texts short)))
+pub texts_all : (words : List (Bor (List ℕ))) (all : List (List ℕ)) → texts words ≡ all → length words ≤ 17 → texts words ≡ take 17 all
+texts_all words all e short = subst (λ list. texts words ≡ take 17 list) e (sym (take_all 17 (texts words) (rw length-texts short)))
 
-pub sixteen : (n : ℕ) → true ≡ eqb n 16 → n ≡ 16
-sixteen n h = grind (arith, h)
+pub seventeen : (n : ℕ) → true ≡ eqb n 17 → n ≡ 17
+seventeen n h = grind (arith, h)
 
-pub fewer : (words : List (Bor (List ℕ))) (word : Bor (List ℕ)) → false ≡ eqb (length words) 16 → length words ≤ 16 → length (words ++ word ∷ []) ≤ 16
+pub fewer : (words : List (Bor (List ℕ))) (word : Bor (List ℕ)) → false ≡ eqb (length words) 17 → length words ≤ 17 → length (words ++ word ∷ []) ≤ 17
 fewer words word h fits = rw length-append (grind (arith, h, fits))
 
 pub texts_last : (words : List (Bor (List ℕ))) (word : Bor (List ℕ)) → texts (words ++ word ∷ []) ≡ texts words ++ word.now ∷ []

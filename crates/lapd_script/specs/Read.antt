@@ -1,6 +1,7 @@
 -- How a line of a script is read: what each first word takes, and what can be wrong with the words by themselves.
 use Rattle.std.specs.Prelude.{ℕ, ◌-◌, ◌==◌, ◌&&◌, not, nat_le, Bool, if◌then◌else◌, List, [], ◌∷◌, length, get_or, take, drop, codes, bytes_eq, Option, Some, None, Result, Ok, Err}
 use Rattle.lapd_frame.specs.declared.addresses.Side.TheVariants.{User}
+use Rattle.lapd_frame.specs.declared.readings.Reading.TheVariants.{AnnexB}
 use Rattle.lapd_script.specs.declared.kind.FaultKind.{FaultKind}
 use Rattle.lapd_script.specs.declared.kind.FaultKind.TheVariants.{UnknownWord, BadNumberOfWords}
 use Rattle.model_line.specs.declared.config.Config.{Config}
@@ -105,11 +106,26 @@ for_sapi read sapi = do
 abbrev pub names_sapi : List (List ℕ) → Bool
 names_sapi words = nat_le 2 (length words) && bytes_eq (get_or words (length words - 2) []) (codes "sapi")
 
-abbrev pub card_numbers : List (List ℕ) → Result Config FaultKind
-card_numbers words =
+abbrev pub sapi_numbers : List (List ℕ) → Result Config FaultKind
+sapi_numbers words =
     if names_sapi words
     then for_sapi (side_numbers (take (length words - 2) words)) (get_or words (length words - 1) [])
     else side_numbers words
+
+-- and last the word `annex-b`, if the tables are read by annex B: else the line is read as it is without the word
+abbrev pub by_annex_b : Config → Config
+by_annex_b numbers = record numbers { reading = AnnexB }
+
+abbrev pub for_annex_b : Result Config FaultKind → Result Config FaultKind
+for_annex_b read = do
+  numbers ← read
+  Ok (by_annex_b numbers)
+
+abbrev pub names_annex_b : List (List ℕ) → Bool
+names_annex_b words = nat_le 1 (length words) && bytes_eq (get_or words (length words - 1) []) (codes "annex-b")
+
+abbrev pub card_numbers : List (List ℕ) → Result Config FaultKind
+card_numbers words = if names_annex_b words then for_annex_b (sapi_numbers (take (length words - 1) words)) else sapi_numbers words
 
 -- how many milliseconds a timer runs: one to those of an hour
 abbrev pub duration : List ℕ → Result ℕ FaultKind

@@ -4,6 +4,7 @@ use Rattle.std.specs.Fmt.{digits}
 use Rattle.hex.specs.Hex.{decode_pairs}
 use Rattle.lapd_frame.specs.declared.addresses.Side.TheVariants.{User}
 use Rattle.lapd_frame.specs.declared.faults.ReadFault.TheVariants.{Short}
+use Rattle.lapd_frame.specs.declared.readings.Reading.TheVariants.{AnnexB}
 use Rattle.lapd_frame.specs.declared.services.Service.TheVariants.{Call, Packet}
 use Rattle.lapd_script.specs.declared.kind.FaultKind.TheVariants.{UnknownWord, BadNumberOfWords, BadNumber, BadOctets, BadCause}
 use Rattle.lapd_script.specs.declared.command.Asked as asked
@@ -70,6 +71,25 @@ sapi_without_number = refl
 
 sapi_before_user : read (codes "card 1 8 7 8 4 4 64 260 3 sapi 62 user") ≡ Err BadNumberOfWords
 sapi_before_user = refl
+
+by_annex_b : read (codes "card 1 8 7 8 4 4 64 260 3 annex-b") ≡ Ok (card Octets (record usual { reading = AnnexB }))
+by_annex_b = refl
+
+all_words_by_annex_b : read (codes "frames 1 8 7 8 4 4 64 260 3 15 user 7 sapi 63 annex-b") ≡ Ok (card Frames (record usual { k16 = 15; side = User; sapi = 63; seed = Some 7; reading = AnnexB }))
+all_words_by_annex_b = refl
+
+-- the fault is that of the line without the word
+seven_by_annex_b : read (codes "card 1 8 7 8 4 4 64 annex-b") ≡ Err BadNumberOfWords
+seven_by_annex_b = refl
+
+annex_b_twice : read (codes "card 1 8 7 8 4 4 64 260 3 annex-b annex-b") ≡ Err BadNumber
+annex_b_twice = refl
+
+annex_b_before_sapi : read (codes "card 1 8 7 8 4 4 64 260 3 annex-b sapi 62") ≡ Err BadNumber
+annex_b_before_sapi = refl
+
+one_word_more : read (codes "card 1 8 7 8 4 4 64 260 3 15 user 7 sapi 62 0 annex-b") ≡ Err BadNumberOfWords
+one_word_more = refl
 
 user_too_soon : read (codes "card 1 8 7 8 4 4 64 260 user") ≡ Err BadNumber
 user_too_soon = refl

@@ -54,7 +54,8 @@ pub enum Command {
     /// Nothing: the line is empty, or begins with `#`.
     Skip,
     /// `card`, `frames`: starts a card with these sizes and limits, which are any numbers of 16 bits. In the line `k16`
-    /// stands after the other numbers, and it is `k` if it is left out.
+    /// stands after the other numbers, and it is `k` if it is left out. The reading is the profile's unless the line ends
+    /// with `annex-b`.
     Card(CardKind, Config),
     /// `rx LINE HEX`: octets come from the line.
     Rx {

@@ -1,14 +1,14 @@
 //! Reads a line of a script.
 
 ghost use Rattle.std.specs.Prelude.{◌≡◌, ◌*◌, ◌/◌, ◌≤◌, ℕ, List, [], ◌∷◌, take, drop, length, codes, bytes_eq, All, Ok, Err, IfOk, MatchResult};
-ghost use Rattle.lapd_script.specs.{texts, rx, into, meant_by, IsCounted, read, read_words, read_as, duration, durations, four_durations, card_numbers, for_sapi, for_terminal, for_user, is_user, more_numbers, nine_numbers, side_numbers, ten_numbers, three_numbers, Rx, In, Failed, Pull, Ask};
+ghost use Rattle.lapd_script.specs.{texts, rx, into, meant_by, IsCounted, read, read_words, read_as, duration, durations, four_durations, card_numbers, for_annex_b, for_sapi, for_terminal, for_user, is_user, more_numbers, nine_numbers, sapi_numbers, side_numbers, ten_numbers, three_numbers, Rx, In, Failed, Pull, Ask};
 
 use crate::command::{Asked, Command, Durations};
 use crate::kind::FaultKind;
 use crate::values::{cause, number, octet, octets, short};
 use crate::word::Word;
 use crate::words::{none, one, three, two, words_of};
-use lapd_frame::Side;
+use lapd_frame::{Reading, Side};
 use model_line::Config;
 
 /// What a line of a script says, without its line feed.
@@ -34,10 +34,10 @@ pub fn read_line(line: &[u8], room: &mut [u8]) -> Result<Command, FaultKind>
     read_words(words.as_slice(), room)
 }
 
-/// What the words of a line say, of which those past the sixteenth may be left out.
+/// What the words of a line say, of which those past the seventeenth may be left out.
 fn read_words(words: &[&[u8]], room: &mut [u8]) -> Result<Command, FaultKind>
     requires room { All (λ word. length word.now ≤ 2 * length room.old) words.now }
-    ensures read { (all : List (List ℕ)) → texts words.now ≡ take 16 all → meant_by room.new result ≡ read_words all }
+    ensures read { (all : List (List ℕ)) → texts words.now ≡ take 17 all → meant_by room.new result ≡ read_words all }
     ensures counted { IfOk result (IsCounted (length room.new)) }
     ensures rest { (n : ℕ) → All (λ word. length word.now ≤ n) words.now → drop (n / 2) room.new ≡ drop (n / 2) room.old }
 {
@@ -187,10 +187,36 @@ fn duration(word: &[u8]) -> Result<u32, FaultKind>
     number(1, 3_600_000, word)
 }
 
-/// The numbers of a card line, and who it is on its lines if it is the user's side; and `sapi` with the SAPI of the second
-/// service if that is not 16.
+/// What a card line says after its first word; `annex-b` stands last if the tables are read by annex B.
 fn card_numbers(words: &[&[u8]]) -> Result<Config, FaultKind>
     ensures read { result ≡ card_numbers (texts words.now) }
+{
+    let count = words.len();
+    if count >= 1 && is_annex_b(words[count - 1]) {
+        return for_annex_b(sapi_numbers(&words[..count - 1]));
+    }
+    sapi_numbers(words)
+}
+
+fn is_annex_b(word: &[u8]) -> bool
+    ensures { result ≡ bytes_eq word.now (codes "annex-b") }
+{
+    word == b"annex-b".as_slice()
+}
+
+/// The same by annex B.
+fn for_annex_b(numbers: Result<Config, FaultKind>) -> Result<Config, FaultKind>
+    ensures { result ≡ for_annex_b numbers }
+{
+    let mut numbers = numbers?;
+    numbers.reading = Reading::AnnexB;
+    Ok(numbers)
+}
+
+/// The numbers of a card line, and who it is on its lines if it is the user's side; and `sapi` with the SAPI of the second
+/// service if that is not 16.
+fn sapi_numbers(words: &[&[u8]]) -> Result<Config, FaultKind>
+    ensures read { result ≡ sapi_numbers (texts words.now) }
 {
     let count = words.len();
     if count >= 2 && is_sapi(words[count - 2]) {

@@ -7,11 +7,11 @@ use crate::kind::FaultKind;
 use arrayvec::ArrayVec;
 
 /// One word more than the longest line has, so that a line with too many is known by their number.
-pub(crate) const MOST_WORDS: usize = 16;
+pub(crate) const MOST_WORDS: usize = 17;
 
 /// The words of a line: each space separates two, which may be empty. Those past [`MOST_WORDS`] are left out.
 pub(crate) fn words_of(line: &[u8]) -> ArrayVec<&[u8], MOST_WORDS>
-    ensures words { texts result.items ≡ take 16 (words_of line.now) }
+    ensures words { texts result.items ≡ take 17 (words_of line.now) }
     ensures short { All (λ word. length word.now ≤ length line.now) result.items }
 {
     let mut words = ArrayVec::new();

@@ -1,5 +1,5 @@
 -- What a TEI that is disowned leaves of TEI management.
-use Rattle.lapd_tei.proofs.Vocabulary.{arith, ◌≡◌, ℕ, ◌||◌, Bool, true, false, List, [], ◌∷◌, Option, Some, None, IsSome, refl, ap, ◌∙◌, none-some, list_any, Places, has, means, is_on, is_in_use, refusal_if, no_room, Management, course, refusal, disown, DisownSendsRemove, DisownSpares, DisownAllSpares}
+use Rattle.lapd_tei.proofs.Vocabulary.{arith, ◌≡◌, ℕ, ◌||◌, Bool, true, false, List, [], ◌∷◌, refl, ap, ◌∙◌, none-some, list_any, Places, has, means, is_on, is_in_use, course, refusal, DisownSendsRemove, DisownSpares, DisownAllSpares}
 
 or-true : (b : Bool) → (b || true) ≡ true
 or-true true = refl

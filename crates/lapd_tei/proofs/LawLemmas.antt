@@ -1,18 +1,28 @@
 -- The laws of the table, from what each of its rows keeps.
-use Rattle.lapd_tei.proofs.Vocabulary.{ℕ, List, [], ◌∷◌, ap, heard_in, Management, empty, Event, refusal, course, after, after_offer, IsSound, IsInRange, Act, event, pull, AreInRange, after_acts, IsSoundThroughout, ChangesAreTold, LowestIsAssigned, NewIsAssigned, OneMoreWaits, OneIsLost, UnservedChangesNothing}
+use Rattle.std.specs.Prelude.{if◌then◌else◌, ◌*◌}
+use Rattle.lapd_tei.proofs.Vocabulary.{arith, ℕ, ◌+◌, ◌≤◌, Bool, length, list_any, is_due, Profile, AnnexB, Remembered, List, [], ◌∷◌, ap, heard_in, responses_in, Reading, Management, empty, held, Event, refusal, course, after, after_offer, IsSound, IsInRange, Act, event, pull, AreInRange, after_acts, IsSoundThroughout, ChangesAreTold, LowestIsAssigned, NewIsAssigned, FewMoreWait, FewAreLost}
+use Rattle.lapd_tei.proofs.Vocabulary.{ReadingStays, UnservedChangesNothing, IsAsRead}
 use Rattle.lapd_tei.proofs.SoundWords.{table-empty, memory-empty, queue-empty, queue-rest}
+use Rattle.lapd_tei.proofs.Dues.{dues-empty, read-empty}
 use Rattle.lapd_tei.proofs.Served.{leads}
-use Rattle.lapd_tei.proofs.Counted.{counts, lowest-serve, gains-serve}
+use Rattle.lapd_tei.proofs.Counted.{counts, lowest-hear, gains-serve}
 
 -- An event keeps things sound, and so does a pull.
 pub sound-after : (e : Event) (m : Management) → IsInRange e → IsSound m → IsSound (after e m)
 sound-after e m range sound = (leads m sound e range).sound
 
 pub sound-after_offer : (m : Management) → IsSound m → IsSound (after_offer m)
-sound-after_offer m sound = record { table = sound.table; memory = sound.memory; checked = sound.checked; queue = queue-rest m.waiting sound.queue }
+sound-after_offer m sound = record { table = sound.table; memory = sound.memory; checked = sound.checked; due = sound.due; queue = queue-rest m.waiting sound.queue; read = sound.read }
 
-pub sound-empty : (terminals : ℕ) → IsSound (empty terminals)
-sound-empty terminals = record { table = table-empty terminals; memory = memory-empty (empty terminals).places; checked = tt; queue = queue-empty }
+pub sound-empty : (r : Reading) (terminals : ℕ) → IsSound (empty r terminals)
+sound-empty r terminals = record {
+  table = table-empty terminals;
+  memory = memory-empty (empty r terminals).places;
+  checked = tt;
+  due = dues-empty terminals;
+  queue = queue-empty;
+  read = read-empty r terminals;
+}
 
 sound-acts : (acts : List Act) (m : Management) → AreInRange acts → IsSound m → IsSound (after_acts acts m)
 sound-acts [] m range sound = sound
@@ -20,16 +30,19 @@ sound-acts (event e ∷ acts) m range sound = sound-acts acts (after e m) range.
 sound-acts (pull ∷ acts) m range sound = sound-acts acts (after_offer m) range.1 (sound-after_offer m sound)
 
 pub sound_throughout : IsSoundThroughout
-sound_throughout terminals acts range = sound-acts acts (empty terminals) range (sound-empty terminals)
+sound_throughout r terminals acts range = sound-acts acts (empty r terminals) range (sound-empty r terminals)
 
 pub changes_are_told : ChangesAreTold
 changes_are_told e m range sound = (leads m sound e range).moves
 
-pub one_more_waits : OneMoreWaits
-one_more_waits e m = (counts e m).waits
+pub few_more_wait : FewMoreWait
+few_more_wait e m = (counts e m).waits
 
-pub one_is_lost : OneIsLost
-one_is_lost e m = (counts e m).lost
+pub few_are_lost : FewAreLost
+few_are_lost e m = (counts e m).lost
+
+pub reading_stays : ReadingStays
+reading_stays e m = (counts e m).reading
 
 pub unserved_changes_nothing : UnservedChangesNothing
 unserved_changes_nothing e m is =
@@ -38,10 +51,19 @@ unserved_changes_nothing e m is =
 
 pub lowest_is_assigned : LowestIsAssigned
 unfolding course refusal
-lowest_is_assigned octets m = lowest-serve (heard_in octets) m
+lowest_is_assigned octets m = lowest-hear octets m
 
 pub new_is_assigned : NewIsAssigned
 unfolding course refusal
 new_is_assigned octets m ri place tei h =
-    let gains = gains-serve ri place tei m (heard_in octets) h.asks h.is_new h.room h.place_is h.tei_is in
+    let gains = gains-serve ri place tei m (heard_in octets) (responses_in octets) h.asks h.is_new h.unanswered h.room h.place_is h.tei_is in
     record { change = gains.0; answer = gains.1 }
+
+-- Sound management holds no more octets than four messages and four assignments have.
+few_held : (r : Reading) (waiting : ℕ) (remembered : List Remembered) (to_check : List Bool) → waiting ≤ 4 → length remembered ≤ 4 → IsAsRead r remembered to_check
+    → 8 * waiting + 3 * length remembered + (if list_any is_due to_check then 1 else 0) ≤ 44
+few_held Profile waiting remembered to_check few known read = rw read (omega (arith, few, known))
+few_held AnnexB waiting remembered to_check few known read = rw read (grind arith)
+
+pub held-few : (m : Management) → IsSound m → held m ≤ 44
+held-few m sound = few_held m.reading (length m.waiting) m.remembered m.to_check sound.queue.few sound.memory.few sound.read

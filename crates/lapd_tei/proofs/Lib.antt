@@ -2,10 +2,13 @@
 pub mod Vocabulary
 pub mod Lists
 pub mod Tables
+pub mod Among
+pub mod Dues
 pub mod Named
 pub mod Memories
 pub mod SoundWords
 mod Walk
+pub mod Ends
 pub mod Served
 pub mod Counted
 pub mod Pigeonholes

@@ -1,6 +1,7 @@
 -- The assignments that are remembered: after one more, and after a TEI left.
 use Rattle.lapd_tei.proofs.Vocabulary.{◌≡◌, ℕ, ◌-◌, ◌≤◌, ◌==◌, true, false, List, [], ◌∷◌, ◌++◌, length, drop, set, Option, Some, None, subst, arith, length-drop, AllByRecursion, filter, find, option_map, All-nil, All-cons, All-append, All-drop, recursion_from_All, none-some, same_Some, Places, is_on, place_of, free_place, Remembered, latest, freed, is_of_other, is_for, tei_in, remembered_in}
 use Rattle.lapd_tei.proofs.Vocabulary.{IsSoundTable, IsSoundMemory, same_ri, same_tei, length-filter, count_by-le-length, All-get_or}
+use Rattle.lapd_tei.proofs.Vocabulary.{Reading, Profile, AnnexB, by_reading}
 use Rattle.lapd_tei.proofs.Lists.{All-filter_by, IsDistinct-push, IsDistinct-drop, IsDistinct-filter, none-found, found}
 use Rattle.lapd_tei.proofs.Tables.{same_number, on-put, on-freed, on-range}
 
@@ -43,6 +44,12 @@ memory-remember before places remembered ri tei old sound new off on =
       one_tei = IsDistinct-drop same_tei (length all - 4) all (IsDistinct-push same_tei remembered one sound.one_tei (other_tei before ri tei remembered off old));
       on_line = All-drop (stays_on places) (length all - 4) all (All-append (stays_on places) remembered (one ∷ []) sound.on_line (All-cons (stays_on places) one [] on (All-nil (stays_on places))));
     }
+
+-- By annex B it is not.
+pub memory-as_read : (r : Reading) (before places : Places) (remembered : List Remembered) (ri tei : ℕ) → IsSoundMemory before remembered → IsSoundMemory places remembered → remembered_in ri remembered ≡ None → is_on tei before ≡ false → is_on tei places ≡ true
+    → IsSoundMemory places (by_reading r (latest (remembered ++ record { ri = ri; tei = tei } ∷ [])) remembered)
+memory-as_read Profile before places remembered ri tei old sound new off on = memory-remember before places remembered ri tei old sound new off on
+memory-as_read AnnexB before places remembered ri tei old sound new off on = sound
 
 -- A TEI leaves.
 other_leaves : (tei : ℕ) (r : Remembered) → is_of_other tei r ≡ true → (r.tei == tei) ≡ false

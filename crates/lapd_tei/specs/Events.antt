@@ -3,11 +3,11 @@ use Rattle.std.specs.Prelude.{ℕ, Bool, not, List, drop, slice_get, Option, Som
 use Rattle.lapd_frame.specs.declared.addresses.Side.{Side}
 use Rattle.lapd_frame.specs.declared.refusals.Refusal.{Refusal}
 use Rattle.lapd_frame.specs.declared.refusals.Refusal.TheVariants.{NoLink, TeiTaken, TableFull, CheckRunning, ControlFull}
-use Rattle.lapd_tei.specs.Messages.{heard_in, frame_of}
+use Rattle.lapd_tei.specs.Messages.{frame_of}
 use Rattle.lapd_tei.specs.Table.{is_on, is_in_use, free_place}
 use Rattle.lapd_tei.specs.Machine.{Management, TeiTold}
 use Rattle.lapd_tei.specs.Words.{Course, begun, Step, no_room, begin_check}
-use Rattle.lapd_tei.specs.Rows.{serve, expire, put_on, take_off, disown as send_away, give_up}
+use Rattle.lapd_tei.specs.Rows.{hear, expire, put_on, take_off, disown as send_away, give_up}
 
 -- The information of a UI frame of SAPI 63 to the group TEI; the expiry of T201; the requests of layer management, of a
 -- TEI of at most 126, or to disown one of at most 127; and that the line is down.
@@ -36,7 +36,7 @@ refusal down m = None
 
 -- What an event does that is not refused.
 abbrev pub step : Event → Step
-step (message octets) = serve (heard_in octets)
+step (message octets) = hear octets
 step expiry = expire
 step (assign tei) = put_on tei
 step (remove tei) = take_off tei

@@ -1,13 +1,17 @@
 -- What holds of the table of TEI management, beside what its rows say.
-use Rattle.std.specs.Prelude.{◌≡◌, ℕ, ◌+◌, ◌≤◌, ◌<◌, Bool, true, false, is_some, List, [], ◌∷◌, ◌++◌, length, set, get_or, Option, Some, None, IsSome}
+use Rattle.std.specs.Prelude.{◌≡◌, ℕ, ◌+◌, ◌≤◌, ◌<◌, Bool, true, false, is_some, List, [], ◌∷◌, ◌++◌, length, replicate, set, get_or, Option, Some, None, IsSome}
+use Rattle.std.specs.List.{list_any}
 use Rattle.lapd_frame.specs.declared.addresses.Side.{Side}
 use Rattle.lapd_frame.specs.declared.timers.Order.{Order}
 use Rattle.lapd_frame.specs.declared.timers.Order.TheVariants.{Start, Stop}
 use Rattle.lapd_frame.specs.declared.timers.Timer.TheVariants.{T201}
-use Rattle.lapd_tei.specs.Table.{Places, is_on, is_in_use, free_place, free_tei}
+use Rattle.lapd_frame.specs.declared.readings.Reading.{Reading}
+use Rattle.lapd_frame.specs.declared.readings.Reading.TheVariants.{AnnexB}
+use Rattle.lapd_frame.specs.Readings.{by_reading}
+use Rattle.lapd_tei.specs.Table.{Places, is_on, free_place, free_tei}
 use Rattle.lapd_tei.specs.Messages.{IdentityAssigned, IdentityRemove, IdentityRequest, heard_in}
 use Rattle.lapd_tei.specs.Machine.{Management, Check, empty, may_send, messages_limit, nothing, Change, Gained, Left}
-use Rattle.lapd_tei.specs.Rows.{remembered_in}
+use Rattle.lapd_tei.specs.Rows.{remembered_in, assigns_for}
 use Rattle.lapd_tei.specs.Events.{Event, refusal, message, expiry, assign, remove, check, disown, down, after, told, offered, after_offer}
 use Rattle.lapd_tei.specs.Sound.{IsAt, IsSound}
 
@@ -44,7 +48,7 @@ after_acts (act ∷ acts) m = after_acts acts (after_act act m)
 
 -- From the empty table on, things are sound at all times.
 abbrev pub IsSoundThroughout : Type 0
-IsSoundThroughout = (terminals : ℕ) (acts : List Act) → AreInRange acts → IsSound (after_acts acts (empty terminals))
+IsSoundThroughout = (r : Reading) (terminals : ℕ) (acts : List Act) → AreInRange acts → IsSound (after_acts acts (empty r terminals))
 
 -- What a change says of the table before and after: a TEI that was not on the line has taken the lowest free place; a
 -- TEI has left its place free; or the table stays as it was.
@@ -84,11 +88,13 @@ AssignsLowest places (Some (Left tei place)) = Unit {0}
 abbrev pub LowestIsAssigned : Type 0
 LowestIsAssigned = (octets : List ℕ) (m : Management) → AssignsLowest m.places (told (message octets) m).change
 
--- A terminal asks for a TEI: its Ri is not remembered, there is room for an answer, and a place and a TEI are free.
+-- A terminal asks for a TEI: its Ri is not remembered and, by annex B, no TEI for it waits to be sent; there is room for an
+-- answer, and a place and a TEI are free.
 pub record MayBeAssigned (octets : List ℕ) (m : Management) (ri place tei : ℕ) : Type 0 where
   pub asks : heard_in octets ≡ Some (IdentityRequest ri)
   pub is_new : remembered_in ri m.remembered ≡ None
-  pub room : may_send m < messages_limit
+  pub unanswered : m.reading ≡ AnnexB → list_any (assigns_for ri) m.waiting ≡ false
+  pub room : length m.waiting < messages_limit
   pub place_is : free_place m.places ≡ Some place
   pub tei_is : free_tei m.places ≡ Some tei
 
@@ -104,12 +110,17 @@ NewIsAssigned = (octets : List ℕ) (m : Management) (ri place tei : ℕ) → Ma
 abbrev pub OneIsFree : Type 0
 OneIsFree = (places : Places) → length places < 63 → IsSome (free_tei places)
 
--- An event lets at most one message more wait, and loses at most one; a pull lets one fewer wait, or finds none.
-abbrev pub OneMoreWaits : Type 0
-OneMoreWaits = (e : Event) (m : Management) → may_send (after e m) ≤ may_send m + 1
+-- An event lets at most one message more wait, and loses at most one; by annex B a message that is heard lets two wait, one of
+-- them with a check that is due, and the end of a check may lose two. A pull lets one fewer wait, or finds none.
+abbrev pub most_heard : Event → ℕ
+most_heard (message octets) = 2
+most_heard other = 1
 
-abbrev pub OneIsLost : Type 0
-OneIsLost = (e : Event) (m : Management) → (told e m).lost ≤ 1
+abbrev pub FewMoreWait : Type 0
+FewMoreWait = (e : Event) (m : Management) → may_send (after e m) ≤ may_send m + by_reading m.reading 1 (most_heard e)
+
+abbrev pub FewAreLost : Type 0
+FewAreLost = (e : Event) (m : Management) → (told e m).lost ≤ by_reading m.reading 1 2
 
 abbrev pub taken : Option (List ℕ) → ℕ
 taken None = 0
@@ -117,6 +128,10 @@ taken (Some octets) = 1
 
 abbrev pub OneFewerWaits : Type 0
 OneFewerWaits = (side : Side) (m : Management) → may_send (after_offer m) + taken (offered side m) ≡ may_send m
+
+-- The reading stays what it was.
+abbrev pub ReadingStays : Type 0
+ReadingStays = (e : Event) (m : Management) → (after e m).reading ≡ m.reading
 
 -- A message that is not served changes nothing, and nothing else is told of it.
 abbrev pub UnservedChangesNothing : Type 0
@@ -145,7 +160,7 @@ stop_of None = []
 stop_of (Some own) = Stop T201 ∷ []
 
 pub record IsGivenUp (m : Management) : Type 0 where
-  pub after : after down m ≡ record m { check = None; waiting = [] }
+  pub after : after down m ≡ record m { check = None; to_check = replicate (length m.to_check) false; waiting = [] }
   pub told : told down m ≡ record nothing { orders = stop_of m.check }
 
 abbrev pub DownGivesUp : Type 0

@@ -1,7 +1,9 @@
 -- TEI management of one line: its state, and what is told of an event (Q.921 clause 5.3).
-use Rattle.std.specs.Prelude.{ℕ, ◌+◌, ◌*◌, Bool, false, List, [], length, replicate, Option, None}
+use Rattle.std.specs.Prelude.{ℕ, ◌+◌, ◌*◌, Bool, false, List, [], length, sum_by, replicate, get_or, Option, None, Some, if◌then◌else◌}
+use Rattle.std.specs.List.{position, list_any}
 use Rattle.lapd_frame.specs.declared.notes.Note.{Note}
 use Rattle.lapd_frame.specs.declared.timers.Order.{Order}
+use Rattle.lapd_frame.specs.declared.readings.Reading.{Reading}
 use Rattle.lapd_tei.specs.Messages.{Message}
 use Rattle.lapd_tei.specs.Table.{Places, place_of}
 pub use Rattle.lapd_tei.specs.declared.remembered.Remembered.{Remembered}
@@ -11,17 +13,30 @@ pub use Rattle.lapd_tei.specs.declared.check.Period.TheVariants.{First, Second}
 pub use Rattle.lapd_tei.specs.declared.outcome.Change.{Change}
 pub use Rattle.lapd_tei.specs.declared.outcome.Change.TheVariants.{Gained, Left}
 
--- The table of the TEIs; the latest assignments that still hold, the oldest first; the check that runs, if one does;
--- and the messages that wait to be sent, the oldest first.
 pub record Management : Type 0 where
+  -- how the rows of the table are read, at all times the same
+  pub reading : Reading
+  -- the table of the TEIs
   pub places : Places
+  -- the latest assignments that still hold, the oldest first: none by annex B
   pub remembered : List Remembered
+  -- the check that runs, if one does
   pub check : Option Check
+  -- for each place, whether its TEI is checked once that check has ended, as its terminal asked meanwhile: none in the profile
+  pub to_check : List Bool
+  -- the messages that wait to be sent, the oldest first
   pub waiting : List Message
 
 -- as a line with so many places begins
-abbrev pub empty : ℕ → Management
-empty terminals = record { places = replicate terminals None; remembered = []; check = None; waiting = [] }
+abbrev pub empty : Reading → ℕ → Management
+empty reading terminals = record {
+  reading = reading;
+  places = replicate terminals None;
+  remembered = [];
+  check = None;
+  to_check = replicate terminals false;
+  waiting = [];
+}
 
 -- How many messages may wait, and how many assignments are remembered (profile).
 abbrev pub messages_limit : ℕ
@@ -34,13 +49,33 @@ remembered_limit = 4
 abbrev pub place : ℕ → Management → Option ℕ
 place tei m = place_of tei m.places
 
--- The messages that wait, and the octets that are held: those of the frames that wait, without their check, and three
--- for Ri and TEI of each remembered assignment.
+-- How many TEIs are checked once the check that runs has ended, whether any is, and the one at the lowest place.
+abbrev pub one_if : Bool → ℕ
+one_if due = if due then 1 else 0
+
+abbrev pub checks_due : Management → ℕ
+checks_due m = sum_by one_if m.to_check
+
+abbrev pub is_due : Bool → Bool
+is_due due = due
+
+abbrev pub is_check_due : Management → Bool
+is_check_due m = list_any is_due m.to_check
+
+abbrev pub tei_at : Places → Option ℕ → Option ℕ
+tei_at places None = None
+tei_at places (Some place) = get_or places place None
+
+abbrev pub next_checked : Management → Option ℕ
+next_checked m = tei_at m.places (position is_due m.to_check)
+
+-- The messages that wait or will, each check that is due with its request; and the octets that are held: those of the frames
+-- that wait, without their check, three for Ri and TEI of each remembered assignment, and one while any check is due.
 abbrev pub may_send : Management → ℕ
-may_send m = length m.waiting
+may_send m = length m.waiting + checks_due m
 
 abbrev pub held : Management → ℕ
-held m = 8 * length m.waiting + 3 * length m.remembered
+held m = 8 * length m.waiting + 3 * length m.remembered + (if is_check_due m then 1 else 0)
 
 -- What is told of an event: notes; whether a TEI came to the line or left it; what is ordered of T201; how many
 -- messages were lost, as they found no room; and whether the event is one that is not served.

@@ -1,5 +1,5 @@
 -- What the code's values stand for.
-use Rattle.std.specs.Prelude.{◌≤◌, length}
+use Rattle.std.specs.Prelude.{◌≡◌, ◌≤◌, [], length}
 use Rattle.lapd_frame.specs.ShortLists.{listed}
 use Rattle.lapd_tei.specs.declared.outcome.TeiOutcome.{TeiOutcome}
 use Rattle.lapd_tei.specs.declared.teis.Teis.TheInside.{Inside}
@@ -10,7 +10,14 @@ abbrev pub told_of : TeiOutcome → TeiTold
 told_of o = record { notes = listed o.notes; change = o.change; orders = listed o.orders; lost = o.lost; unserved = o.unserved }
 
 abbrev pub management_of : Inside → Management
-management_of t = record { places = t.table; remembered = t.memory; check = t.check; waiting = t.queue }
+management_of t = record {
+  reading = t.reading;
+  places = t.table;
+  remembered = t.memory;
+  check = t.check;
+  to_check = t.due;
+  waiting = t.queue;
+}
 
 -- where an event has led, as an outcome tells it
 abbrev pub led_to : Management → TeiOutcome → Course
@@ -20,3 +27,9 @@ led_to m o = record { now = m; told = told_of o }
 pub record IsShort (o : TeiOutcome) : Type 0 where
   pub notes : length (listed o.notes) ≤ 1
   pub orders : length (listed o.orders) ≤ 1
+
+-- One to which the end of a check can be added, or its begin: it has no order yet, and one message was lost at most.
+pub record IsOpen (o : TeiOutcome) : Type 0 where
+  pub notes : length (listed o.notes) ≤ 1
+  pub orders : listed o.orders ≡ []
+  pub lost : o.lost ≤ 1

@@ -1,9 +1,11 @@
 -- What holds of TEI management at all times, from an empty table on.
-use Rattle.std.specs.Prelude.{◌≡◌, ℕ, ◌≤◌, ◌==◌, Bool, true, List, length, get_or, All, Some, None, IfSome}
-use Rattle.std.specs.List.{IsDistinct}
+use Rattle.std.specs.Prelude.{◌≡◌, ℕ, ◌≤◌, ◌==◌, Bool, true, false, List, [], length, get_or, All, Option, Some, None, IfSome}
+use Rattle.std.specs.List.{IsDistinct, list_any}
+use Rattle.lapd_frame.specs.declared.readings.Reading.{Reading}
+use Rattle.lapd_frame.specs.declared.readings.Reading.TheVariants.{Profile, AnnexB}
 use Rattle.lapd_tei.specs.Messages.{Message, action_of}
 use Rattle.lapd_tei.specs.Table.{Places, is_on}
-use Rattle.lapd_tei.specs.Machine.{Management, Remembered, Check}
+use Rattle.lapd_tei.specs.Machine.{Management, Remembered, Check, is_due}
 
 -- the TEI is at the place
 abbrev pub IsAt : Places → ℕ → ℕ → Type 0
@@ -33,6 +35,20 @@ pub record IsSoundCheck (places : Places) (check : Check) : Type 0 where
   pub first : check.first ≤ 1
   pub second : check.second ≤ 1
 
+-- A check is due only while another runs, and only of a TEI on the line that is not under that check.
+abbrev pub MayBeDue : Option ℕ → Option Check → Type 0
+MayBeDue (Some tei) (Some own) = (own.tei == tei) ≡ false
+MayBeDue tei check = ⊥
+
+pub record AreSoundChecks (places : Places) (check : Option Check) (to_check : List Bool) : Type 0 where
+  pub each : length to_check ≡ length places
+  pub due : (i : ℕ) → get_or to_check i false ≡ true → MayBeDue (get_or places i None) check
+
+-- In the profile no check is due, and by annex B no assignment is remembered.
+abbrev pub IsAsRead : Reading → List Remembered → List Bool → Type 0
+IsAsRead Profile remembered to_check = list_any is_due to_check ≡ false
+IsAsRead AnnexB remembered to_check = remembered ≡ []
+
 -- At most four messages wait, and each names a TEI or the group.
 pub record IsSoundQueue (waiting : List Message) : Type 0 where
   pub few : length waiting ≤ 4
@@ -42,4 +58,6 @@ pub record IsSound (m : Management) : Type 0 where
   pub table : IsSoundTable m.places
   pub memory : IsSoundMemory m.places m.remembered
   pub checked : IfSome m.check (IsSoundCheck m.places)
+  pub due : AreSoundChecks m.places m.check m.to_check
   pub queue : IsSoundQueue m.waiting
+  pub read : IsAsRead m.reading m.remembered m.to_check

@@ -1,11 +1,13 @@
 //! What holds of the table of TEI management itself.
 
-ghost use Rattle.lapd_tei.specs.Laws.{IsSoundThroughout, ChangesAreTold, LowestIsAssigned, NewIsAssigned, OneIsFree, OneMoreWaits, OneIsLost, OneFewerWaits, UnservedChangesNothing, T201Follows, ExpiredT201Follows, DownGivesUp, DisownSendsRemove, DisownSpares, DisownAllSpares};
+ghost use Rattle.lapd_tei.specs.Laws.{IsSoundThroughout, ChangesAreTold, LowestIsAssigned, NewIsAssigned, OneIsFree, FewMoreWait, FewAreLost, OneFewerWaits, ReadingStays, UnservedChangesNothing, T201Follows, ExpiredT201Follows, DownGivesUp, DisownSendsRemove, DisownSpares, DisownAllSpares};
 
 /// TEI management is sound from the empty table on, after any events and pulls whose requests name TEIs of at most 126, or
 /// disown one of at most 127. No TEI and no Ri stands twice, and each TEI is at most 126. At most four assignments are
-/// remembered, each of a TEI that is on the line. At most four messages wait, each with an Ai of at most 127. A check is of
-/// a TEI that is on the line, and has at most one response in each period. This is a law about the definitions in `specs/`; the call does nothing.
+/// remembered, each of a TEI that is on the line, and none by annex B. At most four messages wait, each with an Ai of at most
+/// 127. A check is of a TEI that is on the line, and has at most one response in each period. A check is due only by annex B,
+/// only while another runs, and only of another TEI on the line. This is a law about the definitions in `specs/`; the call does
+/// nothing.
 pub fn sound_throughout()
     ensures { IsSoundThroughout }
 {}
@@ -20,21 +22,28 @@ pub fn changes_are_told()
 
 /// If a terminal is assigned a TEI, it is the lowest of 64 to 126 that is not on the line, and in a
 /// table of fewer than 63 places one of these is always free. One whose Ri is not remembered gets it,
-/// if there is room for the answer and a place is free. A law about the definitions in `specs/`; the
-/// call does nothing.
+/// if there is room for the answer and a place is free; by annex B also no answer to it may wait. A law
+/// about the definitions in `specs/`; the call does nothing.
 pub fn lowest_is_assigned()
     ensures lowest { LowestIsAssigned }
     ensures new { NewIsAssigned }
     ensures one { OneIsFree }
 {}
 
-/// An event lets at most one message more wait and loses at most one; a pull lets one fewer wait, or
+/// An event lets at most one message more wait and loses at most one, if a check that is due counts as the message with which
+/// it begins. By annex B a message that is heard lets two wait at most, and two may be lost. A pull lets one fewer wait, or
 /// finds none. A law about the definitions in `specs/`; the call does nothing.
-#[tactic(auto, using(crate::proofs::LawLemmas::one_more_waits, crate::proofs::LawLemmas::one_is_lost))]
-pub fn one_more_waits()
-    ensures more { OneMoreWaits }
-    ensures lost { OneIsLost }
+#[tactic(auto, using(crate::proofs::LawLemmas::few_more_wait, crate::proofs::LawLemmas::few_are_lost))]
+pub fn few_more_wait()
+    ensures more { FewMoreWait }
+    ensures lost { FewAreLost }
     ensures fewer { OneFewerWaits }
+{}
+
+/// No event changes the reading of the table. A law about the definitions in `specs/`; the call does nothing.
+#[tactic(auto, using(crate::proofs::LawLemmas::reading_stays))]
+pub fn reading_stays()
+    ensures { ReadingStays }
 {}
 
 /// A message that is not served changes nothing, and nothing else is told of it. A law about the
@@ -54,7 +63,7 @@ pub fn orders_follow_the_check()
     ensures expired { ExpiredT201Follows }
 {}
 
-/// If the line is down (Q.921 annex B, persistent deactivation), no message waits and no check runs. The TEIs and what is
+/// If the line is down (Q.921 annex B, persistent deactivation), no message waits, and no check runs or is due. The TEIs and what is
 /// remembered of their assignments stay, and all that is told is that T201 stops, if it ran. A law about the definitions in
 /// `specs/`; the call does nothing.
 #[tactic(auto, using(crate::proofs::GivenUp::down_gives_up))]

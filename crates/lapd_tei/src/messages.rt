@@ -2,6 +2,7 @@
 
 ghost use Rattle.std.specs.Prelude.{◌≡◌, ◌<◌};
 ghost use Rattle.lapd_tei.specs.Messages.{action_of, information_of, frame_of, type_of};
+ghost use Rattle.lapd_tei.specs.Rows.{asks_for, assigns_for};
 
 use lapd_frame::{Address, Control, Frame, GROUP, MANAGEMENT, Side, write};
 
@@ -27,6 +28,8 @@ pub enum Message {
     IdentityDenied {
         /// That of the request.
         ri: u16,
+        /// 127, or 64 to 126 if the terminal asked for this one.
+        tei: u8,
     },
     /// Each terminal with this TEI is to answer (clause 5.3.3.2).
     IdentityCheckRequest {
@@ -61,6 +64,26 @@ impl Message {
         octets
     }
 
+    // Whether it is a check request of this TEI.
+    pub(crate) fn asks_for(self, tei: u8) -> bool
+        ensures { result ≡ asks_for tei self }
+    {
+        match self {
+            Message::IdentityCheckRequest { tei: other } => other == tei,
+            _ => false,
+        }
+    }
+
+    // Whether it assigns a TEI for this Ri.
+    pub(crate) fn assigns_for(self, ri: u16) -> bool
+        ensures { result ≡ assigns_for ri self }
+    {
+        match self {
+            Message::IdentityAssigned { ri: other, .. } => other == ri,
+            _ => false,
+        }
+    }
+
     // Its message type (table 8).
     pub(crate) fn kind(self) -> u8
         ensures { result ≡ type_of self }
@@ -79,8 +102,9 @@ impl Message {
         ensures { result ≡ information_of self }
     {
         let (ri, action) = match self {
-            Message::IdentityAssigned { ri, tei } => (ri, tei),
-            Message::IdentityDenied { ri } => (ri, NO_TEI),
+            Message::IdentityAssigned { ri, tei } | Message::IdentityDenied { ri, tei } => (
+                ri, tei,
+            ),
             Message::IdentityCheckRequest { tei } | Message::IdentityRemove { tei } => (0, tei),
         };
         let [high, low] = ri.to_be_bytes();

@@ -30,14 +30,14 @@ pub struct TeiOutcome {
     pub change: Option<Change>,
     /// What is ordered of T201: at most one order.
     pub orders: ShortList<Order>,
-    /// How many messages were lost, as they found no room to wait: at most one.
+    /// How many messages were lost, as they found no room to wait: at most one, or two by annex B.
     pub lost: u8,
     /// Whether a message is one that is not served. Then nothing else has happened.
     pub unserved: bool,
 }
 
 impl TeiOutcome {
-    ghost use Rattle.std.specs.Prelude.{◌≡◌, true};
+    ghost use Rattle.std.specs.Prelude.{◌≡◌, true, []};
     ghost use Rattle.lapd_tei.specs.{told_of, IsShort, nothing};
 
     // Nothing happened.

@@ -1,7 +1,9 @@
 //! The messages that wait to be sent.
 
 ghost use Rattle.std.specs.Prelude.{◌≡◌, ◌≤◌, [], length, drop, slice_get, IfOk};
+ghost use Rattle.std.specs.List.{list_any};
 ghost use Rattle.lapd_tei.specs.Words.{no_room, with_message, lost_after};
+ghost use Rattle.lapd_tei.specs.Rows.{asks_for, assigns_for};
 
 use crate::messages::Message;
 use circular_buffer::HeapCircularBuffer;
@@ -61,6 +63,20 @@ impl Queue {
             Ok(()) => 0,
             Err(_) => 1,
         }
+    }
+
+    /// Whether a check request of this TEI waits.
+    pub fn asks_for(&self, tei: u8) -> bool
+        ensures { result ≡ list_any (asks_for tei) self.now }
+    {
+        self.messages.iter().any(|message| message.asks_for(tei))
+    }
+
+    /// Whether an identity assigned for this Ri waits.
+    pub fn assigns_for(&self, ri: u16) -> bool
+        ensures { result ≡ list_any (assigns_for ri) self.now }
+    {
+        self.messages.iter().any(|message| message.assigns_for(ri))
     }
 
     /// The message that has waited longest.

@@ -1,9 +1,11 @@
 //! The assignments that are remembered.
 
 ghost use Rattle.std.specs.Prelude.{◌≡◌, ◌≤◌, List, [], ◌∷◌, ◌++◌, length, filter};
+ghost use Rattle.lapd_frame.specs.Readings.{by_reading};
 ghost use Rattle.lapd_tei.specs.{remembered_in, latest, is_of_other};
 
 use arrayvec::ArrayVec;
+use lapd_frame::Reading;
 use std::marker::Model;
 
 /// The TEI that was assigned to a request with this reference number Ri.
@@ -56,14 +58,24 @@ impl Memory {
         Some(found.tei)
     }
 
-    /// Remembers an assignment, and forgets the oldest if there is no room for one more.
-    pub fn remember(&mut self, ri: u16, tei: u8)
-        ensures { self.new ≡ latest (self.old ++ record { ri = ri; tei = tei } ∷ []) }
+    /// Remembers an assignment in the profile, and forgets the oldest if there is no room for one more.
+    pub fn remember(&mut self, reading: Reading, ri: u16, tei: u8)
+        ensures { self.new ≡ by_reading reading (latest (self.old ++ record { ri = ri; tei = tei } ∷ [])) self.old }
+    {
+        match reading {
+            Reading::Profile => self.add(Remembered { ri, tei }),
+            Reading::AnnexB => {}
+        }
+    }
+
+    // One more, in place of the oldest if there is no room.
+    fn add(&mut self, one: Remembered)
+        ensures { self.new ≡ latest (self.old ++ one ∷ []) }
     {
         if self.latest.is_full() {
             self.latest.remove(0);
         }
-        self.latest.push(Remembered { ri, tei });
+        self.latest.push(one);
     }
 
     /// Forgets the assignment of a TEI.

@@ -1,16 +1,17 @@
 //! The table of the TEIs of a line.
 
 ghost use Rattle.std.specs.Prelude.{◌≡◌, ◌<◌, ◌≤◌, [], ◌∷◌, ◌++◌, Some, None, length, replicate, set, IfSome};
-ghost use Rattle.lapd_tei.specs.{Places, is_on, is_in_use, named, place_of, free_place, free_tei, freed, teis_on};
+ghost use Rattle.lapd_tei.specs.{Places, is_on, is_in_use, named, place_of, tei_at, free_place, free_tei, freed, teis_on};
 
 use arrayvec::ArrayVec;
 use lapd_frame::GROUP;
 use std::marker::Model;
 
-const MOST: usize = 8;
+/// The most places that a table has.
+pub(crate) const MOST: usize = 8;
 
 /// The lowest TEI that the network assigns; they end before that of the group (Q.921 clause 3.3.4).
-const LOWEST: u8 = 64;
+pub(crate) const LOWEST: u8 = 64;
 
 /// The TEIs of a line, each at a place, on either side of it: the TEI at each place, `None` if it is free.
 #[derive(Drop, Debug)]
@@ -63,6 +64,13 @@ impl Table {
             .as_slice()
             .iter()
             .position(|own| *own == Some(tei))
+    }
+
+    /// The TEI at a place.
+    pub(crate) fn tei_at(&self, place: usize) -> Option<u8>
+        ensures { result ≡ tei_at self.now (Some place) }
+    {
+        *self.places.as_slice().get(place)?
     }
 
     /// The lowest place that is free.

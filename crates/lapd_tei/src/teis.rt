@@ -1,12 +1,15 @@
 //! TEI management of one line.
 
 ghost use Rattle.std.specs.Prelude.{◌≡◌, ◌≤◌, ◌<◌, true, Some, None, length, option_map, slice_get, is_some, false, IfOk, IfErr, IfSome, OnOk, OnErr};
-ghost use Rattle.lapd_tei.specs.{type_of, empty, place, held, is_on, begun, leave, left, request, take_off, is_checked, message, expiry, assign, remove, check, disown, down, refusal, after, told, offered, after_offer, told_of, led_to, IsShort};
+ghost use Rattle.lapd_tei.specs.{type_of, empty, place, held, is_on, begun, leave, left, take_off, is_checked, message, expiry, assign, remove, check, disown, down, refusal, after, told, offered, after_offer, told_of, led_to, IsShort};
+ghost use Rattle.lapd_frame.specs.declared.readings.Reading.TheVariants.{Profile};
 ghost use Rattle.lapd_frame.specs.declared.addresses.Side.{Side as Spelt};
 
 mod checks;
+mod requests;
 
 use crate::check::Check;
+use crate::due::Due;
 use crate::fault::StartFault;
 use crate::heard::Heard;
 use crate::messages::Message;
@@ -14,19 +17,22 @@ use crate::outcome::{Change, TeiOutcome};
 use crate::queue::Queue;
 use crate::remembered::Memory;
 use crate::table::Table;
-use lapd_frame::{Note, Order, Refusal, ShortList, Side, Timer};
+use lapd_frame::{Order, Reading, Refusal, ShortList, Side, Timer};
 use std::alloc::Global;
 use std::marker::Model;
 
 /// TEI management of one line (Q.921 clause 5.3), the network's side.
 ///
 /// A line has a table of at most `terminals` TEIs, each at a place; remembers the latest assignments, at most four; and runs
-/// at most one check of a TEI at a time. Its messages wait for the line, at most four. No call but `start` takes memory.
+/// at most one check of a TEI at a time. Its messages wait for the line, at most four. Which rows hold is its reading. No call
+/// but a start takes memory.
 #[derive(Drop, Debug)]
 pub struct Teis {
+    reading: Reading,
     table: Table,
     memory: Memory,
     check: Option<Check>,
+    due: Due,
     queue: Queue,
 }
 
@@ -45,19 +51,33 @@ impl Model for Teis {
 
 #[tactic(auto, unfolding(crate::specs::Events::course, crate::specs::Events::refusal))]
 impl Teis {
-    /// TEI management of a line on which no TEI is, with room for `terminals` TEIs, 1 to 8.
+    /// TEI management of a line on which no TEI is, with room for `terminals` TEIs, 1 to 8, by the rows of the profile.
     ///
     /// # Errors
     ///
     /// `OutOfMemory` if there is no memory for the messages that wait.
     pub fn start(alloc: Global, terminals: usize) -> Result<Teis, StartFault>
         requires { 1 ≤ terminals × terminals ≤ 8 }
-        ensures { IfOk result (λ teis. teis ≡ empty terminals) }
+        ensures { IfOk result (λ teis. teis ≡ empty Profile terminals) }
+    {
+        Teis::start_as(alloc, terminals, Reading::Profile)
+    }
+
+    /// TEI management of a line on which no TEI is, with room for `terminals` TEIs, 1 to 8, by the rows of this reading.
+    ///
+    /// # Errors
+    ///
+    /// `OutOfMemory` if there is no memory for the messages that wait.
+    pub fn start_as(alloc: Global, terminals: usize, reading: Reading) -> Result<Teis, StartFault>
+        requires { 1 ≤ terminals × terminals ≤ 8 }
+        ensures { IfOk result (λ teis. teis ≡ empty reading terminals) }
     {
         Ok(Teis {
+            reading,
             table: Table::empty(terminals),
             memory: Memory::new(),
             check: None,
+            due: Due::none(terminals),
             queue: Queue::start(alloc).map_err(|_| StartFault::OutOfMemory)?,
         })
     }
@@ -70,9 +90,10 @@ impl Teis {
     {
         match Heard::read(information) {
             Some(Heard::IdentityRequest { ri }) => self.request(ri),
+            Some(Heard::IdentityRequestOf { ri, tei }) => self.request_of(ri, tei),
             Some(Heard::IdentityVerify { tei }) => self.verify(tei),
             Some(Heard::IdentityCheckResponse { tei }) => self.respond(tei),
-            None => TeiOutcome::unserved(),
+            None => self.respond_among(information),
         }
     }
 
@@ -162,7 +183,7 @@ impl Teis {
         if self.queue.is_full() {
             return Err(Refusal::ControlFull);
         }
-        Ok(self.begin_check(tei))
+        Ok(self.begin_check(tei, TeiOutcome::nothing()))
     }
 
     /// Disowns a TEI that is not on the line, at most 126, or 127 for all TEIs (Q.921 clause 5.3.4): the terminals that still
@@ -191,14 +212,15 @@ impl Teis {
         Ok(TeiOutcome::nothing())
     }
 
-    /// The line is down (Q.921 annex B, persistent deactivation): the messages that wait are given up, and a check that runs
-    /// ends without a result. The TEIs stay on the line.
+    /// The line is down (Q.921 annex B, persistent deactivation): the messages that wait are given up, a check that runs ends
+    /// without a result, and none is due any more. The TEIs stay on the line.
     pub fn give_up(&mut self) -> TeiOutcome
         ensures told { told_of result ≡ told down self.old }
         ensures after { self.new ≡ after down self.old }
         ensures short { IsShort result }
     {
         self.queue.clear();
+        self.due.clear();
         match self.check.take() {
             Some(_) => TeiOutcome {
                 orders: ShortList::one(Order::Stop(Timer::T201)),
@@ -240,40 +262,12 @@ impl Teis {
         Some(message.kind())
     }
 
-    /// How many octets are held: eight for each message that waits, three for each assignment that is remembered.
+    /// How many octets are held: eight for each message that waits, three for each assignment that is remembered, and one while
+    /// any check is due.
     pub fn held(&self) -> u32
         ensures { result ≡ held self.now }
     {
-        8 * self.queue.len() as u32 + 3 * self.memory.len() as u32
-    }
-
-    // An identity request for any TEI.
-    fn request(&mut self, ri: u16) -> TeiOutcome
-        ensures led { led_to self.new result ≡ request ri (begun self.old) }
-        ensures short { IsShort result }
-    {
-        if self.queue.is_full() {
-            return TeiOutcome {
-                lost: 1,
-                ..TeiOutcome::nothing()
-            };
-        }
-        if let Some(tei) = self.memory.tei_for(ri) {
-            self.queue.send(Message::IdentityAssigned { ri, tei });
-            return TeiOutcome::nothing();
-        }
-        let (Some(place), Some(tei)) = (self.table.free_place(), self.table.free_tei()) else {
-            self.queue.send(Message::IdentityDenied { ri });
-            return TeiOutcome::nothing();
-        };
-        self.table.put(place, tei);
-        self.memory.remember(ri, tei);
-        self.queue.send(Message::IdentityAssigned { ri, tei });
-        TeiOutcome {
-            notes: ShortList::one(Note::Assigned(tei)),
-            change: Some(Change::Gained { tei, place }),
-            ..TeiOutcome::nothing()
-        }
+        8 * self.queue.len() as u32 + 3 * self.memory.len() as u32 + self.due.is_any() as u32
     }
 
     // A TEI is taken off the line by request.
@@ -283,30 +277,28 @@ impl Teis {
         ensures short { IsShort result }
     {
         let lost = self.queue.send(Message::IdentityRemove { tei });
-        let is_checked = self.check.is_some_and(|check| check.tei == tei);
-        let orders = if is_checked {
-            self.check = None;
-            ShortList::one(Order::Stop(Timer::T201))
-        } else {
-            ShortList::none()
+        let told = TeiOutcome {
+            lost,
+            ..TeiOutcome::nothing()
         };
+        let told = self.end_check_of(tei, told);
         let place = self.leave(tei);
         TeiOutcome {
             change: left(tei, place),
-            orders,
-            lost,
-            ..TeiOutcome::nothing()
+            ..told
         }
     }
 
-    // A TEI that is not under check leaves the table, and its assignment is forgotten.
+    // A TEI that is not under check leaves the table, and its assignment is forgotten, and that a check of it is due.
     fn leave(&mut self, tei: u8) -> Option<usize>
         requires { is_checked tei self.old.check ≡ false }
         ensures place { result ≡ place tei self.old }
         ensures left { self.new ≡ (leave tei (begun self.old)).now }
     {
         self.memory.forget(tei);
-        self.table.take(tei)
+        let place = self.table.take(tei);
+        self.due.put(place, false);
+        place
     }
 }
 

@@ -9,7 +9,6 @@ pub mod Told
 pub mod Numbered
 pub mod Rising
 pub mod Served
-pub mod Noted
 pub mod LawLemmas
 pub mod Given
 pub mod GivenUp

@@ -4,3 +4,4 @@ pub mod OctetDigits
 pub mod Numerals
 pub mod Pieces
 pub mod Written
+pub mod Named

@@ -2,6 +2,7 @@
 pub mod Shown
 pub mod Messages
 pub mod Told
+pub mod Named
 pub mod Worked
 -- the words of the contracts, from where they are defined
 pub use Rattle.hex.specs.Hex.{encode_upper}

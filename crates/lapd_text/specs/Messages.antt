@@ -1,4 +1,4 @@
--- What a message of TEI management says, in words (profile). Its octets are those of Q.921 clause 5.3.1.
+-- What a message of TEI management says, in words (profile). Its octets are those of Q.921 clause 5.3.6.
 use Rattle.std.specs.Prelude.{ℕ, ◌/◌, ◌%◌, ◌==◌, ◌&&◌, if◌then◌else◌, List, [], ◌∷◌, ◌++◌, codes, decimal, get_or, Option, Some, None}
 use Rattle.hex.specs.Hex.{encode_upper}
 use Rattle.lapd_frame.specs.declared.controls.Control.{Control}

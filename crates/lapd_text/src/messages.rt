@@ -7,7 +7,7 @@ use crate::digits::{decimal, octet_digits};
 use crate::shown::{Head, joined};
 use lapd_frame::{Control, Frame};
 
-// The SAPI of management (Q.921 clause 3.3.3), and the entity identifier of TEI management (clause 5.3.1).
+// The SAPI of management (Q.921 clause 3.3.3), and the entity identifier of TEI management (clause 5.3.6).
 const MANAGEMENT: u8 = 63;
 
 const ENTITY: u8 = 0x0F;

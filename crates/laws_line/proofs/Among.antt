@@ -1,5 +1,5 @@
 -- A control frame that waits is taken by one of so many calls also where other events of its line are between them.
-use Rattle.laws_line.proofs.Vocabulary.{◌≡◌, ℕ, ◌+◌, ◌-◌, ◌<◌, ◌≤◌, Bool, false, cond, List, [], ◌∷◌, ◌++◌, Option, Some, sym, ap, ◌∙◌, ◌⊎◌, inl, inr, arith, append_assoc, append-nil, length-append, eq-eqb, Service, Parts, ControlFrame, State, Terms, Link, event-follows, as_heard, is_overlong, waiting_left, Change, one_more_waits, Config, LineTold, Answer, Aim, of_change, of_aim, Line, link_count}
+use Rattle.laws_line.proofs.Vocabulary.{◌≡◌, ℕ, ◌+◌, ◌-◌, ◌<◌, ◌≤◌, Bool, false, cond, List, [], ◌∷◌, ◌++◌, Option, Some, sym, ap, ◌∙◌, ◌⊎◌, inl, inr, arith, append_assoc, append-nil, eq-eqb, Service, Parts, ControlFrame, State, Terms, Link, event-follows, as_heard, is_overlong, waiting_left, Change, Config, LineTold, Answer, Aim, of_change, of_aim, Line, link_count}
 use Rattle.laws_line.proofs.Vocabulary.{service_at, place_at, tei_at, terms, link_at, IsInRange, Event, after, answer, IsSound, deactivates, IsBy, frames_before, is_take, priority_waiting, link_overlong, link_offer, link_received, link_frame, link_cleared, LinkEvent, link_after}
 use Rattle.laws_line.proofs.Happening.{Happens, event-happens}
 use Rattle.laws_line.proofs.Vocabulary.{None, refl, true, at_management, at_terminal, at_no_link, at_a_terminal, of_management, of_network, of_terminal, of_terminal_if, told_of_management, told_of_terminal, is_terminal, terminal_in, with_terminal, without_units, TeiEvent, TerminalEvent, tei_told, tei_after, terminal_told, terminal_after, down as line_down}

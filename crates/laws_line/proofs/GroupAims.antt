@@ -1,6 +1,7 @@
 -- What is heard is to TEI management: nothing, or what a UI to the group brings.
-use Rattle.laws_line.proofs.Vocabulary.{arith, ◌≡◌, ℕ, Bool, List, Option, Result, Ok, refl, Cause, Address, Network, Control, ReadFault, Long, Service, Parts, reading, Config, Aim, at_none, at_link, at_management, Line, drop_for, to_service, addressed, message_of, aim_of_reading, unless_at_link, aim_of_long, heard_side, aim_of_heard, group_told, IsToGroup, ServesMessages, eqb-true, cond, true}
-use Rattle.laws_line.proofs.Vocabulary.{false, inl, inr, sym, subst, User, Side, is_terminal, at_side, dropped, at_terminal, at_units, at_no_link, Unserved, TeiEvent, ◌&&◌, and_parts, side_aims}
+use Rattle.laws_line.proofs.Vocabulary.{arith, ◌≡◌, ℕ, Bool, List, Option, Result, Ok, refl, Cause, Address, Network, Control, ReadFault, Long, Service, Parts, reading, Config, Aim, at_none, at_link, at_management, Line, drop_for, to_service, addressed, message_of, aim_of_reading, unless_at_link, aim_of_long, aim_of_unnumbered, Reading, heard_side, aim_of_heard, group_told, IsToGroup}
+use Rattle.laws_line.proofs.Vocabulary.{ServesMessages, eqb-true, cond, true}
+use Rattle.laws_line.proofs.Vocabulary.{false, inl, inr, User, Side, is_terminal, at_side, dropped, at_terminal, at_units, at_no_link, Unserved, TeiEvent, ◌&&◌, side_aims}
 use Rattle.laws_line.proofs.Vocabulary.{link_received, LinkReceived, stream_frame, StreamEvent, message}
 use Rattle.model_line.specs.Sides.{managed_at}
 
@@ -62,8 +63,11 @@ module _ (c : Config) (l : Line) (e : StreamEvent) (P : Aim → Type 0) (none : 
   unless : (aim : Aim) → P aim → P (unless_at_link aim)
   unless aim h = grind arith
 
-  too-long : (r : Result Long ReadFault) → P (aim_of_long l r)
-  too-long r = grind (arith, to-links, unless)
+  unnumbered : (r : Reading) (unit : Bool) (aim : Aim) → P aim → P (aim_of_unnumbered r unit aim)
+  unnumbered r unit aim h = grind (arith, unless)
+
+  too-long : (unit : Bool) (r : Result Long ReadFault) → P (aim_of_long c.reading unit l r)
+  too-long unit r = grind (arith, to-links, unnumbered)
 
   module _ (octets : List ℕ) (by : e ≡ stream_frame octets) (parts : Parts) (read : reading (heard_side c) octets ≡ Ok parts) (sapi : parts.address.sapi ≡ 63) (group : parts.address.tei ≡ 127) where
     by-control : (k : Control) → parts.control ≡ k → WhereServed c parts P (message_of k parts.info)

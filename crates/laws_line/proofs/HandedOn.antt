@@ -1,7 +1,8 @@
 -- What is handed on of what is heard.
 use Rattle.laws_line.proofs.Vocabulary.{arith, ◌≡◌, ℕ, Bool, true, false, cond, ◌==◌, List, [], ◌∷◌, Option, Some, None, Result, Ok, Err, is_some, refl, sym, ap, ◌∙◌, ◌⊎◌, inl, inr, list_any, option_or, All-head, All-tail, none-some, Cause, Extension, Sapi, Tei, Unserved, Address, ReadFault, BadExtension, Undefined, WrongSize, Short, Long, Note, Refusal, Service, Timer, T201, Parts, reading}
 use Rattle.laws_line.proofs.Vocabulary.{long_reading, service_of, reading-found, Terms, LinkTimer, IsOwn, Link, is_data, is_unit, notes-own, event-tells, contents_heard, unit_heard, delivered-was-heard, event-unit, within-is, place_of-is, Config, hears, request, next, nothing, Aim, at_none, at_link, at_management, of_aim, at_timer, aim_of_expiry, Line, place_in, link_in, terms}
-use Rattle.laws_line.proofs.Vocabulary.{unless_refused_told, drop_for, management_sapi, to_service, addressed, message_of, aim_of_reading, aim_of_long, heard_side, aim_of_heard, group_told, IsToGroup, side_aims, Request, Establish, at_requested, at_deactivated, aim_of_request, IsInRange, sound_in, All, T200, T203, Event, expiry, answer, unless_refused, group_tei, at_place, refusal, IsSound, IsTo}
+use Rattle.laws_line.proofs.Vocabulary.{unless_refused_told, drop_for, management_sapi, to_service, addressed, message_of, aim_of_reading, aim_of_long, aim_of_unnumbered, begins_unit, unless_at_link, AnnexB, Profile, Reading, heard_side, aim_of_heard, group_told, IsToGroup, side_aims, Request, Establish, at_requested, at_deactivated, aim_of_request, IsInRange, sound_in, All, T200, T203, Event}
+use Rattle.laws_line.proofs.Vocabulary.{expiry, answer, unless_refused, group_tei, at_place, refusal, IsSound, IsTo}
 use Rattle.laws_line.proofs.Vocabulary.{contents_in, is_data_of, is_unit_of, IsHeard, link_undefined, link_overlong, LinkReceived, link_received, LinkEstablish, link_expired, link_frame, link_requested, LinkRequest, link_wrong_size, LinkEvent, link_told, stream_overlong, bits_dropped, stream_frame, StreamEvent, tei_expiry, TeiEvent}
 use Rattle.laws_line.proofs.Vocabulary.{Release, Data, Unit, SetBusy, ClearBusy, Deactivate, Assign, Remove, Check, Disown, AskTei, VerifyTei, Down, LinkRelease, LinkData, LinkSetBusy, LinkClearBusy, assigning, remove, check, disown, asking, verifying, message, at_units, Control, T202, LineTold, Change, TerminalEvent, terminal_told, terminal_after, terminal_expiry, terminal_in, with_terminal}
 use Rattle.laws_line.proofs.Vocabulary.{without_units, is_terminal, at_a_terminal, at_no_link, at_terminal, of_change, of_management, of_network, of_terminal, of_terminal_if, told_of_management, told_of_terminal, tei_told, tei_after, down as line_down}
@@ -120,13 +121,29 @@ module _ (c : Config) (ranged : IsInRange c) (l : Line) (s : IsSound c l) where
       go true false = drops Tei
       go false group = sent-to address.tei what no-contents no-unit (service_of address.sapi)
 
-  too-long : (r : Result Long ReadFault) → Silent (aim_of_long l r)
-  too-long (Ok (Long.Information address)) = not-read address link_overlong (drop_for Unserved) (drops Unserved) refl refl
-  too-long (Ok (Long.Unnumbered address)) = grind (arith, drops, not-read)
-  too-long (Err BadExtension) = drops Extension
-  too-long (Err (Undefined address)) = not-read address link_undefined (drop_for Unserved) (drops Unserved) refl refl
-  too-long (Err (WrongSize address)) = not-read address link_wrong_size (drop_for Unserved) (drops Unserved) refl refl
-  too-long (Err Short) = drops Unserved
+  unless : (aim : Aim) → Silent aim → Silent (unless_at_link aim)
+  unless (at_link service tei place e) silent = drops Unserved
+  unless (at_none t) silent = silent
+  unless (at_management e) silent = silent
+  unless (at_terminal e) silent = silent
+  unless (at_units unit) silent = silent
+  unless at_no_link silent = silent
+
+  unnumbered : (r : Reading) (unit : Bool) (aim : Aim) → Silent aim → Silent (aim_of_unnumbered r unit aim)
+  unnumbered AnnexB true aim silent = silent
+  unnumbered AnnexB false aim silent = unless aim silent
+  unnumbered Profile true aim silent = unless aim silent
+  unnumbered Profile false aim silent = unless aim silent
+
+  too-long : (unit : Bool) (r : Result Long ReadFault) → Silent (aim_of_long c.reading unit l r)
+  too-long unit (Ok (Long.Information address)) = not-read address link_overlong (drop_for Unserved) (drops Unserved) refl refl
+  too-long unit (Ok (Long.Unnumbered address)) =
+      let aim = addressed l address link_overlong (drop_for Unserved) in
+      unnumbered c.reading unit aim (not-read address link_overlong (drop_for Unserved) (drops Unserved) refl refl)
+  too-long unit (Err BadExtension) = drops Extension
+  too-long unit (Err (Undefined address)) = not-read address link_undefined (drop_for Unserved) (drops Unserved) refl refl
+  too-long unit (Err (WrongSize address)) = not-read address link_wrong_size (drop_for Unserved) (drops Unserved) refl refl
+  too-long unit (Err Short) = drops Unserved
 
   -- no contents by what is not heard
   timer-silent : (service : Service) (tei : ℕ) (timer : LinkTimer) (o : Option ℕ) → place_in l tei ≡ o → Silent (at_timer service tei timer o)
@@ -233,7 +250,7 @@ module _ (c : Config) (ranged : IsInRange c) (l : Line) (s : IsSound c l) where
       → let ns = (of_aim c (aim_of_heard c l e) l).told.notes in
       (octets : List ℕ) × (e ≡ stream_frame octets) × (Heard octets contents ns ⊎ FromGroup octets contents ns)
   heard-by (stream_frame octets) contents h = (octets, refl, by-reading octets (reading (heard_side c) octets) refl contents h)
-  heard-by (stream_overlong head) contents h = absurd (too-long (long_reading (heard_side c) head) contents h)
+  heard-by (stream_overlong head) contents h = absurd (too-long (begins_unit head) (long_reading (heard_side c) head) contents h)
   heard-by (bits_dropped cause) contents h = absurd (dropped (drop_for cause) refl contents h)
 
 heard-as : (c : Config) (l : Line) (e : StreamEvent) (contents : List ℕ) (ranged : IsInRange c) (s : IsSound c l) (octets : List ℕ) → e ≡ stream_frame octets

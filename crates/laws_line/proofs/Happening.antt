@@ -1,7 +1,8 @@
 -- What an event of a line is to one of its links.
-use Rattle.laws_line.proofs.Vocabulary.{◌≡◌, ℕ, ◌<◌, Bool, false, ◌==◌, length, set, Option, Some, None, refl, subst, arith, eq-eqb, IfSome, inl, ◌⊎◌, get_or-set_same, get_or-set_other, Refusal, Service, Call, Packet, Link, IsAt, Change, Gained, Left, Config, hears, request, next, Answer, told, is_change_at, Aim, at_link, at_management, told_of_management, of_change, of_aim, aim_of_expiry, Line}
+use Rattle.laws_line.proofs.Vocabulary.{◌≡◌, ℕ, ◌<◌, Bool, false, ◌==◌, length, set, Option, Some, None, refl, sym, ap, ◌∙◌, subst, cases_eq, arith, eq-eqb, IfSome, inl, inr, ◌⊎◌, get_or-set_same, get_or-set_other, Refusal, Service, Call, Packet, Link, IsAt, Change, Gained, Left, Config, hears, request, next, Answer, told, is_change_at, Aim, at_link, at_management, of_change, of_aim}
+use Rattle.laws_line.proofs.Vocabulary.{aim_of_expiry, Line}
 use Rattle.laws_line.proofs.Vocabulary.{link_number, service_at, place_at, tei_at, link_at, terms, link_count, unless_refused_told, aim_of_heard, Taken, taken, aim_of_request, IsProper, place_at-number, service_at-number, heard_proper, expiry_proper, request_proper, taken_walk, next_walk, at_no_link, eqb-true, option_map, fresh, Event, expiry, after, answer, unless_refused, refusal, IsSound}
-use Rattle.laws_line.proofs.Vocabulary.{IsMoved, IsBy, IsDeactivated, IsOf, link_cleared, link_offer, LinkEvent, link_after, tei_after, tei_told, TeiEvent, begin_here, begin_away}
+use Rattle.laws_line.proofs.Vocabulary.{IsMoved, IsBy, IsDeactivated, IsOf, link_cleared, link_offer, LinkEvent, link_after, TeiEvent, begin_here, begin_away}
 use Rattle.lapd_tei.specs.Laws as tei_laws
 use Rattle.laws_line.proofs.Vocabulary.{LineTold, Management, Own, TerminalEvent, IsOwnEvent, at_terminal}
 use Rattle.laws_line.proofs.Changes.{Turn, turned, turned-there}
@@ -39,10 +40,38 @@ module _ (c : Config) (l : Line) (s : IsSound c l) (number : ℕ) (few : number 
   abbrev Goes : Line → Type 0
   Goes l' = Happens c number e l l' a
 
-  at-its-link : (service : Service) (tei place : ℕ) (le : LinkEvent) → IsAt l.management.places place tei
-      → IsOf c e a service tei le → Goes (of_aim c (at_link service tei place le) l).line
-  at-its-link service tei place le at by =
-      grind (arith, place_at-number, get_or-set_same, eqb-true, service_at-number, by-or-down, eq-eqb, get_or-set_other)
+  -- an event of a link
+  module _ (service : Service) (tei place : ℕ) (le : LinkEvent) (at : IsAt l.management.places place tei) where
+    abbrev n : ℕ
+    n = link_number place service
+
+    abbrev now : Line
+    now = (of_aim c (at_link service tei place le) l).line
+
+    abbrev After : Service → Type 0
+    After of = link_at n now ≡ link_after (terms c of tei) le (link_at n l)
+
+    by-way : After service → tei_at (place_at n) l ≡ Some tei → service ≡ service_at n → IsBy c e a service tei le ⊎ ((le ≡ link_cleared) × IsDeactivated e a service tei)
+        → Happens c n e l now a
+    by-way here on its (inl comes) =
+        inr (inr (record { tei = tei; on_line = on; event = le; by = subst (λ of. IsBy c e a of tei le) its comes; is = subst After its here }))
+    by-way here on its (inr (down, off)) =
+        inr (inl (
+          inr (record { tei = tei; on_line = on; by = subst (λ of. IsDeactivated e a of tei) its off }),
+          here ∙ ap (λ what. link_after (terms c service tei) what (link_at n l)) down,
+        ))
+
+    its-own : IsOf c e a service tei le → n < link_count c → Happens c n e l now a
+    its-own by within =
+        by-way (get_or-set_same l.links n (link_after (terms c service tei) le (link_at n l)) fresh (omega (arith, s.count, within)))
+        (ap (λ p. tei_at p l) (place_at-number place service) ∙ at) (sym (service_at-number place service)) (by-or-down c e a service tei le by)
+
+    at-its-link : IsOf c e a service tei le → Goes now
+    at-its-link by =
+        elim (cases_eq number n) [
+          | inl same ↦ subst (λ k. k < link_count c → Happens c k e l now a) (sym same) (its-own by) few
+          | inr apart ↦ inl (get_or-set_other l.links n number (link_after (terms c service tei) le (link_at n l)) fresh apart)
+        ]
 
   -- a TEI comes to a place, or leaves it
   at-its-place : (m : Management) (o : Option Change) (place : ℕ)

@@ -1,5 +1,6 @@
 -- What is heard brings to a link.
-use Rattle.laws_line.proofs.Vocabulary.{arith, ◌≡◌, ℕ, ◌==◌, List, Some, Ok, refl, ◌∙◌, none-some, Cause, Unserved, Address, Service, Parts, reading, long_reading, service_of, sapi_of, same_service, Config, LineTold, hears, Aim, at_none, at_link, Line, place_in, drop_for, addressed, aim_of_reading, aim_of_long, heard_side, aim_of_heard, eqb-true, dropped, after, answer, IsTo, IsMalformed}
+use Rattle.laws_line.proofs.Vocabulary.{arith, ◌≡◌, ℕ, ◌==◌, List, Some, Ok, refl, ◌∙◌, none-some, Cause, Unserved, Address, Service, Parts, reading, long_reading, service_of, sapi_of, same_service, Config, LineTold, hears, Aim, at_none, at_link, Line, place_in, drop_for, addressed, aim_of_reading, aim_of_long, aim_of_unnumbered, begins_unit, ap, inl, inr, true, link_undefined, link_overlong}
+use Rattle.laws_line.proofs.Vocabulary.{link_wrong_size, heard_side, aim_of_heard, eqb-true, dropped, after, answer, IsTo, IsMalformed}
 use Rattle.laws_line.proofs.Vocabulary.{IsTooLong, IsOneHeard as IsOneEvent, OnlyTells, link_received, link_frame, LinkReceived, stream_overlong, bits_dropped, stream_frame, StreamEvent}
 
 -- The SAPI of a service.
@@ -58,8 +59,16 @@ overlong-event c l service tei place address head what f is =
     by-aim c l (stream_overlong head) service tei place what
     (by-head what is ∙ addressed-is l address service tei place what (drop_for Unserved) f.sapi f.tei_is f.on_line)
   where
-    by-head : (what : LinkReceived) → IsTooLong c address head what → aim_of_long l (long_reading (heard_side c) head) ≡ addressed l address what (drop_for Unserved)
-    by-head what is = grind arith
+    by-head : (what : LinkReceived) → IsTooLong c address head what
+        → aim_of_long c.reading (begins_unit head) l (long_reading (heard_side c) head) ≡ addressed l address what (drop_for Unserved)
+    by-head link_undefined is = ap (aim_of_long c.reading (begins_unit head) l) is
+    by-head link_wrong_size is = ap (aim_of_long c.reading (begins_unit head) l) is
+    by-head link_overlong (inl is) = ap (aim_of_long c.reading (begins_unit head) l) is
+    by-head link_overlong (inr is) =
+        let aim = addressed l address link_overlong (drop_for Unserved) in
+        ap (aim_of_long c.reading (begins_unit head) l) is.read
+        ∙ ap (λ unit. aim_of_unnumbered c.reading unit aim) is.unit ∙ ap (λ r. aim_of_unnumbered r true aim) is.annex_b
+    by-head (link_frame parts) is = elim is [ ]
 
 -- What was dropped in place of a frame.
 pub dropped-stretch : (c : Config) (l : Line) (cause : Cause)

@@ -1,7 +1,8 @@
 -- How what an event aims at is tied to the event.
-use Rattle.laws_line.proofs.Vocabulary.{arith, ◌≡◌, ℕ, true, List, Option, Some, Result, Ok, refl, inr, Address, ReadFault, Service, Timer, Parts, reading, service_of, Config, hears, request, Answer, Aim, at_link, aim_of_expiry, Line, addressed, aim_of_reading, heard_side, aim_of_heard, side_aims, Request, aim_of_request, Event, expiry, at_place, is_granted, IsTooLong, BringsMalformed, IsBy, IsOf}
+use Rattle.laws_line.proofs.Vocabulary.{arith, ◌≡◌, ℕ, true, List, Option, Some, Result, Ok, refl, inl, inr, Bool, false, AnnexB, Profile, Reading, Address, ReadFault, Service, Timer, Parts, reading, service_of, Config, hears, request, Answer, Aim, at_link, aim_of_expiry, Line, addressed, aim_of_reading, heard_side, aim_of_heard, side_aims, Request, aim_of_request, Event, expiry, at_place}
+use Rattle.laws_line.proofs.Vocabulary.{is_granted, IsTooLong, BringsMalformed, IsBy, IsOf}
 use Rattle.laws_line.proofs.Vocabulary.{LinkReceived, link_received, stream_overlong, bits_dropped, stream_frame, StreamEvent}
-use Rattle.laws_line.proofs.Vocabulary.{Err, BadExtension, Undefined, WrongSize, Short, Unserved, long_reading, aim_of_long, unless_at_link, drop_for, link_undefined, link_wrong_size}
+use Rattle.laws_line.proofs.Vocabulary.{Err, BadExtension, Undefined, WrongSize, Short, Unserved, long_reading, begins_unit, aim_of_long, aim_of_unnumbered, unless_at_link, drop_for, link_undefined, link_wrong_size}
 use Rattle.lapd_frame.specs.declared.overlong.Long.{Long}
 use Rattle.lapd_frame.specs.declared.overlong.Long.TheVariants as long
 use Rattle.model_link.specs.Events.{overlong as link_overlong}
@@ -32,13 +33,22 @@ module _ (c : Config) (l : Line) (answer : Answer) where
       → (service : Service) → service_of address.sapi ≡ Some service → BringsMalformed c (hears (stream_overlong head)) service address.tei what
   too-long head address what is service sapi = record { octets = head; address = address; by = inr (refl, is); sapi = sapi; tei_is = refl }
 
-  long-ties : (head : List ℕ) (r : Result Long ReadFault) → long_reading (heard_side c) head ≡ r → Ties c (hears (stream_overlong head)) answer (aim_of_long l r)
+  long-ties : (head : List ℕ) (r : Result Long ReadFault) → long_reading (heard_side c) head ≡ r → Ties c (hears (stream_overlong head)) answer (aim_of_long c.reading (begins_unit head) l r)
   long-ties head (Ok (long.Information address)) read =
-      by-address c l (hears (stream_overlong head)) answer address link_overlong (drop_for Unserved) tt (too-long head address link_overlong read)
-  long-ties head (Ok (long.Unnumbered address)) read = no-link (addressed l address link_overlong (drop_for Unserved))
+      by-address c l (hears (stream_overlong head)) answer address link_overlong (drop_for Unserved) tt (too-long head address link_overlong (inl read))
+  long-ties head (Ok (long.Unnumbered address)) read = go c.reading refl (begins_unit head) refl
     where
       no-link : (aim : Aim) → Ties c (hears (stream_overlong head)) answer (unless_at_link aim)
       no-link aim = grind arith
+
+      go : (r : Reading) → c.reading ≡ r → (unit : Bool) → begins_unit head ≡ unit
+          → Ties c (hears (stream_overlong head)) answer (aim_of_unnumbered r unit (addressed l address link_overlong (drop_for Unserved)))
+      go AnnexB is true unit =
+          by-address c l (hears (stream_overlong head)) answer address link_overlong (drop_for Unserved) tt
+          (too-long head address link_overlong (inr (record { annex_b = is; unit = unit; read = read })))
+      go AnnexB is false unit = no-link (addressed l address link_overlong (drop_for Unserved))
+      go Profile is true unit = no-link (addressed l address link_overlong (drop_for Unserved))
+      go Profile is false unit = no-link (addressed l address link_overlong (drop_for Unserved))
   long-ties head (Err BadExtension) read = tt
   long-ties head (Err (Undefined address)) read =
       by-address c l (hears (stream_overlong head)) answer address link_undefined (drop_for Unserved) tt (too-long head address link_undefined read)

@@ -31,7 +31,10 @@ pub use Rattle.lapd_frame.specs.declared.faults.ReadFault.{ReadFault}
 pub use Rattle.lapd_frame.specs.declared.faults.ReadFault.TheVariants.{BadExtension, Short, Undefined, WrongSize}
 pub use Rattle.lapd_frame.specs.declared.notes.Note.{Note}
 pub use Rattle.lapd_frame.specs.declared.notes.Note.TheVariants.{Assigned, Denied, Doubled, RemoveAll, Removed, Unassigned}
+pub use Rattle.lapd_frame.specs.Overlong.{is_unit as begins_unit}
 pub use Rattle.lapd_frame.specs.declared.overlong.Long.{Long}
+pub use Rattle.lapd_frame.specs.declared.readings.Reading.{Reading}
+pub use Rattle.lapd_frame.specs.declared.readings.Reading.TheVariants.{AnnexB, Profile}
 pub use Rattle.lapd_frame.specs.declared.refusals.Refusal.{Refusal}
 pub use Rattle.lapd_frame.specs.declared.refusals.Refusal.TheVariants.{PoolFull}
 pub use Rattle.lapd_frame.specs.declared.services.Service.{Service}
@@ -60,21 +63,20 @@ pub use Rattle.model_link.specs.declared.terms.Terms.{Terms}
 pub use Rattle.model_link.specs.declared.timers.LinkTimer.{LinkTimer}
 pub use Rattle.lapd_tei.proofs.Brief.{IsBrief, told_brief}
 pub use Rattle.lapd_tei.proofs.Followed.{expired_t201_follows, t201_follows}
-pub use Rattle.lapd_tei.proofs.LawLemmas.{one_more_waits}
 pub use Rattle.lapd_tei.proofs.Tables.{at-off, at-within, is_on-at, not_not, place_of-is}
 pub use Rattle.lapd_tei.specs.Events.{Event as TeiEvent, assign as assigning, check, disown, down, expiry as tei_expiry, message, refusal_if, remove, unless_refused as tei_unless_refused, after as tei_after, told as tei_told}
 unfoldable pub use Rattle.lapd_tei.specs.Events.{course, refusal as tei_refusal}
 pub use Rattle.lapd_tei.specs.Laws.{Follows, Moves, stop_of}
-pub use Rattle.lapd_tei.specs.Machine.{Management}
-pub use Rattle.lapd_tei.specs.Messages.{frame_of, heard_in, heard_of_type}
-pub use Rattle.lapd_tei.specs.Rows.{assign, assign_new, count, counted as tei_counted, doubled, expire_check, expire_period, is_unanswered, join_at, may_be_checked, nothing_happens, remembered_in, removed, respond, responses, serve}
+pub use Rattle.lapd_tei.specs.Machine.{Management, next_checked}
+pub use Rattle.lapd_tei.specs.Messages.{frame_of, heard_in, heard_of_type, responses_in}
+pub use Rattle.lapd_tei.specs.Rows.{answer_request, ask_once, asks_for, assign, assign_new, assigns_for, count, counted as tei_counted, doubled, expire_check, expire_period, is_among, is_checked, is_unanswered, join_at, put_on, remembered_in, removed, request as tei_request, request_anew, request_of, respond, respond_among, responses, serve, take_off, verify, verify_beside, verify_later}
 pub use Rattle.lapd_tei.specs.Sound.{IsAt, IsSound as TeiIsSound, IsSoundCheck, IsSoundTable}
-pub use Rattle.lapd_tei.specs.Table.{Places, is_on, place_of}
-pub use Rattle.lapd_tei.specs.Words.{Course, Step, begin_check, begun as tei_begun, check_is, end_check, leave, left, lose_one, no_room, send, unserved}
+pub use Rattle.lapd_tei.specs.Table.{Places, free_place, free_tei, is_on, place_of}
+pub use Rattle.lapd_tei.specs.Words.{Course, Step, begin_check, begin_next, begun as tei_begun, check_is, check_is_due, check_next, end_check, leave, left, lose_one, no_room, note as tei_note, nothing_happens, read_as as tei_read_as, send, stop_check, unserved}
 pub use Rattle.lapd_tei.specs.declared.check.Period.{Period}
 pub use Rattle.lapd_tei.specs.declared.check.Period.TheVariants.{First, Second}
 pub use Rattle.lapd_tei.specs.declared.messages.Message.{Message}
-pub use Rattle.lapd_tei.specs.declared.messages.Message.TheVariants.{IdentityRemove}
+pub use Rattle.lapd_tei.specs.declared.messages.Message.TheVariants.{IdentityCheckRequest, IdentityDenied, IdentityRemove}
 pub use Rattle.lapd_tei.specs.declared.outcome.Change.{Change}
 pub use Rattle.lapd_tei.specs.declared.outcome.Change.TheVariants.{Gained, Left}
 pub use Rattle.lapd_tei.proofs.GivenUp.{down_gives_up}
@@ -106,7 +108,7 @@ pub use Rattle.model_line.specs.Deliveries.{is_change_at}
 pub use Rattle.model_line.specs.Effect.{Aim, Effect, at_a_terminal, at_link, at_management, at_no_link, at_none, at_terminal, at_units, note_of, of_aim, of_change, of_link, of_management, of_network, of_terminal, of_terminal_if, order_of, told_of_link, told_of_management, told_of_terminal, without_units}
 pub use Rattle.model_line.specs.Event.{Answer, Event, LineTold, dropped, expiry, gave, hears, next, nothing, refused, request, told}
 pub use Rattle.model_line.specs.Expiry.{aim_of_expiry, at_timer, is_running, runs_at}
-pub use Rattle.model_line.specs.Heard.{addressed, aim_of_heard, aim_of_long, aim_of_reading, at_place, drop_for, group_tei, heard_side, management_sapi, message_of, to_service, unless_at_link}
+pub use Rattle.model_line.specs.Heard.{addressed, aim_of_heard, aim_of_long, aim_of_reading, aim_of_unnumbered, at_place, drop_for, group_tei, heard_side, management_sapi, message_of, to_service, unless_at_link}
 pub use Rattle.model_line.specs.Laws.{notes_in, orders_in}
 pub use Rattle.model_line.specs.Line.{Line, Own, UnitData, is_terminal, terminal_in, terminal_with, with_terminal, fresh_line, link_at, link_count, link_in, link_number, place_at, place_in, service_at, tei_at, terms, terms_at, with_link}
 pub use Rattle.model_line.specs.Machine.{unless_refused, unless_refused_told}

@@ -1,16 +1,16 @@
 -- A line goes down (Q.921 annex B, persistent deactivation): what waits on it and is of no link is given up.
-use Rattle.std.specs.Prelude.{◌≡◌, ◌++◌, option_map, option_to_list, [], None}
+use Rattle.std.specs.Prelude.{◌≡◌, ◌++◌, false, length, replicate, option_map, option_to_list, [], None}
 use Rattle.lapd_tei.specs.Laws.{stop_of}
 use Rattle.lapd_terminal.specs.Words as terminals
 use Rattle.model_line.specs.Effect.{order_of}
 use Rattle.model_line.specs.Event.{Answer, told, nothing}
 use Rattle.model_line.specs.Line.{Line}
 
--- No unit data waits any more, no message of TEI management, and no check runs, and of a terminal no procedure. All else of the
+-- No unit data waits any more, no message of TEI management, no check runs or is due, and of a terminal no procedure. All else of the
 -- line stays, its TEIs and its links, too; and all that is told is that T201 stops, or T202, if it ran.
 pub record GivesUp (before after : Line) (answer : Answer) : Type 0 where
   pub line : after ≡ record before {
-    management = record before.management { check = None; waiting = [] };
+    management = record before.management { check = None; to_check = replicate (length before.management.to_check) false; waiting = [] };
     own = record before.own { procedure = None; waiting = [] };
     units = [];
   }

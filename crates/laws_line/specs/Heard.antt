@@ -11,7 +11,9 @@ use Rattle.lapd_frame.specs.declared.notes.Note.{Note}
 use Rattle.lapd_frame.specs.declared.notes.Note.TheVariants as notes
 use Rattle.lapd_frame.specs.declared.overlong.Long.TheVariants as long
 use Rattle.lapd_frame.specs.declared.services.Service.{Service}
+use Rattle.lapd_frame.specs.declared.readings.Reading.TheVariants.{AnnexB}
 use Rattle.lapd_frame.specs.Grammar.{Parts}
+use Rattle.lapd_frame.specs.Overlong.{is_unit as begins_unit}
 use Rattle.lapd_frame.specs.Senders.{Spells, reading, long_reading}
 use Rattle.lapd_frame.specs.Services.{sapi_of, same_service}
 use Rattle.model_link.specs.Events as link
@@ -38,11 +40,17 @@ IsMalformed c address octets link.undefined = reading (heard_side c) octets ≡ 
 IsMalformed c address octets link.wrong_size = reading (heard_side c) octets ≡ Err (WrongSize address)
 IsMalformed c address octets other = ⊥
 
--- The same of one that was too long to keep, by its first four octets: then it may be an I-frame that is too long.
+-- The same of one that was too long to keep, by its first four octets: then it may be an I-frame that is too long, or by annex B
+-- a UI.
+pub record IsLongUnit (c : Config) (address : Address) (head : List ℕ) : Type 0 where
+  pub annex_b : c.reading ≡ AnnexB
+  pub unit : begins_unit head ≡ true
+  pub read : long_reading (heard_side c) head ≡ Ok (long.Unnumbered address)
+
 abbrev pub IsTooLong : Config → Address → List ℕ → link.Received → Type 0
 IsTooLong c address head link.undefined = long_reading (heard_side c) head ≡ Err (Undefined address)
 IsTooLong c address head link.wrong_size = long_reading (heard_side c) head ≡ Err (WrongSize address)
-IsTooLong c address head link.overlong = long_reading (heard_side c) head ≡ Ok (long.Information address)
+IsTooLong c address head link.overlong = (long_reading (heard_side c) head ≡ Ok (long.Information address)) ⊎ IsLongUnit c address head
 IsTooLong c address head other = ⊥
 
 -- An answer says what a link tells: its notes, the contents of an I-frame or of a UI, its orders, and what it loses.

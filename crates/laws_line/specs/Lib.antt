@@ -16,6 +16,7 @@ pub mod WorkedLine
 pub mod WorkedSides
 pub mod WorkedCame
 pub mod Worked
+pub mod WorkedReadings
 pub mod WorkedSapi
 pub mod WorkedServed
 pub mod WorkedHeard

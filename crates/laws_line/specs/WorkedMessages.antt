@@ -38,7 +38,7 @@ told_another = refl
 abbrev narrow : Config
 narrow = record usual { terminals = 1 }
 
-denied : waiting_at (asks_by 0x35 (asks_by 0x34 (fresh_line narrow))) ≡ IdentityAssigned 0x1234 64 ∷ IdentityDenied 0x1235 ∷ []
+denied : waiting_at (asks_by 0x35 (asks_by 0x34 (fresh_line narrow))) ≡ IdentityAssigned 0x1234 64 ∷ IdentityDenied 0x1235 127 ∷ []
 unfolding exchanged read_by reading header_of control_of unnumbered_of teis.course teis.refusal
 denied = refl
 

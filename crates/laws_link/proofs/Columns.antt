@@ -1,6 +1,7 @@
 -- What an event leaves of a link, row by row of the tables.
 use Rattle.laws_link.proofs.Vocabulary.{◌≡◌, ℕ, ◌+◌, Bool, cond, ◌||◌, List, [], ◌∷◌, ◌++◌, length, drop, Option, nat_lt, Control, Note, Parts, State, LinkTimer, ControlFrame, Terms, Link, Course, as_heard, state_after, numbers_begin, answers, commands, peer_busy_left, own_busy_left, flag_left, rejecting_heard, takes_contents, unless_put, owed_in, owed_behind, asked_left, repeats_left, told_with}
 use Rattle.laws_link.proofs.Vocabulary.{Event, cleared, frame, offer, received, course}
+use Rattle.lapd_frame.specs.declared.readings.Reading.{Reading}
 
 -- What a course leaves: fields of its link, how many frames were lost, and whether the numbers begin.
 pub record Left : Type 0 where
@@ -62,7 +63,7 @@ due_by t e l answers rejecting takes to = record {
   rejecting = flag_left e l to rejecting l.rejecting;
   pending = owed_by e l to (answers ++ commands e l to) takes;
   asked = asked_left e l to;
-  repeats = repeats_left e l to;
+  repeats = repeats_left t e l to;
   zeroed = numbers_begin e l.state to;
 }
 
@@ -80,6 +81,9 @@ at-running here o l = record l { state = here; running = o }
 
 abbrev pub at-waiting : State → List ControlFrame → Bool → Link → Link
 at-waiting here ws owed l = record l { state = here; waiting = ws; pending = owed }
+
+abbrev pub reads : Reading → Terms → Terms
+reads r t = record t { reading = r }
 
 abbrev pub hears : Parts → Bool → Control → Event
 hears f b control = received (frame (record f { address = record f.address { command = b }; control = control }))

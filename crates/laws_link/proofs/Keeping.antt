@@ -1,7 +1,8 @@
 -- What each event makes of the contents of a link, of V(A) and of V(S).
 use Rattle.laws_link.proofs.Vocabulary.{◌≡◌, ℕ, ◌+◌, ◌≤◌, Bool, true, false, cond, List, [], ◌∷◌, ◌++◌, length, take, drop, Option, Some, None, is_some, refl, ◌⊎◌, inl, inr, sym, subst, true≢false, arith, length-take-le, append-nil, drop-drop, add-zero, ⊎_elim, All, nat_lt, nat_le, option_map_or, drop_all, drop-append-le, All-head, Control, Ui, ErrorCode, Refusal, WrongState, State, TeiAssigned}
 use Rattle.laws_link.proofs.Vocabulary.{AwaitingEstablishment, AwaitingRelease, Established, TimerRecovery, LinkTimer, T200, ControlFrame, Terms, Link, is_multiple_frame, IsSettledIn, IsSound, IsWaitingFrame, Course, begun, Step, ◌then◌, nothing, changed, Leads, nothing_leads, number_of, acknowledged_by, contents_asked, is_release, tells_loss, Share, share, left_by, with_share, unit_due}
-use Rattle.laws_link.proofs.Vocabulary.{is_i_frame, i_frames, begin_anew, deliver_unit, leave_unserved, pending_is, start, unit_data, give_information, give_waiting, is_awaiting_acknowledgement, may_send_information, offer_among, send_acknowledgement, with_one_sent, course, expired_in, expired_step, frame_in, frame_step, given_of, is_running, malformed_in, told_of_clearing, both_ways}
+use Rattle.laws_link.proofs.Vocabulary.{is_i_frame, i_frames, begin_anew, deliver_unit, long_unit_in_7_8, malformed_down, pending_is, start, unit_data, give_information, give_waiting, is_awaiting_acknowledgement, may_send_information, offer_among, send_acknowledgement, with_one_sent, course, expired_in, expired_step, frame_in, frame_step, given_of, is_running, malformed_in, told_of_clearing}
+use Rattle.laws_link.proofs.Vocabulary.{both_ways}
 use Rattle.model_link.specs.Events
 use Rattle.model_link.specs.Requests
 use Rattle.laws_link.proofs.Queueing.{On, words}
@@ -177,14 +178,23 @@ module _ (t : Terms) (l : Link) (h : IsSound t l) where
   clears here = grind (arith, restarted)
 
   -- A UI, in every state.
-  unit-led : (octets : List ℕ) → let c = unit_data t octets (begun l) in Led (row c.zeroed (tells_loss c.notes) 0) 0 c
-  unit-led octets = both_ways (λ c. Led (row c.zeroed (tells_loss c.notes) 0) 0 c) (nat_lt t.n201 (length octets)) _ _
-      (gives (leave_unserved (begun l)) 0 refl refl (sym (add-zero l.s)) refl refl)
+  long-unit : Moved 0 (long_unit_in_7_8 t (begun l))
+  unfolding Moved
+  long-unit = unmoved-by (long_unit_in_7_8 t) (search words)
+
+  unit-led : (long : Step) → Moved 0 (long (begun l)) → (octets : List ℕ) → let c = unit_data t long octets (begun l) in
+      Led (row c.zeroed (tells_loss c.notes) 0) 0 c
+  unit-led long m octets = both_ways (λ c. Led (row c.zeroed (tells_loss c.notes) 0) 0 c) (nat_lt t.n201 (length octets)) _ _
+      (by-row 0 (long (begun l)) m)
       (gives (deliver_unit t octets (begun l)) 0 refl refl (sym (add-zero l.s)) refl refl)
 
   by-unit : (here : State) (b : Bool) (octets : List ℕ) (p : Bool) → let c = frame_in here t b octets (Ui p) (begun l) in
       Led (row c.zeroed (tells_loss c.notes) 0) 0 c
-  by-unit here b octets p = grind (arith, unit-led)
+  by-unit TeiAssigned b octets p = unit-led (malformed_down t ErrorCode.O) (malformed TeiAssigned ErrorCode.O) octets
+  by-unit AwaitingEstablishment b octets p = unit-led (malformed_down t ErrorCode.O) (malformed AwaitingEstablishment ErrorCode.O) octets
+  by-unit AwaitingRelease b octets p = unit-led (malformed_down t ErrorCode.O) (malformed AwaitingRelease ErrorCode.O) octets
+  by-unit Established b octets p = unit-led (long_unit_in_7_8 t) long-unit octets
+  by-unit TimerRecovery b octets p = unit-led (long_unit_in_7_8 t) long-unit octets
 
   -- A frame.
   by-frame : (b : Bool) (octets : List ℕ) (control : Control) → (d : Bool) → is_ui control ≡ d
@@ -210,9 +220,17 @@ module _ (t : Terms) (l : Link) (h : IsSound t l) where
   unfolding Moved
   no-unit n c m = ⊎_elim (λ g. g.no_unit) (λ other. ⊎_elim (λ g. g.no_unit) (λ g. g.no_unit) other) m
 
-  by-length : (octets : List ℕ) (b : Bool) → nat_lt t.n201 (length octets) ≡ b
-      → (cond b (leave_unserved (begun l)) (deliver_unit t octets (begun l))).unit ≡ cond (nat_le (length octets) t.n201) (Some octets) None
-  by-length octets b e = grind (arith, not-over)
+  by-length : (long : Course) → long.unit ≡ None → (octets : List ℕ) (b : Bool) → nat_lt t.n201 (length octets) ≡ b
+      → (cond b long (deliver_unit t octets (begun l))).unit ≡ cond (nat_le (length octets) t.n201) (Some octets) None
+  by-length long none octets b e = grind (arith, not-over)
+
+  unit-told : (here : State) (b : Bool) (octets : List ℕ) (p : Bool)
+      → (frame_in here t b octets (Ui p) (begun l)).unit ≡ cond (nat_le (length octets) t.n201) (Some octets) None
+  unit-told TeiAssigned b octets p = by-length (malformed_down t ErrorCode.O (begun l)) (no-unit 0 _ (malformed TeiAssigned ErrorCode.O)) octets (nat_lt t.n201 (length octets)) refl
+  unit-told AwaitingEstablishment b octets p = by-length (malformed_down t ErrorCode.O (begun l)) (no-unit 0 _ (malformed TeiAssigned ErrorCode.O)) octets (nat_lt t.n201 (length octets)) refl
+  unit-told AwaitingRelease b octets p = by-length (malformed_down t ErrorCode.O (begun l)) (no-unit 0 _ (malformed TeiAssigned ErrorCode.O)) octets (nat_lt t.n201 (length octets)) refl
+  unit-told Established b octets p = by-length (long_unit_in_7_8 t (begun l)) (no-unit 0 _ long-unit) octets (nat_lt t.n201 (length octets)) refl
+  unit-told TimerRecovery b octets p = by-length (long_unit_in_7_8 t (begun l)) (no-unit 0 _ long-unit) octets (nat_lt t.n201 (length octets)) refl
 
   set-busy : Moved 0 (Requests.granted t Events.SetBusy (begun l))
   unfolding Moved
@@ -223,5 +241,5 @@ module _ (t : Terms) (l : Link) (h : IsSound t l) where
   clear-busy = clear_busy t l h.ordered h.accepted
 
   pub event-unit : (e : Events.Event) → (course t e l).unit ≡ unit_due t e
-  event-unit (Events.received (Events.frame f)) = grind (arith, by-length, nat_lt, no-unit, by-state)
+  event-unit (Events.received (Events.frame f)) = grind (arith, unit-told, no-unit, by-state)
   event-unit e = grind (arith, no-unit, malformed, expires, set-busy, clear-busy, both_ways)

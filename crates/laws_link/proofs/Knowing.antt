@@ -1,5 +1,6 @@
 -- What layer 3 is told is what becomes of the link: every row keeps that.
-use Rattle.laws_link.proofs.Vocabulary.{arith, ◌≡◌, ℕ, Bool, true, false, List, [], ◌∷◌, refl, ◌∙◌, ap, not, ◌++◌, Note, ErrorCode, State, TeiAssigned, AwaitingEstablishment, Established, T203, Terms, Link, is_asked, has_outstanding, Course, Step, ◌then◌, nothing, depending_on, Leads, keeping_then, nothing_leads, depending_leads, bit_leads, tested_leads, to_less, seen, known, is_up_in, leaves}
+use Rattle.laws_link.proofs.Vocabulary.{arith, ◌≡◌, ℕ, Bool, true, false, List, [], ◌∷◌, refl, ◌∙◌, ap, not, ◌++◌, Note, ErrorCode, State, TeiAssigned, AwaitingEstablishment, Established, T203, Terms, Link, is_asked, has_outstanding, Course, Step, ◌then◌, nothing, depending_on, Leads, keeping_then, nothing_leads, depending_leads, bit_leads, read_leads, tested_leads, to_less, seen, known, is_up_in}
+use Rattle.laws_link.proofs.Vocabulary.{leaves}
 use Rattle.laws_link.proofs.Vocabulary.{number_leads, asked_is, deliver, deliver_unit, discard, enter, establish_confirm, establish_indication, no_timer, note, release_confirm, release_indication, start, zero_numbers, failed}
 
 -- the same as `is_up_in`, of what it speaks of
@@ -92,7 +93,7 @@ module _ (up : Bool) where
   pub zero_enters : Leads Up (zero_numbers then start T203 then enter Established) Ends
   zero_enters = record { leads = λ c h. record { known_is = h.is } }
 
-pub ruleset words = (leaves, keeping_then, nothing_leads, depending_leads, bit_leads, note_knows, deliver_knows, deliver_unit_knows, confirms_in_4, indication_knows, refl)
+pub ruleset words = (leaves, keeping_then, nothing_leads, depending_leads, bit_leads, read_leads, note_knows, deliver_knows, deliver_unit_knows, confirms_in_4, indication_knows, refl)
 
 pub ruleset ends = (indicates_release, confirms_release, indicates, asks, enters, words, at_ends)
 

@@ -1,6 +1,7 @@
 -- What each row of the tables makes of the contents of a link, of V(A) and of V(S).
 use Rattle.laws_link.proofs.Vocabulary.{◌≡◌, ℕ, ◌-◌, ◌≤◌, Bool, true, false, cond, List, [], length, take, drop, length-take-le, Option, Some, None, IsTrue, true≢false, refl, ◌⊎◌, inl, inr, sym, arith, nat_lt, option_map_or, ltb-false, drop_all, take_all, Seq, named, Control, Information, ReceiveReady, ReceiveNotReady, Reject, Sabme, Disc, Ui, Ua, Dm, Frmr, Xid, ErrorCode, Established, LinkTimer}
-use Rattle.laws_link.proofs.Vocabulary.{T203, Terms, Link, has_outstanding, is_peer_busy, begun, Step, ◌then◌, by_bit, frame_in_4, release_in_4, establish_in_4, Leads, keeping_then, depending_leads, bit_leads, tested_leads, from_more, eqb-true, beyond, number_of, acknowledge, by_number, clear_flags, discard, enter, error, establish_indication, response, send, start, zero_numbers}
+use Rattle.laws_link.proofs.Vocabulary.{T203, Terms, Link, has_outstanding, is_peer_busy, begun, Step, ◌then◌, by_bit, frame_in_4, release_in_4, establish_in_4, Leads, keeping_then, depending_leads, bit_leads, tested_leads, from_more, eqb-true, beyond, number_of, acknowledge, by_number, clear_flags, discard, enter, error, establish_indication, leave_unserved, read_as, response, send, start}
+use Rattle.laws_link.proofs.Vocabulary.{zero_numbers}
 use Rattle.laws_link.proofs.Vocabulary.{clear_busy_in_7_8, contents_in_7_8, failed, set_busy_in_7_8, both_ways}
 use Rattle.model_link.specs.AwaitingEstablishment
 use Rattle.model_link.specs.AwaitingRelease
@@ -44,6 +45,7 @@ module _ (t : Terms) (l : Link) (ordered : l.a ≤ l.s) (most : l.s ≤ length l
 
   -- State 4.
   pub frames_in_4 : length l.contents ≡ l.a → (octets : List ℕ) (control : Control) → is_ui control ≡ false → On (Move 0) (frame_in_4 t octets control (begun l))
+  frames_in_4 none octets (Dm false) is = still (read_as t leave_unserved (establish_in_4 t)) (search words)
   frames_in_4 none octets control is = grind (arith, none-left, begins, still, words)
 
   pub released_in_4 : length l.contents ≡ l.a → On (Move 0) (release_in_4 t (begun l))
@@ -125,8 +127,8 @@ module _ (t : Terms) (l : Link) (ordered : l.a ≤ l.s) (most : l.s ≤ length l
   frames_in_7 b octets (Ui p) is = absurd (true≢false is)
   frames_in_7 b octets other is = still (Established.frame_in_7 t b octets other) (search words)
 
-  pub timer_in_7 : On (Move 0) (Established.timer_in_7 t (begun l))
-  timer_in_7 = still (Established.timer_in_7 t) (search words)
+  pub timer_in_7 : (timer : LinkTimer) → On (Move 0) (Established.timer_in_7 t timer (begun l))
+  timer_in_7 timer = still (Established.timer_in_7 t timer) (search words)
 
   pub frames_in_8 : (b : Bool) (octets : List ℕ) (control : Control) → is_ui control ≡ false
       → On (Move (count l.a l.s (number_of t control octets))) (TimerRecovery.frame_in_8 t b octets control (begun l))

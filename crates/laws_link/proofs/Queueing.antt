@@ -1,5 +1,5 @@
 -- The contents of a link, its numbers, and what its notes tell of them: most words of the tables leave them.
-use Rattle.laws_link.proofs.Vocabulary.{arith, ◌≡◌, ℕ, Bool, false, List, [], ◌∷◌, ◌++◌, Option, refl, subst, sym, list_any-append, Note, Terms, Course, Leads, keeping_then, nothing_leads, depending_leads, bit_leads, is_loss, tells_loss, leaves, deliver, note}
+use Rattle.laws_link.proofs.Vocabulary.{arith, ◌≡◌, ℕ, Bool, false, List, [], ◌∷◌, ◌++◌, Option, refl, subst, sym, list_any-append, Note, Terms, Course, Leads, keeping_then, nothing_leads, depending_leads, bit_leads, read_leads, is_loss, tells_loss, leaves, deliver, note}
 
 -- A claim on the contents, on V(A) and V(S), on whether the notes tell a loss, on whether the numbers began anew, and on
 -- what unit data is told.
@@ -16,4 +16,4 @@ module _ (Q : Claim) where
   pub deliver_keeps : (t : Terms) (octets : List ℕ) → Leads (On Q) (deliver t octets) (On Q)
   deliver_keeps t octets = record { leads = λ c h. (subst (λ b. Q c.link.contents c.link.a c.link.s b c.zeroed c.unit) (sym (grind (arith, list_any-append))) h) }
 
-pub ruleset words = (leaves, keeping_then, nothing_leads, depending_leads, bit_leads, note_keeps, refl, deliver_keeps)
+pub ruleset words = (leaves, keeping_then, nothing_leads, depending_leads, bit_leads, read_leads, note_keeps, refl, deliver_keeps)

@@ -29,7 +29,7 @@ pub use Rattle.model_link.proofs.Delivering.{event-delivers}
 pub use Rattle.model_link.proofs.Direction.{frames-append, frames_of, line_of}
 pub use Rattle.model_link.proofs.Joined.{Joined, done-at, ends-agree, joined-first, joined-turned}
 pub use Rattle.model_link.proofs.Kept.{Fits, FitsEvent, Kept}
-pub use Rattle.model_link.proofs.Leads.{Leads, Passed, bit_leads, both_ways, depending_leads, from_more, keeping_then, leaves, nothing_leads, number_leads, tested_leads, then_leads, to_less, told_ways}
+pub use Rattle.model_link.proofs.Leads.{Leads, Passed, bit_leads, both_ways, depending_leads, from_more, keeping_then, leaves, nothing_leads, number_leads, read_leads, tested_leads, then_leads, to_less, told_ways}
 pub use Rattle.model_link.proofs.Lines.{Means, Piece, rising-low}
 pub use Rattle.model_link.proofs.Numbering.{delivered-at_once}
 pub use Rattle.model_link.proofs.Rows.{event_row, every_event, frame_row}
@@ -52,7 +52,7 @@ pub use Rattle.model_link.specs.Told.{orders_for, runs, timer_at}
 pub use Rattle.model_link.specs.TwoEnds.{Step as EndStep, Agree, Begins, StepAt, Endpoint, Ends, IsUp, acting, requests, at_far, at_near, doing, expires, frame_given, loses, receives, sends, turned, without_first, with_first_of, with_link, with_sent}
 unfoldable pub use Rattle.model_link.specs.TwoEnds.{StayUp, doing_all}
 pub use Rattle.model_link.specs.Words.{acknowledge, answer, asked_is, begin_anew, by_number, clear_flags, command, deliver, deliver_unit, discard, enquire, enter, error, establish_confirm, establish_indication, has_room, leave_unserved, no_timer, note, own_busy_is, peer_busy_is, pending_is, re_establish, rr_or_rnr, release_confirm, release_indication, repeated, report_receiver_status, response}
-pub use Rattle.model_link.specs.Words.{send, send_again_from, start, unit_data, zero_numbers}
+pub use Rattle.model_link.specs.Words.{malformed as malformed_down, read_as, send, send_again_from, start, unit_data, zero_numbers}
 pub use Rattle.model_link.specs.declared.frames.ControlFrame.{ControlFrame}
 pub use Rattle.model_link.specs.declared.states.State.{State}
 pub use Rattle.model_link.specs.declared.states.State.TheVariants.{AwaitingEstablishment, AwaitingRelease, Established, TeiAssigned, TimerRecovery}
@@ -60,7 +60,7 @@ pub use Rattle.model_link.specs.declared.terms.Terms.{Terms}
 pub use Rattle.model_link.specs.declared.timers.LinkTimer.{LinkTimer}
 pub use Rattle.model_link.specs.declared.timers.LinkTimer.TheVariants.{T200, T203}
 pub use Rattle.model_link.specs.Established.{acknowledged_by_information_in_7, acknowledged_by_rej_in_7, acknowledged_by_rnr_in_7, acknowledged_in_7, frame_in_7, is_all_sent, particulars_in_7, unsolicited}
-pub use Rattle.model_link.specs.MultipleFrame.{answered, clear_busy_in_7_8, contents_in_7_8, failed, information_in_7_8, is_final, set_busy_in_7_8, supervisory}
+pub use Rattle.model_link.specs.MultipleFrame.{answered, clear_busy_in_7_8, contents_in_7_8, failed, information_in_7_8, is_final, long_unit_in_7_8, set_busy_in_7_8, supervisory}
 pub use Rattle.model_link.specs.Requests.{granted, refusal, release_in}
 pub use Rattle.model_link.specs.TimerRecovery.{acknowledged_in_8, frame_in_8, particulars_in_8, recovered, solicited}
 pub use Rattle.laws_link.specs.Accepted.{acknowledged_by, beyond, contents_asked, is_loss, is_release, number_of, tells_loss}

@@ -1,10 +1,12 @@
 -- What an event leaves of a link's flags, and of RC, by the state that it leads to.
-use Rattle.std.specs.Prelude.{ℕ, ◌+◌, Bool, true, false, not, ◌&&◌, ◌||◌, List, [], ◌∷◌, if◌then◌else◌}
+use Rattle.std.specs.Prelude.{ℕ, ◌+◌, Bool, true, false, not, ◌&&◌, ◌||◌, min, List, [], ◌∷◌, if◌then◌else◌}
 use Rattle.lapd_frame.specs.declared.controls.Control.{Control}
 use Rattle.lapd_frame.specs.declared.controls.Control.TheVariants.{Information, ReceiveReady, ReceiveNotReady, Reject}
+use Rattle.lapd_frame.specs.Readings.{by_reading}
 use Rattle.model_link.specs.declared.states.State.{State}
 use Rattle.model_link.specs.declared.states.State.TheVariants.{TeiAssigned, AwaitingEstablishment, AwaitingRelease, Established, TimerRecovery}
 use Rattle.model_link.specs.declared.frames.ControlFrame.{ControlFrame}
+use Rattle.model_link.specs.declared.terms.Terms.{Terms}
 use Rattle.model_link.specs.Link.{Link, is_multiple_frame}
 use Rattle.model_link.specs.Events.{frame, Establish, SetBusy, ClearBusy, Event, received, requested, offer}
 use Rattle.laws_link.specs.States.{moves, comes_to, is_clearing, is_anew}
@@ -78,16 +80,18 @@ abbrev pub pending_left : Event → Link → State → Bool
 pending_left offer l to = owed_behind l.waiting l.pending
 pending_left other l to = flag_left other l to (owed_in to (unless_put (put other l to) (takes_contents other l || l.pending))) l.pending
 
--- Layer 3 asked for the establishment that is awaited, or this side began it (clauses 5.5.1.1 and 5.7.2).
-abbrev pub asks_establishment : Event → Bool
-asks_establishment (requested Establish pool_is_full) = true
-asks_establishment other = false
+-- The establishment that is awaited was asked for, in state 4: by layer 3 (clause 5.5.1.1), or by annex B by DM with F=0
+-- (clause 5.5.4). Or this side began it, in states 7 and 8 (clause 5.7.2).
+abbrev pub asks_establishment : Event → State → Bool
+asks_establishment (requested Establish pool_is_full) here = true
+asks_establishment (received r) here = not (is_multiple_frame here)
+asks_establishment other here = false
 
 abbrev pub asked_left : Event → Link → State → Bool
-asked_left e l to = if is_clearing e then false else if comes_to 5 l.state to then asks_establishment e else l.asked
+asked_left e l to = if is_clearing e then false else if comes_to 5 l.state to then asks_establishment e l.state else l.asked
 
 -- RC counts how often T200 has expired for the command that a state awaits the answer to (clauses 5.5.1.3, 5.5.3.3 and
--- 5.6.7).
+-- 5.6.7). By annex B the T200 that leaves state 7 counts too, if N200 is not 0 (clause 5.6.7).
 abbrev pub awaits_answer : State → Bool
 awaits_answer TeiAssigned = false
 awaits_answer AwaitingEstablishment = true
@@ -95,10 +99,13 @@ awaits_answer AwaitingRelease = true
 awaits_answer Established = false
 awaits_answer TimerRecovery = true
 
-abbrev pub repeats_left : Event → Link → State → ℕ
-repeats_left e l to =
+abbrev pub counted_first : Terms → Event → Link → State → ℕ
+counted_first t e l to = if comes_to 8 l.state to && is_time e l then by_reading t.reading 0 (min 1 t.n200) else 0
+
+abbrev pub repeats_left : Terms → Event → Link → State → ℕ
+repeats_left t e l to =
     if is_clearing e then 0
     else if not (awaits_answer to) then l.repeats
-    else if moves l.state to then 0
+    else if moves l.state to then counted_first t e l to
     else if is_time e l then l.repeats + 1
     else l.repeats

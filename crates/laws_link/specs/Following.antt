@@ -21,7 +21,7 @@ pub record Leaves (t : Terms) (e : Event) (before after : Link) (ns : List Note)
   pub rejecting : after.rejecting ≡ rejecting_left e before after.state
   pub pending : after.pending ≡ pending_left e before after.state
   pub asked : after.asked ≡ asked_left e before after.state
-  pub repeats : after.repeats ≡ repeats_left e before after.state
+  pub repeats : after.repeats ≡ repeats_left t e before after.state
 
 pub record Follows (t : Terms) (e : Event) (before after : Link) (ns : List Note) (lost : ℕ) : Type 0 where
   pub leaves : Leaves t (as_heard t e) before after ns lost

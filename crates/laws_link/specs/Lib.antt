@@ -23,5 +23,6 @@ pub mod WorkedSending
 pub mod WorkedBeginning
 pub mod WorkedExpiries
 pub mod WorkedFollowing
+pub mod WorkedReadings
 pub mod Known
 pub mod two

@@ -4,6 +4,7 @@ use Rattle.lapd_frame.specs.declared.addresses.Side.TheVariants.{User, Network}
 use Rattle.lapd_frame.specs.declared.faults.ReadFault.{ReadFault}
 use Rattle.lapd_frame.specs.declared.faults.ReadFault.TheVariants.{BadExtension, Undefined, WrongSize, Short}
 use Rattle.lapd_frame.specs.declared.notes.Note.{Note}
+use Rattle.lapd_frame.specs.declared.readings.Reading.TheVariants.{Profile, AnnexB}
 use Rattle.lapd_frame.specs.declared.services.Service.TheVariants.{Call, Packet}
 use Rattle.lapd_frame.specs.Grammar.{Parts, spelling}
 use Rattle.lapd_frame.specs.Reading.{reading}
@@ -15,13 +16,17 @@ use Rattle.model_link.specs.Machine.{after, after_all, told, given}
 
 -- TEI 64 with k 7, N201 260, N200 3, room for 8 contents and for 4 control frames; and the same with other numbers.
 abbrev pub usual_terms : Terms
-usual_terms = record { service = Call; tei = 64; k = 7; n201 = 260; n200 = 3; queue = 8; control = 4 }
+usual_terms = record { service = Call; tei = 64; k = 7; n201 = 260; n200 = 3; queue = 8; control = 4; reading = Profile }
 
 abbrev pub with_k_and_queue : ℕ → ℕ → Terms
 with_k_and_queue k queue = record usual_terms { k = k; queue = queue }
 
 abbrev pub with_n200 : ℕ → Terms
 with_n200 n200 = record usual_terms { n200 = n200 }
+
+-- the usual terms by annex B, and with this N200
+abbrev pub by_annex_b : ℕ → Terms
+by_annex_b n200 = record usual_terms { n200 = n200; reading = AnnexB }
 
 abbrev pub packet : Terms
 packet = record usual_terms { service = Packet; k = 3 }

@@ -3,7 +3,9 @@ use Rattle.std.specs.Prelude.{ℕ, ◌==◌, Bool, true, false, not, ◌&&◌, �
 use Rattle.lapd_seq.specs.declared.numbers.Seq.{Seq}
 use Rattle.lapd_seq.specs.Circle.{named}
 use Rattle.lapd_frame.specs.declared.controls.Control.{Control}
-use Rattle.lapd_frame.specs.declared.controls.Control.TheVariants.{Information, ReceiveReady, ReceiveNotReady, Reject, Sabme, Disc, Ua, Dm, Frmr}
+use Rattle.lapd_frame.specs.declared.controls.Control.TheVariants.{Information, ReceiveReady, ReceiveNotReady, Reject, Sabme, Disc, Ui, Ua, Dm, Frmr}
+use Rattle.lapd_frame.specs.declared.readings.Reading.{Reading}
+use Rattle.lapd_frame.specs.Readings.{by_reading}
 use Rattle.model_link.specs.declared.states.State.{State}
 use Rattle.model_link.specs.declared.states.State.TheVariants.{TeiAssigned, AwaitingEstablishment, AwaitingRelease, Established, TimerRecovery}
 use Rattle.model_link.specs.declared.timers.LinkTimer.{LinkTimer}
@@ -14,35 +16,37 @@ use Rattle.model_link.specs.Events.{Received, frame, overlong, Request, Establis
 use Rattle.model_link.specs.Told.{runs}
 
 -- By a frame of the grammar; a response is no command. In state 4 the terminal establishes the link (Q.921 clause
--- 5.5.1.2). In state 5 it agrees, or refuses (clause 5.5.1.2), and in state 6 either ends the link (clause 5.5.3.2). In
+-- 5.5.1.2), or by annex B asks this side for it, by DM with F=0 (clause 5.5.4). In state 5 it agrees, or refuses (clause 5.5.1.2), and in state 6 either ends the link (clause 5.5.3.2). In
 -- states 7 and 8 it establishes the link again, or releases it (clauses 5.5.1.2, 5.5.3.2 and 5.7), or this side establishes
 -- it again after an error (clauses 5.7.1, 5.8.6 and 5.8.7); in state 8 a response with F=1 ends the recovery (clause
 -- 5.6.7). No other frame moves a link.
-abbrev pub by_frame : State → Bool → Control → State
-by_frame TeiAssigned command (Sabme p) = Established
-by_frame TeiAssigned command other = TeiAssigned
-by_frame AwaitingEstablishment command (Ua true) = Established
-by_frame AwaitingEstablishment command (Dm true) = TeiAssigned
-by_frame AwaitingEstablishment command other = AwaitingEstablishment
-by_frame AwaitingRelease command (Ua true) = TeiAssigned
-by_frame AwaitingRelease command (Dm true) = TeiAssigned
-by_frame AwaitingRelease command other = AwaitingRelease
-by_frame Established command (Disc p) = TeiAssigned
-by_frame Established command (Dm false) = AwaitingEstablishment
-by_frame Established command (Frmr f) = AwaitingEstablishment
-by_frame Established command other = Established
-by_frame TimerRecovery command (Sabme p) = Established
-by_frame TimerRecovery command (Disc p) = TeiAssigned
-by_frame TimerRecovery command (Dm f) = AwaitingEstablishment
-by_frame TimerRecovery command (Frmr f) = AwaitingEstablishment
-by_frame TimerRecovery false (ReceiveReady nr true) = Established
-by_frame TimerRecovery false (ReceiveNotReady nr true) = Established
-by_frame TimerRecovery false (Reject nr true) = Established
-by_frame TimerRecovery command other = TimerRecovery
+abbrev pub by_frame : Reading → State → Bool → Control → State
+by_frame reading TeiAssigned command (Sabme p) = Established
+by_frame reading TeiAssigned command (Dm false) = by_reading reading TeiAssigned AwaitingEstablishment
+by_frame reading TeiAssigned command other = TeiAssigned
+by_frame reading AwaitingEstablishment command (Ua true) = Established
+by_frame reading AwaitingEstablishment command (Dm true) = TeiAssigned
+by_frame reading AwaitingEstablishment command other = AwaitingEstablishment
+by_frame reading AwaitingRelease command (Ua true) = TeiAssigned
+by_frame reading AwaitingRelease command (Dm true) = TeiAssigned
+by_frame reading AwaitingRelease command other = AwaitingRelease
+by_frame reading Established command (Disc p) = TeiAssigned
+by_frame reading Established command (Dm false) = AwaitingEstablishment
+by_frame reading Established command (Frmr f) = AwaitingEstablishment
+by_frame reading Established command other = Established
+by_frame reading TimerRecovery command (Sabme p) = Established
+by_frame reading TimerRecovery command (Disc p) = TeiAssigned
+by_frame reading TimerRecovery command (Dm f) = AwaitingEstablishment
+by_frame reading TimerRecovery command (Frmr f) = AwaitingEstablishment
+by_frame reading TimerRecovery false (ReceiveReady nr true) = Established
+by_frame reading TimerRecovery false (ReceiveNotReady nr true) = Established
+by_frame reading TimerRecovery false (Reject nr true) = Established
+by_frame reading TimerRecovery command other = TimerRecovery
 
--- An I-frame over N201 is heard as one that was too long to keep (clause 5.8.5).
+-- An I-frame over N201 is heard as one that was too long to keep (clause 5.8.5), and by annex B so is UI (clause 3.6.11).
 abbrev pub is_overlong : Terms → Control → List ℕ → Bool
 is_overlong t (Information ns nr p) octets = nat_lt t.n201 (length octets)
+is_overlong t (Ui p) octets = by_reading t.reading false (nat_lt t.n201 (length octets))
 is_overlong t other octets = false
 
 abbrev pub as_heard : Terms → Event → Event
@@ -66,9 +70,9 @@ abbrev pub is_faulty : Received → Link → Bool
 is_faulty (frame f) l = is_invalid l (receipt_of f.control)
 is_faulty other l = true
 
-abbrev pub by_received : State → Received → State
-by_received state (frame f) = by_frame state f.address.command f.control
-by_received state other = state
+abbrev pub by_received : Reading → State → Received → State
+by_received reading state (frame f) = by_frame reading state f.address.command f.control
+by_received reading state other = state
 
 -- By the expiry of a timer that runs; the bit says whether RC < N200. T200 in states 5, 6 and 8, where the command was not
 -- answered, ends the link, or establishes it again, after the last repeat (clauses 5.5.1.3, 5.5.3.3 and 5.6.7); T200 and
@@ -92,7 +96,7 @@ by_request state other = state
 
 -- By any event; where the TEI leaves the line, the link is as one that begins (clause 5.3.4).
 abbrev pub state_after : Terms → Event → Link → State
-state_after t (received r) l = if is_multiple_frame l.state && is_faulty r l then AwaitingEstablishment else by_received l.state r
+state_after t (received r) l = if is_multiple_frame l.state && is_faulty r l then AwaitingEstablishment else by_received t.reading l.state r
 state_after t (expired timer) l = if runs timer l.running then by_expiry l.state timer (may_repeat t l) else l.state
 state_after t (requested request pool_is_full) l = by_request l.state request
 state_after t offer l = l.state

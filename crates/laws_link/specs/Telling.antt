@@ -5,6 +5,7 @@ use Rattle.lapd_frame.specs.declared.controls.Control.TheVariants.{Information, 
 use Rattle.lapd_frame.specs.declared.notes.ErrorCode.{ErrorCode}
 use Rattle.lapd_frame.specs.declared.notes.ErrorCode.TheVariants as code
 use Rattle.lapd_frame.specs.declared.notes.Note.{Note}
+use Rattle.lapd_frame.specs.Readings.{by_reading}
 use Rattle.lapd_frame.specs.declared.notes.Note.TheVariants as notes
 use Rattle.model_link.specs.declared.states.State.{State}
 use Rattle.model_link.specs.declared.states.State.TheVariants.{TeiAssigned, AwaitingEstablishment, AwaitingRelease, Established, TimerRecovery}
@@ -90,11 +91,11 @@ told_by_frame AwaitingRelease t command octets control taken l to = told_in_6 t 
 told_by_frame Established t command octets control taken l to = told_up false t command octets control taken l to
 told_by_frame TimerRecovery t command octets control taken l to = told_up true t command octets control taken l to
 
--- What the grammar does not have, or was too long, is told in states 7 and 8 (clause 5.8.5).
+-- What the grammar does not have, or was too long, is told in states 7 and 8, and by annex B in all (clause 5.8.5).
 abbrev pub told_malformed : State → Terms → ErrorCode → List Note
 told_malformed Established t e = error t e
 told_malformed TimerRecovery t e = error t e
-told_malformed other t e = []
+told_malformed other t e = by_reading t.reading [] (error t e)
 
 abbrev pub told_received : Terms → Received → Bool → Link → State → List Note
 told_received t (frame f) taken l to = told_by_frame l.state t f.address.command f.info f.control taken l to

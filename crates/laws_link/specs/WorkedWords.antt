@@ -30,7 +30,7 @@ pub use Rattle.laws_link.specs.Flags.{peer_busy_left, pending_left}
 pub use Rattle.laws_link.specs.Heard.{unit_due}
 pub use Rattle.laws_link.specs.History.{share}
 pub use Rattle.laws_link.specs.Offered.{i_frames}
-pub use Rattle.laws_link.specs.Samples.{ask, frame_comes, packet, pulls, sabme, told_after, up, usual_terms, with_k_and_queue, with_n200}
+pub use Rattle.laws_link.specs.Samples.{ask, by_annex_b, frame_comes, packet, pulls, sabme, told_after, up, usual_terms, with_k_and_queue, with_n200}
 unfoldable pub use Rattle.laws_link.specs.Samples.{lost, notes, out}
 pub use Rattle.laws_link.specs.States.{as_heard, numbers_begin, state_after}
 pub use Rattle.laws_link.specs.Telling.{told_by}

@@ -38,15 +38,15 @@ pub fn frames_follow()
 /// - An acknowledgement is owed for each I-frame that is taken, until a frame with N(R) is put, or goes, or the link
 ///   leaves states 7 and 8.
 ///
-/// All go off when an establishment begins. RC counts the expiries of T200 for the command that awaits its answer
-/// (Q.921 clauses 5.5.1.3, 5.5.3.3, 5.6.2 to 5.6.7, 5.7 and 5.8.1).
+/// All go off when an establishment begins. RC counts the expiries of T200 for the command that awaits its answer. By annex B
+/// it counts the one that leaves state 7, too (Q.921 clauses 5.5.1.3, 5.5.3.3, 5.6.2 to 5.6.7, 5.7 and 5.8.1).
 pub fn flags_follow()
     ensures peer_busy { (t : Terms) (e : Event) (l : Link) → (after t e l).peer_busy ≡ peer_busy_left (as_heard t e) l (after t e l).state }
     ensures own_busy { (t : Terms) (e : Event) (l : Link) → (after t e l).own_busy ≡ own_busy_left (as_heard t e) l (after t e l).state }
     ensures rejecting { (t : Terms) (e : Event) (l : Link) → (after t e l).rejecting ≡ rejecting_left (as_heard t e) l (after t e l).state }
     ensures pending { (t : Terms) (e : Event) (l : Link) → (after t e l).pending ≡ pending_left (as_heard t e) l (after t e l).state }
     ensures asked { (t : Terms) (e : Event) (l : Link) → (after t e l).asked ≡ asked_left (as_heard t e) l (after t e l).state }
-    ensures repeats { (t : Terms) (e : Event) (l : Link) → (after t e l).repeats ≡ repeats_left (as_heard t e) l (after t e l).state }
+    ensures repeats { (t : Terms) (e : Event) (l : Link) → (after t e l).repeats ≡ repeats_left t (as_heard t e) l (after t e l).state }
 {}
 
 /// Layer 3 and layer management are told exactly what the table of notes has, in its order. Of a frame they are told,

@@ -8,7 +8,7 @@ use Rattle.laws_trace.proofs.DataAsked.{elsewhere}
 use Rattle.model_link.specs.Machine as links
 use Rattle.model_line.specs.Machine as lines
 use Rattle.model_line.specs.Sound as line_sound
-use Rattle.laws_order.proofs.LinkEnds.{Ended, own, Leaves, IsNoRelease, event-leaves, Fallen, undefined-falls, wrong-size-falls, overlong-falls, unit-data-stays}
+use Rattle.laws_order.proofs.LinkEnds.{Ended, own, Leaves, IsNoRelease, event-leaves, Fallen, undefined-falls, wrong-size-falls, overlong-falls, unit-data, Same}
 use Rattle.laws_order.proofs.Shown.{fits, same-frames, noted-is, asked_in, granted-is, ends-is, request-ends}
 
 -- Where the notes of a link that was up say that it is down, one of them ends it.
@@ -207,7 +207,11 @@ module _ (c : Config) (service : Service) (tei : ℕ) where
       one-does : Comes e a x.event → Does k k' e a
       one-does (is_malformed is) = malformed-one is
       one-does (is_release full is asked g) = release-one full is asked g
-      one-does (is_unit f is ui octets heard) = grind (arith, unit-data-stays, noted-one, option_to_list, granted-is, asked_in, same-frames, frames_given)
+      one-does (is_unit f is ui octets heard) = go (unit-data Own k f ui up)
+        where
+          go : Same Own k (links.course Own (received (link_frame f)) k) ⊎ Fallen Own (received (link_frame f)) k → Does k k' e a
+          go (inl same) = grind (arith, noted-one, option_to_list, granted-is, asked_in, same-frames, frames_given)
+          go (inr fallen) = fallen-one (received (link_frame f)) is fallen
       one-does (is_plain kind may) = plain-one kind (event-leaves Own k up x.event may)
 
     pub line-does : Does k k' e a

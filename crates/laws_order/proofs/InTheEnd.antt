@@ -1,7 +1,7 @@
 -- A release is told in the end: to the end that releases, whose RC counts the expiries of T200, and to the other before that.
 use Rattle.laws_order.proofs.Vocabulary.{◌≡◌, ℕ, ◌≤◌, Bool, true, false, List, [], ◌∷◌, ◌++◌, refl, sym, ap, ◌∙◌, arith, append-nil, true≢false, ◌⊎◌, inl, inr, All, list_any, All-nil, All-cons, All-head, All-tail, Service, other_side, AwaitingRelease, Link, is_multiple_frame, came, hears, expiry, request, next, Line, has_tei, terms, deactivates, Seen, Endpoint, Wire, requests, expires, sends}
 use Rattle.laws_order.proofs.Vocabulary.{receives, turned, Event, line_of, AnyStep, step, disturbed, any_acting, AnyStepAt, any_near, any_far, IsPossible, IsPossibleAt, any_doing, any_doing_all, events_here, seen_by, seen_at_near, seen_near, seen_far, t200s, IsToldAtLast, ReleasesAreTold, StaysThere, IsNotDeactivated, BothAreTold, ends_by, StaysEstablished, news, IsToldOfRelease, flat_map-append}
-use Rattle.laws_order.proofs.Vocabulary.{news_in, own_side, heard_side}
+use Rattle.laws_order.proofs.Vocabulary.{news_in, own_side, heard_side, Reading, subst}
 use Rattle.laws_order.proofs.Beginning.{past-well, six-here, six-runs, on-here, begins-pair}
 use Rattle.laws_order.proofs.Down.{Speaks}
 use Rattle.laws_order.proofs.Leading.{NotHeard, near-led, not-heard}
@@ -10,7 +10,7 @@ use Rattle.laws_order.proofs.OneLasts.{far-goes}
 use Rattle.laws_order.proofs.Ordered.{turned-pair, pair-lasts, both-stay, other-link}
 use Rattle.laws_order.proofs.Pairs.{link_here, Pair, Led, Falls, IsWell}
 use Rattle.laws_order.proofs.Putting.{Each}
-use Rattle.laws_order.proofs.Released.{Occurs, then-well, step-six, StepSix, events_at, occurs, later, releases-end}
+use Rattle.laws_order.proofs.Released.{Occurs, reads, same-reading, then-well, step-six, StepSix, events_at, occurs, later, releases-end}
 use Rattle.laws_order.proofs.ReleasedAt.{Confirm, Confirmless}
 use Rattle.laws_order.proofs.Saying.{on_line}
 use Rattle.laws_order.proofs.ReleaseCounted.{Bounded, run-counts}
@@ -121,12 +121,14 @@ module _ (service : Service) (tei : ℕ) where
   far-split (any_far act) hs w stays = grind (arith, both-stay, append-nil)
 
   never : (hs : List AnyStepAt) (w : Wire) → IsWell w.near → (Here w).state ≡ AwaitingRelease → Over w → All (IsOpen w) hs → StaysThere service tei hs w → All (IsNotDeactivated service tei) hs
-      → StaysEstablished service tei (seen_far hs w) → news service tei (seen_near hs w) ≡ Confirm service tei → ⊥
+      → StaysEstablished service tei (seen_far hs w) → news (reads service tei w) service tei (seen_near hs w) ≡ Confirm service tei → ⊥
   unfolding seen_near StaysThere
   never [] w well is over all there active stays told = cc told
   never (h ∷ hs) w well is over all there active stays told =
       let o = occurs service tei h w well (All-head (IsOpen w) h hs all) in
-      go o (λ well' is' over' told'. never hs w' well' is' over' (later service tei h hs w all) there.1 (All-tail (IsNotDeactivated service tei) h hs active) stay.1 told')
+      go o
+      (λ well' is' over' told'. never hs w' well' is' over' (later service tei h hs w all) there.1 (All-tail (IsNotDeactivated service tei) h hs active) stay.1
+      (subst (λ r. news r service tei (seen_near hs w') ≡ Confirm service tei) (sym (same-reading service tei w w' t es o)) told'))
       (step-six service tei w w' t es well is o)
     where
       w' : Wire
@@ -141,29 +143,32 @@ module _ (service : Service) (tei : ℕ) where
       stay : StaysEstablished service tei (seen_far (h ∷ []) w) × StaysEstablished service tei (seen_far hs w')
       stay = far-split h hs w stays
 
-      split : news service tei t ++ news service tei (seen_near hs w') ≡ Confirm service tei
-      split = sym (flat_map-append (news_in service tei) t (seen_near hs w')) ∙ told
+      r : Reading
+      r = reads service tei w
 
-      go : Occurs service tei w w' t es → (IsWell w'.near → (Here w').state ≡ AwaitingRelease → Over w' → news service tei (seen_near hs w') ≡ Confirm service tei → ⊥)
+      split : news r service tei t ++ news r service tei (seen_near hs w') ≡ Confirm service tei
+      split = sym (flat_map-append (news_in r service tei) t (seen_near hs w')) ∙ told
+
+      go : Occurs service tei w w' t es → (IsWell w'.near → (Here w').state ≡ AwaitingRelease → Over w' → news r service tei (seen_near hs w') ≡ Confirm service tei → ⊥)
           → StepSix service tei w w' t es → ⊥
       go o behind (inl (six, x)) =
           behind (then-well service tei w w' t es well o) six (then-over h w (All-head (IsOpen w) h hs all) stay.0 over (ap is_multiple_frame six))
-          (ap (λ ns. ns ++ news service tei (seen_near hs w')) (sym x.0) ∙ split)
+          (ap (λ ns. ns ++ news r service tei (seen_near hs w')) (sym x.0) ∙ split)
       go o behind (inr (to, inl (x, may))) =
           may (all-confirmless w (line_of w'.near) (there-first hs w' there.1) h (All-head (IsOpen w) h hs all) (All-head (IsNotDeactivated service tei) h hs active) over)
       go o behind (inr (to, inr x)) = grind (arith, w', split)
 
 pub releases-are-told : ReleasesAreTold
-releases-are-told service tei w hs p is all quiet many = go (releases-end service tei w hs p is all quiet).0
+releases-are-told service tei w hs p is all quiet none many = go (releases-end service tei w hs p is all quiet none).0
   where
     six : (link_here service tei w.near).state ≡ AwaitingRelease
     six = six-here service tei w.near is
 
-    go : IsToldOfRelease service tei (news service tei (seen_near hs w)) → IsToldAtLast service tei (news service tei (seen_near hs w))
+    go : IsToldOfRelease service tei (news (reads service tei w) service tei (seen_near hs w)) → IsToldAtLast service tei (news (reads service tei w) service tei (seen_near hs w))
     go (inl none) = too-few (run-counts service tei hs w (past-well w.near p) six (six-runs service tei w.near p six) all none)
       where
         too-few : Bounded service tei (t200s service tei hs w) (link_here service tei w.near).repeats (terms w.near.card.config service tei).n200
-            → IsToldAtLast service tei (news service tei (seen_near hs w))
+            → IsToldAtLast service tei (news (reads service tei w) service tei (seen_near hs w))
         too-few o = grind arith
     go (inr told) = told
 

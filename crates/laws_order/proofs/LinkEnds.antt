@@ -1,6 +1,7 @@
 -- An event of a link in state 7 or 8 leaves it there, or a note ends the establishment or renews it.
-use Rattle.laws_order.proofs.Vocabulary.{arith, ◌≡◌, ℕ, ◌==◌, ◌&&◌, ◌||◌, Bool, true, false, cond, IsTrue, List, [], ◌∷◌, ◌++◌, None, refl, sym, ap, ◌∙◌, subst, eq-eqb, ◌⊎◌, nat_lt, list_any, list_any-append, Control, Information, Sabme, Disc, ErrorCode, Note, Parts, Seq, State, AwaitingEstablishment, TimerRecovery, Terms, Link, is_multiple_frame, Received, received, undefined, wrong_size}
-use Rattle.laws_order.proofs.Vocabulary.{overlong, requested, Release, Course, as_heard, is_invalid, receipt_of, is_faulty, by_frame, by_received, state_after, is_anew, error, told_by, told_by_frame, told_malformed, told_cleared, event-follows, service-same, is_own, is_ui, after, told, ends_by_note, NoteError, or-true}
+use Rattle.laws_order.proofs.Vocabulary.{arith, ◌≡◌, ℕ, ◌==◌, ◌&&◌, ◌||◌, Bool, true, false, cond, IsTrue, List, [], ◌∷◌, ◌++◌, None, refl, sym, ap, ◌∙◌, subst, eq-eqb, ◌⊎◌, inl, inr, nat_lt, list_any, list_any-append, Control, Information, Sabme, Disc, ErrorCode, Note, Parts, Seq, State, AwaitingEstablishment, TimerRecovery, Terms, Link, is_multiple_frame, Received, received, undefined}
+use Rattle.laws_order.proofs.Vocabulary.{wrong_size}
+use Rattle.laws_order.proofs.Vocabulary.{overlong, is_overlong, requested, Release, Course, as_heard, is_invalid, receipt_of, is_faulty, by_frame, by_received, state_after, is_anew, error, told_by, told_by_frame, told_malformed, told_cleared, event-follows, service-same, is_own, is_ui, after, told, ends_by_note, NoteError, or-true}
 use Rattle.lapd_frame.specs.declared.notes.ErrorCode.TheVariants as code
 use Rattle.model_link.specs.Events.{Event, frame}
 use Rattle.model_link.specs.Machine
@@ -27,11 +28,11 @@ module _ (t : Terms) where
   module _ (l : Link) (octets : List ℕ) (taken : Bool) where
     abbrev By : State → Bool → Control → Type 0
     By here command control =
-        let now = cond (is_multiple_frame here && is_invalid l (receipt_of control)) AwaitingEstablishment (by_frame here command control) in
+        let now = cond (is_multiple_frame here && is_invalid l (receipt_of control)) AwaitingEstablishment (by_frame t.reading here command control) in
         Leaves (told_by_frame here t command octets control taken l now) now
 
     -- in state 8 a response with F=1 leads back to state 7
-    information-up : (command : Bool) (ns nr : Seq) (p : Bool) → IsTrue (is_multiple_frame (by_frame TimerRecovery command (Information ns nr p)))
+    information-up : (command : Bool) (ns nr : Seq) (p : Bool) → IsTrue (is_multiple_frame (by_frame t.reading TimerRecovery command (Information ns nr p)))
     information-up command ns nr p = grind arith
 
     in-state : (here : State) → IsTrue (is_multiple_frame here) → (command : Bool) (control : Control) → By here command control
@@ -59,25 +60,26 @@ module _ (t : Terms) where
     event-leaves e may = grind (arith, event-follows, by-event)
 
     -- What the grammar does not have, or was too long, ends it, and so does a release.
-    malformed-falls : (r : Received) (why : ErrorCode) → is_anew why ≡ true → as_heard t (received r) ≡ received r → is_faulty r l ≡ true
-        → told_by t (received r) l (after t (received r) l).state ≡ told_malformed l.state t why → Fallen (received r) l
-    malformed-falls r why anew same faulty tells =
-        let x = (event-follows t (received r) l).leaves in (
-          subst Ended (sym (x.tells ∙ ap (λ e. told_by t e l (after t (received r) l).state) same ∙ tells)) (grind (arith, error-ends)),
-          ap is_multiple_frame (x.state ∙ ap (λ e. state_after t e l) same) ∙ ap (λ b. is_multiple_frame (cond b AwaitingEstablishment (by_received l.state r))) (both-are (is_multiple_frame l.state) (is_faulty r l) up faulty),
+    malformed-falls : (e : Event) (r : Received) (why : ErrorCode) → is_anew why ≡ true → as_heard t e ≡ received r → is_faulty r l ≡ true
+        → told_by t (received r) l (after t e l).state ≡ told_malformed l.state t why → Fallen e l
+    malformed-falls e r why anew heard faulty tells =
+        let x = (event-follows t e l).leaves in (
+          subst Ended (sym (x.tells ∙ ap (λ h. told_by t h l (after t e l).state) heard ∙ tells)) (grind (arith, error-ends)),
+          ap is_multiple_frame (x.state ∙ ap (λ h. state_after t h l) heard)
+              ∙ ap (λ b. is_multiple_frame (cond b AwaitingEstablishment (by_received t.reading l.state r))) (both-are (is_multiple_frame l.state) (is_faulty r l) up faulty),
         )
       where
         both-are : (a b : Bool) → a ≡ true → b ≡ true → (a && b) ≡ true
         both-are a b x y = ap (λ a. a && b) x ∙ y
 
     pub undefined-falls : Fallen (received undefined) l
-    undefined-falls = malformed-falls undefined code.L refl refl refl refl
+    undefined-falls = malformed-falls (received undefined) undefined code.L refl refl refl refl
 
     pub wrong-size-falls : Fallen (received wrong_size) l
-    wrong-size-falls = malformed-falls wrong_size code.N refl refl refl refl
+    wrong-size-falls = malformed-falls (received wrong_size) wrong_size code.N refl refl refl refl
 
     pub overlong-falls : Fallen (received overlong) l
-    overlong-falls = malformed-falls overlong code.O refl refl refl refl
+    overlong-falls = malformed-falls (received overlong) overlong code.O refl refl refl refl
 
     -- So do SABME and DISC.
     by-sabme : (here : State) → IsTrue (is_multiple_frame here) → (command : Bool) (octets : List ℕ) (p taken : Bool) (to : State)
@@ -90,10 +92,17 @@ module _ (t : Terms) where
     pub disc-ends : (f : Parts) (p : Bool) → Ended (told t (received (frame (record f { control = Disc p }))) l).notes
     disc-ends f p = grind (arith, event-follows, one-ends, own)
 
-  -- UI leaves a link as it was, and delivers no contents of an I-frame.
+  -- UI leaves a link as it was, and delivers no contents of an I-frame; or by annex B it is over N201.
   module _ (l : Link) where
     abbrev pub Same : Course → Type 0
     Same c = (c.link ≡ l) × (c.delivered ≡ None)
 
-    pub unit-data-stays : (f : Parts) → is_ui f.control ≡ true → Same (Machine.course t (received (frame f)) l)
-    unit-data-stays f is = grind (arith, nat_lt)
+    kept : (f : Parts) → is_ui f.control ≡ true → is_overlong t f.control f.info ≡ false → Same (Machine.course t (received (frame f)) l)
+    kept f is fits = grind (arith, nat_lt)
+
+    pub unit-data : (f : Parts) → is_ui f.control ≡ true → IsTrue (is_multiple_frame l.state) → Same (Machine.course t (received (frame f)) l) ⊎ Fallen (received (frame f)) l
+    unit-data f is up = go (is_overlong t f.control f.info) refl
+      where
+        go : (b : Bool) → is_overlong t f.control f.info ≡ b → Same (Machine.course t (received (frame f)) l) ⊎ Fallen (received (frame f)) l
+        go false fits = inl (kept f is fits)
+        go true long = inr (malformed-falls l up (received (frame f)) overlong code.O refl (ap (λ b. received (cond b overlong (frame f))) long) refl refl)

@@ -1,5 +1,5 @@
 -- What each event tells of a link in state 6, and in state 4.
-use Rattle.laws_order.proofs.Vocabulary.{arith, ◌≡◌, true, false, List, [], ◌∷◌, refl, ◌⊎◌, filter, nat_lt, list_any, Control, Ua, Dm, Note, State, TeiAssigned, AwaitingRelease, Terms, received, Release, requested, cleared, Link, as_heard, state_after, told_by, event-follows, is_data_of, own-is, after, told, is_news, begins_by_note, NoteError, NoteReleaseConfirm}
+use Rattle.laws_order.proofs.Vocabulary.{arith, ◌≡◌, Bool, true, false, List, [], ◌∷◌, refl, ◌⊎◌, filter, nat_lt, list_any, Control, Ua, Dm, Note, State, TeiAssigned, AwaitingRelease, Terms, received, Release, requested, cleared, Link, as_heard, state_after, told_by, event-follows, is_data_of, own-is, after, told, is_news, begins_by_note, is_plain_dm, NoCall, NoteError, NoteReleaseConfirm}
 use Rattle.lapd_frame.specs.declared.notes.ErrorCode.TheVariants as code
 use Rattle.model_link.specs.Events.{Event, frame, Establish}
 
@@ -16,7 +16,7 @@ ConfirmsAt other = ⊥
 
 module _ (t : Terms) where
   abbrev News : List Note → List Note
-  News ns = filter (is_news t.service t.tei) ns
+  News ns = filter (is_news t.reading t.service t.tei) ns
 
   -- These notes tell this of the link, and no data.
   pub record Tells (ns told : List Note) : Type 0 where
@@ -47,6 +47,11 @@ module _ (t : Terms) where
   AsksNothing (requested Release full) = ⊥
   AsksNothing other = Unit {0}
 
+  -- The other side asks for an establishment, where it finds state 4.
+  abbrev pub rings : Event → Bool
+  rings (received (frame f)) = is_plain_dm f.control
+  rings other = false
+
   module _ (l : Link) where
     abbrev Now : Event → List Note
     Now e = (told t e l).notes
@@ -61,5 +66,5 @@ module _ (t : Terms) where
     pub in-6 : l.state ≡ AwaitingRelease → (e : Event) → In6 (ConfirmsAt e) (Now e) (after t e l).state
     in-6 is e = grind (arith, tells, leads, silent, own-is, nat_lt)
 
-    pub in-4 : l.state ≡ TeiAssigned → (e : Event) → AsksNothing e → Begins (Now e) ⊎ In4 (Now e) (after t e l).state
-    in-4 is e none = grind (arith, tells, leads, silent, own-is, nat_lt)
+    pub in-4 : l.state ≡ TeiAssigned → (e : Event) → AsksNothing e → NoCall t.reading (rings e) → Begins (Now e) ⊎ In4 (Now e) (after t e l).state
+    in-4 is e none uncalled = grind (arith, tells, leads, silent, own-is, nat_lt)

@@ -1,7 +1,8 @@
 -- The premises of the law are met by the worked run.
 use Rattle.laws_order.proofs.Vocabulary.{◌≡◌, ℕ, ◌<◌, true, List, [], ◌∷◌, ◌++◌, refl, sym, ap, ◌∙◌, arith, All, list_any, leb-true, All-nil, All-cons, User, Network, Service, Call, Packet, other_side, exchanged, reading, side_reading, header_of, control_of, unnumbered_of, supervisory_of, distance_of, named, seq, Assign, request, IsFront, calling, Wire, requests, at, step, IsElsewhere, AnyStepAt}
 use Rattle.laws_order.proofs.Vocabulary.{◌≤◌, any_near, any_far}
-use Rattle.laws_order.proofs.Vocabulary.{IsPossible, any_doing_all, seen_near, seen_far, t200s, IsToldAtLast, IsNotDeactivated, data_noted, data_granted, ends_by, known, IsInStep, FaceInStep, kept_by, StaysEstablished, IsToldOfRelease, news, tei_refusal, tei_course, releases, released, takes_two, far_lasts, awaits, both_release, both_begin_nothing, own_side, heard_side}
+use Rattle.laws_order.proofs.Vocabulary.{IsPossible, any_doing_all, seen_near, seen_far, t200s, IsToldAtLast, IsNotDeactivated, data_noted, data_granted, ends_by, known, IsInStep, FaceInStep, kept_by, StaysEstablished, IsToldOfRelease, NoCall, IsNotCalled, called as is_rung, Profile, NoteReleaseConfirm, subst, news, tei_refusal, tei_course, releases, released, takes_two, far_lasts, awaits}
+use Rattle.laws_order.proofs.Vocabulary.{both_release, both_begin_nothing, own_side, heard_side}
 use Rattle.laws_wire.specs.Wire.{acting, at_far, doing, doing_all}
 use Rattle.model_line.specs.Config.{sapi_fault}
 use Rattle.model_line.specs.Line.{tries}
@@ -145,15 +146,22 @@ early-in-order =
 cut-in-order : FarInOrder faces pasts (releases ++ takes_two)
 cut-in-order = told-in-order faces pasts (releases ++ takes_two) call-looks (acts-possible faces (releases ++ takes_two) tt) far_lasts
 
-release-told : IsToldOfRelease Call 0 (news Call 0 (seen_near both_release released))
+its-reading : released.near.card.config.reading ≡ Profile
+unfolding lines.after lines.answer lines.takes_slot exchanged reading side_reading header_of control_of unnumbered_of supervisory_of tei_course tei_refusal seq distance_of named doing_all any_doing_all
+its-reading = refl
+
+uncalled : (hs : List AnyStepAt) → IsNotCalled Call 0 hs released
+uncalled hs = subst (λ r. NoCall r (is_rung Call 0 hs released)) (sym its-reading) tt
+
+release-told : IsToldOfRelease Call 0 (news released.near.card.config.reading Call 0 (seen_near both_release released))
 release-told =
-    (releases-end Call 0 released both_release (all-happened releases tt faces pasts).near awaits (acts-possible released both_release tt) both_begin_nothing).0
+    (releases-end Call 0 released both_release (all-happened releases tt faces pasts).near awaits (acts-possible released both_release tt) both_begin_nothing (uncalled both_release)).0
 
 -- and it is told in the end: where each DISC is lost, and where the other end was told before
-told-at-last : IsToldAtLast Call 0 (news Call 0 (seen_near gives_up released))
+told-at-last : IsToldAtLast Call 0 (news released.near.card.config.reading Call 0 (seen_near gives_up released))
 told-at-last =
     let many : tries released.near.card.config ≤ t200s Call 0 gives_up released = omega (arith, four_tries, four_expire) in
-    releases-are-told Call 0 released gives_up (all-happened releases tt faces pasts).near awaits (acts-possible released gives_up tt) gives_up_quietly many
+    releases-are-told Call 0 released gives_up (all-happened releases tt faces pasts).near awaits (acts-possible released gives_up tt) gives_up_quietly (uncalled gives_up) many
 
 abbrev AreActive : List AnyStepAt → Type 0
 AreActive [] = Unit {0}
@@ -170,4 +178,5 @@ first-lasts = refl
 both-told : list_any (ends_by Call 0) (seen_far goes_on_to_the_end released) ≡ true
 both-told =
     both-are-told Call 0 faces pasts.near pasts.far releases goes_on_to_the_end (looks-so Call faces pasts call-looks) (acts-possible faces releases tt) first-lasts awaits (acts-possible released goes_on_to_the_end tt)
-    (comes_there, all-active goes_on_to_the_end (tt, (tt, (tt, (tt, (tt, (tt, (tt, tt)))))))) comes_quietly comes_confirmed
+    (comes_there, all-active goes_on_to_the_end (tt, (tt, (tt, (tt, (tt, (tt, (tt, tt)))))))) comes_quietly
+    (subst (λ r. news r Call 0 (seen_near goes_on_to_the_end released) ≡ NoteReleaseConfirm Call 0 ∷ []) (sym its-reading) comes_confirmed)

@@ -5,7 +5,8 @@ use Rattle.model_line.specs.Machine as lines
 use Rattle.model_line.specs.Sound as line_sound
 use Rattle.model_card.proofs.Steps.{line_sound as sound_line}
 use Rattle.laws_order.proofs.Pairs.{link_here, IsWell}
-use Rattle.laws_order.proofs.Released.{Occurs, nothing_there, one_there, then-well, step-six, StepSix, events_at, occurs, later}
+use Rattle.laws_order.proofs.Vocabulary.{Reading}
+use Rattle.laws_order.proofs.Released.{Occurs, reads, same-reading, nothing_there, one_there, then-well, step-six, StepSix, events_at, occurs, later}
 
 -- A link in state 6 that stays there runs T200, and RC counts its expiries, up to N200.
 pub record Counted (t : Terms) (l l' : Link) (n : ℕ) : Type 0 where
@@ -117,12 +118,14 @@ module _ (service : Service) (tei : ℕ) where
   untold ns ms n e rest h = let wrong : n ∷ (ms ++ rest) ≡ [] = ap (λ xs. xs ++ rest) (sym e) ∙ h in cc wrong
 
   pub run-counts : (hs : List AnyStepAt) (w : Wire) → IsWell w.near → (Here w).state ≡ AwaitingRelease → (Here w).running ≡ Some T200 → All (IsOpen w) hs
-      → news service tei (seen_near hs w) ≡ [] → Bounded (t200s service tei hs w) (Here w).repeats (Own_ w).n200
+      → news (reads service tei w) service tei (seen_near hs w) ≡ [] → Bounded (t200s service tei hs w) (Here w).repeats (Own_ w).n200
   unfolding seen_near t200s
   run-counts [] w well is runs-on all none = inl refl
   run-counts (h ∷ hs) w well is runs-on all none =
       let o = occurs service tei h w well (All-head (IsOpen w) h hs all) in
-      go o (λ well' is' runs-on' none'. run-counts hs w' well' is' runs-on' (later service tei h hs w all) none') (step-six service tei w w' t es well is o)
+      go o
+      (λ well' is' runs-on' none'. run-counts hs w' well' is' runs-on' (later service tei h hs w all)
+      (subst (λ r. news r service tei (seen_near hs w') ≡ []) (sym (same-reading service tei w w' t es o)) none')) (step-six service tei w w' t es well is o)
     where
       w' : Wire
       w' = any_doing h w
@@ -133,11 +136,14 @@ module _ (service : Service) (tei : ℕ) where
       es : List Event
       es = events_at service tei h w
 
-      split : news service tei t ++ news service tei (seen_near hs w') ≡ []
-      split = sym (flat_map-append (news_in service tei) t (seen_near hs w')) ∙ none
+      r : Reading
+      r = reads service tei w
+
+      split : news r service tei t ++ news r service tei (seen_near hs w') ≡ []
+      split = sym (flat_map-append (news_in r service tei) t (seen_near hs w')) ∙ none
 
       go : Occurs service tei w w' t es
-          → (IsWell w'.near → (Here w').state ≡ AwaitingRelease → (Here w').running ≡ Some T200 → news service tei (seen_near hs w') ≡ []
+          → (IsWell w'.near → (Here w').state ≡ AwaitingRelease → (Here w').running ≡ Some T200 → news r service tei (seen_near hs w') ≡ []
           → Bounded (t200s service tei hs w') (Here w').repeats (Own_ w').n200)
           → StepSix service tei w w' t es → Bounded (t200_by service tei h w + t200s service tei hs w') (Here w).repeats (Own_ w).n200
       go o behind (inl (stays, x)) =
@@ -145,6 +151,6 @@ module _ (service : Service) (tei : ℕ) where
           let n = length (filter (is_t200 service tei) es) in
           subst (λ n. Bounded (n + t200s service tei hs w') (Here w).repeats (Own_ w).n200) (sym (grind arith))
           (add n (t200s service tei hs w') (Here w).repeats (Here w').repeats (Own_ w).n200 (Own_ w').n200 c.0.repeats (ap (λ (c : Config). (terms c service tei).n200) c.1) c.0.below
-          (behind (then-well service tei w w' t es well o) stays c.0.running (ap (λ ns. ns ++ news service tei (seen_near hs w')) (sym x.0) ∙ split)))
+          (behind (then-well service tei w w' t es well o) stays c.0.running (ap (λ ns. ns ++ news r service tei (seen_near hs w')) (sym x.0) ∙ split)))
       go o behind (inr (to, inl (x, may))) = absurd (untold _ [] _ x.0 _ split)
       go o behind (inr (to, inr x)) = absurd (untold _ _ _ x.0 _ split)

@@ -1,4 +1,5 @@
 -- What an end is told of its link in state 6, and in state 4, whatever happens at it and at the other end.
+use Rattle.laws_order.proofs.Vocabulary.{Bool, false, ◌||◌, Config, Reading, Profile, AnnexB, NoCall, IsNotCalled, is_called, called, called_by}
 use Rattle.laws_order.proofs.Vocabulary.{arith, ◌≡◌, ℕ, List, [], ◌∷◌, ◌++◌, refl, sym, ap, ◌∙◌, subst, append-nil, ◌⊎◌, inl, inr, All, list_any, All-head, All-tail, list_any-append, Note, Service, TeiAssigned, AwaitingRelease, Link, came, hears, expiry, request, next, after_is_sound, Seen, seen, Endpoint, Wire, requests, expires, sends, receives, loses, answered, happens, turned, flat_map-append}
 use Rattle.laws_order.proofs.Vocabulary.{Event, line_of, AnyStep, step, disturbed, elsewhere, any_acting, AnyStepAt, any_near, any_far, IsPossible, any_doing, IsPossibleAt, events_here, seen_by, seen_at_near, seen_near, data_noted, news, begins_by, BeginsNothing, IsToldOfRelease, ReleasesEnd, ReleasedIsOver, or_parts, at}
 use Rattle.laws_order.proofs.Beginning.{past-well, six-here, four-here}
@@ -11,6 +12,9 @@ module _ (service : Service) (tei : ℕ) where
   -- Whatever happens at an end, it is one event there, or none.
   abbrev Same : Wire → Wire → Type 0
   Same w w' = IsWell w'.near × (link_here service tei w'.near ≡ link_here service tei w.near) × (w'.near.card.config ≡ w.near.card.config)
+
+  abbrev pub reads : Wire → Reading
+  reads w = w.near.card.config.reading
 
   pub data Occurs (w w' : Wire) (t : List Seen) (es : List Event) : Type 0 where
     nothing_there : Same w w' → t ≡ [] → es ≡ [] → Occurs w w' t es
@@ -45,18 +49,33 @@ module _ (service : Service) (tei : ℕ) where
   pub both-quiet : (t u : List Seen) → BeginsNothing service tei (t ++ u) → BeginsNothing service tei t × BeginsNothing service tei u
   both-quiet t u h = or_parts (list_any (begins_by service tei) t) (list_any (begins_by service tei) u) (sym (list_any-append (begins_by service tei) t u) ∙ h)
 
-  abbrev pub Is : List Seen → List Note → Type 0
-  Is t ns = (news service tei t ≡ ns) × (data_noted service tei t ≡ [])
+  abbrev pub Is : Reading → List Seen → List Note → Type 0
+  Is r t ns = (news r service tei t ≡ ns) × (data_noted service tei t ≡ [])
 
-  pub joins : (t u : List Seen) (ns ms : List Note) → Is t ns → Is u ms → Is (t ++ u) (ns ++ ms)
-  joins t u ns ms x y = grind (arith, flat_map-append, noted-append)
+  pub joins : (r : Reading) (t u : List Seen) (ns ms : List Note) → Is r t ns → Is r u ms → Is r (t ++ u) (ns ++ ms)
+  joins r t u ns ms x y = grind (arith, flat_map-append, noted-append)
+
+  -- the configuration stays
+  pub same-reading : (w w' : Wire) (t : List Seen) (es : List Event) → Occurs w w' t es → reads w' ≡ reads w
+  same-reading w w' t es (nothing_there same none nil) = ap (λ (c : Config). c.reading) same.2
+  same-reading w w' t es (one_there e it shown one) = ap (λ (s : Endpoint). s.card.config.reading) it
+
+  -- that the other side asks for nothing, of one event and of those behind it
+  no-call : (r : Reading) (a b : Bool) → NoCall r (a || b) → NoCall r a × NoCall r b
+  no-call Profile a b none = (tt, tt)
+  no-call AnnexB a b none = or_parts a b none
+
+  abbrev Uncalled : Wire → List Event → Type 0
+  Uncalled w es = NoCall (reads w) (list_any (is_called service tei w.near) es)
 
   step-four : (w w' : Wire) (t : List Seen) (es : List Event) → IsWell w.near → (link_here service tei w.near).state ≡ TeiAssigned → BeginsNothing service tei t
-      → Occurs w w' t es → ((link_here service tei w'.near).state ≡ TeiAssigned) × Is t []
-  step-four w w' t es well is quiet (nothing_there same none nil) = (ap (λ (y : Link). y.state) same.1 ∙ is, ((ap (news service tei) none, ap (data_noted service tei) none)))
-  step-four w w' t es well is quiet (one_there e it shown one) =
-      let x = endpoint-four service tei w.near well e (subst (BeginsNothing service tei) shown quiet) is in
-      (ap (λ (s : Endpoint). (link_here service tei s).state) it ∙ x.0, ((ap (news service tei) shown ∙ x.1.0, ap (data_noted service tei) shown ∙ x.1.1)))
+      → Uncalled w es → Occurs w w' t es → ((link_here service tei w'.near).state ≡ TeiAssigned) × Is (reads w) t []
+  step-four w w' t es well is quiet uncalled (nothing_there same none nil) =
+      (ap (λ (y : Link). y.state) same.1 ∙ is, ((ap (news (reads w) service tei) none, ap (data_noted service tei) none)))
+  step-four w w' t es well is quiet uncalled (one_there e it shown one) =
+      let none = (no-call (reads w) (is_called service tei w.near e) false (subst (Uncalled w) one uncalled)).0 in
+      let x = endpoint-four service tei w.near well e (subst (BeginsNothing service tei) shown quiet) none is in
+      (ap (λ (s : Endpoint). (link_here service tei s).state) it ∙ x.0, ((ap (news (reads w) service tei) shown ∙ x.1.0, ap (data_noted service tei) shown ∙ x.1.1)))
 
   -- where a release is confirmed, one of its events may confirm it
   abbrev pub MayConfirm : Wire → Wire → List Event → Type 0
@@ -64,11 +83,11 @@ module _ (service : Service) (tei : ℕ) where
 
   abbrev pub StepSix : Wire → Wire → List Seen → List Event → Type 0
   StepSix w w' t es =
-      (((link_here service tei w'.near).state ≡ AwaitingRelease) × Is t [])
-      ⊎ (((link_here service tei w'.near).state ≡ TeiAssigned) × ((Is t (Confirm service tei) × MayConfirm w w' es) ⊎ Is t (GivenUp service tei)))
+      (((link_here service tei w'.near).state ≡ AwaitingRelease) × Is (reads w) t [])
+      ⊎ (((link_here service tei w'.near).state ≡ TeiAssigned) × ((Is (reads w) t (Confirm service tei) × MayConfirm w w' es) ⊎ Is (reads w) t (GivenUp service tei)))
 
   pub step-six : (w w' : Wire) (t : List Seen) (es : List Event) → IsWell w.near → (link_here service tei w.near).state ≡ AwaitingRelease → Occurs w w' t es → StepSix w w' t es
-  step-six w w' t es well is (nothing_there same none nil) = inl (ap (λ (y : Link). y.state) same.1 ∙ is, ((ap (news service tei) none, ap (data_noted service tei) none)))
+  step-six w w' t es well is (nothing_there same none nil) = inl (ap (λ (y : Link). y.state) same.1 ∙ is, ((ap (news (reads w) service tei) none, ap (data_noted service tei) none)))
   step-six w w' t es well is (one_there e it shown one) = go (endpoint-six service tei w.near well e is)
     where
       none-of : (Confirmless service tei w.near.card.config e (line_of (happens e w.near)) → ⊥) → MayConfirm w w' es
@@ -96,46 +115,65 @@ module _ (service : Service) (tei : ℕ) where
   later (any_far act) hs w all =
       all-possible service tei w (turned (any_acting act (turned w))) (far-place act (turned w)) (near-place act (turned w)) hs (All-tail (IsOpen w) (any_far act) hs all)
 
+  called-at : (h : AnyStepAt) (w : Wire) → called_by service tei h w ≡ list_any (is_called service tei w.near) (events_at h w)
+  called-at (any_near act) w = refl
+  called-at (any_far act) w = refl
+
+  -- at first, and behind that
+  split-calls : (h : AnyStepAt) (hs : List AnyStepAt) (w : Wire) → reads (any_doing h w) ≡ reads w → IsNotCalled service tei (h ∷ hs) w
+      → Uncalled w (events_at h w) × IsNotCalled service tei hs (any_doing h w)
+  unfolding called
+  split-calls h hs w same none =
+      let both = no-call (reads w) (called_by service tei h w) (called service tei hs (any_doing h w)) none in
+      (subst (NoCall (reads w)) (called-at h w) both.0, subst (λ r. NoCall r (called service tei hs (any_doing h w))) (sym same) both.1)
+
   pub run-four : (hs : List AnyStepAt) (w : Wire) → IsWell w.near → (link_here service tei w.near).state ≡ TeiAssigned → All (IsOpen w) hs
-      → BeginsNothing service tei (seen_near hs w) → Is (seen_near hs w) []
+      → BeginsNothing service tei (seen_near hs w) → IsNotCalled service tei hs w → Is (reads w) (seen_near hs w) []
   unfolding seen_near
-  run-four [] w well is all quiet = (refl, refl)
-  run-four (h ∷ hs) w well is all quiet =
-      let both = both-quiet (seen_at_near h w) (seen_near hs (any_doing h w)) quiet in
+  run-four [] w well is all quiet none = (refl, refl)
+  run-four (h ∷ hs) w well is all quiet none =
+      let w' = any_doing h w in
+      let both = both-quiet (seen_at_near h w) (seen_near hs w') quiet in
       let o = occurs h w well (All-head (IsOpen w) h hs all) in
-      let x = step-four w (any_doing h w) (seen_at_near h w) (events_at h w) well is both.0 o in
-      joins (seen_at_near h w) (seen_near hs (any_doing h w)) [] [] x.1
-      (run-four hs (any_doing h w) (then-well w (any_doing h w) (seen_at_near h w) (events_at h w) well o) x.0 (later h hs w all) both.1)
+      let same = same-reading w w' (seen_at_near h w) (events_at h w) o in
+      let calls = split-calls h hs w same none in
+      let x = step-four w w' (seen_at_near h w) (events_at h w) well is both.0 calls.0 o in
+      joins (reads w) (seen_at_near h w) (seen_near hs w') [] [] x.1
+      (subst (λ r. Is r (seen_near hs w') []) same
+      (run-four hs w' (then-well w w' (seen_at_near h w) (events_at h w) well o) x.0 (later h hs w all) both.1 calls.1))
 
-  abbrev Released : List Seen → Type 0
-  Released t = IsToldOfRelease service tei (news service tei t) × (data_noted service tei t ≡ [])
+  abbrev Released : Reading → List Seen → Type 0
+  Released r t = IsToldOfRelease service tei (news r service tei t) × (data_noted service tei t ≡ [])
 
-  not-yet : (t : List Seen) → Is t [] → Released t
-  not-yet t x = (inl x.0, x.1)
+  not-yet : (r : Reading) (t : List Seen) → Is r t [] → Released r t
+  not-yet r t x = (inl x.0, x.1)
 
-  given-up-so : (t : List Seen) → Is t (GivenUp service tei) → Released t
-  given-up-so t x = (inr (inr x.0), x.1)
+  given-up-so : (r : Reading) (t : List Seen) → Is r t (GivenUp service tei) → Released r t
+  given-up-so r t x = (inr (inr x.0), x.1)
 
   run-six : (hs : List AnyStepAt) (w : Wire) → IsWell w.near → (link_here service tei w.near).state ≡ AwaitingRelease → All (IsOpen w) hs
-      → BeginsNothing service tei (seen_near hs w) → Released (seen_near hs w)
+      → BeginsNothing service tei (seen_near hs w) → IsNotCalled service tei hs w → Released (reads w) (seen_near hs w)
   unfolding seen_near
-  run-six [] w well is all quiet = not-yet [] (refl, refl)
-  run-six (h ∷ hs) w well is all quiet =
+  run-six [] w well is all quiet none = not-yet (reads w) [] (refl, refl)
+  run-six (h ∷ hs) w well is all quiet none =
       let w' = any_doing h w in
       let t = seen_at_near h w in
       let u = seen_near hs w' in
       let both = both-quiet t u quiet in
       let o = occurs h w well (All-head (IsOpen w) h hs all) in
       let well' = then-well w w' t (events_at h w) well o in
-      go w' t u (λ is'. run-six hs w' well' is' (later h hs w all) both.1) (λ is'. run-four hs w' well' is' (later h hs w all) both.1)
+      let same = same-reading w w' t (events_at h w) o in
+      let calls = split-calls h hs w same none in
+      go w' t u (λ is'. subst (λ r. Released r u) same (run-six hs w' well' is' (later h hs w all) both.1 calls.1))
+      (λ is'. subst (λ r. Is r u []) same (run-four hs w' well' is' (later h hs w all) both.1 calls.1))
       (step-six w w' t (events_at h w) well is o)
     where
-      go : (w' : Wire) (t u : List Seen) → ((link_here service tei w'.near).state ≡ AwaitingRelease → Released u) → ((link_here service tei w'.near).state ≡ TeiAssigned → Is u [])
-          → StepSix w w' t (events_at h w) → Released (t ++ u)
+      go : (w' : Wire) (t u : List Seen) → ((link_here service tei w'.near).state ≡ AwaitingRelease → Released (reads w) u)
+          → ((link_here service tei w'.near).state ≡ TeiAssigned → Is (reads w) u []) → StepSix w w' t (events_at h w) → Released (reads w) (t ++ u)
       go w' t u six four o = grind (arith, flat_map-append, noted-append, joins, given-up-so)
 
 pub releases-end : ReleasesEnd
-releases-end service tei w hs p is all quiet = run-six service tei hs w (past-well w.near p) (six-here service tei w.near is) all quiet
+releases-end service tei w hs p is all quiet none = run-six service tei hs w (past-well w.near p) (six-here service tei w.near is) all quiet none
 
 pub released-is-over : ReleasedIsOver
-released-is-over service tei w hs p is all quiet = run-four service tei hs w (past-well w.near p) (four-here service tei w.near is) all quiet
+released-is-over service tei w hs p is all quiet none = run-four service tei hs w (past-well w.near p) (four-here service tei w.near is) all quiet none

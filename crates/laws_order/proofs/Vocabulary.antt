@@ -31,7 +31,7 @@ pub use Rattle.laws_line.specs.Steady.{IsBy, timer_of}
 pub use Rattle.model_link.proofs.TimedRows.{timed-after}
 pub use Rattle.laws_link.specs.Accepted.{accepted, acknowledged, contents_asked, empties}
 pub use Rattle.laws_link.specs.Known.{is_up_in}
-pub use Rattle.laws_link.specs.States.{as_heard, by_frame, by_received, by_request, is_faulty, is_invalid, receipt_of, state_after}
+pub use Rattle.laws_link.specs.States.{as_heard, by_frame, by_received, by_request, is_faulty, is_invalid, receipt_of, state_after, is_overlong}
 pub use Rattle.laws_link.specs.Steady.{is_anew}
 pub use Rattle.laws_link.specs.Telling.{error, told_by, told_by_frame, told_cleared, told_malformed}
 pub use Rattle.laws_link.specs.Waiting.{answers, commands, put, receipt_as, room}
@@ -115,7 +115,11 @@ unfoldable pub use Rattle.laws_order.specs.AnySteps.{any_doing_all, seen_far, se
 pub use Rattle.laws_order.specs.InTheEnd.{BothAreTold, IsNotDeactivated, IsToldAtLast, ReleasesAreTold, is_t200, t200_by}
 unfoldable pub use Rattle.laws_order.specs.InTheEnd.{StaysThere, t200s}
 pub use Rattle.laws_order.specs.Order.{AreOfStep, DeliveredInOrder, FaceInStep, IsInStep, IsToldInOrder, Known, Past, StaysEstablished, Tally, data_granted, data_noted, ends_by, ends_by_note, ends_by_request, kept_by, known, no_tally, noted_in, of_link_on, said_by, state_here, tallies, tally_of}
-pub use Rattle.laws_order.specs.Release.{BeginsNothing, IsToldOfRelease, ReleasedIsOver, ReleasesEnd, begins_by, begins_by_note, is_news, news, news_in}
+pub use Rattle.laws_order.specs.Release.{BeginsNothing, IsNotCalled, IsToldOfRelease, NoCall, ReleasedIsOver, ReleasesEnd, begins_by, begins_by_note, called_by, is_called, is_in_4, is_news, is_plain_dm, news, news_in}
+unfoldable pub use Rattle.laws_order.specs.Release.{called}
+pub use Rattle.lapd_frame.specs.declared.readings.Reading.{Reading}
+pub use Rattle.lapd_frame.specs.declared.readings.Reading.TheVariants.{Profile, AnnexB}
+pub use Rattle.laws_trace.specs.News.{brings}
 pub use Rattle.laws_order.specs.circuit.Beats.{AllIsToldInBeats, IsToldAll, beat, enough_beats, granted_of, longest}
 unfoldable pub use Rattle.laws_order.specs.circuit.Beats.{beats}
 pub use Rattle.laws_order.specs.circuit.Circuit.{Circuit, Step as OctetStep, StepAt as OctetStepAt, Endpoint as OctetEndpoint, requests as octet_requests, at_far, at_near, port_of, doing}

@@ -13,7 +13,7 @@ use Rattle.laws_trace.specs.Trace.{is_own}
 use Rattle.laws_wire.specs.Wire.{requests, Wire}
 use Rattle.laws_order.specs.AnySteps.{step, AnyStepAt, any_near, any_far, IsPossible, any_doing, any_doing_all, events_here, seen_near, seen_far}
 use Rattle.laws_order.specs.Order.{ends_by, StaysEstablished, Past, known, state_here, FaceInStep}
-use Rattle.laws_order.specs.Release.{news, BeginsNothing}
+use Rattle.laws_order.specs.Release.{news, BeginsNothing, IsNotCalled}
 
 -- How often T200 of the link expired at the near end.
 abbrev pub is_t200 : Service → ℕ → Event → Bool
@@ -38,8 +38,8 @@ IsToldAtLast service tei ns = (ns ≡ ReleaseConfirm service tei ∷ []) ⊎ (ns
 abbrev pub ReleasesAreTold : Type 0
 ReleasesAreTold =
     (service : Service) (tei : ℕ) (w : Wire) (hs : List AnyStepAt) → Past w.near → state_here service tei w.near ≡ Some 6 →
-    All (IsPossible service tei w) hs → BeginsNothing service tei (seen_near hs w) →
-    tries w.near.card.config ≤ t200s service tei hs w → IsToldAtLast service tei (news service tei (seen_near hs w))
+    All (IsPossible service tei w) hs → BeginsNothing service tei (seen_near hs w) → IsNotCalled service tei hs w →
+    tries w.near.card.config ≤ t200s service tei hs w → IsToldAtLast service tei (news w.near.card.config.reading service tei (seen_near hs w))
 
 -- The TEI stays on the line of the near end, and its link is not deactivated.
 unfoldable pub StaysThere : Service → ℕ → List AnyStepAt → Wire → Type 0
@@ -62,4 +62,4 @@ BothAreTold =
     FaceInStep service tei w (known service tei w.near p) (known service tei w.far q) → All (IsPossible service tei w) before →
     let v = any_doing_all before w in StaysEstablished service tei (seen_far before w) → state_here service tei v.near ≡ Some 6 →
     All (IsPossible service tei v) behind → KeepsLink service tei behind v → BeginsNothing service tei (seen_near behind v) →
-    news service tei (seen_near behind v) ≡ ReleaseConfirm service tei ∷ [] → list_any (ends_by service tei) (seen_far behind v) ≡ true
+    news v.near.card.config.reading service tei (seen_near behind v) ≡ ReleaseConfirm service tei ∷ [] → list_any (ends_by service tei) (seen_far behind v) ≡ true

@@ -4,6 +4,7 @@ use Rattle.lapd_frame.specs.declared.notes.ErrorCode.TheVariants.{H}
 use Rattle.lapd_frame.specs.declared.notes.Note.TheVariants.{ReleaseConfirm, Error}
 use Rattle.lapd_frame.specs.declared.services.Service.TheVariants.{Call}
 use Rattle.lapd_frame.specs.declared.timers.Timer.TheVariants.{T200}
+use Rattle.lapd_frame.specs.declared.readings.Reading.TheVariants.{Profile}
 use Rattle.lapd_frame.specs.Reading.{reading, header_of, control_of, unnumbered_of, supervisory_of}
 use Rattle.lapd_frame.specs.Senders.{exchanged, reading as read_by}
 use Rattle.lapd_seq.specs.Circle.{distance_of, named}
@@ -31,11 +32,11 @@ pub four_tries : tries released.near.card.config ≡ 4
 unfolding lines.after lines.answer lines.takes_slot exchanged read_by reading header_of control_of unnumbered_of supervisory_of teis.course teis.refusal seq distance_of named doing_all any_doing_all
 four_tries = refl
 
-three_are_few : news Call 0 (seen_near (is_lost ++ is_lost ++ is_lost) released) ≡ []
+three_are_few : news Profile Call 0 (seen_near (is_lost ++ is_lost ++ is_lost) released) ≡ []
 unfolding lines.after lines.answer lines.takes_slot exchanged read_by reading header_of control_of unnumbered_of supervisory_of teis.course teis.refusal seq distance_of named doing_all any_doing_all seen_near
 three_are_few = refl
 
-told_at_last : news Call 0 (seen_near gives_up released) ≡ Error Call 0 H ∷ ReleaseConfirm Call 0 ∷ []
+told_at_last : news Profile Call 0 (seen_near gives_up released) ≡ Error Call 0 H ∷ ReleaseConfirm Call 0 ∷ []
 unfolding lines.after lines.answer lines.takes_slot exchanged read_by reading header_of control_of unnumbered_of supervisory_of teis.course teis.refusal seq distance_of named doing_all any_doing_all seen_near
 told_at_last = refl
 
@@ -55,7 +56,7 @@ pub comes_quietly : BeginsNothing Call 0 (seen_near goes_on_to_the_end released)
 unfolding lines.after lines.answer lines.takes_slot exchanged read_by reading header_of control_of unnumbered_of supervisory_of teis.course teis.refusal seq distance_of named doing_all any_doing_all seen_near
 comes_quietly = refl
 
-pub comes_confirmed : news Call 0 (seen_near goes_on_to_the_end released) ≡ ReleaseConfirm Call 0 ∷ []
+pub comes_confirmed : news Profile Call 0 (seen_near goes_on_to_the_end released) ≡ ReleaseConfirm Call 0 ∷ []
 unfolding lines.after lines.answer lines.takes_slot exchanged read_by reading header_of control_of unnumbered_of supervisory_of teis.course teis.refusal seq distance_of named doing_all any_doing_all seen_near
 comes_confirmed = refl
 
@@ -74,7 +75,7 @@ removes = any_near (step (requests (Remove 0))) ∷ []
 abbrev deactivates : List AnyStepAt
 deactivates = any_near (step (requests (Deactivate Call 0))) ∷ []
 
-removed_near : news Call 0 (seen_near removes (any_doing_all asks (turned faces))) ≡ ReleaseConfirm Call 0 ∷ []
+removed_near : news Profile Call 0 (seen_near removes (any_doing_all asks (turned faces))) ≡ ReleaseConfirm Call 0 ∷ []
 unfolding lines.after lines.answer lines.takes_slot exchanged read_by reading header_of control_of unnumbered_of supervisory_of teis.course teis.refusal seq distance_of named doing_all any_doing_all seen_near
 removed_near = refl
 
@@ -82,7 +83,7 @@ removed_far : StaysEstablished Call 0 (seen_far (asks ++ removes) (turned faces)
 unfolding lines.after lines.answer lines.takes_slot exchanged read_by reading header_of control_of unnumbered_of supervisory_of teis.course teis.refusal seq distance_of named doing_all any_doing_all seen_far
 removed_far = refl
 
-deactivated_near : news Call 0 (seen_near deactivates released) ≡ ReleaseConfirm Call 0 ∷ []
+deactivated_near : news Profile Call 0 (seen_near deactivates released) ≡ ReleaseConfirm Call 0 ∷ []
 unfolding lines.after lines.answer lines.takes_slot exchanged read_by reading header_of control_of unnumbered_of supervisory_of teis.course teis.refusal seq distance_of named doing_all any_doing_all seen_near
 deactivated_near = refl
 
@@ -100,7 +101,7 @@ with_ua = record faces { far = record faces.far { way = old_ua ∷ [] } }
 abbrev ua_comes : List AnyStepAt
 ua_comes = any_near (step receives) ∷ []
 
-ua_near : news Call 0 (seen_near ua_comes (any_doing_all asks with_ua)) ≡ ReleaseConfirm Call 0 ∷ []
+ua_near : news Profile Call 0 (seen_near ua_comes (any_doing_all asks with_ua)) ≡ ReleaseConfirm Call 0 ∷ []
 unfolding lines.after lines.answer lines.takes_slot exchanged read_by reading header_of control_of unnumbered_of supervisory_of teis.course teis.refusal seq distance_of named doing_all any_doing_all seen_near
 ua_near = refl
 

@@ -5,6 +5,7 @@ use Rattle.lapd_frame.specs.declared.notes.Note.{Note}
 use Rattle.lapd_frame.specs.declared.notes.Note.TheVariants.{ReleaseIndication, ReleaseConfirm, Error}
 use Rattle.lapd_frame.specs.declared.services.Service.TheVariants.{Call}
 use Rattle.lapd_frame.specs.declared.timers.Timer.TheVariants.{T200}
+use Rattle.lapd_frame.specs.declared.readings.Reading.TheVariants.{Profile}
 use Rattle.lapd_frame.specs.Reading.{reading, header_of, control_of, unnumbered_of, supervisory_of}
 use Rattle.lapd_frame.specs.Senders.{exchanged, reading as read_by}
 use Rattle.lapd_seq.specs.Circle.{distance_of, named}
@@ -49,11 +50,11 @@ pub far_lasts : StaysEstablished Call 0 (seen_far (releases ++ takes_two) faces)
 unfolding lines.after lines.answer lines.takes_slot exchanged read_by reading header_of control_of unnumbered_of supervisory_of teis.course teis.refusal seq distance_of named doing_all any_doing_all seen_far
 far_lasts = refl
 
-near_confirmed : news Call 0 (seen_near (takes_two ++ takes_disc) released) ≡ ReleaseConfirm Call 0 ∷ []
+near_confirmed : news Profile Call 0 (seen_near (takes_two ++ takes_disc) released) ≡ ReleaseConfirm Call 0 ∷ []
 unfolding lines.after lines.answer lines.takes_slot exchanged read_by reading header_of control_of unnumbered_of supervisory_of teis.course teis.refusal seq distance_of named doing_all any_doing_all seen_near
 near_confirmed = refl
 
-far_indicated : news Call 0 (seen_far (takes_two ++ takes_disc) released) ≡ ReleaseIndication Call 0 ∷ []
+far_indicated : news Profile Call 0 (seen_far (takes_two ++ takes_disc) released) ≡ ReleaseIndication Call 0 ∷ []
 unfolding lines.after lines.answer lines.takes_slot exchanged read_by reading header_of control_of unnumbered_of supervisory_of teis.course teis.refusal seq distance_of named doing_all any_doing_all seen_far
 far_indicated = refl
 

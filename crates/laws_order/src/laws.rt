@@ -48,7 +48,9 @@ pub fn delivered_in_order()
 ///
 /// Left out are errors C and D, by which each UA is told that answers nothing: D in state 6, C and D in state 4 (clause
 /// 5.8.7). They come, for example, if both release and DISC is sent twice (`specs/WorkedRelease`). Unit data and XID
-/// are told in every state.
+/// are told in every state. By annex B errors L, N and O are left out too, of malformed frames (clause 5.8.5). And by
+/// annex B the law ends as DM with F=0 is heard in state 4, by which the other side asks for an establishment (clause
+/// 5.5.4). The reading is that of this end.
 pub fn releases_end()
     ensures released { ReleasesEnd }
     ensures over { ReleasedIsOver }

@@ -111,7 +111,7 @@ module _ (b : Bus) (can : CanMeet b) where
 
   pub message-read : (m : Message) → message_in b.terminal (text_of m) ≡ octets_of m
   message-read (IdentityAssigned ri tei) = five _ refl
-  message-read (IdentityDenied ri) = five _ refl
+  message-read (IdentityDenied ri tei) = five _ refl
   message-read (IdentityCheckRequest tei) = five _ refl
   message-read (IdentityRemove tei) = five _ refl
 
@@ -145,7 +145,7 @@ even-odd a d = go (a == d) refl
 
 pub removes-so : (tei : ℕ) (m : Message) → is_removal tei (octets_of m) ≡ removes tei m
 removes-so tei (IdentityAssigned ri of) = refl
-removes-so tei (IdentityDenied ri) = refl
+removes-so tei (IdentityDenied ri of) = refl
 removes-so tei (IdentityCheckRequest of) = refl
 removes-so tei (IdentityRemove of) = even-odd of tei
 
@@ -164,7 +164,7 @@ assigned-so r (IdentityAssigned ri tei) is =
     let ri_is : ri ≡ r.ri = omega (arith, ri_eq) in
     let tei_is : tei ≡ r.tei = omega (arith, tei_eq) in
     ap (λ n. IdentityAssigned n tei) ri_is ∙ ap (λ n. IdentityAssigned r.ri n) tei_is
-assigned-so r (IdentityDenied ri) is = absurd (off-so (15 == 15 && 255 % 2 == 1) is)
+assigned-so r (IdentityDenied ri tei) is = absurd (off-so (15 == 15 && (2 * tei + 1) % 2 == 1) is)
 assigned-so r (IdentityCheckRequest tei) is = absurd (off-so (15 == 15 && (2 * tei + 1) % 2 == 1) is)
 assigned-so r (IdentityRemove tei) is = absurd (off-so (15 == 15 && (2 * tei + 1) % 2 == 1) is)
 

@@ -3,26 +3,30 @@ use Rattle.std.specs.Prelude.{◌≡◌, ℕ, ◌==◌, ◌&&◌, ◌||◌, ◌�
 use Rattle.std.specs.List.{list_any}
 use Rattle.std.proofs.Common.{inl, inr, subst, sym, ap, ◌∙◌, true≢false, append_assoc, append-nil}
 use Rattle.lapd_tei.specs.declared.messages.Message.{Message}
+use Rattle.lapd_tei.specs.declared.messages.Message.TheVariants.{IdentityAssigned, IdentityDenied, IdentityCheckRequest, IdentityRemove}
 use Rattle.lapd_tei.specs.declared.remembered.Remembered.{Remembered}
 use Rattle.model_line.specs.Event.{Event, request}
 use Rattle.model_line.specs.Request.{Down}
 use Rattle.laws_trace.specs.Managing.{Managed, is_on, octets_of}
 use Rattle.laws_trace.specs.TeisAreManaged.{message_text}
-use Rattle.laws_teis.specs.Bus.{Bus, Network, newly_made, with_teis, gives_up, leaves_untold, removes, is_among, over_of}
+use Rattle.laws_teis.specs.Bus.{Bus, Network, newly_owed, newly_made, with_teis, gives_up, leaves_untold, removes, is_among, over_of}
 use Rattle.laws_teis.specs.Assignments.{Terminal, CanMeet, IsIn}
 use Rattle.laws_teis.specs.TwoTerminals.{is_older}
 use Rattle.laws_teis.proofs.Frames.{AreNone}
 use Rattle.laws_teis.proofs.Lists.{in-left, in-right, in-either, in-filter, in-filtered, any-left, any-right, any-either, or-left-so, or-right-so, is-there, held-or-over, older-kept, older-new}
-use Rattle.laws_teis.proofs.NetworkSteps.{Table, Queue}
+use Rattle.laws_teis.proofs.NetworkSteps.{Table, Queue, AreMade, assigned, dropped-front}
 use Rattle.laws_teis.proofs.Waiting.{Known, known, removal, IsCovered, AreCovered, covered-so, covered-both, none-covered, texts, texts-both, removals-are, made-covered, Holds}
-
-dropped-front : {X : Type 0} (xs ys : List X) → drop (length xs) (xs ++ ys) ≡ ys
-dropped-front [] ys = refl
-dropped-front (x ∷ xs) ys = dropped-front xs ys
 
 not-true : (b : Bool) → not b ≡ true → b ≡ false
 not-true true is = absurd (true≢false (sym is))
 not-true false is = refl
+
+are-made : (held : List Remembered) (ms : List Message) → ((r : Remembered) → IsIn r (assigned ms) → IsIn r held) → AreMade held ms
+are-made held [] holds = tt
+are-made held (IdentityAssigned ri tei ∷ ms) holds = (holds (record { ri = ri; tei = tei }) (inl refl), are-made held ms (λ r is. holds r (inr is)))
+are-made held (IdentityDenied ri tei ∷ ms) holds = (tt, are-made held ms holds)
+are-made held (IdentityCheckRequest tei ∷ ms) holds = (tt, are-made held ms holds)
+are-made held (IdentityRemove tei ∷ ms) holds = (tt, are-made held ms holds)
 
 module _ (b : Bus) (can : CanMeet b) (n : Network) (t : Terminal) (way : List (List ℕ)) (missed : List Remembered) (h : Holds b n t way missed) (what : Event) (d : Managed) (fs : List (List ℕ)) (table : Table n.teis d) where
   abbrev w : Managed
@@ -45,11 +49,11 @@ module _ (b : Bus) (can : CanMeet b) (n : Network) (t : Terminal) (way : List (L
 
   -- the table
   held-now : (r : Remembered) → IsIn r d.held → IsIn r network_now.hold
-  held-now r is = in-filter (λ r. is_on r.tei d) r (n.hold ++ newly_made w d) (there (is_on r.tei w) refl) (table.still r is)
+  held-now r is = in-filter (λ r. is_on r.tei d) r (n.hold ++ newly_made w d) (there (table.known r is).1) (table.known r is).0
     where
-      there : (x : Bool) → is_on r.tei w ≡ x → IsIn r (n.hold ++ newly_made w d)
-      there true on = in-left r n.hold (newly_made w d) (h.held r (table.known r is on))
-      there false off = in-right r n.hold (newly_made w d) (in-filter (λ r. not (is_on r.tei w)) r d.held is (ap not off))
+      there : IsIn r w.held ⊎ IsIn r (newly_made w d) → IsIn r (n.hold ++ newly_made w d)
+      there (inl was) = in-left r n.hold (newly_made w d) (h.held r was)
+      there (inr new) = in-right r n.hold (newly_made w d) new
 
   on-now : (r : Remembered) → IsIn r network_now.hold → is_on r.tei d ≡ true
   on-now r is = (in-filtered (λ r. is_on r.tei d) r (n.hold ++ newly_made w d) is).1
@@ -64,18 +68,18 @@ module _ (b : Bus) (can : CanMeet b) (n : Network) (t : Terminal) (way : List (L
   abbrev made_anew : List Remembered
   made_anew = newly_made w d
 
-  is-new : (r : Remembered) → IsIn r made_anew → IsIn r d.held × (is_on r.tei w ≡ false)
-  is-new r new = let parts = in-filtered (λ r. not (is_on r.tei w)) r d.held new in (parts.0, not-true (is_on r.tei w) parts.1)
+  is-new : (r : Remembered) → IsIn r made_anew → is_on r.tei w ≡ false
+  is-new r new = not-true (is_on r.tei w) (in-filtered (λ r. not (is_on r.tei w)) r (assigned (newly_owed w d)) new).1
 
   from : (r : Remembered) → IsIn r network_now.hold → IsIn r n.hold ⊎ IsIn r made_anew
   from r is = in-either r n.hold made_anew (in-filtered (λ r. is_on r.tei d) r (n.hold ++ made_anew) is).0
 
   -- What is made anew is of one TEI, which none had that held.
   one-new : (r s : Remembered) → IsIn r made_anew → IsIn s made_anew → r ≡ s
-  one-new r s is other = table.alone r s (is-new r is).0 (is-new s other).0 (is-new r is).1 (is-new s other).1
+  one-new r s is other = table.alone r s is other
 
   not-held : (r s : Remembered) → IsIn r n.hold → IsIn s made_anew → s.tei ≡ r.tei → ⊥
-  not-held r s was new same = true≢false (sym (h.on r was) ∙ ap (λ tei. is_on tei w) (sym same) ∙ (is-new s new).1)
+  not-held r s was new same = true≢false (sym (h.on r was) ∙ ap (λ tei. is_on tei w) (sym same) ∙ is-new s new)
 
   alone-now : (r s : Remembered) → IsIn r network_now.hold → IsIn s network_now.hold → r.tei ≡ s.tei → r ≡ s
   alone-now r s is other same = go (from r is) (from s other)
@@ -163,6 +167,16 @@ module _ (b : Bus) (can : CanMeet b) (n : Network) (t : Terminal) (way : List (L
     owed-texts : texts b d.owed ≡ T ++ N
     owed-texts = ap (texts b) queue.owed ∙ texts-both b w.owed queue.new
 
+    -- Each of which they say is made holds.
+    in-hold : (r : Remembered) → IsIn r (assigned queue.new) → IsIn r network_now.hold
+    in-hold r is = in-filter (λ r. is_on r.tei d) r (n.hold ++ newly_made w d) (there (queue.made r is).1) (queue.made r is).0
+      where
+        there : IsIn r w.held ⊎ (is_on r.tei w ≡ false) → IsIn r (n.hold ++ newly_made w d)
+        there (inl was) = in-left r n.hold (newly_made w d) (h.held r was)
+        there (inr off) =
+            in-right r n.hold (newly_made w d) (subst (λ ms. IsIn r (filter (λ r. not (is_on r.tei w)) (assigned ms))) (sym (ap (drop (length w.owed)) queue.owed ∙ dropped-front w.owed queue.new))
+            (in-filter (λ r. not (is_on r.tei w)) r (assigned queue.new) is (ap not off)))
+
     untold : (r : Remembered) → IsIn r n.made → is_on r.tei w ≡ true → is_on r.tei d ≡ false → (list_any (removal b r.tei) N ≡ true) ⊎ Else r
     untold r made on off = go (list_any (removes r.tei) queue.new) refl
       where
@@ -207,7 +221,7 @@ module _ (b : Bus) (can : CanMeet b) (n : Network) (t : Terminal) (way : List (L
         (covered-both b new way fs (T ++ N) (covered-so b old new way T (fs ++ (T ++ N)) more h.way_is) (none-covered b new fs (T ++ N) none)))
         (subst (λ xs. AreCovered b new xs []) (sym owed-texts)
         (covered-both b new T N [] (covered-so b old new T [] (N ++ []) more-owed h.owed_is)
-        (made-covered b can new d.held held-now made-now queue.new [] queue.made)))
+        (made-covered b can new network_now.hold (λ r is. is) made-now queue.new [] (are-made network_now.hold queue.new in-hold))))
         (λ r c. subst (IsCovered b new r) (sym (append_assoc way fs (texts b d.owed) ∙ ap (λ xs. way ++ (fs ++ xs)) owed-texts)) (more r way c))
 
   -- The TEIs stay as they were.

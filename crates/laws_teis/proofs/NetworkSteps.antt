@@ -1,10 +1,16 @@
 -- What an observer of the network's line knows of its assignments and of the messages that are owed, event by event.
-use Rattle.std.specs.Prelude.{◌≡◌, ℕ, ◌+◌, ◌-◌, ◌*◌, ◌/◌, ◌%◌, ◌==◌, ◌&&◌, ◌||◌, ◌⊎◌, ⊤, not, Bool, true, false, cond, List, [], ◌∷◌, ◌++◌, length, filter, drop, Option, Some, None, nat_lt, refl}
+use Rattle.std.specs.Prelude.{◌≡◌, ℕ, zero, suc, ◌+◌, ◌-◌, ◌*◌, ◌/◌, ◌%◌, ◌==◌, ◌&&◌, ◌||◌, ◌⊎◌, ⊤, not, Bool, true, false, cond, List, [], ◌∷◌, ◌++◌, length, filter, flat_map, drop, Option, Some, None, nat_lt, nat_le, refl}
 use Rattle.std.specs.List.{list_any, find, range_with_len}
 use Rattle.std.specs.Option.{option_and_then, option_map_or, unwrap_or}
-use Rattle.std.proofs.Common.{inl, inr, subst, sym, ap, ◌∙◌, arith, true≢false, append-nil, eq-eqb, eqb-true}
+use Rattle.std.proofs.lemmas.Grind.{flat_map-append}
+use Rattle.std.proofs.Common.{inl, inr, subst, sym, ap, ◌∙◌, true≢false, append-nil, append_assoc, eq-eqb, eqb-true}
 use Rattle.lapd_frame.specs.Grammar.{Parts}
-use Rattle.lapd_frame.specs.declared.notes.Note.TheVariants.{Assigned, Removed}
+use Rattle.lapd_frame.specs.Readings.{by_reading}
+use Rattle.lapd_frame.specs.declared.readings.Reading.{Reading}
+use Rattle.lapd_frame.specs.declared.readings.Reading.TheVariants.{Profile, AnnexB}
+use Rattle.lapd_frame.specs.declared.notes.Note.{Note}
+use Rattle.lapd_frame.specs.declared.notes.Note.TheVariants.{Assigned, Doubled, Removed}
+use Rattle.lapd_frame.specs.declared.timers.Order.TheVariants.{Stop}
 use Rattle.lapd_frame.specs.declared.timers.Timer.TheVariants.{T200, T201, T202, T203}
 use Rattle.lapd_tei.specs.declared.messages.Message.{Message}
 use Rattle.lapd_tei.specs.declared.messages.Message.TheVariants.{IdentityAssigned, IdentityDenied, IdentityCheckRequest, IdentityRemove}
@@ -13,12 +19,17 @@ use Rattle.model_line.specs.declared.config.Config.{Config}
 use Rattle.model_line.specs.Event.{Event, hears, expiry, request, next}
 use Rattle.model_line.specs.Request.{Request, Establish, Release, Data, Unit, Assign, Remove, Check, Disown, AskTei, VerifyTei, SetBusy, ClearBusy, Deactivate, Down}
 use Rattle.laws_trace.specs.LinkFrames.{frame_of}
-use Rattle.laws_trace.specs.Managing.{Managed, Checked, is_on, is_full, owes, gives, free_tei, checks, over, leaves, responded, ran_out, by_message, by_frame, by_request, by_event, may_check, manages, grants}
-use Rattle.laws_trace.specs.ManagingTerminal.{is_message}
+use Rattle.laws_trace.specs.Managing.{Managed, Checked, is_on, is_full, comes, owes, gives, asks, requested, is_given, free_tei, checks, is_asked, defers, verified, others, over, leaves, removes, responded, several, ran_out, by_message, by_frame, by_request, by_event, manages, grants}
+use Rattle.laws_trace.specs.ManagingTerminal.{is_message, teis_of}
+use Rattle.laws_teis.specs.Bus.{assigned_in, newly_owed, newly_made}
 use Rattle.laws_teis.specs.Assignments.{IsIn}
-use Rattle.laws_teis.proofs.Lists.{in-dropped, in-end, in-either, in-found, in-filtered, found-passes, any-kept, or-right-so, or-left-so}
+use Rattle.laws_teis.proofs.Lists.{in-dropped, in-either, in-found, in-filtered, in-filter, found-passes, any-kept, or-right-so, or-left-so}
 
--- An assigned message is of an assignment that is remembered.
+-- The assignments of which messages say that they are made.
+abbrev pub assigned : List Message → List Remembered
+assigned ms = flat_map assigned_in ms
+
+-- Each is one of these.
 abbrev pub IsMade : List Remembered → Message → Type 0
 IsMade held (IdentityAssigned ri tei) = IsIn (record { ri = ri; tei = tei }) held
 IsMade held other = ⊤
@@ -27,22 +38,56 @@ abbrev pub AreMade : List Remembered → List Message → Type 0
 AreMade held [] = ⊤
 AreMade held (m ∷ ms) = IsMade held m × AreMade held ms
 
--- Messages come to be owed, after those that are.
+-- Messages come to be owed, after those that are. Each assignment of which they say is of a TEI on the line, that was made before or
+-- was not on the line.
 pub record Queue (w d : Managed) : Type 0 where
   pub new : List Message
   pub owed : d.owed ≡ w.owed ++ new
-  pub made : AreMade d.held new
+  pub made : (r : Remembered) → IsIn r (assigned new) → (is_on r.tei d ≡ true) × (IsIn r w.held ⊎ (is_on r.tei w ≡ false))
 
--- What is remembered is on the line; what was on it before was remembered before; and one more is, at most.
+-- What is remembered is on the line, and was remembered before or is made anew; and one is, at most.
 pub record Table (w d : Managed) : Type 0 where
-  pub still : (r : Remembered) → IsIn r d.held → is_on r.tei d ≡ true
-  pub known : (r : Remembered) → IsIn r d.held → is_on r.tei w ≡ true → IsIn r w.held
-  pub alone : (r s : Remembered) → IsIn r d.held → IsIn s d.held → is_on r.tei w ≡ false → is_on s.tei w ≡ false → r ≡ s
+  pub known : (r : Remembered) → IsIn r d.held → (is_on r.tei d ≡ true) × (IsIn r w.held ⊎ IsIn r (newly_made w d))
+  pub alone : (r s : Remembered) → IsIn r (newly_made w d) → IsIn s (newly_made w d) → r ≡ s
 
 pub record Changes (w d : Managed) : Type 0 where
-  pub table : Table w d
   pub queue : Queue w d
+  pub known : (r : Remembered) → IsIn r d.held → (is_on r.tei d ≡ true) × (IsIn r w.held ⊎ (IsIn r (assigned queue.new) × (is_on r.tei w ≡ false)))
+  pub alone : (r s : Remembered) → IsIn r (assigned queue.new) → IsIn s (assigned queue.new) → r ≡ s
   pub begins : d.begins ≡ w.begins
+
+pub dropped-front : {X : Type 0} (xs ys : List X) → drop (length xs) (xs ++ ys) ≡ ys
+dropped-front [] ys = refl
+dropped-front (x ∷ xs) ys = dropped-front xs ys
+
+-- So much is made anew.
+made-anew : (w d : Managed) (h : Changes w d) → newly_made w d ≡ filter (λ r. not (is_on r.tei w)) (assigned h.queue.new)
+made-anew w d h = ap (λ ms. filter (λ r. not (is_on r.tei w)) (assigned (drop (length w.owed) ms))) h.queue.owed ∙ ap (λ ms. filter (λ r. not (is_on r.tei w)) (assigned ms)) (dropped-front w.owed h.queue.new)
+
+pub table-of : (w d : Managed) → Changes w d → Table w d
+table-of w d h = record { known = λ r is. ((h.known r is).0, from r (h.known r is).1); alone = λ r s is other. h.alone r s (in-new r is) (in-new s other) }
+  where
+    in-new : (r : Remembered) → IsIn r (newly_made w d) → IsIn r (assigned h.queue.new)
+    in-new r is = (in-filtered (λ r. not (is_on r.tei w)) r (assigned h.queue.new) (subst (IsIn r) (made-anew w d h) is)).0
+
+    from : (r : Remembered) → IsIn r w.held ⊎ (IsIn r (assigned h.queue.new) × (is_on r.tei w ≡ false)) → IsIn r w.held ⊎ IsIn r (newly_made w d)
+    from r (inl was) = inl was
+    from r (inr new) = inr (subst (IsIn r) (sym (made-anew w d h)) (in-filter (λ r. not (is_on r.tei w)) r (assigned h.queue.new) new.0 (ap not new.1)))
+
+-- The same, where no message comes to be owed: as the line is down, or is called for its next frame.
+pub same-table : (w d : Managed) → ((r : Remembered) → IsIn r w.held → is_on r.tei w ≡ true) → d.on ≡ w.on → d.held ≡ w.held → newly_owed w d ≡ [] → Table w d
+same-table w d there on held none = record {
+  known = λ r is. let was = subst (IsIn r) held is in (ap (λ on. list_any (λ x. x == r.tei) on) on ∙ there r was, inl was);
+  alone = λ r s is other. absurd (subst (λ ms. IsIn r (filter (λ r. not (is_on r.tei w)) (assigned ms))) none is);
+}
+
+pub dropped-none : (k : ℕ) (ms : List Message) → ms ≡ [] → drop k ms ≡ []
+dropped-none zero ms e = e
+dropped-none (suc k) ms e = subst (λ l. drop (suc k) l ≡ []) (sym e) refl
+
+pub dropped-all : {X : Type 0} (x : X) (xs : List X) → drop (length (x ∷ xs)) xs ≡ []
+dropped-all x [] = refl
+dropped-all x (y ∷ xs) = dropped-all y xs
 
 -- Any event except a line down and a call for the next frame.
 abbrev pub IsOther : Event → Type 0
@@ -50,95 +95,177 @@ IsOther (request Down) = ⊥
 IsOther next = ⊥
 IsOther other = ⊤
 
+-- Messages that assign nothing come to be owed, and all else of assignments stays.
+record Adds (w d : Managed) : Type 0 where
+  pub new : List Message
+  pub owed : d.owed ≡ w.owed ++ new
+  pub none : assigned new ≡ []
+  pub on : d.on ≡ w.on
+  pub held : d.held ≡ w.held
+  pub begins : d.begins ≡ w.begins
+
+adds-none : (w d : Managed) → d.owed ≡ w.owed → d.on ≡ w.on → d.held ≡ w.held → d.begins ≡ w.begins → Adds w d
+adds-none w d owed on held begins = record { new = []; owed = owed ∙ sym (append-nil w.owed); none = refl; on = on; held = held; begins = begins }
+
+adds-one : (m : Message) (w : Managed) → assigned (m ∷ []) ≡ [] → Adds w (owes m w)
+adds-one m w none = go (is_full w)
+  where
+    go : (b : Bool) → Adds w (record w { owed = cond b w.owed (w.owed ++ m ∷ []); lost = cond b (w.lost + 1) w.lost })
+    go true = adds-none w _ refl refl refl refl
+    go false = record { new = m ∷ []; owed = refl; none = none; on = refl; held = refl; begins = refl }
+
+assigned-both : (ms ns : List Message) → assigned (ms ++ ns) ≡ assigned ms ++ assigned ns
+assigned-both ms ns = flat_map-append assigned_in ms ns
+
+adds-then : (w u d : Managed) → Adds w u → Adds u d → Adds w d
+adds-then w u d x y = record {
+  new = x.new ++ y.new;
+  owed = y.owed ∙ ap (λ ms. ms ++ y.new) x.owed ∙ append_assoc w.owed x.new y.new;
+  none = assigned-both x.new y.new ∙ ap (λ rs. rs ++ assigned y.new) x.none ∙ y.none;
+  on = y.on ∙ x.on;
+  held = y.held ∙ x.held;
+  begins = y.begins ∙ x.begins;
+}
+
+adds-checks : (tei : ℕ) (before : Option Bool) (w : Managed) → Adds w (checks tei before w)
+adds-checks tei before w =
+    let x = adds-one (IdentityCheckRequest tei) w refl in
+    record { new = x.new; owed = x.owed; none = x.none; on = refl; held = refl; begins = refl }
+
+adds-over : (w : Managed) → Adds w (over w)
+adds-over w = go (find (λ tei. list_any (λ later. later == tei) w.later) (teis_of w.places))
+  where
+    go : (o : Option ℕ) → Adds w (option_map_or (λ tei. checks tei None (record w { later = others tei w.later })) o (record w { check = None; orders = Stop T201 ∷ [] }))
+    go None = adds-none w _ refl refl refl refl
+    go (Some tei) =
+        let x = adds-checks tei None (record w { later = others tei w.later }) in
+        record { new = x.new; owed = x.owed; none = x.none; on = refl; held = refl; begins = refl }
+
+adds-defers : (tei : ℕ) (w : Managed) → Adds w (defers tei w)
+adds-defers tei w = go (list_any (is_asked tei) w.owed)
+  where
+    go : (b : Bool) → Adds w (record (cond b w (owes (IdentityCheckRequest tei) w)) { later = tei ∷ w.later })
+    go true = adds-none w _ refl refl refl refl
+    go false = let x = adds-one (IdentityCheckRequest tei) w refl in record { new = x.new; owed = x.owed; none = x.none; on = refl; held = refl; begins = refl }
+
+-- What is over of a TEI that leaves.
+abbrev over_of_its : ℕ → Managed → Managed
+over_of_its tei w = cond (option_map_or (λ (check : Checked). check.tei == tei) w.check false) (over w) w
+
+adds-over_of : (tei : ℕ) (w : Managed) → Adds w (over_of_its tei w)
+adds-over_of tei w = go (option_map_or (λ (check : Checked). check.tei == tei) w.check false)
+  where
+    go : (b : Bool) → Adds w (cond b (over w) w)
+    go true = adds-over w
+    go false = adds-none w w refl refl refl refl
+
 module _ (w : Managed) (there : (r : Remembered) → IsIn r w.held → is_on r.tei w ≡ true) where
-  pub same-table : (d : Managed) → d.on ≡ w.on → d.held ≡ w.held → Table w d
-  same-table d on held = record {
-    still = λ r is. ap (λ on. list_any (λ x. x == r.tei) on) on ∙ there r (subst (IsIn r) held is);
-    known = λ r is was. subst (IsIn r) held is;
-    alone = λ r s is other off away. absurd (true≢false (sym (there r (subst (IsIn r) held is)) ∙ off));
+  no-new : (ms : List Message) → assigned ms ≡ [] → (r : Remembered) → IsIn r (assigned ms) → ⊥
+  no-new ms none r is = subst (IsIn r) none is
+
+  adds-so : (d : Managed) → Adds w d → Changes w d
+  adds-so d x = record {
+    queue = record { new = x.new; owed = x.owed; made = λ r is. absurd (no-new x.new x.none r is) };
+    known = λ r is. let was = subst (IsIn r) x.held is in (ap (λ on. list_any (λ y. y == r.tei) on) x.on ∙ there r was, inl was);
+    alone = λ r s is other. absurd (no-new x.new x.none r is);
+    begins = x.begins;
   }
-
-  none-owed : (d : Managed) → d.owed ≡ w.owed → Queue w d
-  none-owed d same = record { new = []; owed = same ∙ sym (append-nil w.owed); made = tt }
-
-  -- a message for a table that is so changed
-  owed-so : (m : Message) (u : Managed) → u.owed ≡ w.owed → IsMade u.held m → Queue w (owes m u)
-  owed-so m u same made = go (is_full u)
-    where
-      go : (b : Bool) → Queue w (record u { owed = cond b u.owed (u.owed ++ m ∷ []); lost = cond b 1 0 })
-      go true = record { new = []; owed = same ∙ sym (append-nil w.owed); made = tt }
-      go false = record { new = m ∷ []; owed = ap (λ ms. ms ++ m ∷ []) same; made = (made, tt) }
-
-  unchanged : (d : Managed) → d.on ≡ w.on → d.held ≡ w.held → d.owed ≡ w.owed → d.begins ≡ w.begins → Changes w d
-  unchanged d on held owed begins = record { table = same-table d on held; queue = none-owed d owed; begins = begins }
 
   nothing : Changes w w
-  nothing = unchanged w refl refl refl refl
+  nothing = adds-so w (adds-none w w refl refl refl refl)
 
-  abbrev comes : ℕ → ℕ → Managed
-  comes ri tei = record w { on = tei ∷ w.on; held = drop (length w.held - 3) (w.held ++ record { ri = ri; tei = tei } ∷ []); notes = Assigned tei ∷ [] }
+  -- one of which no other things are told
+  noted : (d : Managed) (notes : List Note) → Changes w d → Changes w (record d { notes = notes })
+  noted d notes h = record { queue = record { new = h.queue.new; owed = h.queue.owed; made = h.queue.made }; known = h.known; alone = h.alone; begins = h.begins }
 
-  comes-so : (ri tei : ℕ) → is_on tei w ≡ false → Table w (comes ri tei)
-  comes-so ri tei off = record {
-    still = λ r is. is-still r (in-either r w.held (new ∷ []) (in-dropped (length w.held - 3) r (w.held ++ new ∷ []) is));
-    known = λ r is was. is-known r was (in-either r w.held (new ∷ []) (in-dropped (length w.held - 3) r (w.held ++ new ∷ []) is));
-    alone = λ r s is other off away.
-        sym (is-new r off (in-either r w.held (new ∷ []) (in-dropped (length w.held - 3) r (w.held ++ new ∷ []) is)))
-        ∙ is-new s away (in-either s w.held (new ∷ []) (in-dropped (length w.held - 3) s (w.held ++ new ∷ []) other));
-  }
+  -- A message says that an assignment is made, if there is room.
+  one-is : (x r : Remembered) → IsIn r (x ∷ []) → x ≡ r
+  one-is x r (inl same) = same
+  one-is x r (inr none) = absurd none
+
+  again-so : (ri tei : ℕ) → IsIn (record { ri = ri; tei = tei }) w.held → Changes w (owes (IdentityAssigned ri tei) w)
+  again-so ri tei held = go (is_full w)
     where
-      new : Remembered
-      new = record { ri = ri; tei = tei }
+      one : Remembered
+      one = record { ri = ri; tei = tei }
 
-      is-still : (r : Remembered) → IsIn r w.held ⊎ IsIn r (new ∷ []) → is_on r.tei (comes ri tei) ≡ true
-      is-still r (inl is) = or-right-so (tei == r.tei) (is_on r.tei w) (there r is)
-      is-still r (inr (inr none)) = absurd none
-      is-still r (inr (inl same)) = or-left-so (tei == r.tei) (is_on r.tei w) (eq-eqb tei r.tei (ap (λ (r : Remembered). r.tei) same))
+      go : (b : Bool) → Changes w (record w { owed = cond b w.owed (w.owed ++ IdentityAssigned ri tei ∷ []); lost = cond b (w.lost + 1) w.lost })
+      go true = adds-so _ (adds-none w _ refl refl refl refl)
+      go false = record {
+        queue = record {
+          new = IdentityAssigned ri tei ∷ [];
+          owed = refl;
+          made = λ r is. subst (λ x. (is_on x.tei w ≡ true) × (IsIn x w.held ⊎ (is_on x.tei w ≡ false))) (one-is one r is) (there one held, inl held);
+        };
+        known = λ r is. (there r is, inl is);
+        alone = λ r s is other. sym (one-is one r is) ∙ one-is one s other;
+        begins = refl;
+      }
 
-      is-new : (r : Remembered) → is_on r.tei w ≡ false → IsIn r w.held ⊎ IsIn r (new ∷ []) → new ≡ r
-      is-new r off (inl is) = absurd (true≢false (sym (there r is) ∙ off))
-      is-new r off (inr (inl same)) = same
-      is-new r off (inr (inr none)) = absurd none
+  abbrev joined : Config → ℕ → ℕ → Managed
+  joined c ri tei =
+      record (comes tei w) { held = by_reading c.reading (drop (length w.held - 3) (w.held ++ record { ri = ri; tei = tei } ∷ [])) w.held; notes = Assigned tei ∷ [] }
 
-      is-known : (r : Remembered) → is_on r.tei w ≡ true → IsIn r w.held ⊎ IsIn r (new ∷ []) → IsIn r w.held
-      is-known r was (inl is) = is
-      is-known r was (inr (inr none)) = absurd none
-      is-known r was (inr (inl same)) = absurd (true≢false (sym was ∙ ap (λ (r : Remembered). is_on r.tei w) (sym same) ∙ off))
+  comes-so : (c : Config) (ri tei : ℕ) → is_on tei w ≡ false → is_full w ≡ false → Changes w (owes (IdentityAssigned ri tei) (joined c ri tei))
+  comes-so c ri tei off room = go (is_full w) room
+    where
+      one : Remembered
+      one = record { ri = ri; tei = tei }
+
+      on-too : (r : Remembered) → is_on r.tei w ≡ true → is_on r.tei (joined c ri tei) ≡ true
+      on-too r on = or-right-so (tei == r.tei) (is_on r.tei w) on
+
+      on-new : (r : Remembered) → one ≡ r → is_on r.tei (joined c ri tei) ≡ true
+      on-new r same = or-left-so (tei == r.tei) (is_on r.tei w) (eq-eqb tei r.tei (ap (λ (r : Remembered). r.tei) same))
+
+      off-new : (r : Remembered) → one ≡ r → is_on r.tei w ≡ false
+      off-new r same = subst (λ x. is_on x.tei w ≡ false) same off
+
+      Known : Remembered → Type 0
+      Known r = (is_on r.tei (joined c ri tei) ≡ true) × (IsIn r w.held ⊎ (IsIn r (one ∷ []) × (is_on r.tei w ≡ false)))
+
+      from : (r : Remembered) → IsIn r w.held ⊎ IsIn r (one ∷ []) → Known r
+      from r (inl is) = (on-too r (there r is), inl is)
+      from r (inr is) = (on-new r (one-is one r is), inr (is, off-new r (one-is one r is)))
+
+      is-known : (reading : Reading) (r : Remembered) → IsIn r (by_reading reading (drop (length w.held - 3) (w.held ++ one ∷ [])) w.held) → Known r
+      is-known Profile r is = from r (in-either r w.held (one ∷ []) (in-dropped (length w.held - 3) r (w.held ++ one ∷ []) is))
+      is-known AnnexB r is = from r (inl is)
+
+      go : (b : Bool) → b ≡ false → Changes w (record (joined c ri tei) { owed = cond b w.owed (w.owed ++ IdentityAssigned ri tei ∷ []); lost = cond b (w.lost + 1) w.lost })
+      go true full = absurd (true≢false full)
+      go false full = record {
+        queue = record {
+          new = IdentityAssigned ri tei ∷ [];
+          owed = refl;
+          made = λ r is. (on-new r (one-is one r is), inr (off-new r (one-is one r is)));
+        };
+        known = λ r is. is-known c.reading r is;
+        alone = λ r s is other. sym (one-is one r is) ∙ one-is one s other;
+        begins = refl;
+      }
 
   not-so : (b : Bool) → not b ≡ true → b ≡ false
   not-so true h = absurd (true≢false (sym h))
   not-so false h = refl
 
-  free-off : (c : Config) (tei : ℕ) → free_tei c w ≡ Some tei → is_on tei w ≡ false
-  free-off c tei is = go (nat_lt (length w.on) c.terminals && not (is_full w)) is
+  free-off : (c : Config) (tei : ℕ) → free_tei c w ≡ Some tei → (is_on tei w ≡ false) × (is_full w ≡ false)
+  free-off c tei is = go (nat_lt (length w.on) c.terminals) (is_full w) refl is
     where
-      go : (b : Bool) → cond b (find (λ tei. not (is_on tei w)) (range_with_len 64 63)) None ≡ Some tei → is_on tei w ≡ false
-      go true found = not-so (is_on tei w) (found-passes (λ tei. not (is_on tei w)) tei (range_with_len 64 63) found)
-      go false found = absurd (cc found)
+      go : (a b : Bool) → is_full w ≡ b → cond (a && not b) (find (λ tei. not (is_on tei w)) (range_with_len 64 63)) None ≡ Some tei → (is_on tei w ≡ false) × (is_full w ≡ false)
+      go true false room found = (not-so (is_on tei w) (found-passes (λ tei. not (is_on tei w)) tei (range_with_len 64 63) found), room)
+      go true true full found = absurd (cc found)
+      go false b full found = absurd (cc found)
 
-  abbrev WithMessage : Message → Managed → Type 0
-  WithMessage m u = Changes w (owes m u)
-
-  abbrev asked : Config → ℕ → Managed
-  asked c ri = gives ri (find (λ (r : Remembered). r.ri == ri) w.held) (free_tei c w) w
-
-  asked-so : (c : Config) (ri : ℕ) → Changes w (asked c ri)
+  asked-so : (c : Config) (ri : ℕ) → Changes w (asks c ri w)
   asked-so c ri = go (find (λ (r : Remembered). r.ri == ri) w.held) (free_tei c w) refl refl
     where
-      go : (o : Option Remembered) (f : Option ℕ) → find (λ (r : Remembered). r.ri == ri) w.held ≡ o → free_tei c w ≡ f → Changes w (gives ri o f w)
+      go : (o : Option Remembered) (f : Option ℕ) → find (λ (r : Remembered). r.ri == ri) w.held ≡ o → free_tei c w ≡ f → Changes w (gives c ri o f w)
       go (Some r) f found free =
           let is = in-found (λ (r : Remembered). r.ri == ri) r w.held found in
-          record {
-            table = same-table (owes (IdentityAssigned ri r.tei) w) refl refl;
-            queue = owed-so (IdentityAssigned ri r.tei) w refl (subst (λ n. IsIn (record { ri = n; tei = r.tei }) w.held) (eqb-true r.ri ri is.1) is.0);
-            begins = refl;
-          }
-      go None (Some tei) found free = record {
-        table = record { still = (comes-so ri tei (free-off c tei free)).still; known = (comes-so ri tei (free-off c tei free)).known; alone = (comes-so ri tei (free-off c tei free)).alone };
-        queue = owed-so (IdentityAssigned ri tei) (comes ri tei) refl (in-end (length w.held - 3) (record { ri = ri; tei = tei }) w.held (omega arith));
-        begins = refl;
-      }
-      go None None found free = record { table = same-table (owes (IdentityDenied ri) w) refl refl; queue = owed-so (IdentityDenied ri) w refl tt; begins = refl }
+          again-so ri r.tei (subst (λ n. IsIn (record { ri = n; tei = r.tei }) w.held) (eqb-true r.ri ri is.1) is.0)
+      go None (Some tei) found free = comes-so c ri tei (free-off c tei free).0 (free-off c tei free).1
+      go None None found free = adds-so _ (adds-one (IdentityDenied ri 127) w refl)
 
   -- A TEI leaves.
   other-on : (tei other : ℕ) → not (other == tei) ≡ true → is_on other w ≡ true → list_any (λ on. on == other) (filter (λ on. not (on == tei)) w.on) ≡ true
@@ -146,117 +273,114 @@ module _ (w : Managed) (there : (r : Remembered) → IsIn r w.held → is_on r.t
       any-kept (λ on. on == other) (λ on. not (on == tei)) w.on
       (λ x is. ap (λ n. not (n == tei)) (eqb-true x other is) ∙ away) on
 
-  leaves-table : (tei : ℕ) (u : Managed) → u.on ≡ filter (λ on. not (on == tei)) w.on → u.held ≡ filter (λ (r : Remembered). not (r.tei == tei)) w.held → Table w u
-  leaves-table tei u on held = record {
-    still = λ r is.
-        let was = in-filtered (λ (r : Remembered). not (r.tei == tei)) r w.held (subst (IsIn r) held is) in
-        ap (λ on. list_any (λ x. x == r.tei) on) on ∙ other-on tei r.tei was.1 (there r was.0);
-    known = λ r is was. (in-filtered (λ (r : Remembered). not (r.tei == tei)) r w.held (subst (IsIn r) held is)).0;
-    alone = λ r s is other off away.
-        absurd (true≢false (sym (there r (in-filtered (λ (r : Remembered). not (r.tei == tei)) r w.held (subst (IsIn r) held is)).0) ∙ off));
-  }
+  left-so : (tei : ℕ) (u : Managed) → Adds w u → Changes w (leaves tei u)
+  left-so tei u x =
+      let y = adds-then w u (over_of_its tei u) x (adds-over_of tei u) in
+      record {
+        queue = record { new = y.new; owed = y.owed; made = λ r is. absurd (no-new y.new y.none r is) };
+        known = λ r is.
+            let was = in-filtered (λ (r : Remembered). not (r.tei == tei)) r w.held (subst (λ held. IsIn r (filter (λ (r : Remembered). not (r.tei == tei)) held)) x.held is) in
+            (subst (λ all. list_any (λ on. on == r.tei) (filter (λ on. not (on == tei)) all) ≡ true) (sym x.on) (other-on tei r.tei was.1 (there r was.0)), inl was.0);
+        alone = λ r s is other. absurd (no-new y.new y.none r is);
+        begins = y.begins;
+      }
 
-  leaves-owed : (tei : ℕ) → (leaves tei w).owed ≡ w.owed
-  leaves-owed tei = go (option_map_or (λ (check : Checked). check.tei == tei) w.check false)
-    where
-      go : (b : Bool) → (cond b (over w) w).owed ≡ w.owed
-      go true = refl
-      go false = refl
-
-  leaves-begins : (tei : ℕ) → (leaves tei w).begins ≡ w.begins
-  leaves-begins tei = go (option_map_or (λ (check : Checked). check.tei == tei) w.check false)
-    where
-      go : (b : Bool) → (cond b (over w) w).begins ≡ w.begins
-      go true = refl
-      go false = refl
-
-  abbrev removed : ℕ → Managed
-  removed tei = owes (IdentityRemove tei) (leaves tei w)
-
-  removed-so : (tei : ℕ) → Changes w (removed tei)
-  removed-so tei = record {
-    table = leaves-table tei (removed tei) refl refl;
-    queue = owed-so (IdentityRemove tei) (leaves tei w) (leaves-owed tei) tt;
-    begins = leaves-begins tei;
-  }
-
-  left-so : (tei : ℕ) → Changes w (leaves tei w)
-  left-so tei = record { table = leaves-table tei (leaves tei w) refl refl; queue = none-owed (leaves tei w) (leaves-owed tei); begins = leaves-begins tei }
+  removed-so : (tei : ℕ) → Changes w (removes tei w)
+  removed-so tei = left-so tei (owes (IdentityRemove tei) w) (adds-one (IdentityRemove tei) w refl)
 
   checks-so : (tei : ℕ) (before : Option Bool) → Changes w (checks tei before w)
-  checks-so tei before =
-      let queue = owed-so (IdentityCheckRequest tei) w refl tt in
-      record { table = same-table (checks tei before w) refl refl; queue = record { new = queue.new; owed = queue.owed; made = queue.made }; begins = refl }
+  checks-so tei before = adds-so _ (adds-checks tei before w)
 
   either : (b : Bool) (x y : Managed) → Changes w x → Changes w y → Changes w (cond b x y)
   either true x y h j = h
   either false x y h j = j
 
-  either-served : (b : Bool) (x y : Option Managed) → Changes w (unwrap_or x w) → Changes w (unwrap_or y w) → Changes w (unwrap_or (cond b x y) w)
+  abbrev Serves : Option Managed → Type 0
+  Serves o = Changes w (unwrap_or o w)
+
+  either-served : (b : Bool) (x y : Option Managed) → Serves x → Serves y → Serves (cond b x y)
   either-served true x y h j = h
   either-served false x y h j = j
 
-  responded-so : (tei : ℕ) (check : Checked) → Changes w (unwrap_or (responded tei w check) w)
-  responded-so tei check =
-      let gone = removed-so tei in
-      either-served (not (check.tei == tei)) _ _ nothing
-      (either-served check.answered _ _
-      (record { table = leaves-table tei _ refl refl; queue = record { new = gone.queue.new; owed = gone.queue.owed; made = gone.queue.made }; begins = gone.begins })
-      (unchanged _ refl refl refl refl))
+  served-as : (r : Reading) (x y : Option Managed) → Serves x → Serves y → Serves (by_reading r x y)
+  served-as Profile x y h j = h
+  served-as AnnexB x y h j = j
 
-  message-so : (c : Config) (info : List ℕ) → Changes w (unwrap_or (by_message c w info) w)
+  responded-so : (tei : ℕ) (check : Checked) → Serves (responded tei w check)
+  responded-so tei check =
+      either-served (not (check.tei == tei)) _ _ nothing
+      (either-served check.answered _ _ (noted (removes tei w) (Doubled tei ∷ []) (removed-so tei)) (adds-so _ (adds-none w _ refl refl refl refl)))
+
+  several-so : (octets : List ℕ) → Serves (several w octets)
+  several-so octets =
+      either-served _ None
+      (option_and_then (λ (check : Checked). cond (list_any (λ octet. octet / 2 == check.tei) octets) (responded check.tei w check) None) w.check) nothing (of w.check)
+    where
+      of : (o : Option Checked) → Serves (option_and_then (λ (check : Checked). cond (list_any (λ octet. octet / 2 == check.tei) octets) (responded check.tei w check) None) o)
+      of None = nothing
+      of (Some check) = either-served (list_any (λ octet. octet / 2 == check.tei) octets) _ _ (responded-so check.tei check) nothing
+
+  requested-so : (c : Config) (ri tei : ℕ) → Serves (requested c ri tei w)
+  requested-so c ri tei =
+      either-served (tei == 127) _ _
+      (served-as c.reading _ _ (asked-so c ri) (either-served (list_any (is_given ri) w.owed) _ _ nothing (asked-so c ri)))
+      (either-served (nat_le 64 tei && nat_le tei 126) _ _ (served-as c.reading _ _ nothing (adds-so _ (adds-one (IdentityDenied ri tei) w refl))) nothing)
+
+  verified-so : (c : Config) (tei : ℕ) → Serves (verified c tei w)
+  verified-so c tei = either-served (not (is_on tei w)) _ _ nothing (of w.check)
+    where
+      of : (o : Option Checked) → Serves (option_map_or (λ (check : Checked). cond (check.tei == tei) None (by_reading c.reading None (Some (defers tei w)))) o (Some (checks tei None w)))
+      of None = checks-so tei None
+      of (Some check) = either-served (check.tei == tei) _ _ nothing (served-as c.reading _ _ nothing (adds-so _ (adds-defers tei w)))
+
+  message-so : (c : Config) (info : List ℕ) → Serves (by_message c w info)
   message-so c (entity ∷ high ∷ low ∷ type ∷ last ∷ []) =
       either-served (not (entity == 0x0F && last % 2 == 1)) _ _ nothing
-      (either-served (type == 1 && last / 2 == 127) _ _ (asked-so c (256 * high + low))
-      (either-served (type == 5) _ _ (answered w.check) (either-served (type == 7 && may_check (last / 2) w) _ _ (checks-so (last / 2) None) nothing)))
+      (either-served (type == 1) _ _ (requested-so c (256 * high + low) (last / 2))
+      (either-served (type == 5) _ _ (answered w.check) (either-served (type == 7) _ _ (verified-so c (last / 2)) nothing)))
     where
-      answered : (o : Option Checked) → Changes w (unwrap_or (option_and_then (responded (last / 2) w) o) w)
+      answered : (o : Option Checked) → Serves (option_and_then (responded (last / 2) w) o)
       answered None = nothing
       answered (Some check) = responded-so (last / 2) check
   message-so c [] = nothing
   message-so c (a ∷ []) = nothing
   message-so c (a ∷ b ∷ []) = nothing
   message-so c (a ∷ b ∷ d ∷ []) = nothing
-  message-so c (a ∷ b ∷ d ∷ e ∷ []) = nothing
-  message-so c (a ∷ b ∷ d ∷ e ∷ f ∷ g ∷ more) = nothing
+  message-so c (a ∷ b ∷ d ∷ e ∷ []) = either-served (a == 0x0F && e == 5) _ _ (served-as c.reading _ _ nothing (several-so [])) nothing
+  message-so c (a ∷ b ∷ d ∷ e ∷ f ∷ g ∷ more) = either-served (a == 0x0F && e == 5) _ _ (served-as c.reading _ _ nothing (several-so (f ∷ g ∷ more))) nothing
 
   frame-so : (c : Config) (o : Option Parts) → Changes w (option_map_or (by_frame c w) o w)
   frame-so c None = nothing
   frame-so c (Some f) = either (manages c.side && is_message f) _ _ (message-so c f.info) nothing
 
-  ran-out-so : (o : Option Checked) → Changes w (option_map_or (ran_out w) o w)
-  ran-out-so None = nothing
-  ran-out-so (Some check) = go check.before
+  gone-so : (r : Reading) (tei : ℕ) → Changes w (record (by_reading r (leaves tei w) (removes tei w)) { notes = Removed tei ∷ [] })
+  gone-so Profile tei = noted (leaves tei w) (Removed tei ∷ []) (left-so tei w (adds-none w w refl refl refl refl))
+  gone-so AnnexB tei = noted (removes tei w) (Removed tei ∷ []) (removed-so tei)
+
+  ran-out-so : (c : Config) (o : Option Checked) → Changes w (option_map_or (ran_out c w) o w)
+  ran-out-so c None = nothing
+  ran-out-so c (Some check) = go check.before
     where
-      go : (o : Option Bool) → Changes w (option_map_or (λ before. cond (before || check.answered) (over w) (record (leaves check.tei w) { notes = Removed check.tei ∷ [] })) o (checks check.tei (Some check.answered) w))
+      go : (o : Option Bool)
+          → Changes w (option_map_or (λ before. cond (before || check.answered) (over w) (record (by_reading c.reading (leaves check.tei w) (removes check.tei w)) { notes = Removed check.tei ∷ [] })) o (checks check.tei (Some check.answered) w))
       go None = checks-so check.tei (Some check.answered)
-      go (Some before) =
-          let gone = left-so check.tei in
-          either (before || check.answered) _ _ (unchanged (over w) refl refl refl refl)
-          (record { table = leaves-table check.tei _ refl refl; queue = record { new = gone.queue.new; owed = gone.queue.owed; made = gone.queue.made }; begins = gone.begins })
+      go (Some before) = either (before || check.answered) _ _ (adds-so _ (adds-over w)) (gone-so c.reading check.tei)
 
   -- what management asks for
   granted-so : (b : Bool) (u : Managed) → Changes w u → Changes w (grants b u w)
-  granted-so true u h = record {
-    table = record { still = h.table.still; known = h.table.known; alone = h.table.alone };
-    queue = record { new = h.queue.new; owed = h.queue.owed; made = h.queue.made };
-    begins = h.begins;
-  }
-  granted-so false u h = unchanged _ refl refl refl refl
+  granted-so true u h = record { queue = record { new = h.queue.new; owed = h.queue.owed; made = h.queue.made }; known = h.known; alone = h.alone; begins = h.begins }
+  granted-so false u h = adds-so _ (adds-none w _ refl refl refl refl)
 
-  put-so : (tei : ℕ) → Changes w (record w { on = tei ∷ w.on })
+  put-so : (tei : ℕ) → Changes w (comes tei w)
   put-so tei = record {
-    table = record {
-      still = λ r is. or-right-so (tei == r.tei) (is_on r.tei w) (there r is);
-      known = λ r is was. is;
-      alone = λ r s is other off away. absurd (true≢false (sym (there r is) ∙ off));
-    };
-    queue = none-owed _ refl;
+    queue = record { new = []; owed = sym (append-nil w.owed); made = λ r is. absurd is };
+    known = λ r is. (or-right-so (tei == r.tei) (is_on r.tei w) (there r is), inl is);
+    alone = λ r s is other. absurd is;
     begins = refl;
   }
 
   disowned-so : (tei : ℕ) → Changes w (owes (IdentityRemove tei) w)
-  disowned-so tei = record { table = same-table _ refl refl; queue = owed-so (IdentityRemove tei) w refl tt; begins = refl }
+  disowned-so tei = adds-so _ (adds-one (IdentityRemove tei) w refl)
 
   request-so : (c : Config) (r : Request) → IsOther (request r) → Changes w (by_request c r w)
   request-so c Down is = absurd is
@@ -277,7 +401,7 @@ module _ (w : Managed) (there : (r : Remembered) → IsIn r w.held → is_on r.t
   pub event-so : (c : Config) (e : Event) → IsOther e → Changes w (by_event c e w)
   event-so c next is = absurd is
   event-so c (hears e) is = frame-so c (frame_of c e)
-  event-so c (expiry T201) is = ran-out-so w.check
+  event-so c (expiry T201) is = ran-out-so c w.check
   event-so c (expiry T202) is = nothing
   event-so c (expiry (T200 service tei)) is = nothing
   event-so c (expiry (T203 service tei)) is = nothing

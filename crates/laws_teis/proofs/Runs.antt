@@ -1,5 +1,5 @@
 -- A run of a network's line and a terminal's.
-use Rattle.std.specs.Prelude.{◌≡◌, ℕ, ◌<◌, ◌==◌, ◌&&◌, ◌||◌, Bool, true, false, cond, List, [], ◌∷◌, ◌++◌, map, filter, fold, drop, take, replicate, zero, suc, All, None, refl}
+use Rattle.std.specs.Prelude.{◌≡◌, ℕ, ◌<◌, ◌==◌, ◌&&◌, ◌||◌, Bool, true, false, cond, List, [], ◌∷◌, ◌++◌, length, map, filter, fold, drop, take, replicate, zero, suc, All, None, refl}
 use Rattle.std.specs.List.{list_any}
 use Rattle.std.proofs.Common.{subst, sym, ap, ◌∙◌, append-nil, eq-eqb, eqb-true}
 use Rattle.std.proofs.lemmas.List.Elements.{All-append, All-cons, All-head, All-nil, All-tail}
@@ -25,10 +25,10 @@ use Rattle.laws_trace.specs.ManagingTerminal.{teis_of}
 use Rattle.laws_trace.specs.TeisAreManaged.{message_text}
 use Rattle.laws_trace.specs.Trace.{frame_in}
 use Rattle.laws_trace.proofs.TeisAreManaged.{teis-are-managed}
-use Rattle.laws_teis.specs.Bus.{Bus, Network, Past, Step, network, terminal, receives, loses, network_of, with_teis, begun, doing, acting, received, missing, misses, is_heard, gives_up, leaves_untold, over_of}
+use Rattle.laws_teis.specs.Bus.{Bus, Network, Past, Step, network, terminal, receives, loses, network_of, with_teis, begun, doing, acting, received, missing, misses, is_heard, gives_up, leaves_untold, over_of, newly_owed}
 use Rattle.laws_teis.specs.Assignments.{Terminal, CanMeet, IsThere, IsIn, terminal_after}
 use Rattle.laws_teis.proofs.Frames.{AreNone, begins-one, begins-none}
-use Rattle.laws_teis.proofs.NetworkSteps.{Changes, same-table, event-so, IsOther}
+use Rattle.laws_teis.proofs.NetworkSteps.{Changes, table-of, same-table, dropped-none, dropped-all, event-so, IsOther}
 use Rattle.laws_teis.proofs.NetworkHolds.{kept, given-up, called-none, called-one}
 use Rattle.laws_teis.proofs.TerminalHolds.{grows, lost, no-frame, comes, terminal_now}
 use Rattle.laws_teis.proofs.Seen.{network-teis, network-then, terminal-then}
@@ -71,7 +71,8 @@ module _ (b : Bus) (can : CanMeet b) where
     changed : (what : line_event.Event) → IsOther what → Then what
     changed what other =
         let changes : Changes (nothing_due w) (due c what w) = subst (Changes (nothing_due w)) (sym (due-is what w)) (event-so (nothing_due w) there c what other) in
-        kept b can n t way missed h what (due c what w) (frame_in (a what)) (record { still = changes.table.still; known = changes.table.known; alone = changes.table.alone })
+        let table = table-of (nothing_due w) (due c what w) changes in
+        kept b can n t way missed h what (due c what w) (frame_in (a what)) (record { known = table.known; alone = table.alone })
         (record { new = changes.queue.new; owed = changes.queue.owed; made = changes.queue.made }) (none-begins what changes.begins)
 
     abbrev down : line_event.Event
@@ -80,18 +81,25 @@ module _ (b : Bus) (can : CanMeet b) where
     is-down : Then down
     is-down =
         let on = ap (λ (d : Managed). d.on) (due-is down w) in
-        given-up b can n t way missed h down (due c down w) (frame_in (a down)) (same-table w there (due c down w) on (ap (λ (d : Managed). d.held) (due-is down w))) on refl
+        given-up b can n t way missed h down (due c down w) (frame_in (a down)) (same-table w (due c down w) there on (ap (λ (d : Managed). d.held) (due-is down w)) (ap (λ (d : Managed). newly_owed w d) (due-is down w) ∙ dropped-none (length w.owed) [] refl)) on refl
         (ap (λ (d : Managed). d.owed) (due-is down w)) (none-begins down (ap (λ (d : Managed). d.begins) (due-is down w)))
+
+    none-new : (ms : List Message) → w.owed ≡ ms → newly_owed w (due c next w) ≡ []
+    none-new ms was = ap (λ (d : Managed). newly_owed w d) (due-is next w) ∙ ap (λ ms. drop (length ms) (drop 1 ms)) was ∙ none-left ms
+      where
+        none-left : (ms : List Message) → drop (length ms) (drop 1 ms) ≡ []
+        none-left [] = refl
+        none-left (m ∷ more) = dropped-all m more
 
     is-next : (ms : List Message) → w.owed ≡ ms → Then next
     is-next [] was =
         let on = ap (λ (d : Managed). d.on) (due-is next w) in
-        called-none b can n t way missed h next (due c next w) (frame_in (a next)) (same-table w there (due c next w) on (ap (λ (d : Managed). d.held) (due-is next w))) on
+        called-none b can n t way missed h next (due c next w) (frame_in (a next)) (same-table w (due c next w) there on (ap (λ (d : Managed). d.held) (due-is next w)) (none-new [] was)) on
         was (ap (λ (d : Managed). d.owed) (due-is next w) ∙ ap (drop 1) was)
         (none-begins next (ap (λ (d : Managed). d.begins) (due-is next w) ∙ ap (λ ms. map octets_of (take 1 ms)) was))
     is-next (m ∷ more) was =
         let on = ap (λ (d : Managed). d.on) (due-is next w) in
-        called-one b can n t way missed h next (due c next w) (frame_in (a next)) (same-table w there (due c next w) on (ap (λ (d : Managed). d.held) (due-is next w))) on
+        called-one b can n t way missed h next (due c next w) (frame_in (a next)) (same-table w (due c next w) there on (ap (λ (d : Managed). d.held) (due-is next w)) (none-new (m ∷ more) was)) on
         m more was (ap (λ (d : Managed). d.owed) (due-is next w) ∙ ap (drop 1) was)
         (begins-one b can (a next) m (begins-so next ∙ ap (λ (d : Managed). map (message_text c) d.begins) (due-is next w) ∙ ap (λ ms. map (message_text c) (map octets_of (take 1 ms))) was))
 

@@ -1,11 +1,11 @@
 -- A network's line and a terminal's line on one bus: what happened at either, and the frames in transit to the terminal.
-use Rattle.std.specs.Prelude.{ℕ, ◌+◌, ◌*◌, ◌==◌, ◌&&◌, ◌||◌, not, Bool, true, false, List, [], ◌∷◌, ◌++◌, length, map, filter, take, drop, fold, is_some, if◌then◌else◌}
+use Rattle.std.specs.Prelude.{ℕ, ◌+◌, ◌*◌, ◌==◌, ◌&&◌, ◌||◌, not, Bool, true, false, List, [], ◌∷◌, ◌++◌, length, map, filter, flat_map, take, drop, fold, is_some, if◌then◌else◌}
 use Rattle.std.specs.List.{list_any}
 use Rattle.std.specs.Option.{option_map_or}
 use Rattle.lapd_frame.specs.declared.services.Service.TheVariants.{Call}
 use Rattle.lapd_frame.specs.Grammar.{Parts}
 use Rattle.lapd_tei.specs.declared.messages.Message.{Message}
-use Rattle.lapd_tei.specs.declared.messages.Message.TheVariants.{IdentityRemove}
+use Rattle.lapd_tei.specs.declared.messages.Message.TheVariants.{IdentityAssigned, IdentityRemove}
 use Rattle.lapd_tei.specs.declared.remembered.Remembered.{Remembered}
 use Rattle.model_line.specs.declared.config.Config.{Config}
 use Rattle.model_line.specs.Came.{came}
@@ -33,15 +33,22 @@ pub record Bus : Type 0 where
 abbrev pub is_there : ℕ → ℕ → Card → Bool
 is_there number tei card = is_some (state number Call tei card)
 
--- An assignment is a reference number, and the TEI that is assigned by it. The network has made it if it remembers it, and the TEI
--- was not on the line before. It holds while the TEI is on the line (Q.921 clause 5.3.2).
+-- An assignment is a reference number, and the TEI that is assigned by it. The network has made it if it comes to owe the message
+-- that says so, and the TEI was not on the line before. It holds while the TEI is on the line (Q.921 clause 5.3.2).
 pub record Network : Type 0 where
   pub teis : Managed
   pub made : List Remembered
   pub hold : List Remembered
 
+abbrev pub newly_owed : Managed → Managed → List Message
+newly_owed was now = drop (length was.owed) now.owed
+
+abbrev pub assigned_in : Message → List Remembered
+assigned_in (IdentityAssigned ri tei) = record { ri = ri; tei = tei } ∷ []
+assigned_in other = []
+
 abbrev pub newly_made : Managed → Managed → List Remembered
-newly_made was now = filter (λ r. not (is_on r.tei was)) now.held
+newly_made was now = filter (λ r. not (is_on r.tei was)) (flat_map assigned_in (newly_owed was now))
 
 abbrev pub with_teis : (ℕ → Bool) → Managed → Network → Network
 with_teis stays now n =
@@ -93,8 +100,8 @@ pub data Step : Type 0 where
   loses : Step
 
 -- A terminal misses a removal that is lost, or given up as the network's line is down. Or none is owed though the TEI leaves the
--- line: as T201 runs out, or if there is no room for it (clause 5.3.3.2, annex B and profile). One that was missed stays missed until
--- that assignment is made anew, which needs a number that comes again.
+-- line: as T201 runs out (profile), or if there is no room for it (clause 5.3.3.2, annex B and profile). One that was missed stays
+-- missed until that assignment is made anew, which needs a number that comes again.
 abbrev pub removes : ℕ → Message → Bool
 removes tei (IdentityRemove of) = of == tei
 removes tei other = false
@@ -104,7 +111,7 @@ gives_up tei (request Down) was = list_any (removes tei) was.owed
 gives_up tei other was = false
 
 abbrev pub leaves_untold : ℕ → Managed → Managed → Bool
-leaves_untold tei was now = is_on tei was && not (is_on tei now) && not (list_any (removes tei) (drop (length was.owed) now.owed))
+leaves_untold tei was now = is_on tei was && not (is_on tei now) && not (list_any (removes tei) (newly_owed was now))
 
 abbrev pub misses : Bus → Past → Step → ℕ → Bool
 misses b p (network e) tei =

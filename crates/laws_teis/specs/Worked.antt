@@ -4,6 +4,7 @@ use Rattle.std.proofs.Common.{eqb-true, subst, sym}
 use Rattle.std.proofs.lemmas.Bool.{and_parts, ltb-true}
 use Rattle.std.proofs.lemmas.List.Elements.{All-cons, All-nil}
 use Rattle.lapd_frame.specs.declared.addresses.Side.TheVariants.{User}
+use Rattle.lapd_frame.specs.declared.readings.Reading.TheVariants.{AnnexB}
 use Rattle.lapd_frame.specs.declared.timers.Timer.TheVariants.{T201}
 use Rattle.lapd_frame.specs.Reading.{reading, header_of, control_of, unnumbered_of}
 use Rattle.lapd_frame.specs.Senders.{exchanged, reading as read_by}
@@ -197,6 +198,27 @@ later_misses_none = refl
 later_holds : (network_of (bus 0x1234) (known_after late)).hold ≡ second ∷ []
 unfolding moments after_all lines.after lines.answer lines.takes_slot teis.course teis.refusal terminals.course exchanged read_by reading header_of control_of unnumbered_of
 later_holds = refl
+
+-- By annex B no number is remembered, but what is made is made by its message. A number that comes again makes another assignment.
+abbrev annex_b : Bus
+annex_b = record (bus 0x1234) { network = record usual { reading = AnnexB } }
+
+holds_by_annex_b : (network_of annex_b (past_of annex_b assigned)).hold ≡ first ∷ []
+unfolding moments after_all lines.after lines.answer lines.takes_slot teis.course teis.refusal terminals.course exchanged read_by reading header_of control_of unnumbered_of
+holds_by_annex_b = refl
+
+makes_another : (network_of annex_b (past_of annex_b (assigned ++ request_comes 0x12 0x34 ∷ []))).hold ≡ first ∷ record { ri = 0x1234; tei = 65 } ∷ []
+unfolding moments after_all lines.after lines.answer lines.takes_slot teis.course teis.refusal terminals.course exchanged read_by reading header_of control_of unnumbered_of
+makes_another = refl
+
+-- As T201 runs out twice, the removal is owed, so that the terminal has not missed it.
+is_told : (removal_comes annex_b (past_of annex_b unanswered) 64 ≡ true) × ((past_of annex_b unanswered).missed ≡ [])
+unfolding moments after_all lines.after lines.answer lines.takes_slot teis.course teis.refusal terminals.course exchanged read_by reading header_of control_of unnumbered_of
+is_told = (refl, refl)
+
+can_meet_by_annex_b : CanMeet annex_b
+unfolding configs.sapi_fault
+can_meet_by_annex_b = record { side = refl; own = refl; network = refl; terminal = refl; number = ltb-true 0 1 refl; line = ltb-true 0 1 refl }
 
 -- So the premises of the laws are met.
 premises_of_one : All (IsThere (bus 0x1234)) (removed ++ sends ∷ loses ∷ [])

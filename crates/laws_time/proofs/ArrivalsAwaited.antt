@@ -1,7 +1,7 @@
 -- No answer is awaited longer than T200 may run out.
-use Rattle.std.proofs.Common.{arith, ◌≡◌, ℕ, ◌+◌, ◌-◌, ◌*◌, ◌<◌, ◌≤◌, ◌==◌, ◌&&◌, ◌||◌, not, Bool, true, false, List, [], ◌∷◌, ◌++◌, Option, Some, None, refl, sym, ap, ◌∙◌, subst, eqb-true, is_some, inl, append-nil, append_assoc, option_map}
+use Rattle.std.proofs.Common.{arith, cond, ◌≡◌, ℕ, ◌+◌, ◌-◌, ◌*◌, ◌<◌, ◌≤◌, ◌==◌, ◌&&◌, ◌||◌, not, Bool, true, false, List, [], ◌∷◌, ◌++◌, Option, Some, None, refl, sym, ap, ◌∙◌, subst, eqb-true, is_some, inl, append-nil, append_assoc, option_map}
 use Rattle.std.specs.Option.{option_map_or}
-use Rattle.std.specs.Prelude.{option_to_list, fold}
+use Rattle.std.specs.Prelude.{option_to_list, fold, nat_le}
 use Rattle.std.proofs.lemmas.Bool.{true≢false, ltb-true}
 use Rattle.std.proofs.lemmas.Nat.{mul-le}
 use Rattle.lapd_clock.specs.Timer.{Lengths, is_same}
@@ -23,7 +23,10 @@ use Rattle.model_card.specs.Machine.{answer}
 use Rattle.model_card.specs.Run as runs_of
 use Rattle.model_card.specs.Run.{Moment}
 use Rattle.laws_trace.specs.Managing.{is_on}
-use Rattle.laws_trace.specs.Observer.{Observed, View, view_of, view_behind, by_event, by_t200, by_frame_begun, moment_of, may_repeat}
+use Rattle.laws_trace.specs.Observer.{Observed, View, view_of, view_behind, by_event, by_t200, by_frame_begun, moment_of, may_repeat, anew, by_frame, while_up, while_down}
+use Rattle.laws_trace.specs.LinkFrames.{is_too_long}
+use Rattle.lapd_frame.specs.Grammar.{Parts}
+use Rattle.lapd_frame.specs.declared.controls.Control.{Control}
 use Rattle.laws_trace.specs.TimersAreTimely.{runs, is_anew, is_timer_of}
 use Rattle.laws_trace.specs.Trace.{is_own, frame_in}
 use Rattle.model_timed.specs.Clock.{Clock, due, without_first, at_moment}
@@ -63,9 +66,34 @@ one-of-three n is P five six eight = go (n == 5) refl (n == 6) refl
     go false e true f = subst P (sym (eqb-true n 6 f)) six
     go false e false f = subst P (sym (eqb-true n 8 (ap (λ x. x || (false || (n == 8))) (sym e) ∙ ap (λ x. (n == 5) || (x || (n == 8))) (sym f) ∙ is))) eight
 
+-- a frame that is heard
+up-same : (long command : Bool) (k : Control) (o : Observed) → nat_le 7 o.state ≡ true → is_waiting o.state ≡ true → (while_up long command k o).state ≡ o.state → (while_up long command k o).expiries ≡ o.expiries
+up-same long command k o up waits same = grind arith
+
+down-same : (c : Config) (k : Control) (o : Observed) → nat_le 7 o.state ≡ false → is_waiting o.state ≡ true → (while_down c k o).state ≡ o.state → (while_down c k o).expiries ≡ o.expiries
+down-same c k o down waits same = grind arith
+
+framed-same : (c : Config) (o : Observed) (f : Parts) → is_waiting o.state ≡ true → (by_frame c o f).state ≡ o.state → (by_frame c o f).expiries ≡ o.expiries
+framed-same c o f waits = go (nat_le 7 o.state) refl
+  where
+    x : Observed
+    x = while_up (is_too_long c f) f.address.command f.control o
+
+    y : Observed
+    y = while_down c f.control o
+
+    go : (b : Bool) → nat_le 7 o.state ≡ b → (cond b x y).state ≡ o.state → (cond b x y).expiries ≡ o.expiries
+    go true up same = up-same (is_too_long c f) f.address.command f.control o up waits same
+    go false down same = down-same c f.control o down waits same
+
+heard-count : (c : Config) (o : Observed) (m : Bool) (f : Option Parts) → is_waiting o.state ≡ true
+    → let q = cond (nat_le 7 o.state && m) (anew o) (option_map_or (by_frame c o) f o) in q.state ≡ o.state → q.expiries ≡ o.expiries
+heard-count c o m None waits same = grind arith
+heard-count c o m (Some f) waits same = grind (arith, framed-same)
+
 counts-same : (c : Config) (service : Service) (tei : ℕ) (what : line_event.Event) (a : Answer) (o : Observed) → is_own_t200 service tei what ≡ false → is_waiting o.state ≡ true
     → (by_event c service tei what a o).state ≡ o.state → (by_event c service tei what a o).expiries ≡ o.expiries
-counts-same c service tei (hears e) a o other waits same = grind arith
+counts-same c service tei (hears e) a o other waits same = heard-count c o _ _ waits same
 counts-same c service tei (request r) a o other waits same = grind arith
 counts-same c service tei (expiry timer) a o other waits same = grind arith
 counts-same c service tei next a o other waits same = begun-count c service tei (frame_in a) o

@@ -26,9 +26,9 @@ use Rattle.model_line.specs.Event as line_event
 use Rattle.model_line.specs.Event.{Answer, expiry, hears, request, next}
 use Rattle.model_line.specs.declared.config.Config.{Config}
 use Rattle.model_link.specs.declared.timers.LinkTimer.TheVariants.{T200}
-use Rattle.laws_trace.specs.LinkFrames.{malformed, fault_of, faulty_long, its_frame, frame_of}
-use Rattle.laws_trace.specs.News.{notes_due, wrong, wrong_frame, wrong_number, given_up, due as due_notes, brings, is_xid, is_sabme, releases}
-use Rattle.laws_trace.specs.Observer.{Observed, by_event, by_expiry, by_t200, awaits, may_repeat}
+use Rattle.laws_trace.specs.LinkFrames.{malformed, fault_of, faulty_long, its_frame, frame_of, is_annex_b, is_too_long, begins_ui}
+use Rattle.laws_trace.specs.News.{notes_due, minds, wrong, wrong_frame, wrong_number, given_up, due as due_notes, brings, is_xid, is_sabme, releases}
+use Rattle.laws_trace.specs.Observer.{Observed, by_event, by_expiry, by_t200, awaits, counted, may_repeat}
 use Rattle.laws_trace.specs.TimersAreTimely.{runs}
 use Rattle.laws_trace.specs.Trace.{is_own, is_up, frame_in}
 use Rattle.laws_time.specs.circuit.Arriving.{error_in, is_used_up}
@@ -47,12 +47,12 @@ is_own_t200 service tei (expiry (timers.T200 of by)) = is_own service tei of by
 is_own_t200 service tei other = false
 
 -- Where an end comes to a state in which it awaits an answer, T200 has not expired there.
-pub moved-zero : (c : Config) (service : Service) (tei : ℕ) (what : line_event.Event) (a : Answer) (o : Observed) → is_waiting (by_event c service tei what a o).state ≡ true
-    → (o.state == (by_event c service tei what a o).state) ≡ false → (by_event c service tei what a o).expiries ≡ 0
-moved-zero c service tei (hears e) a o waits moves = grind (arith, eq-eqb)
-moved-zero c service tei (request r) a o waits moves = grind (arith, eq-eqb)
-moved-zero c service tei (expiry timer) a o waits moves = grind (arith, eq-eqb)
-moved-zero c service tei next a o waits moves = absurd (true≢false (sym (eq-eqb o.state o.state refl) ∙ ap (λ n. o.state == n) (sym (same (frame_in a) o)) ∙ moves))
+pub moved-zero : (c : Config) (service : Service) (tei : ℕ) (what : line_event.Event) (a : Answer) (o : Observed) → is_own_t200 service tei what ≡ false
+    → is_waiting (by_event c service tei what a o).state ≡ true → (o.state == (by_event c service tei what a o).state) ≡ false → (by_event c service tei what a o).expiries ≡ 0
+moved-zero c service tei (hears e) a o other waits moves = grind (arith, eq-eqb)
+moved-zero c service tei (request r) a o other waits moves = grind (arith, eq-eqb)
+moved-zero c service tei (expiry timer) a o other waits moves = grind (arith, eq-eqb)
+moved-zero c service tei next a o other waits moves = absurd (true≢false (sym (eq-eqb o.state o.state refl) ∙ ap (λ n. o.state == n) (sym (same (frame_in a) o)) ∙ moves))
   where
     one : (f : List ℕ) (o : Observed) → (Rattle.laws_trace.specs.Observer.by_frame_begun c service tei o f).state ≡ o.state
     one f o = grind arith
@@ -61,16 +61,16 @@ moved-zero c service tei next a o waits moves = absurd (true≢false (sym (eq-eq
     same [] o = refl
     same (f ∷ fs) o = same fs (Rattle.laws_trace.specs.Observer.by_frame_begun c service tei o f) ∙ one f o
 
--- What T200 leads to: no expiry is counted, or one more.
+-- What T200 leads to: out of state 7 its first expiry is counted by annex B alone; or else none is counted, or one more.
 pub led : (c : Config) (o : Observed) → is_waiting (by_t200 c o).state ≡ true → runs T200 o ≡ true
-    → ((by_t200 c o).expiries ≡ 0) ⊎ (((by_t200 c o).expiries ≡ o.expiries + 1) × (is_waiting o.state ≡ true))
+    → ((o.state ≡ 7) × ((by_t200 c o).expiries ≡ counted c)) ⊎ ((by_t200 c o).expiries ≡ 0) ⊎ (((by_t200 c o).expiries ≡ o.expiries + 1) × (is_waiting o.state ≡ true))
 led c o waits run = go (o.state == 7) refl (may_repeat c o) refl (o.state == 8) refl
   where
     go : (a : Bool) → (o.state == 7) ≡ a → (b : Bool) → may_repeat c o ≡ b → (d : Bool) → (o.state == 8) ≡ d
-        → ((by_t200 c o).expiries ≡ 0) ⊎ (((by_t200 c o).expiries ≡ o.expiries + 1) × (is_waiting o.state ≡ true))
-    go true e b f d g = inl (grind arith)
-    go false e true f d g = inr (grind (arith, eqb-true))
-    go false e false f d g = inl (grind arith)
+        → ((o.state ≡ 7) × ((by_t200 c o).expiries ≡ counted c)) ⊎ ((by_t200 c o).expiries ≡ 0) ⊎ (((by_t200 c o).expiries ≡ o.expiries + 1) × (is_waiting o.state ≡ true))
+    go true e b f d g = inl (eqb-true o.state 7 e, grind arith)
+    go false e true f d g = inr (inr (grind (arith, eqb-true)))
+    go false e false f d g = inr (inl (grind arith))
 
 pub idle-off : (c : Config) (o : Observed) → runs T200 o ≡ false → runs T200 (by_t200 c o) ≡ false
 idle-off c o none = grind arith
@@ -111,12 +111,12 @@ malformed-none c service tei (stream.frame octets) = go (result_err (reading (he
     go : (o : Option ReadFault) → list_any is_used_up (option_to_list (option_and_then (fault_of service tei) o)) ≡ false
     go None = refl
     go (Some fault) = fault-none service tei fault
-malformed-none c service tei (stream.overlong head) = go (long_reading (heard_side c) head)
+malformed-none c service tei (stream.overlong head) = go (is_annex_b c && begins_ui head) (long_reading (heard_side c) head)
   where
-    go : (r : _) → list_any is_used_up (option_to_list (faulty_long service tei r)) ≡ false
-    go (Ok (long.Information address)) = grind arith
-    go (Ok (long.Unnumbered address)) = refl
-    go (Err fault) = fault-none service tei fault
+    go : (ui : Bool) (r : _) → list_any is_used_up (option_to_list (faulty_long ui service tei r)) ≡ false
+    go ui (Ok (long.Information address)) = grind arith
+    go ui (Ok (long.Unnumbered address)) = grind arith
+    go ui (Err fault) = fault-none service tei fault
 malformed-none c service tei (stream.dropped cause) = refl
 
 number-none : (final : Bool) (was to : ℕ) → list_any is_used_up (wrong_number final was to) ≡ false
@@ -133,7 +133,7 @@ by-one true x none = ap (λ b. b || false) none
 by-one false x none = refl
 
 frame-none : (l command : Bool) (k : Control) (was to : ℕ) → list_any is_used_up (wrong_frame l command k was to) ≡ false
-frame-none l command (Information ns nr p) was to = go (l && is_up was)
+frame-none l command (Information ns nr p) was to = go l
   where
     go : (b : Bool) → list_any is_used_up (cond b (O ∷ []) (wrong_number false was to)) ≡ false
     go true = refl
@@ -143,7 +143,7 @@ frame-none l command (ReceiveNotReady nr pf) was to = number-none (not command &
 frame-none l command (Reject nr pf) was to = number-none (not command && pf) was to
 frame-none l command (Sabme p) was to = by-one (is_up was) F refl
 frame-none l command (Disc p) was to = refl
-frame-none l command (Ui p) was to = refl
+frame-none l command (Ui p) was to = by-one l O refl
 frame-none l command (Ua f) was to = grind arith
 frame-none l command (Dm f) was to = grind arith
 frame-none l command (Frmr f) was to = by-one (is_up was) K refl
@@ -151,18 +151,18 @@ frame-none l command (Xid pf) was to = refl
 
 hears-none : (c : Config) (service : Service) (tei : ℕ) (e : stream.Event) (was to : ℕ) → list_any is_used_up (wrong c service tei (hears e) was to) ≡ false
 hears-none c service tei e was to =
-    list_any-append is_used_up (cond (is_up was) (option_to_list (malformed c service tei e)) [])
-    (option_map_or (λ (f : Parts). wrong_frame (nat_lt c.n201 (length f.info)) f.address.command f.control was to) (its_frame service tei (frame_of c e)) [])
-    ∙ ap (λ b. b || list_any is_used_up (option_map_or (λ (f : Parts). wrong_frame (nat_lt c.n201 (length f.info)) f.address.command f.control was to) (its_frame service tei (frame_of c e)) [])) (up (is_up was))
+    list_any-append is_used_up (cond (minds c was) (option_to_list (malformed c service tei e)) [])
+    (option_map_or (λ (f : Parts). wrong_frame (is_too_long c f && minds c was) f.address.command f.control was to) (its_frame service tei (frame_of c e)) [])
+    ∙ ap (λ b. b || list_any is_used_up (option_map_or (λ (f : Parts). wrong_frame (is_too_long c f && minds c was) f.address.command f.control was to) (its_frame service tei (frame_of c e)) [])) (up (minds c was))
     ∙ framed (its_frame service tei (frame_of c e))
   where
     up : (b : Bool) → list_any is_used_up (cond b (option_to_list (malformed c service tei e)) []) ≡ false
     up true = malformed-none c service tei e
     up false = refl
 
-    framed : (o : Option Parts) → list_any is_used_up (option_map_or (λ (f : Parts). wrong_frame (nat_lt c.n201 (length f.info)) f.address.command f.control was to) o []) ≡ false
+    framed : (o : Option Parts) → list_any is_used_up (option_map_or (λ (f : Parts). wrong_frame (is_too_long c f && minds c was) f.address.command f.control was to) o []) ≡ false
     framed None = refl
-    framed (Some f) = frame-none (nat_lt c.n201 (length f.info)) f.address.command f.control was to
+    framed (Some f) = frame-none (is_too_long c f && minds c was) f.address.command f.control was to
 
 -- The state is left.
 left-means : (was to : ℕ) → list_any is_used_up (given_up was to) ≡ true → (is_waiting was ≡ true) × ((was == to) ≡ false) × ((to == 1) ≡ false)

@@ -4,7 +4,6 @@ use Rattle.std.specs.List.{list_any}
 use Rattle.std.specs.Prelude.{flat_map}
 use Rattle.lapd_frame.specs.declared.services.Service.{Service}
 use Rattle.model_line.specs.Event as line
-use Rattle.model_line.specs.Line.{tries}
 use Rattle.model_card.specs.Card.{state}
 use Rattle.model_card.specs.Event.{Event as FrameEvent}
 use Rattle.model_card.specs.ports.Event.{Event}
@@ -15,7 +14,7 @@ use Rattle.model_timed.specs.Timed.{Step, happens, time, falls_due, after_all, A
 use Rattle.laws_time.specs.ArrivalsAwaited.{NoAnswerIsAwaitedLonger}
 unfoldable use Rattle.laws_time.specs.ArrivalsAwaited.{StaysIn}
 use Rattle.lapd_frame.specs.declared.notes.Note.{Note}
-use Rattle.laws_time.specs.ArrivalsUsedUp.{N200TakesItsTime}
+use Rattle.laws_time.specs.ArrivalsUsedUp.{N200TakesItsTime, least_tries}
 use Rattle.laws_time.specs.circuit.Arriving.{error_in, is_used_up}
 use Rattle.laws_time.specs.Silence.{awaiting, news}
 use Rattle.laws_time.specs.Watched.{of_frames, of_octets}
@@ -73,8 +72,8 @@ n200-takes-its-time-of-octets service c lengths late number tei n before steps r
     (prompt-inside late before (fresh c lengths) prompt_before)
     (subst (ArePrompt frames late its) t_is (prompt-inside late steps t prompt))
     (subst (λ (v : TimedCard). state number service tei v.card ≡ Some n) t_is at_n)
-    (subst (λ (v : TimedCard). (after_all frames its v).clock.now < v.clock.now + tries c * lengths.t200) t_is
-    (subst (λ (u : TimedCard). u.clock.now < t.clock.now + tries c * lengths.t200) (steps-inside steps t) soon))))
+    (subst (λ (v : TimedCard). (after_all frames its v).clock.now < v.clock.now + least_tries c n * lengths.t200) t_is
+    (subst (λ (u : TimedCard). u.clock.now < t.clock.now + least_tries c n * lengths.t200) (steps-inside steps t) soon))))
   where
     t : TimedOctetCard
     t = after_all octets before (fresh c lengths)

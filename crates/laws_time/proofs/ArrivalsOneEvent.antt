@@ -1,5 +1,5 @@
 -- One event of a line: how soon T200 falls due then, and that N200 is not used up by it.
-use Rattle.std.proofs.Common.{arith, ◌≡◌, ℕ, ◌+◌, ◌*◌, ◌<◌, ◌≤◌, ◌==◌, ◌&&◌, ◌||◌, not, Bool, true, false, cond, List, [], ◌∷◌, ◌++◌, Some, None, refl, sym, ap, ◌∙◌, subst, eqb-true, eq-eqb, inl, inr, ◌⊎◌, filter, nat_le}
+use Rattle.std.proofs.Common.{arith, ◌≡◌, ℕ, ◌+◌, ◌*◌, ◌<◌, ◌≤◌, ◌==◌, ◌&&◌, ◌||◌, not, Bool, true, false, cond, List, [], ◌∷◌, ◌++◌, Some, None, refl, sym, ap, ◌∙◌, subst, eqb-true, eq-eqb, inl, inr, ◌⊎◌, filter, nat_le, zero, suc}
 use Rattle.std.specs.Prelude.{nat_lt}
 use Rattle.std.proofs.lemmas.Bool.{true≢false, ltb-false}
 use Rattle.std.proofs.lemmas.Nat.{mul-le}
@@ -18,7 +18,7 @@ use Rattle.model_card.specs.Machine.{answer}
 use Rattle.laws_line.specs.Heard.{notes_of}
 use Rattle.laws_trace.specs.Managing.{is_on}
 use Rattle.laws_trace.specs.News.{notes_due, is_news, brings}
-use Rattle.laws_trace.specs.Observer.{Observed, view_of, view_behind, by_event, in_state, moment_of as moment_at}
+use Rattle.laws_trace.specs.Observer.{Observed, view_of, view_behind, by_event, in_state, moment_of as moment_at, counted}
 use Rattle.laws_trace.specs.TimersAreTimely.{renews, is_anew, is_timer_of}
 use Rattle.laws_trace.proofs.ObservedLaws.{news-is-told-so}
 use Rattle.model_timed.specs.Clock.{Clock, first_due}
@@ -78,7 +78,8 @@ due-now number its (e ∷ es) now x is same = go (nat_le e.moment now) refl is
           subst (λ (e : Expiry). e.moment ≤ now) one (low e.moment now early),
         )
 
-module _ (c : Config) (lengths : Lengths) (late number : ℕ) (ranged : IsInRange c) (within : number < c.lines) (service : Service) (tei t0 : ℕ) where
+module _ (c : Config) (lengths : Lengths) (late number : ℕ) (ranged : IsInRange c) (within : number < c.lines) (service : Service) (tei t0 slack floor : ℕ) (least : floor ≤ 1)
+    (covers : counted c ≤ slack + floor) where
   abbrev pub G : List Event → TimedCard → Type 0
   G events t = Goes c lengths late number ranged within service tei events t
 
@@ -91,23 +92,48 @@ module _ (c : Config) (lengths : Lengths) (late number : ℕ) (ranged : IsInRang
   abbrev pub H : List Event → Clock → (ℕ → Type 0) → Type 0
   H events clock P = Holds c lengths late number ranged within service tei T200 events clock P
 
-  -- T200 falls due no sooner than it has run out so often.
+  -- T200 falls due no sooner than it has run out so often, but for the slack; and in state 7, if that does not cover the expiry that
+  -- leads out of it, no sooner than once.
+  abbrev pub InTime : Observed → ℕ → Type 0
+  InTime o m = t0 + (o.expiries + 1) * lengths.t200 ≤ m + slack * lengths.t200
+
   abbrev pub P : Observed → ℕ → Type 0
-  P o m = is_waiting o.state ≡ true → t0 + (o.expiries + 1) * lengths.t200 ≤ m
+  P o m = (is_waiting o.state ≡ true → InTime o m) × (o.state ≡ 7 → floor * (t0 + lengths.t200) ≤ m)
 
   pub record Runs (events : List Event) (t : TimedCard) : Type 0 where
     pub goes : G events t
     pub since : t0 ≤ t.clock.now
     pub due_by : H events t.clock (P (o_at events))
 
-  pub first-time : (now m : ℕ) (q : Observed) → t0 ≤ now → q.expiries ≡ 0 → t0 + (q.expiries + 1) * lengths.t200 ≤ now + lengths.t200
-  first-time now m q since zero = let one = ap (λ e. (e + 1) * lengths.t200) zero in omega (arith, since, one)
+  pub first-time : (now m : ℕ) (q : Observed) → t0 ≤ now → q.expiries ≡ 0 → t0 + (q.expiries + 1) * lengths.t200 ≤ now + lengths.t200 + slack * lengths.t200
+  first-time now m q since none = let one = ap (λ e. (e + 1) * lengths.t200) none in omega (arith, since, one)
 
-  pub once-more : (now m e : ℕ) → m ≤ now → t0 + (e + 1) * lengths.t200 ≤ m → t0 + (e + 1 + 1) * lengths.t200 ≤ now + lengths.t200
+  pub once-more : (now m e : ℕ) → m ≤ now → t0 + (e + 1) * lengths.t200 ≤ m + slack * lengths.t200 → t0 + (e + 1 + 1) * lengths.t200 ≤ now + lengths.t200 + slack * lengths.t200
   once-more now m e low h = let more = one-more (e + 1) lengths.t200 in omega (arith, low, h, more)
 
-  pub fewer : (a b m : ℕ) → a ≤ b → t0 + (b + 1) * lengths.t200 ≤ m → t0 + (a + 1) * lengths.t200 ≤ m
+  pub fewer : (a b m : ℕ) → a ≤ b → t0 + (b + 1) * lengths.t200 ≤ m + slack * lengths.t200 → t0 + (a + 1) * lengths.t200 ≤ m + slack * lengths.t200
   fewer a b m less h = let few = mul-le (a + 1) lengths.t200 (b + 1) lengths.t200 (omega (arith, less)) (omega arith) in omega (arith, h, few)
+
+  -- anew in state 7
+  pub from-now : (now : ℕ) → t0 ≤ now → floor * (t0 + lengths.t200) ≤ now + lengths.t200
+  from-now now since = let once = mul-le floor (t0 + lengths.t200) 1 (t0 + lengths.t200) least (omega arith) in omega (arith, since, once)
+
+  -- out of state 7
+  pub out-of-7 : (now m e : ℕ) → t0 ≤ now → m ≤ now → e ≡ counted c → floor * (t0 + lengths.t200) ≤ m → t0 + (e + 1) * lengths.t200 ≤ now + lengths.t200 + slack * lengths.t200
+  out-of-7 now m e since low is h = go floor refl
+    where
+      few : e ≤ slack + floor
+      few = subst (λ e. e ≤ slack + floor) (sym is) covers
+
+      go : (f : ℕ) → floor ≡ f → t0 + (e + 1) * lengths.t200 ≤ now + lengths.t200 + slack * lengths.t200
+      go zero none =
+          let most = mul-le (e + 1) lengths.t200 (slack + 1) lengths.t200 (omega (arith, few, none)) (omega arith) in
+          let all = one-more slack lengths.t200 in omega (arith, since, most, all)
+      go (suc f) some =
+          let most = mul-le (e + 1) lengths.t200 (slack + 1 + 1) lengths.t200 (omega (arith, few, least)) (omega arith) in
+          let all = one-more slack lengths.t200 in let more = one-more (slack + 1) lengths.t200 in
+          let once = mul-le 1 (t0 + lengths.t200) floor (t0 + lengths.t200) (omega (arith, some)) (omega arith) in
+          omega (arith, low, h, most, all, more, once)
 
   -- An event of the line.
   module _ (events : List Event) (u : TimedCard) (s : S events u) (what : line_event.Event) where
@@ -153,11 +179,11 @@ module _ (c : Config) (lengths : Lengths) (late number : ℕ) (ranged : IsInRang
         go true false e = absurd (true≢false (sym waits ∙ ap (λ (q : Observed). is_waiting q.state) e))
 
     -- that starts T200 anew
-    pub anew-due : is_anew c service tei T200 o q what ≡ true → (is_waiting q.state ≡ true → t0 + (q.expiries + 1) * lengths.t200 ≤ u.clock.now + lengths.t200)
+    pub anew-due : is_anew c service tei T200 o q what ≡ true → t0 ≤ u.clock.now → (is_waiting q.state ≡ true → InTime q (u.clock.now + lengths.t200))
         → H (events ++ at number what ∷ []) (with_event (at number what) u).clock (P (o_at (events ++ at number what ∷ [])))
-    anew-due anew bound =
+    anew-due anew since bound =
         step c lengths late number ranged within service tei events u s what T200 (λ m. ⊥) (P (o_at more)) (λ run kept. absurd (true≢false (sym anew ∙ kept))) (λ run m late_is h. absurd h)
-        (λ begun run. subst (λ x. P x (u.clock.now + lengths.t200)) (sym is-q) bound)
+        (λ begun run. subst (λ x. P x (u.clock.now + lengths.t200)) (sym is-q) (bound, λ at_7. from-now u.clock.now since))
 
     same-there : is_anew c service tei T200 o q what ≡ false → (o.state ≡ q.state) × (q.expiries ≤ o.expiries)
     same-there none =
@@ -166,13 +192,13 @@ module _ (c : Config) (lengths : Lengths) (late number : ℕ) (ranged : IsInRang
         (eqb-true o.state q.state (un-not (o.state == q.state) both.0), ltb-false o.expiries q.expiries both.1)
 
     -- or lets it run on
-    on-due : is_anew c service tei T200 o q what ≡ false → H events u.clock (P o) → H (events ++ at number what ∷ []) (with_event (at number what) u).clock (P (o_at (events ++ at number what ∷ [])))
-    on-due none h =
+    on-due : is_anew c service tei T200 o q what ≡ false → t0 ≤ u.clock.now → H events u.clock (P o) → H (events ++ at number what ∷ []) (with_event (at number what) u).clock (P (o_at (events ++ at number what ∷ [])))
+    on-due none since h =
         let same = same-there none in
         step c lengths late number ranged within service tei events u s what T200 (P o) (P (o_at more)) (λ run kept. h run)
-        (λ run m late_is p. subst (λ x. P x m) (sym is-q) (λ waits. fewer q.expiries o.expiries m same.1 (p (ap is_waiting same.0 ∙ waits))))
+        (λ run m late_is p. subst (λ x. P x m) (sym is-q) (λ waits. fewer q.expiries o.expiries m same.1 (p.0 (ap is_waiting same.0 ∙ waits)), λ at_7. p.1 (same.0 ∙ at_7)))
         (λ begun run. subst (λ x. P x (u.clock.now + lengths.t200)) (sym is-q)
-        (λ waits. absurd (true≢false (sym begun ∙ ap (λ b. not b || is_anew c service tei T200 o q what) (awaits-in o (ap is_waiting same.0 ∙ waits)) ∙ none))))
+        (λ waits. absurd (true≢false (sym begun ∙ ap (λ b. not b || is_anew c service tei T200 o q what) (awaits-in o (ap is_waiting same.0 ∙ waits)) ∙ none)), λ at_7. from-now u.clock.now since))
 
     -- What is told.
     pub own-news : news_in of_frames service tei number (Some (at number what)) u.card ≡ notes_due c service tei o q what (moment_at c events number what).answer
@@ -202,14 +228,14 @@ module _ (c : Config) (lengths : Lengths) (late number : ℕ) (ranged : IsInRang
           go true same = absurd (true≢false (sym anew ∙ never same))
           go false moves =
               ap (λ (q : Observed). q.expiries) by
-              ∙ moved-zero c service tei what (moment_at c events number what).answer o (ap (λ (q : Observed). is_waiting q.state) (sym by) ∙ waits) (ap (λ (q : Observed). o.state == q.state) (sym by) ∙ moves)
+              ∙ moved-zero c service tei what (moment_at c events number what).answer o other (ap (λ (q : Observed). is_waiting q.state) (sym by) ∙ waits) (ap (λ (q : Observed). o.state == q.state) (sym by) ∙ moves)
 
       pub other-due : H (events ++ at number what ∷ []) (with_event (at number what) u).clock (P (o_at (events ++ at number what ∷ [])))
       other-due = go (is_anew c service tei T200 o q what) refl
         where
           go : (b : Bool) → is_anew c service tei T200 o q what ≡ b → H (events ++ at number what ∷ []) (with_event (at number what) u).clock (P (o_at (events ++ at number what ∷ [])))
-          go true anew = anew-due anew (λ waits. first-time u.clock.now u.clock.now q since (zero-then anew waits))
-          go false none = on-due none h
+          go true anew = anew-due anew since (λ waits. first-time u.clock.now u.clock.now q since (zero-then anew waits))
+          go false none = on-due none since h
 
       pub other-news : Used (news_in of_frames service tei number (Some (at number what)) u.card) ≡ false
       other-news = ap Used own-news ∙ go (Used (notes_due c service tei o q what (moment_at c events number what).answer)) refl

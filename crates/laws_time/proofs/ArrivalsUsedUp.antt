@@ -1,5 +1,5 @@
 -- N200 is used up no sooner than T200 has run out so often.
-use Rattle.std.proofs.Common.{arith, ◌≡◌, ℕ, ◌+◌, ◌*◌, ◌<◌, ◌≤◌, ◌==◌, ◌&&◌, ◌||◌, not, Bool, true, false, cond, List, [], ◌∷◌, ◌++◌, Option, Some, None, refl, sym, ap, ◌∙◌, subst, eqb-true, inl, inr, ◌⊎◌, append-nil, option_map, filter}
+use Rattle.std.proofs.Common.{arith, ◌≡◌, ℕ, ◌+◌, ◌*◌, ◌<◌, ◌≤◌, ◌==◌, ◌&&◌, ◌||◌, not, Bool, true, false, cond, List, [], ◌∷◌, ◌++◌, Option, Some, None, refl, sym, ap, ◌∙◌, subst, eqb-true, inl, inr, ◌⊎◌, append-nil, option_map, filter, eq-eqb}
 use Rattle.std.specs.Option.{option_map_or}
 use Rattle.std.specs.Prelude.{option_to_list}
 use Rattle.std.proofs.lemmas.Bool.{true≢false, ltb-false}
@@ -28,7 +28,9 @@ use Rattle.model_card.specs.Run.{Moment}
 use Rattle.laws_line.specs.Heard.{notes_of}
 use Rattle.laws_trace.specs.Managing.{is_on}
 use Rattle.laws_trace.specs.News.{notes_due, is_news}
-use Rattle.laws_trace.specs.Observer.{Observed, View, view_of, view_behind, by_event, by_expiry, by_t200, in_state, moment_of as moment_at}
+use Rattle.laws_trace.specs.Observer.{Observed, View, view_of, view_behind, by_event, by_expiry, by_t200, in_state, moment_of as moment_at, counted}
+use Rattle.std.proofs.lemmas.Nat.{mul-le}
+use Rattle.std.proofs.Math.Nat.{add-mul}
 use Rattle.laws_trace.specs.TimersAreTimely.{runs}
 use Rattle.laws_trace.specs.Trace.{is_own}
 use Rattle.laws_trace.proofs.LinkLed.{own-is}
@@ -37,7 +39,7 @@ use Rattle.model_timed.specs.Frames.{TimedCard, fresh, after, event_of}
 use Rattle.model_timed.specs.Frames.{after_all, events_of, ArePrompt}
 use Rattle.model_timed.specs.Timed.{Step, happens, time, falls_due}
 unfoldable use Rattle.model_timed.specs.Timed.{after_all as timed_after_all, ArePrompt as TimedArePrompt}
-use Rattle.laws_time.specs.ArrivalsUsedUp.{N200TakesItsTime}
+use Rattle.laws_time.specs.ArrivalsUsedUp.{N200TakesItsTime, enquiries}
 use Rattle.laws_time.specs.Silence.{news_in}
 unfoldable use Rattle.laws_time.specs.Silence.{news}
 use Rattle.laws_time.specs.Watched.{of_frames}
@@ -49,9 +51,17 @@ use Rattle.laws_time.proofs.Falls.{in-time}
 use Rattle.laws_time.proofs.Before.{Goes, views-elsewhere, other-line, step-goes, dropped-holds, before-goes, begins, t200-leads, expired-anew}
 use Rattle.laws_time.proofs.OfCircuit.Moments.{is_waiting, awaits-in}
 use Rattle.laws_time.proofs.ArrivalsErrors.{used-append, led, idle-off, used-means, expiry-means, is_own_t200, Used}
-use Rattle.laws_time.proofs.ArrivalsOneEvent.{differs, and-false, no-expiry, due-now, Runs, first-time, once-more, fewer, is-q, views-own, anew-due, own-news, other-due, other-news}
+use Rattle.laws_time.proofs.ArrivalsOneEvent.{differs, and-false, no-expiry, due-now, Runs, first-time, once-more, out-of-7, fewer, is-q, views-own, anew-due, own-news, other-due, other-news}
 
-module _ (c : Config) (lengths : Lengths) (late number : ℕ) (ranged : IsInRange c) (within : number < c.lines) (service : Service) (tei t0 : ℕ) where
+counted-once : (c : Config) → counted c ≤ 1
+counted-once c = grind arith
+
+-- the expiry that leads out of state 7 is one of N200
+fewer-left : (c : Config) → enquiries c T200 + counted c ≤ tries c
+fewer-left c = grind arith
+
+module _ (c : Config) (lengths : Lengths) (late number : ℕ) (ranged : IsInRange c) (within : number < c.lines) (service : Service) (tei t0 slack floor : ℕ) (least : floor ≤ 1)
+    (covers : counted c ≤ slack + floor) (few : ℕ) (most : few + slack ≤ tries c) where
   abbrev G : List Event → TimedCard → Type 0
   G events t = Goes c lengths late number ranged within service tei events t
 
@@ -64,13 +74,12 @@ module _ (c : Config) (lengths : Lengths) (late number : ℕ) (ranged : IsInRang
   abbrev H : List Event → Clock → (ℕ → Type 0) → Type 0
   H events clock P = Holds c lengths late number ranged within service tei T200 events clock P
 
-  -- T200 falls due no sooner than it has run out so often.
   abbrev P : Observed → ℕ → Type 0
-  P o m = is_waiting o.state ≡ true → t0 + (o.expiries + 1) * lengths.t200 ≤ m
+  P o m = (is_waiting o.state ≡ true → t0 + (o.expiries + 1) * lengths.t200 ≤ m + slack * lengths.t200) × (o.state ≡ 7 → floor * (t0 + lengths.t200) ≤ m)
 
   -- T200 falls due and expires.
-  module _ (events : List Event) (t u : TimedCard) (w : Runs c lengths late number ranged within service tei t0 events t) (s : S events u) (m0 : ℕ) (same_now : u.clock.now ≡ t.clock.now)
-      (at_m : moment_of number (timers.T200 service tei) t.clock.running ≡ Some m0) (low : m0 ≤ t.clock.now) (soon : t.clock.now < t0 + tries c * lengths.t200) where
+  module _ (events : List Event) (t u : TimedCard) (w : Runs c lengths late number ranged within service tei t0 slack floor least covers events t) (s : S events u) (m0 : ℕ) (same_now : u.clock.now ≡ t.clock.now)
+      (at_m : moment_of number (timers.T200 service tei) t.clock.running ≡ Some m0) (low : m0 ≤ t.clock.now) (soon : t.clock.now < t0 + few * lengths.t200) where
     abbrev its : line_event.Event
     its = expiry (timers.T200 service tei)
 
@@ -81,14 +90,14 @@ module _ (c : Config) (lengths : Lengths) (late number : ℕ) (ranged : IsInRang
     q_then = (view_behind c service tei number events (expiry (timers.T200 service tei))).link
 
     -- as often as it has run out
-    bound : is_waiting o_was.state ≡ true → t0 + (o_was.expiries + 1) * lengths.t200 ≤ m0
-    bound waits =
-        let d = w.due_by (awaits-in o_was waits) in
-        let same : d.0 ≡ m0 = one d.0 m0 (sym d.1 ∙ at_m) in
-        subst (λ m. t0 + (o_was.expiries + 1) * lengths.t200 ≤ m) same (d.3 waits)
+    in-time-so : runs T200 o_was ≡ true → P o_was m0
+    in-time-so run = let d = w.due_by run in subst (P o_was) (one d.0 m0 (sym d.1 ∙ at_m)) d.3
       where
         one : (a b : ℕ) → Some a ≡ Some b → a ≡ b
         one a b e = cc e
+
+    bound : is_waiting o_was.state ≡ true → t0 + (o_was.expiries + 1) * lengths.t200 ≤ m0 + slack * lengths.t200
+    bound waits = (in-time-so (awaits-in o_was waits)).0 waits
 
     since-now : t0 ≤ u.clock.now
     since-now = subst (λ n. t0 ≤ n) (sym same_now) w.since
@@ -100,18 +109,22 @@ module _ (c : Config) (lengths : Lengths) (late number : ℕ) (ranged : IsInRang
     expired-due = go (runs T200 o_was) refl
       where
         once : (run : runs T200 o_was ≡ true) → is_waiting q_then.state ≡ true
-            → ((by_t200 c o_was).expiries ≡ 0) ⊎ (((by_t200 c o_was).expiries ≡ o_was.expiries + 1) × (is_waiting o_was.state ≡ true)) → t0 + (q_then.expiries + 1) * lengths.t200 ≤ u.clock.now + lengths.t200
-        once run waits (inl zero) = first-time c lengths late number ranged within service tei t0 u.clock.now u.clock.now q_then since-now (ap (λ (q : Observed). q.expiries) (led-by run) ∙ zero)
-        once run waits (inr (count, was)) =
-            subst (λ e. t0 + (e + 1) * lengths.t200 ≤ u.clock.now + lengths.t200) (sym (ap (λ (q : Observed). q.expiries) (led-by run) ∙ count))
-            (once-more c lengths late number ranged within service tei t0 u.clock.now m0 o_was.expiries (subst (λ n. m0 ≤ n) (sym same_now) low) (bound was))
+            → ((o_was.state ≡ 7) × ((by_t200 c o_was).expiries ≡ counted c)) ⊎ ((by_t200 c o_was).expiries ≡ 0) ⊎ (((by_t200 c o_was).expiries ≡ o_was.expiries + 1) × (is_waiting o_was.state ≡ true))
+            → t0 + (q_then.expiries + 1) * lengths.t200 ≤ u.clock.now + lengths.t200 + slack * lengths.t200
+        once run waits (inl (at_7, count)) =
+            out-of-7 c lengths late number ranged within service tei t0 slack floor least covers u.clock.now m0 q_then.expiries since-now (subst (λ n. m0 ≤ n) (sym same_now) low)
+            (ap (λ (q : Observed). q.expiries) (led-by run) ∙ count) ((in-time-so run).1 at_7)
+        once run waits (inr (inl none)) = first-time c lengths late number ranged within service tei t0 slack floor least covers u.clock.now u.clock.now q_then since-now (ap (λ (q : Observed). q.expiries) (led-by run) ∙ none)
+        once run waits (inr (inr (count, was))) =
+            subst (λ e. t0 + (e + 1) * lengths.t200 ≤ u.clock.now + lengths.t200 + slack * lengths.t200) (sym (ap (λ (q : Observed). q.expiries) (led-by run) ∙ count))
+            (once-more c lengths late number ranged within service tei t0 slack floor least covers u.clock.now m0 o_was.expiries (subst (λ n. m0 ≤ n) (sym same_now) low) (bound was))
 
         go : (b : Bool) → runs T200 o_was ≡ b → H (events ++ at number (expiry (timers.T200 service tei)) ∷ []) (with_event (at number (expiry (timers.T200 service tei))) u).clock (P (o_at (events ++ at number (expiry (timers.T200 service tei)) ∷ [])))
         go true run =
-            anew-due c lengths late number ranged within service tei t0 events u s its (expired-anew c number ranged within service tei events s.all T200 run)
+            anew-due c lengths late number ranged within service tei t0 slack floor least covers events u s its (expired-anew c number ranged within service tei events s.all T200 run) since-now
             (λ waits. once run waits (led c o_was (ap (λ (q : Observed). is_waiting q.state) (sym (led-by run)) ∙ waits) run))
         go false none = λ run.
-            absurd (true≢false (sym run ∙ ap (runs T200) (is-q c lengths late number ranged within service tei t0 events u s its) ∙ off (is_on tei (view_of c service tei number events).teis) refl (is_on tei (view_behind c service tei number events its).teis) refl))
+            absurd (true≢false (sym run ∙ ap (runs T200) (is-q c lengths late number ranged within service tei t0 slack floor least covers events u s its) ∙ off (is_on tei (view_of c service tei number events).teis) refl (is_on tei (view_behind c service tei number events its).teis) refl))
           where
             on_then : Bool
             on_then = is_on tei (view_behind c service tei number events its).teis
@@ -123,18 +136,20 @@ module _ (c : Config) (lengths : Lengths) (late number : ℕ) (ranged : IsInRang
             off : (a : Bool) → is_on tei (view_of c service tei number events).teis ≡ a → (b : Bool) → is_on tei (view_behind c service tei number events its).teis ≡ b → runs T200 q_then ≡ false
             off true on b e =
                 ap (runs T200) (t200-leads c number ranged within service tei events s.all on) ∙ idle-off c o_was none
-            off false on b e = ap (runs T200) (views-own c lengths late number ranged within service tei t0 events u s its ∙ ap (λ a. cond (not on_then) (in_state 1) (cond a (by_event c service tei its (moment_at c events number its).answer o_was) (in_state 4))) on) ∙ none-on on_then
+            off false on b e = ap (runs T200) (views-own c lengths late number ranged within service tei t0 slack floor least covers events u s its ∙ ap (λ a. cond (not on_then) (in_state 1) (cond a (by_event c service tei its (moment_at c events number its).answer o_was) (in_state 4))) on) ∙ none-on on_then
 
     expired-news : Used (news_in of_frames service tei number (Some (at number (expiry (timers.T200 service tei)))) u.card) ≡ false
-    expired-news = ap Used (own-news c lengths late number ranged within service tei t0 events u s its) ∙ go (Used (notes_due c service tei o_was q_then its (moment_at c events number its).answer)) refl
+    expired-news = ap Used (own-news c lengths late number ranged within service tei t0 slack floor least covers events u s its) ∙ go (Used (notes_due c service tei o_was q_then its (moment_at c events number its).answer)) refl
       where
         never : (is_waiting o_was.state ≡ true) → ((o_was.state == q_then.state) ≡ false) → ⊥
         never waits moves =
             let run = awaits-in o_was waits in
             let x = expiry-means c service tei o_was (timers.T200 service tei) waits (ap (λ (q : Observed). o_was.state == q.state) (sym (is-by run)) ∙ moves) in
             let many : c.n200 ≤ o_was.expiries = ltb-false o_was.expiries c.n200 x.1 in
-            let b = fewer c lengths late number ranged within service tei t0 c.n200 o_was.expiries m0 many (bound waits) in
-            absurd (omega (arith, b, low, soon))
+            let b = fewer c lengths late number ranged within service tei t0 slack floor least covers c.n200 o_was.expiries m0 many (bound waits) in
+            let whole = mul-le (few + slack) lengths.t200 (c.n200 + 1) lengths.t200 most (omega arith) in
+            let parts = add-mul few slack lengths.t200 in
+            absurd (omega (arith, b, low, soon, whole, parts))
           where
             is-by : runs T200 o_was ≡ true → q_then ≡ by_expiry c service tei (timers.T200 service tei) o_was
             is-by run = led-by run ∙ sym (ap (λ b. cond b (by_t200 c o_was) o_was) (own-is service tei))
@@ -174,7 +189,7 @@ module _ (c : Config) (lengths : Lengths) (late number : ℕ) (ranged : IsInRang
               by false off = λ run. absurd (true≢false (sym run ∙ ap (runs T200) (is ∙ ap (λ b. cond (not b) (in_state 1) (o_at events)) off)))
 
   -- A timer falls due.
-  module _ (events : List Event) (t : TimedCard) (w : Runs c lengths late number ranged within service tei t0 events t) (x : Expiry) (is : due t.clock ≡ Some x) (soon : t.clock.now < t0 + tries c * lengths.t200) where
+  module _ (events : List Event) (t : TimedCard) (w : Runs c lengths late number ranged within service tei t0 slack floor least covers events t) (x : Expiry) (is : due t.clock ≡ Some x) (soon : t.clock.now < t0 + few * lengths.t200) where
     abbrev u : TimedCard
     u = record t { clock = without_first t.clock }
 
@@ -190,7 +205,7 @@ module _ (c : Config) (lengths : Lengths) (late number : ℕ) (ranged : IsInRang
     foreign : (timer : Timer) → x.timer ≡ timer → is_own_t200 service tei (expiry timer) ≡ false → is_same timer (timers.T200 service tei) ≡ false → Then events u (at number (expiry timer))
     foreign timer same none other =
         let h = dropped (by-timer (ap (λ timer. is_same timer (timers.T200 service tei)) same ∙ other)) in
-        (other-due c lengths late number ranged within service tei t0 events u based (expiry timer) none w.since h, other-news c lengths late number ranged within service tei t0 events u based (expiry timer) none w.since h)
+        (other-due c lengths late number ranged within service tei t0 slack floor least covers events u based (expiry timer) none w.since h, other-news c lengths late number ranged within service tei t0 slack floor least covers events u based (expiry timer) none w.since h)
 
     mine : (x.line == number) ≡ true → x.timer ≡ timers.T200 service tei → Then events u (at number (expiry (timers.T200 service tei)))
     mine own_line same =
@@ -217,24 +232,24 @@ module _ (c : Config) (lengths : Lengths) (late number : ℕ) (ranged : IsInRang
 
   -- A step.
   pub record Stepped (events : List Event) (t : TimedCard) (told : List Note) : Type 0 where
-    pub runs_on : Runs c lengths late number ranged within service tei t0 events t
+    pub runs_on : Runs c lengths late number ranged within service tei t0 slack floor least covers events t
     pub none : Used told ≡ false
 
   later : (e : Event) (u : TimedCard) → t0 ≤ u.clock.now → t0 ≤ (with_event e u).clock.now
   later e u since = subst (λ n. t0 ≤ n) (sym (now-stays e.line u.clock (orders_in (answer e u.card)))) since
 
-  step-runs : (events : List Event) (t : TimedCard) (d : Step Event) → Runs c lengths late number ranged within service tei t0 events t → IsPrompt late d t → t.clock.now < t0 + tries c * lengths.t200
+  step-runs : (events : List Event) (t : TimedCard) (d : Step Event) → Runs c lengths late number ranged within service tei t0 slack floor least covers events t → IsPrompt late d t → t.clock.now < t0 + few * lengths.t200
       → Stepped (events ++ option_to_list (event_of d t)) (after d t) (news_in of_frames service tei number (event_of d t) t.card)
   step-runs events t (happens e) w prompt soon =
       let g = step-goes c lengths late number ranged within service tei events t (happens e) w.goes prompt in
       let none = no-expiry service tei e.what prompt.1 in
       let x = event-runs events t w.goes.stands e (λ other. w.due_by)
-      (λ own_line. (other-due c lengths late number ranged within service tei t0 events t w.goes.stands e.what none w.since w.due_by, other-news c lengths late number ranged within service tei t0 events t w.goes.stands e.what none w.since w.due_by)) in
+      (λ own_line. (other-due c lengths late number ranged within service tei t0 slack floor least covers events t w.goes.stands e.what none w.since w.due_by, other-news c lengths late number ranged within service tei t0 slack floor least covers events t w.goes.stands e.what none w.since w.due_by)) in
       record { runs_on = record { goes = g; since = later e t w.since; due_by = x.0 }; none = x.1 }
   step-runs events t (time moment) w prompt soon =
       let g = step-goes c lengths late number ranged within service tei events t (time moment) w.goes prompt in
       record {
-        runs_on = subst (λ es. Runs c lengths late number ranged within service tei t0 es (record t { clock = at_moment moment t.clock })) (sym (append-nil events))
+        runs_on = subst (λ es. Runs c lengths late number ranged within service tei t0 slack floor least covers es (record t { clock = at_moment moment t.clock })) (sym (append-nil events))
             (record {
               goes = subst (λ es. G es (record t { clock = at_moment moment t.clock })) (append-nil events) g;
               since = let first = w.since in let on = prompt.0 in omega (arith, first, on);
@@ -246,7 +261,7 @@ module _ (c : Config) (lengths : Lengths) (late number : ℕ) (ranged : IsInRang
     where
       go : (o : Option Expiry) → due t.clock ≡ o → G (events ++ option_to_list (option_map expiry_of o)) (option_map_or (timed_expiry t) o t)
           → Stepped (events ++ option_to_list (option_map expiry_of o)) (option_map_or (timed_expiry t) o t) (news_in of_frames service tei number (option_map expiry_of o) t.card)
-      go None is g = record { runs_on = subst (λ es. Runs c lengths late number ranged within service tei t0 es t) (sym (append-nil events)) w; none = refl }
+      go None is g = record { runs_on = subst (λ es. Runs c lengths late number ranged within service tei t0 slack floor least covers es t) (sym (append-nil events)) w; none = refl }
       go (Some x) is g =
           let y = fell-runs events t w x is soon in
           record { runs_on = record { goes = g; since = later (expiry_of x) (record t { clock = without_first t.clock }) w.since; due_by = y.0 }; none = y.1 }
@@ -267,7 +282,7 @@ module _ (c : Config) (lengths : Lengths) (late number : ℕ) (ranged : IsInRang
   all-later t [] prompt = omega arith
   all-later t (d ∷ steps) prompt = let one = later-on t d prompt.0 in let rest = all-later (after d t) steps prompt.1 in omega (arith, one, rest)
 
-  pub steps-run : (events : List Event) (t : TimedCard) (steps : List (Step Event)) → Runs c lengths late number ranged within service tei t0 events t → ArePrompt late steps t → (after_all steps t).clock.now < t0 + tries c * lengths.t200
+  pub steps-run : (events : List Event) (t : TimedCard) (steps : List (Step Event)) → Runs c lengths late number ranged within service tei t0 slack floor least covers events t → ArePrompt late steps t → (after_all steps t).clock.now < t0 + few * lengths.t200
       → Used (news of_frames service tei number steps t) ≡ false
   unfolding timed_after_all TimedArePrompt news
   steps-run events t [] w prompt soon = refl
@@ -278,8 +293,7 @@ module _ (c : Config) (lengths : Lengths) (late number : ℕ) (ranged : IsInRang
       (steps-run (events ++ option_to_list (event_of d t)) (after d t) steps x.runs_on prompt.1 soon)
 
 pub n200-takes-its-time : N200TakesItsTime of_frames
-n200-takes-its-time service c lengths late number tei n before steps ranged within idle prompt_before prompt at_n soon =
-    steps-run c lengths late number ranged within service tei t.clock.now events t steps first prompt soon
+n200-takes-its-time service c lengths late number tei n before steps ranged within idle prompt_before prompt at_n soon = go (n == 7) refl
   where
     t : TimedCard
     t = after_all before (fresh c lengths)
@@ -296,9 +310,29 @@ n200-takes-its-time service c lengths late number tei n before steps ranged with
     not-waiting : (n : ℕ) → (n == 4 || n == 7) ≡ true → is_waiting n ≡ true → ⊥
     not-waiting n idle waits = true≢false (grind (arith, eqb-true))
 
-    first : Runs c lengths late number ranged within service tei t.clock.now events t
-    first = record {
+    first : (slack floor : ℕ) (least : floor ≤ 1) (covers : counted c ≤ slack + floor) → ((seen c lengths late number ranged within service tei events).state ≡ 7 → floor ≤ 0)
+        → Runs c lengths late number ranged within service tei t.clock.now slack floor least covers events t
+    first slack floor least covers none = record {
       goes = g;
       since = omega arith;
-      due_by = λ run. let d = g.timers_are T200 run in (d.0, d.1, d.2, λ waits. absurd (not-waiting n idle (ap is_waiting (sym its) ∙ waits)));
+      due_by = λ run.
+          let d = g.timers_are T200 run in (
+            d.0,
+            d.1,
+            d.2,
+            (
+              λ waits. absurd (not-waiting n idle (ap is_waiting (sym its) ∙ waits)),
+              λ at_7. let low = mul-le floor (t.clock.now + lengths.t200) 0 (t.clock.now + lengths.t200) (none at_7) (omega arith) in omega (arith, low),
+            ),
+          );
     }
+
+    go : (b : Bool) → (n == 7) ≡ b → Used (news of_frames service tei number steps t) ≡ false
+    go true at_7 =
+        let most = fewer-left c in
+        steps-run c lengths late number ranged within service tei t.clock.now (counted c) 0 (omega arith) (omega arith) (enquiries c T200) most events t steps (first (counted c) 0 (omega arith) (omega arith) (λ is. omega arith)) prompt
+        (subst (λ b. (after_all steps t).clock.now < t.clock.now + cond {A = ℕ} b (enquiries c T200) (tries c) * lengths.t200) at_7 soon)
+    go false not_7 =
+        steps-run c lengths late number ranged within service tei t.clock.now 0 (counted c) (counted-once c) (omega arith) (tries c) (omega arith) events t steps
+        (first 0 (counted c) (counted-once c) (omega arith) (λ is. absurd (true≢false (sym (eq-eqb n 7 (sym its ∙ is)) ∙ not_7)))) prompt
+        (subst (λ b. (after_all steps t).clock.now < t.clock.now + cond {A = ℕ} b (enquiries c T200) (tries c) * lengths.t200) not_7 soon)

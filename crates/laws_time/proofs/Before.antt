@@ -71,10 +71,10 @@ module _ (c : Config) (number : ℕ) (ranged : IsInRange c) (within : number < c
         stays-on c events number ranged all within service tei (expiry (timers.T200 service tei)) on (on-by tei (number == number) (is_terminal c) (view_of c service tei number events).teis on)
         ∙ ap (λ b. cond b (by_t200 c o) o) (own-is service tei)
 
-    pub t203-leads : is_on tei (view_of c service tei number events).teis ≡ true → behind T203 ≡ cond (o.state == 7 && not (awaits o)) (enquires o) o
+    pub t203-leads : is_on tei (view_of c service tei number events).teis ≡ true → behind T203 ≡ cond (o.state == 7 && not (awaits o)) (enquires 0 o) o
     t203-leads on =
         stays-on c events number ranged all within service tei (expiry (timers.T203 service tei)) on (on-by tei (number == number) (is_terminal c) (view_of c service tei number events).teis on)
-        ∙ ap (λ b. cond (b && (o.state == 7 && not (awaits o))) (enquires o) o) (own-is service tei)
+        ∙ ap (λ b. cond (b && (o.state == 7 && not (awaits o))) (enquires 0 o) o) (own-is service tei)
 
     -- It starts one anew.
     pub expired-anew : (timer : LinkTimer) → runs timer o ≡ true → is_anew c service tei timer o (behind timer) (expiry (timer_of service tei timer)) ≡ true
@@ -83,8 +83,8 @@ module _ (c : Config) (number : ℕ) (ranged : IsInRange c) (within : number < c
         ∙ ap (λ b. b || (o.state == 7 && false)) (t200-enters o c run)
     expired-anew T203 run =
         ap (λ q. is_anew c service tei T203 o q (expiry (timers.T203 service tei)))
-        (t203-leads (there c events number ranged all within service tei T203 run) ∙ ap (λ b. cond b (enquires o) o) run)
-        ∙ ap (λ b. b || (o.state == 7 && false)) (enquired o (eqb-true o.state 7 ((and_parts (o.state == 7) (not (awaits o)) run).0)))
+        (t203-leads (there c events number ranged all within service tei T203 run) ∙ ap (λ b. cond b (enquires 0 o) o) run)
+        ∙ ap (λ b. b || (o.state == 7 && false)) (enquired o 0 (eqb-true o.state 7 ((and_parts (o.state == 7) (not (awaits o)) run).0)))
 
 module _ (c : Config) (lengths : Lengths) (late number : ℕ) (ranged : IsInRange c) (within : number < c.lines) (service : Service) (tei : ℕ) where
   abbrev Fresh : LinkTimer → Clock → ℕ → Type 0

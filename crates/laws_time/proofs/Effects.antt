@@ -1,5 +1,5 @@
 -- What an event at the line makes of a link of which nothing is heard, and what is told.
-use Rattle.std.proofs.Common.{arith, ◌≡◌, ℕ, ◌≤◌, ◌==◌, ◌&&◌, not, Bool, true, false, cond, List, [], ◌∷◌, ◌++◌, Option, refl, sym, ap, ◌∙◌, subst, eq-eqb, nat_le, map}
+use Rattle.std.proofs.Common.{arith, ◌≡◌, ℕ, ◌≤◌, ◌==◌, ◌&&◌, not, Bool, true, false, cond, List, [], ◌∷◌, ◌++◌, Option, refl, sym, ap, ◌∙◌, subst, eq-eqb, nat_le, map, ◌||◌}
 use Rattle.std.specs.Prelude.{fold}
 use Rattle.std.specs.Option.{option_map_or}
 use Rattle.std.proofs.lemmas.Bool.{le-ltb}
@@ -12,6 +12,7 @@ use Rattle.model_line.specs.Event.{Event, Answer, hears, expiry, request, next}
 use Rattle.model_line.specs.Request.{Request}
 use Rattle.model_line.specs.declared.config.Config.{Config}
 use Rattle.model_link.specs.declared.timers.LinkTimer.{LinkTimer}
+use Rattle.laws_trace.specs.LinkFrames.{is_too_long}
 use Rattle.laws_trace.specs.News.{notes_due, wrong, due, brings, is_xid, is_sabme, releases}
 use Rattle.laws_trace.specs.Observer.{Observed, by_event, by_heard, by_request, by_frame, by_frame_begun, awaits, anew}
 use Rattle.laws_trace.specs.Trace.{frame_in}
@@ -44,7 +45,7 @@ sent-like c service tei o (f ∷ fs) =
     (sent-like c service tei (by_frame_begun c service tei o f) fs)
 
 module _ (c : Config) (service : Service) (tei : ℕ) (a : Answer) (o : Observed) where
-  heard-same : (m : Bool) (f : Option Parts) → m ≡ false → option_map_or (λ (f : Parts). not (is_ui f.control)) f false ≡ false
+  heard-same : (m : Bool) (f : Option Parts) → m ≡ false → option_map_or (λ (f : Parts). not (is_ui f.control) || is_too_long c f) f false ≡ false
       → cond (nat_le 7 o.state && m) (anew o) (option_map_or (by_frame c o) f o) ≡ o
   heard-same m f none ui = grind arith
 
@@ -74,7 +75,7 @@ module _ (c : Config) (service : Service) (tei : ℕ) (a : Answer) (o : Observed
   due-none : (q : Observed) (xid sabme released : Bool) → xid ≡ false → sabme ≡ false → released ≡ false → 4 ≤ o.state → q.state ≡ o.state → due service tei xid sabme released o q.state ≡ []
   due-none q xid sabme released x s r up same = grind arith
 
-  quiet-frame : (m : Bool) (f : Option Parts) → m ≡ false → option_map_or (λ (f : Parts). not (is_ui f.control)) f false ≡ false → (m ≡ false) × (option_map_or (λ (f : Parts). is_xid f.control) f false ≡ false) × (option_map_or (λ (f : Parts). is_sabme f.control) f false ≡ false)
+  quiet-frame : (m : Bool) (f : Option Parts) → m ≡ false → option_map_or (λ (f : Parts). not (is_ui f.control) || is_too_long c f) f false ≡ false → (m ≡ false) × (option_map_or (λ (f : Parts). is_xid f.control) f false ≡ false) × (option_map_or (λ (f : Parts). is_sabme f.control) f false ≡ false)
   quiet-frame m f none ui = grind arith
 
   wrong-none : (what : Event) → is_stirred c service tei what ≡ false → is_its_expiry service tei what ≡ false → (to : ℕ) → to ≡ o.state → wrong c service tei what o.state to ≡ []

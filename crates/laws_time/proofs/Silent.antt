@@ -253,10 +253,10 @@ module _ (c : Config) (lengths : Lengths) (late number : ℕ) (ranged : IsInRang
     waits-203 on g run =
         let at_7 = never-both o_was run in
         let d = w.t203 run in
-        waits-led T203 (enquires o_was) (t203-leads c number ranged within service tei events s.all w.on ∙ ap (λ b. cond b (enquires o_was) o_was) run) on g
+        waits-led T203 (enquires 0 o_was) (t203-leads c number ranged within service tei events s.all w.on ∙ ap (λ b. cond b (enquires 0 o_was) o_was) run) on g
         (record { least = omega arith; most = omega arith })
         (ap (owed service tei) at_7.0
-        ∙ sym (ap (λ ns. ns ++ owed service tei 8) (notes-none c service tei (moment_of c events number (expiry (timers.T203 service tei))).answer (timers.T203 service tei) o_was (enquires o_was) w.phase.least (inr (at_7.0, refl)))))
+        ∙ sym (ap (λ ns. ns ++ owed service tei 8) (notes-none c service tei (moment_of c events number (expiry (timers.T203 service tei))).answer (timers.T203 service tei) o_was (enquires 0 o_was) w.phase.least (inr (at_7.0, refl)))))
         (λ run_now. enquiry-203 c lengths.t200 late first all u.clock.now d.0 (subst (λ n. n ≤ d.0 + late) (sym same_now) d.2) d.3) refl
         (λ up. ap (nat_le 7) at_7.0)
         (λ run_was. absurd (true≢false (sym run_was ∙ at_7.1)))
@@ -266,7 +266,7 @@ module _ (c : Config) (lengths : Lengths) (late number : ℕ) (ranged : IsInRang
     idle-200-is none = t200-leads c number ranged within service tei events s.all w.on ∙ idle-200 c o_was none
 
     pub idle-203-is : runs T203 o_was ≡ false → r_of (timers.T203 service tei) ≡ o_was
-    idle-203-is none = t203-leads c number ranged within service tei events s.all w.on ∙ ap (λ b. cond b (enquires o_was) o_was) none
+    idle-203-is none = t203-leads c number ranged within service tei events s.all w.on ∙ ap (λ b. cond b (enquires 0 o_was) o_was) none
 
   -- Any other event of the line, of which nothing is heard.
   module _ (whole_told : List Note) (events : List Event) (t u : TimedCard) (told : List Note) (w : Waits whole_told events t told) (s : Stand events u) (what : line_event.Event)

@@ -1,9 +1,10 @@
 -- A clock that a caller keeps beside a card is as the clock of a card that keeps its own timers.
-use Rattle.std.specs.Prelude.{◌≡◌, ℕ, ◌+◌, ◌*◌, ◌||◌, nat_lt, true, option_map}
+use Rattle.std.specs.Prelude.{◌≡◌, ℕ, ◌+◌, ◌*◌, ◌==◌, ◌&&◌, ◌||◌, nat_lt, true, count_by, option_map}
+use Rattle.std.specs.List.{list_any}
 use Rattle.std.specs.Option.{option_map_or}
-use Rattle.lapd_clock.specs.Timer.{Timer, Order, Start, Stop, Lengths, standard}
+use Rattle.lapd_clock.specs.Timer.{Timer, Order, Start, Stop, Lengths, is_same, standard}
 use Rattle.lapd_clock.specs.Timers as callers
-use Rattle.lapd_clock.specs.Timers.{Expiry, Timers, is_held, count_on}
+use Rattle.lapd_clock.specs.Timers.{Expiry, Timers}
 use Rattle.model_timed.specs.Clock as own
 use Rattle.model_timed.specs.Clock.{Clock, stopped, obey, without_first}
 
@@ -17,7 +18,8 @@ pub record CallersClocksAreClocks : Type 0 where
   pub places : (lengths : Lengths) (lines terminals : ℕ) → (callers.idle_with lengths lines terminals).places ≡ 4 * terminals + 1
   pub usual : (lines terminals : ℕ) → callers.idle lines terminals ≡ callers.idle_with standard lines terminals
   -- An order is carried out if it finds a place: a timer that runs has one, and another where fewer of its line run than there are.
-  pub found : (c : Timers) (line : ℕ) (timer : Timer) → callers.finds_place c line (Start timer) ≡ (is_held line timer c.running || nat_lt (count_on line c.running) c.places)
+  pub found : (c : Timers) (line : ℕ) (timer : Timer)
+      → callers.finds_place c line (Start timer) ≡ (list_any (λ (e : Expiry). e.line == line && is_same e.timer timer) c.running || nat_lt (count_by (λ (e : Expiry). e.line == line) c.running) c.places)
   pub stops : (c : Timers) (line : ℕ) (timer : Timer) → callers.finds_place c line (Stop timer) ≡ true
   pub obeys : (c : Timers) (line : ℕ) (order : Order) (now : ℕ) → callers.finds_place c line order ≡ true
       → clock_of (callers.with_order c line order now) now ≡ obey line (clock_of c now) order

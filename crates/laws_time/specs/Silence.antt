@@ -14,13 +14,13 @@ use Rattle.model_line.specs.Sound.{IsInRange}
 use Rattle.model_line.specs.declared.config.Config.{Config}
 use Rattle.model_line.specs.Line.{tries}
 use Rattle.model_timed.specs.Timed.{Timed, Step, happens, time, falls_due, after, after_all, event_of, ArePrompt}
-use Rattle.laws_trace.specs.LinkFrames.{brought, malformed}
+use Rattle.laws_trace.specs.LinkFrames.{brought, is_too_long, malformed}
 use Rattle.laws_trace.specs.News.{is_news}
 use Rattle.laws_trace.specs.Trace.{is_own, IsFront}
 use Rattle.laws_trace.specs.Units.{is_ui}
 use Rattle.laws_time.specs.Watched.{Watched, fresh}
 
--- Nothing is heard of a link except unit data, neither whole nor malformed; and layer 3 asks neither to establish it, nor to release
+-- Nothing is heard of a link except unit data, neither whole nor malformed, nor, by annex B, UI over N201; and layer 3 asks neither to establish it, nor to release
 -- or deactivate it. All else may happen: layer 3 asks for data and unit data, or is busy, or is not so any more; frames go, or do
 -- not; other links are served.
 abbrev pub moves_link : Service → ℕ → Request → Bool
@@ -31,7 +31,7 @@ moves_link service tei other = false
 
 abbrev pub is_heard : Config → Service → ℕ → stream.Event → Bool
 is_heard c service tei e =
-    is_some (malformed c service tei e) || option_map_or (λ (f : Parts). not (is_ui f.control)) (brought c service tei (line.hears e)) false
+    is_some (malformed c service tei e) || option_map_or (λ (f : Parts). not (is_ui f.control) || is_too_long c f) (brought c service tei (line.hears e)) false
 
 abbrev pub is_stirred : Config → Service → ℕ → line.Event → Bool
 is_stirred c service tei (line.hears e) = is_heard c service tei e

@@ -1,11 +1,13 @@
 -- The cause of each drop is told, and no other: the law.
-use Rattle.laws_trace.proofs.Vocabulary.{◌≡◌, ℕ, ◌<◌, ◌==◌, ◌&&◌, ◌||◌, Bool, true, false, cond, List, Option, Some, None, Ok, Err, Result, refl, sym, ap, ◌∙◌, subst, arith, leb-true, eqb-true, and_parts, nat_le, length, is_some, option_map_or, PoolFull, ReadFault, BadExtension, Address, Side, Network, User, Service, Long, Parts, reading, service_of}
+use Rattle.laws_trace.proofs.Vocabulary.{◌≡◌, ℕ, ◌<◌, ◌==◌, ◌&&◌, ◌||◌, Bool, true, false, or-true, cond, List, Option, Some, None, Ok, Err, Result, refl, sym, ap, ◌∙◌, subst, arith, leb-true, eqb-true, and_parts, nat_le, length, is_some, option_map_or, PoolFull, ReadFault, BadExtension, Address, Side, Network, User, Service, Long, Parts, reading, service_of}
 use Rattle.laws_trace.proofs.Vocabulary.{Terms, Link, state_number, State, Received, received, frame, undefined, wrong_size, overlong, LinkEvent, link_told, begun, Config, hears, expiry, request, next, Answer, refused, Line, state_of, state_in, place_in, terms, link_in, at_link, at_management, at_none, of_aim, LinkRequest, requested, expired, cleared, at_requested}
 use Rattle.laws_trace.proofs.Vocabulary.{at_deactivated, at_timer, aim_of_expiry, aim_of_request}
 use Rattle.laws_trace.proofs.Vocabulary.{unless_refused, unless_refused_told, refusal, Refusal, Request, Timer, TimerT200, TimerT203, T201, LinkTimer, T200, T203, Aim, addressed, aim_of_reading, aim_of_long, heard_side, message_of, at_side, IsToGroup, group-read, IsSound as IsSoundLine, Card, line_at, is_full, at, always_sound, fresh_is_sound, has_lines, by_room, config-stays, fresh}
 use Rattle.laws_trace.proofs.Vocabulary.{CardEvent as Event, card_answer}
 use Rattle.laws_trace.proofs.Vocabulary.{after_all, IsAtLine, CardIsSound as IsSound, line_sound as sound-at, stream_frame, Managed, managed_after, view_of, is_unit_taken, IfSome, Always, is_ui, is_up, not, tei_message, tei_assign, tei_remove, tei_check, tei_disown}
 use Rattle.laws_trace.proofs.Vocabulary.{told, dropped, none-some, Assign, Checking, ClearBusy, Data, Deactivate, Disown, Down, Establish, Release, Remove, SetBusy, LinkClearBusy, LinkData, LinkEstablish, LinkRelease, LinkSetBusy}
+use Rattle.lapd_frame.specs.declared.controls.Control.{Control}
+use Rattle.lapd_frame.specs.declared.controls.Control.TheVariants.{Information, Ui}
 use Rattle.lapd_frame.specs.Senders.{long_reading}
 use Rattle.lapd_frame.specs.declared.timers.Timer.TheVariants.{T202}
 use Rattle.lapd_tei.specs.Events.{expiry as tei_expiry}
@@ -19,7 +21,7 @@ use Rattle.lapd_frame.specs.declared.overlong.Long.TheVariants as long
 use Rattle.model_line.specs.Event as line_event
 use Rattle.model_line.specs.Request as asked
 use Rattle.model_line.specs.Effect.{unserved_cause}
-use Rattle.model_line.specs.Heard.{drop_for, at_place, to_service, unless_at_link}
+use Rattle.model_line.specs.Heard.{aim_of_unnumbered, drop_for, at_place, to_service, unless_at_link}
 use Rattle.model_line.specs.Laws.{cause_in}
 use Rattle.model_line.specs.Line.{is_terminal}
 use Rattle.model_line.specs.Machine as lines
@@ -28,6 +30,11 @@ use Rattle.model_line.proofs.Drops.{heard_leaves}
 use Rattle.model_link.specs.Requests.{release_in}
 use Rattle.model_link.specs.Machine.{told_of_clearing}
 use Rattle.laws_trace.specs.CausesAreTold.{CausesAreTold, by_address, by_fault, by_frame, by_long, cause_due, serves, serves_information, unless}
+use Rattle.lapd_frame.specs.Readings.{by_reading}
+use Rattle.lapd_frame.specs.declared.readings.Reading.{Reading}
+use Rattle.lapd_frame.specs.declared.readings.Reading.TheVariants.{Profile, AnnexB}
+use Rattle.laws_trace.specs.LinkFrames.{begins_ui, is_annex_b, is_too_long}
+use Rattle.laws_trace.specs.News.{minds}
 use Rattle.laws_trace.specs.Managing.{is_on, manages}
 use Rattle.laws_trace.proofs.CausesOfSide.{Serves, down-quiet, managed-quiet, named, own-quiet, serves-known}
 use Rattle.laws_trace.proofs.Known.{knows-now}
@@ -36,12 +43,25 @@ use Rattle.laws_trace.proofs.ObservedRun.{is-told}
 use Rattle.laws_trace.proofs.LineAtEnd.{line-at-end}
 
 -- What a link serves of what it receives.
-abbrev served_by : ℕ → Received → ℕ → Bool
-served_by n201 (frame f) state = cond (is_ui f.control) (nat_le (length f.info) n201) (serves f.control state)
-served_by n201 other state = is_up state
+abbrev served_by : Config → Received → ℕ → Bool
+served_by c (frame f) state = cond (is_ui f.control) (nat_le (length f.info) c.n201 || is_annex_b c) (serves c (is_too_long c f) f.control state)
+served_by c other state = minds c state
 
-received-serves : (t : Terms) (r : Received) (l : Link) → (link_told t (received r) l).unserved ≡ not (served_by t.n201 r (state_number l.state))
-received-serves t r l = grind arith
+module _ (c : Config) (service : Service) (tei : ℕ) (l : Link) where
+  abbrev ServesAsSeen : Received → Type 0
+  ServesAsSeen r = (link_told (terms c service tei) (received r) l).unserved ≡ not (served_by c r (state_number l.state))
+
+  frame-serves : (address : Address) (control : Control) (info : List ℕ) → ServesAsSeen (frame (record { address = address; control = control; info = info }))
+  frame-serves address (Ui p) info = grind arith
+  frame-serves address (Information ns nr p) info = grind arith
+  frame-serves address control info = grind arith
+
+  received-serves : (r : Received) → ServesAsSeen r
+  received-serves (frame f) = frame-serves f.address f.control f.info
+  received-serves other = grind arith
+
+named-unless : (b : Bool) → unserved_cause (not b) ≡ unless b
+named-unless b = grind arith
 
 -- Nothing else is left unserved.
 abbrev is_received : LinkEvent → Bool
@@ -93,26 +113,34 @@ module _ (c : Config) (l : Line) (w : Managed) (states : Service → ℕ → ℕ
     addresseds a m b is = grind (arith, drops, to-services)
 
   -- A link's own.
-  links-named : (what : Received) (service : Service) (tei place : ℕ) → named c l (at_link service tei place (received what)) ≡ unless (served_by c.n201 what (state_in l service place))
-  links-named what service tei place = grind (arith, received-serves)
+  links-named : (what : Received) (service : Service) (tei place : ℕ) → named c l (at_link service tei place (received what)) ≡ unless (served_by c what (state_in l service place))
+  links-named what service tei place = ap unserved_cause (received-serves c service tei (link_in l service place) what) ∙ named-unless (served_by c what (state_in l service place))
 
   abbrev malformed : Address → Option Cause
-  malformed = by_address w states is_up false
+  malformed = by_address w states (minds c) false
 
   faults : (fault : ReadFault) → named c l (aim_of_reading c l (Err fault)) ≡ by_fault malformed fault
   faults BadExtension = refl
-  faults (Undefined a) = addresseds (named c l) is_up undefined (λ cause. refl) (links-named undefined) a (drop_for Unserved) false refl
-  faults (WrongSize a) = addresseds (named c l) is_up wrong_size (λ cause. refl) (links-named wrong_size) a (drop_for Unserved) false refl
+  faults (Undefined a) = addresseds (named c l) (minds c) undefined (λ cause. refl) (links-named undefined) a (drop_for Unserved) false refl
+  faults (WrongSize a) = addresseds (named c l) (minds c) wrong_size (λ cause. refl) (links-named wrong_size) a (drop_for Unserved) false refl
   faults Short = refl
 
-  longs : (r : Result Long ReadFault) → named c l (aim_of_long l r) ≡ by_long w states r
-  longs (Ok (long.Information a)) = addresseds (named c l) is_up overlong (λ cause. refl) (links-named overlong) a (drop_for Unserved) false refl
-  longs (Ok (long.Unnumbered a)) =
-      addresseds (λ aim. named c l (unless_at_link aim)) (λ state. false) overlong (λ cause. refl) (λ service tei place. refl) a (drop_for Unserved) false refl
-  longs (Err BadExtension) = refl
-  longs (Err (Undefined a)) = addresseds (named c l) is_up undefined (λ cause. refl) (links-named undefined) a (drop_for Unserved) false refl
-  longs (Err (WrongSize a)) = addresseds (named c l) is_up wrong_size (λ cause. refl) (links-named wrong_size) a (drop_for Unserved) false refl
-  longs (Err Short) = refl
+  long-units : (ui : Bool) (a : Address) (q : Reading) → c.reading ≡ q
+      → named c l (aim_of_unnumbered q ui (addressed l a overlong (drop_for Unserved))) ≡ by_address w states (λ state. ui && by_reading q false true) false a
+  long-units false a q is = addresseds (λ aim. named c l (unless_at_link aim)) (λ state. false) overlong (λ cause. refl) (λ service tei place. refl) a (drop_for Unserved) false refl
+  long-units true a Profile is = addresseds (λ aim. named c l (unless_at_link aim)) (λ state. false) overlong (λ cause. refl) (λ service tei place. refl) a (drop_for Unserved) false refl
+  long-units true a AnnexB is =
+      addresseds (named c l) (λ state. true) overlong (λ cause. refl)
+      (λ service tei place. let state = state_in l service place in links-named overlong service tei place ∙ ap (λ q. unless (is_up state || by_reading q false true)) is ∙ ap unless (or-true (is_up state)))
+      a (drop_for Unserved) false refl
+
+  longs : (ui : Bool) (r : Result Long ReadFault) → named c l (aim_of_long c.reading ui l r) ≡ by_long c ui w states r
+  longs ui (Ok (long.Information a)) = addresseds (named c l) (minds c) overlong (λ cause. refl) (links-named overlong) a (drop_for Unserved) false refl
+  longs ui (Ok (long.Unnumbered a)) = long-units ui a c.reading refl
+  longs ui (Err BadExtension) = refl
+  longs ui (Err (Undefined a)) = addresseds (named c l) (minds c) undefined (λ cause. refl) (links-named undefined) a (drop_for Unserved) false refl
+  longs ui (Err (WrongSize a)) = addresseds (named c l) (minds c) wrong_size (λ cause. refl) (links-named wrong_size) a (drop_for Unserved) false refl
+  longs ui (Err Short) = refl
 
   -- A frame that the grammar has, by the side; but for unit data that is told.
   module _ (served : Serves c l w) (f : Parts) where
@@ -140,9 +168,9 @@ module _ (c : Config) (l : Line) (w : Managed) (states : Service → ℕ → ℕ
       message-so : named c l (at_side c f (message_of f.control f.info)) ≡ unless its_message
       message-so = grind (arith, by-side, drops-so)
 
-      frames : named c l (aim_of_reading c l (Ok f)) ≡ by_address w states (served_by c.n201 (frame f)) its_message f.address
+      frames : named c l (aim_of_reading c l (Ok f)) ≡ by_address w states (served_by c (frame f)) its_message f.address
       frames =
-          addresseds (λ aim. named c l (at_side c f aim)) (served_by c.n201 (frame f)) (frame f) drops-so (links-named (frame f)) f.address
+          addresseds (λ aim. named c l (at_side c f aim)) (served_by c (frame f)) (frame f) drops-so (links-named (frame f)) f.address
           (message_of f.control f.info) its_message message-so
 
     -- Unit data of a TEI on the line is told, and any other UI is not served.
@@ -150,19 +178,19 @@ module _ (c : Config) (l : Line) (w : Managed) (states : Service → ℕ → ℕ
     by_served served o = option_map_or (λ service. cond (is_on f.address.tei w) (unless (served (states service f.address.tei))) (Some Tei)) o (Some Sapi)
 
     as-due : is_for_group c f ≡ false → (o : Option Service) → service_of f.address.sapi ≡ o
-        → by_served (served_by c.n201 (frame f)) o ≡ cond (is_some o && is_unit_taken c f.address.tei w f) None (by_served (serves f.control) o)
+        → by_served (served_by c (frame f)) o ≡ cond (is_some o && is_unit_taken c f.address.tei w f) None (by_served (serves c (is_too_long c f) f.control) o)
     as-due alone o is = grind arith
 
     abbrev managing : Option Cause
     managing = cond (f.address.tei == 127) (unless its_message) (Some Tei)
 
     by-due : is_for_group c f ≡ false
-        → by_address w states (served_by c.n201 (frame f)) its_message f.address ≡ cond is_told None (by_address w states (serves f.control) its_message f.address)
+        → by_address w states (served_by c (frame f)) its_message f.address ≡ cond is_told None (by_address w states (serves c (is_too_long c f) f.control) its_message f.address)
     by-due alone = go (f.address.sapi == 63) refl (as-due alone (service_of f.address.sapi) refl)
       where
         go : (b : Bool) → (f.address.sapi == 63) ≡ b
-            → by_served (served_by c.n201 (frame f)) (service_of f.address.sapi) ≡ cond is_told None (by_served (serves f.control) (service_of f.address.sapi))
-            → cond b managing (by_served (served_by c.n201 (frame f)) (service_of f.address.sapi)) ≡ cond is_told None (cond b managing (by_served (serves f.control) (service_of f.address.sapi)))
+            → by_served (served_by c (frame f)) (service_of f.address.sapi) ≡ cond is_told None (by_served (serves c (is_too_long c f) f.control) (service_of f.address.sapi))
+            → cond b managing (by_served (served_by c (frame f)) (service_of f.address.sapi)) ≡ cond is_told None (cond b managing (by_served (serves c (is_too_long c f) f.control) (service_of f.address.sapi)))
         go true is same = ap (λ o. cond (is_some o && is_unit_taken c f.address.tei w f) None managing) (sym (ap service_of (eqb-true f.address.sapi 63 is)))
         go false is same = same
 
@@ -223,14 +251,14 @@ module _ (c : Config) (l : Line) (s : IsSoundLine c l) (w : Managed) (states : S
       go true for =
           let to = group-to c f for (service_of f.address.sapi) refl in
           ap cause_in (group-read c l f octets to.0 s is to.1).answer_is
-          ∙ sym (ap (λ b. cond b None (by_address w states (serves f.control) ((is_ui f.control && (manages c.side || (is_terminal c && f.address.command))) && serves_information c w f.info) f.address)) (group-told c f w for))
+          ∙ sym (ap (λ b. cond b None (by_address w states (serves c (is_too_long c f) f.control) ((is_ui f.control && (manages c.side || (is_terminal c && f.address.command))) && serves_information c w f.info) f.address)) (group-told c f w for))
       go false alone = ap (λ r. named c l (aim_of_reading c l r)) is ∙ frames c l w states agree served f alone ∙ by-due c l w states agree served f alone
 
   cause-is : (e : line_event.Event) → cause_after e ≡ cause_due c w states e
   unfolding lines.answer
   cause-is (hears (stream.dropped cause)) = refl
   cause-is (hears (stream.frame octets)) = frame-heard octets (reading (heard_side c) octets) refl
-  cause-is (hears (stream.overlong head)) = longs c l w states agree (long_reading (heard_side c) head)
+  cause-is (hears (stream.overlong head)) = longs c l w states agree (begins_ui head) (long_reading (heard_side c) head)
   cause-is (expiry timer) = expiry-quiet c l timer
   cause-is (request r) = unless-quiet c l r (refusal c false r l)
   cause-is next = refl

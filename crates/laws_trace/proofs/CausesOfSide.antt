@@ -1,13 +1,14 @@
 -- Which causes TEI management of the side names: those that its observer has it name.
-use Rattle.laws_trace.proofs.Vocabulary.{◌≡◌, ℕ, ◌+◌, ◌*◌, ◌/◌, ◌%◌, ◌==◌, ◌&&◌, ◌||◌, Bool, true, false, cond, cond_both, List, [], ◌∷◌, Option, Some, None, refl, sym, ap, ◌∙◌, arith, is_some, option_map_or}
+use Rattle.laws_trace.proofs.Vocabulary.{◌≡◌, ℕ, ◌+◌, ◌*◌, ◌/◌, ◌%◌, ◌==◌, ◌&&◌, Bool, true, false, cond, cond_both, List, [], ◌∷◌, Option, Some, None, refl, sym, ap, ◌∙◌, arith, is_some, option_map_or}
 use Rattle.laws_trace.proofs.Vocabulary.{Config, Line, at_management, at_no_link, of_aim}
 use Rattle.laws_trace.proofs.Vocabulary.{Aim, IsSound as IsSoundLine, at}
-use Rattle.laws_trace.proofs.Vocabulary.{nothing_due, Managed, Management, Change, of_change, told_of_management, TeiTold, tei_after, not, tei_begun, tei_told, tei_message, TeiEvent}
-use Rattle.laws_trace.proofs.Vocabulary.{heard_in, heard_of_type, Check, Checked, may_check}
+use Rattle.laws_trace.proofs.Vocabulary.{Managed, Management, Change, of_change, told_of_management, TeiTold, tei_after, not, tei_begun, tei_told, tei_message, TeiEvent}
+use Rattle.laws_trace.proofs.Vocabulary.{true≢false, tei_assign, tei_remove, tei_check, tei_disown, tei_step, tei_unless_refused, heard_of_type, Check, Checked, Doubled, Places, list_any, length, nat_le, eq-eqb, subst, owes, TeiCourse as Course}
 use Rattle.laws_trace.proofs.Vocabulary.{tei_course, tei_refusal, no_room, lose_one, free_place}
 use Rattle.lapd_tei.specs.Rows as rows
 use Rattle.lapd_tei.specs.Table as table
-use Rattle.lapd_tei.specs.Events.{down as tei_down}
+use Rattle.lapd_frame.specs.declared.refusals.Refusal.{Refusal}
+use Rattle.lapd_tei.specs.Events.{down as tei_down, expiry as tei_expiry}
 use Rattle.lapd_terminal.specs.Events as terminals
 use Rattle.lapd_terminal.specs.Events.{Event as TerminalEvent, after as terminal_after, told as terminal_told}
 use Rattle.model_bits.specs.declared.heard.Cause.{Cause}
@@ -15,9 +16,19 @@ use Rattle.model_line.specs.Event as line_event
 use Rattle.model_line.specs.Effect.{at_a_terminal, at_terminal, of_network, of_terminal_if, told_of_terminal, unserved_cause, without_units}
 use Rattle.model_line.specs.Line.{is_terminal, terminal_in, with_terminal}
 use Rattle.laws_trace.specs.CausesAreTold.{serves_information, unless}
-use Rattle.laws_trace.specs.Managing.{own_of}
+use Rattle.lapd_frame.specs.declared.notes.Note.{Note}
+use Rattle.lapd_frame.specs.declared.timers.Order.{Order}
+use Rattle.lapd_frame.specs.Readings.{by_reading}
+use Rattle.lapd_frame.specs.declared.readings.Reading.{Reading}
+use Rattle.lapd_frame.specs.declared.readings.Reading.TheVariants.{Profile, AnnexB}
+use Rattle.lapd_tei.specs.declared.messages.Message.TheVariants.{IdentityCheckRequest, IdentityDenied, IdentityRemove}
+use Rattle.lapd_tei.specs.Machine.{next_checked}
+use Rattle.lapd_tei.specs.Messages.{is_extended}
+use Rattle.lapd_tei.specs.Words.{begin_next, check_is, check_is_due, end_check, note, nothing_happens, send, stop_check, unserved}
+use Rattle.laws_trace.specs.Managing.{asks, defers, is_given, own_of, several, verified}
 use Rattle.laws_trace.specs.ManagingTerminal as seen
-use Rattle.laws_trace.proofs.Follows.{as_seen, asked, seen_check}
+use Rattle.laws_trace.proofs.CheckEnds.{as_seen, seen_check}
+use Rattle.laws_trace.proofs.ManagingReads.{by-both, ends_once, ends-so, given-same, in-both, one-by-one, one-response, otherwise, seen_of}
 use Rattle.laws_trace.proofs.Known.{Knows}
 use Rattle.laws_trace.proofs.ManagingTables.{AreOn}
 use Rattle.laws_trace.proofs.TerminalTables.{IsOnce}
@@ -25,70 +36,177 @@ use Rattle.laws_trace.proofs.ServedByTerminal.{own-serves, others-served, is_mes
 use Rattle.std.specs.Option.{option_and_then}
 use Rattle.laws_trace.proofs.Vocabulary.{message_served, responded, checks, option_map}
 
--- What is served by its kind: the first always, the second and the third if something comes of it.
-by-kind : {X : Type 0} (f : Option X → Bool) (a b e : Option X) (first second third may : Bool) (x y : Managed) (o : Option Managed)
-    → f a ≡ false → f b ≡ not (is_some o) → f e ≡ not may → f None ≡ true
-    → f (cond first a (cond second b (cond third e None))) ≡ not (is_some (cond first (Some x) (cond second o (cond (third && may) (Some y) None))))
-by-kind f a b e true second third may x y o fa fb fe fn = fa
-by-kind f a b e false true third may x y o fa fb fe fn = fb
-by-kind f a b e false false true true x y o fa fb fe fn = fe
-by-kind f a b e false false true false x y o fa fb fe fn = fe
-by-kind f a b e false false false may x y o fa fb fe fn = fn
+-- What an end of a check, and what begins then, leaves served stays so.
+ends-serve : (x : Course) → (end_check x).told.unserved ≡ x.told.unserved
+ends-serve x = go x.now.reading (next_checked x.now)
+  where
+    go : (r : Reading) (o : Option ℕ) → (by_reading r (stop_check x) (begin_next o x)).told.unserved ≡ x.told.unserved
+    go Profile o = refl
+    go AnnexB None = refl
+    go AnnexB (Some tei) = refl
 
 -- What TEI management serves.
-module _ (on : List ℕ) (m : Management) (h : AreOn on m.places) where
+module _ (on : List ℕ) (places : Places) (later : List ℕ) (m : Management) (h : AreOn on m.places) (ns : List Note) (os : List Order) (lost : ℕ) (bs : List (List ℕ)) (so : Option Bool) where
+  -- whatever the latest event made due
   abbrev w : Managed
-  w = as_seen on m
+  w = record (as_seen on places later m) { notes = ns; orders = os; lost = lost; begins = bs; granted = so }
+
+  -- of what comes to something nothing is left unserved
+  abbrev Serving : Option Managed → Course → Type 0
+  Serving d x = x.told.unserved ≡ not (is_some d)
 
   assigns-new : (ri : ℕ) (p t : Option ℕ) → (rows.assign_new ri p t (tei_begun m)).told.unserved ≡ false
-  assigns-new ri p t = grind arith
+  assigns-new ri (Some place) (Some tei) = refl
+  assigns-new ri (Some place) None = refl
+  assigns-new ri None t = refl
 
   assigns : (ri : ℕ) (o : Option ℕ) → (rows.assign ri o (tei_begun m)).told.unserved ≡ false
   assigns ri (Some tei) = refl
   assigns ri None = assigns-new ri (free_place m.places) (table.free_tei m.places)
 
-  requests : (ri : ℕ) → (rows.request ri (tei_begun m)).told.unserved ≡ false
+  requests : (ri : ℕ) → (rows.answer_request ri (tei_begun m)).told.unserved ≡ false
   requests ri = go (no_room m.waiting)
     where
       go : (b : Bool) → ((cond b lose_one (rows.assign ri (rows.remembered_in ri m.remembered))) (tei_begun m)).told.unserved ≡ false
       go true = refl
       go false = assigns ri (rows.remembered_in ri m.remembered)
 
-  responds : (tei : ℕ) (o : Option Check) → (rows.respond tei o (tei_begun m)).told.unserved ≡ not (is_some (option_and_then (responded tei w) (option_map seen_check o)))
-  responds tei o = grind arith
+  counts : (tei : ℕ) (check : Check) → (rows.count tei check (tei_begun m)).told.unserved ≡ false
+  counts tei check = go (nat_le 2 (rows.responses check))
+    where
+      go : (b : Bool) → ((cond b (rows.doubled tei) (check_is (Some check))) (tei_begun m)).told.unserved ≡ false
+      go true = ends-serve (send (IdentityRemove tei) (note (Doubled tei) (tei_begun m)))
+      go false = refl
 
-  verifies : (tei : ℕ) → (rows.verify tei (tei_begun m)).told.unserved ≡ not (may_check tei w)
-  verifies tei = rw (h.same tei) (grind arith)
+  some-responded : (tei : ℕ) (check : Checked) → is_some (responded tei w check) ≡ (check.tei == tei)
+  some-responded tei check = grind arith
+
+  responds : (tei : ℕ) (o : Option Check) → Serving (option_and_then (responded tei w) (option_map seen_check o)) (rows.respond tei o (tei_begun m))
+  responds tei None = refl
+  responds tei (Some check) = go (check.tei == tei) ∙ sym (ap not (some-responded tei (seen_check check)))
+    where
+      go : (b : Bool) → ((cond b (rows.count tei (rows.counted check)) unserved) (tei_begun m)).told.unserved ≡ not b
+      go true = counts tei (rows.counted check)
+      go false = refl
 
   -- by its type
-  module _ (c : Config) where
-    by-type : (type ri action : ℕ)
-        → (rows.serve (heard_of_type type ri action) (tei_begun m)).told.unserved
-        ≡ not (is_some (cond (type == 1 && action == 127) (Some (asked c ri w)) (cond (type == 5) (option_and_then (responded action w) w.check) (cond (type == 7 && may_check action w) (Some (checks action None w)) None))))
-    by-type type ri action =
-        by-kind (λ o. (rows.serve o (tei_begun m)).told.unserved) _ _ _ (type == 1 && action == 127) (type == 5) (type == 7) (may_check action w) _ _ _
-        (requests ri) (responds action m.check) (verifies action) refl
+  module _ (c : Config) (read : m.reading ≡ c.reading) where
+    asks-any : (ri : ℕ) → Serving (by_reading c.reading (Some (asks c ri w)) (cond (list_any (is_given ri) m.waiting) None (Some (asks c ri w)))) (rows.request ri (tei_begun m))
+    asks-any ri =
+        in-both Serving m.reading c.reading read (Some (asks c ri w)) (cond (list_any (is_given ri) m.waiting) None (Some (asks c ri w))) (rows.answer_request ri (tei_begun m)) (rows.request_anew ri (tei_begun m))
+        (requests ri)
+        (subst (λ b. Serving (cond b None (Some (asks c ri w))) (rows.request_anew ri (tei_begun m))) (sym (given-same ri m.waiting))
+        (by-both (λ d f. Serving d (f (tei_begun m))) (list_any (rows.assigns_for ri) m.waiting) None (Some (asks c ri w)) unserved (rows.answer_request ri) refl (requests ri)))
 
-    message-serves : (info : List ℕ) → (rows.serve (heard_in info) (tei_begun m)).told.unserved ≡ not (is_some (message_served c w info))
-    message-serves (a ∷ high ∷ low ∷ type ∷ last ∷ []) = go (a == 0x0F && last % 2 == 1)
+    asks-own : (ri tei : ℕ) → Serving (by_reading c.reading None (Some (owes (IdentityDenied ri tei) w))) (rows.request_of ri tei (tei_begun m))
+    asks-own ri tei = in-both Serving m.reading c.reading read None (Some (owes (IdentityDenied ri tei) w)) (unserved (tei_begun m)) (send (IdentityDenied ri tei) (tei_begun m)) refl refl
+
+    verifies : (tei : ℕ) → Serving (verified c tei w) (rows.verify tei (tei_begun m))
+    verifies tei =
+        subst (λ b. Serving (cond (not b) None (option_map_or (λ (check : Checked). cond (check.tei == tei) None (by_reading c.reading None (Some (defers tei w)))) w.check (Some (checks tei None w)))) (rows.verify tei (tei_begun m))) (sym (h.same tei))
+        (go (table.is_on tei m.places))
       where
-        go : (b : Bool)
-            → (rows.serve (cond b (heard_of_type type (256 * high + low) (last / 2)) None) (tei_begun m)).told.unserved
-            ≡ not (is_some (cond (not b) None
-            (cond (type == 1 && last / 2 == 127) (Some (asked c (256 * high + low) w))
-            (cond (type == 5) (option_and_then (responded (last / 2) w) w.check) (cond (type == 7 && may_check (last / 2) w) (Some (checks (last / 2) None w)) None)))))
-        go true = by-type type (256 * high + low) (last / 2)
+        later-served : (b : Bool) → ((cond b nothing_happens (send (IdentityCheckRequest tei))) (tei_begun m)).told.unserved ≡ false
+        later-served true = refl
+        later-served false = refl
+
+        by-check : (o : Option Check) → Serving (option_map_or (λ (check : Checked). cond (check.tei == tei) None (by_reading c.reading None (Some (defers tei w)))) (option_map seen_check o) (Some (checks tei None w))) (rows.verify_beside tei o (tei_begun m))
+        by-check None = refl
+        by-check (Some check) =
+            by-both (λ d f. Serving d (f (tei_begun m))) (check.tei == tei) None (by_reading c.reading None (Some (defers tei w))) unserved (rows.verify_later tei) refl
+            (in-both Serving m.reading c.reading read None (Some (defers tei w)) (unserved (tei_begun m)) (check_is_due tei (rows.ask_once tei (tei_begun m))) refl (later-served (list_any (rows.asks_for tei) m.waiting)))
+
+        go : (b : Bool) → Serving (cond (not b) None (option_map_or (λ (check : Checked). cond (check.tei == tei) None (by_reading c.reading None (Some (defers tei w)))) w.check (Some (checks tei None w)))) ((cond b (rows.verify_beside tei m.check) unserved) (tei_begun m))
         go false = refl
-    message-serves info = grind arith
+        go true = by-check m.check
+
+    none-among : (o : Option Check) → (rows.respond_among None o (tei_begun m)).told.unserved ≡ true
+    none-among None = refl
+    none-among (Some check) = refl
+
+    not-several : Serving None (by_reading m.reading (unserved (tei_begun m)) (rows.respond_among None m.check (tei_begun m)))
+    not-several = go m.reading
+      where
+        go : (r : Reading) → Serving None (by_reading r (unserved (tei_begun m)) (rows.respond_among None m.check (tei_begun m)))
+        go Profile = refl
+        go AnnexB = none-among m.check
+
+    for-several : (octets : List ℕ) (o : Option Check)
+        → Serving (option_and_then (λ (check : Checked). cond (list_any (λ octet. octet / 2 == check.tei) octets) (responded check.tei w check) None) (option_map seen_check o)) (rows.respond_among (Some octets) o (tei_begun m))
+    for-several octets None = refl
+    for-several octets (Some check) =
+        by-both (λ d f. Serving d (f (tei_begun m))) (list_any (λ octet. octet / 2 == check.tei) octets) (responded check.tei w (seen_check check)) None (rows.count check.tei (rows.counted check)) unserved
+        (counts check.tei (rows.counted check) ∙ sym (ap not (some-responded check.tei (seen_check check) ∙ eq-eqb check.tei check.tei refl))) refl
+
+    severals : (octets : List ℕ) (a b : Bool)
+        → Serving (cond (a && b) (by_reading c.reading None (several w octets)) None)
+        (by_reading m.reading (unserved (tei_begun m)) (rows.respond_among (cond (a && b && nat_le 2 (length octets) && nat_le (length octets) 64 && is_extended octets) (Some octets) None) m.check (tei_begun m)))
+    severals octets true true =
+        in-both Serving m.reading c.reading read None (several w octets) (unserved (tei_begun m)) _ refl
+        (subst (λ b. Serving (several w octets) (rows.respond_among (cond (nat_le 2 (length octets) && nat_le (length octets) 64 && b) (Some octets) None) m.check (tei_begun m))) (ends-so octets)
+        (go (nat_le 2 (length octets) && nat_le (length octets) 64 && ends_once octets)))
+      where
+        go : (b : Bool) → Serving (cond (not b) None (option_and_then (λ (check : Checked). cond (list_any (λ octet. octet / 2 == check.tei) octets) (responded check.tei w check) None) w.check))
+            (rows.respond_among (cond b (Some octets) None) m.check (tei_begun m))
+        go true = for-several octets m.check
+        go false = none-among m.check
+    severals octets true false = not-several
+    severals octets false b = not-several
+
+    by-type : (type ri action : ℕ) → Serving (seen_of c type ri action w) (rows.serve (heard_of_type type ri action) None (tei_begun m))
+    by-type type ri action =
+        subst (λ d. Serving d (rows.serve (heard_of_type type ri action) None (tei_begun m))) (sym (one-by-one c type ri action w))
+        (by-both (λ d o. Serving d (rows.serve o None (tei_begun m))) (type == 1 && action == 127) _ _ _ _ (asks-any ri)
+        (by-both (λ d o. Serving d (rows.serve o None (tei_begun m))) (type == 1 && nat_le 64 action && nat_le action 126) _ _ _ _ (asks-own ri action)
+        (by-both (λ d o. Serving d (rows.serve o None (tei_begun m))) (type == 5) _ _ _ _ (responds action m.check)
+        (by-both (λ d o. Serving d (rows.serve o None (tei_begun m))) (type == 7) _ _ _ _ (verifies action) not-several))))
+
+    message-serves : (info : List ℕ) → Serving (message_served c w info) (rows.hear info (tei_begun m))
+    message-serves (a ∷ high ∷ low ∷ type ∷ last ∷ []) =
+        let seen = seen_of c type (256 * high + low) (last / 2) w in
+        subst (λ teis. Serving (cond (not (a == 0x0F && last % 2 == 1)) None seen) (rows.serve (cond (a == 0x0F && last % 2 == 1) (heard_of_type type (256 * high + low) (last / 2)) None) teis (tei_begun m))) (sym (ap (λ b. cond b (Some (last ∷ [])) None) (one-response a type last)))
+        (otherwise (λ d o. Serving d (rows.serve o None (tei_begun m))) (a == 0x0F && last % 2 == 1) seen None (heard_of_type type (256 * high + low) (last / 2)) None (by-type type (256 * high + low) (last / 2)) not-several)
+    message-serves (a ∷ high ∷ low ∷ type ∷ last ∷ sixth ∷ more) = severals (last ∷ sixth ∷ more) (a == 0x0F) (type == 5)
+    message-serves (a ∷ high ∷ low ∷ type ∷ []) = severals [] (a == 0x0F) (type == 5)
+    message-serves (a ∷ high ∷ low ∷ []) = not-several
+    message-serves (a ∷ high ∷ []) = not-several
+    message-serves (a ∷ []) = not-several
+    message-serves [] = not-several
 
 -- A request of management, the expiry of T201, and that the line is down, are served.
 abbrev is_message : TeiEvent → Bool
 is_message (tei_message info) = true
 is_message other = false
 
+module _ (m : Management) where
+  removes-serve : (tei : ℕ) → (rows.removed tei (tei_begun m)).told.unserved ≡ false
+  removes-serve tei = grind (arith, ends-serve)
+
+  expire-serves : (rows.expire (tei_begun m)).told.unserved ≡ false
+  expire-serves = grind (arith, ends-serve, removes-serve)
+
+  take-serves : (tei : ℕ) → (rows.take_off tei (tei_begun m)).told.unserved ≡ false
+  take-serves tei = grind (arith, ends-serve)
+
+  put-serves : (tei : ℕ) → (rows.put_on tei (tei_begun m)).told.unserved ≡ false
+  put-serves tei = grind arith
+
+  down-serves : (rows.give_up (tei_begun m)).told.unserved ≡ false
+  down-serves = grind arith
+
+  unless-serves : (o : Option Refusal) (e : TeiEvent) → (tei_step e (tei_begun m)).told.unserved ≡ false → (tei_unless_refused o (tei_step e) m).told.unserved ≡ false
+  unless-serves None e h = h
+  unless-serves (Some why) e h = refl
+
 managed-serve : (e : TeiEvent) (m : Management) → is_message e ≡ false → (tei_told e m).unserved ≡ false
-unfolding tei_course tei_refusal
-managed-serve e m none = grind arith
+unfolding tei_course
+managed-serve (tei_message info) m none = absurd (true≢false none)
+managed-serve tei_expiry m none = unless-serves m (tei_refusal tei_expiry m) tei_expiry (expire-serves m)
+managed-serve (tei_assign tei) m none = unless-serves m (tei_refusal (tei_assign tei) m) (tei_assign tei) (put-serves m tei)
+managed-serve (tei_remove tei) m none = unless-serves m (tei_refusal (tei_remove tei) m) (tei_remove tei) (take-serves m tei)
+managed-serve (tei_check tei) m none = unless-serves m (tei_refusal (tei_check tei) m) (tei_check tei) refl
+managed-serve (tei_disown tei) m none = unless-serves m (tei_refusal (tei_disown tei) m) (tei_disown tei) refl
+managed-serve tei_down m none = unless-serves m (tei_refusal tei_down m) tei_down (down-serves m)
 
 -- The cause that an aim comes to. What TEI management tells stays, whatever its links tell then.
 abbrev pub named : Config → Line → Aim → Option Cause
@@ -129,24 +247,6 @@ unserved-named served unserved is = grind arith
 abbrev pub Serves : Config → Line → Managed → Type 0
 Serves c l w = (info : List ℕ) → named c l (at_management (tei_message info)) ≡ unless (serves_information c w info)
 
-response-same : (tei : ℕ) (w : Managed) (o : Option Checked)
-    → is_some (option_and_then (responded tei (nothing_due w)) o) ≡ is_some (option_and_then (responded tei w) o)
-response-same tei w o = grind arith
-
-served-same : (well asks responds checks : Bool) (x x' y y' : Managed) (o o' : Option Managed) → is_some o ≡ is_some o'
-    → is_some (cond (not well) None (cond asks (Some x) (cond responds o (cond checks (Some y) None))))
-    ≡ is_some (cond (not well) None (cond asks (Some x') (cond responds o' (cond checks (Some y') None))))
-served-same false asks responds checks x x' y y' o o' e = refl
-served-same true true responds checks x x' y y' o o' e = refl
-served-same true false true checks x x' y y' o o' e = e
-served-same true false false true x x' y y' o o' e = refl
-served-same true false false false x x' y y' o o' e = refl
-
-message-same : (c : Config) (w : Managed) (info : List ℕ) → is_some (message_served c (nothing_due w) info) ≡ is_some (message_served c w info)
-message-same c w (a ∷ high ∷ low ∷ type ∷ last ∷ []) =
-    served-same (a == 0x0F && last % 2 == 1) (type == 1 && last / 2 == 127) (type == 5) (type == 7 && may_check (last / 2) w) _ _ _ _ _ _ (response-same (last / 2) w w.check)
-message-same c w info = grind arith
-
 pub serves-known : (c : Config) (l : Line) (w : Managed) → IsSoundLine c l → Knows c w l → Serves c l w
 unfolding tei_course tei_refusal
 serves-known c l w s knows info =
@@ -160,8 +260,8 @@ serves-known c l w s knows info =
         ≡ not (cond b (is_some (seen.by_message info (own_of c w))) (is_some (message_served c w info)))
     go true is = own-serves (terminal_in l) once info ∙ ap (λ t. not (is_some (seen.by_message info t))) (sym (knows.terminal is))
     go false net =
-        message-serves w.on l.management knows.on c info
-        ∙ ap not (ap (λ (u : Managed). is_some (message_served c u info)) (sym (knows.network net)) ∙ message-same c w info)
+        message-serves w.on w.places w.later l.management knows.on w.notes w.orders w.lost w.begins w.granted c s.reading info
+        ∙ sym (ap (λ (v : Managed). not (is_some (message_served c (record v { notes = w.notes; orders = w.orders; lost = w.lost; begins = w.begins; granted = w.granted }) info))) (knows.network net))
 
 -- What management asks for, and an expiry, name none.
 module _ (c : Config) (l : Line) where

@@ -1,5 +1,6 @@
 -- What puts an enquiry: nothing but the expiry of a timer leads a link to state 8.
 use Rattle.laws_trace.proofs.Vocabulary.{arith, ◌≡◌, ◌&&◌, ◌||◌, Bool, true, false, cond, State, TeiAssigned, AwaitingEstablishment, TimerRecovery, Terms, Link, is_multiple_frame, Received, received, requested, offer, cleared, moves, by_frame, by_request, state_after, Control, LinkEvent as Event, LinkRequest as Request}
+use Rattle.lapd_frame.specs.declared.readings.Reading.{Reading}
 
 -- State 8 puts an enquiry where the link comes to it.
 abbrev pub enquires : State → Bool
@@ -10,12 +11,12 @@ abbrev Still : State → State → Type 0
 Still s to = (moves s to || false) ≡ true → enquires to ≡ true → ⊥
 
 -- A frame, by the state.
-in-4 : (command : Bool) (control : Control) → Still TeiAssigned (by_frame TeiAssigned command control)
-in-4 command control m h = grind arith
+in-4 : (r : Reading) (command : Bool) (control : Control) → Still TeiAssigned (by_frame r TeiAssigned command control)
+in-4 r command control m h = grind arith
 
 -- An N(R) that is invalid leads to state 5.
-by-state : (s : State) (command : Bool) (control : Control) → Still s (by_frame s command control)
-by-state s command control = grind (arith, in-4)
+by-state : (r : Reading) (s : State) (command : Bool) (control : Control) → Still s (by_frame r s command control)
+by-state r s command control = grind (arith, in-4)
 
 -- What the grammar does not have.
 malformed : (s : State) → Still s (cond (is_multiple_frame s && true) AwaitingEstablishment s)

@@ -1,5 +1,6 @@
 -- What is told is what was heard: over runs.
-use Rattle.laws_trace.proofs.Vocabulary.{arith, length, nat_le, le-leb, within, ◌≡◌, ℕ, ◌%◌, ◌&&◌, Bool, true, false, List, Option, Some, None, refl, sym, ap, ◌∙◌, subst, eq-eqb, ◌==◌, Result, Ok, Err, true≢false, inl, inr, is_some, Note, list_any, option_or, option_map_or, none-some, ReadFault, reading, sapi_of, same_service, Service, Parts, Terms, Link, is_multiple_frame, event-delivers}
+use Rattle.laws_trace.proofs.Vocabulary.{◌⊎◌, inl, inr, arith, length, nat_le, le-leb, within, ◌≡◌, ℕ, ◌%◌, ◌&&◌, Bool, true, false, List, Option, Some, None, refl, sym, ap, ◌∙◌, subst, eq-eqb, ◌==◌, Result, Ok, Err, true≢false, inl, inr, is_some, Note, list_any, option_or, option_map_or, none-some, ReadFault, reading, sapi_of, same_service, Service, Parts, Terms, Link, is_multiple_frame}
+use Rattle.laws_trace.proofs.Vocabulary.{event-delivers}
 use Rattle.laws_trace.proofs.Vocabulary.{delivered-at_once, notes-own, event-tells, unit_heard, event-unit, within-is, Config, hears, Answer, Line, place_in, link_in, link_of, terms, aim_of, aim_of_heard, aim_of_reading, message_of, heard_side, group_tei, IsInRange, at_side, notes_of, contents_in, is_data_of, is_unit_of, own-all, addressed-is, sapi-is, same-sapi, service-same, both-true}
 use Rattle.laws_trace.proofs.Vocabulary.{told-once, eqb-true, fresh_link as fresh, Event, line_after as after, answer, IsSound, result_ok, frame_of, is_for, is_ui, ReleaseConfirm, ReleaseIndication, stream_frame, StreamEvent, link_told}
 use Rattle.model_link.specs.Events as link
@@ -93,7 +94,16 @@ module _ (c : Config) (ranged : IsInRange c) (l : Line) (s : IsSound c l) (e : E
 
     unit-by : (P : Option (List ℕ) → Type 0) → ((contents : List ℕ) → within t.n201 (unit_heard x.event) ≡ Some contents → P (Some contents))
         → list_any (is_unit_of service tei) (notes_of a) ≡ true → P (contents_in a)
-    unit-by P each some = grind (arith, none-some, unit-noted, is_some, event-tells, event-unit, own-sound)
+    unit-by P each some = go (link_told t x.event k).unit refl
+      where
+        none-delivered : (contents : List ℕ) → (link_told t x.event k).unit ≡ Some contents → ((link_told t x.event k).delivered ≡ None) ⊎ ((link_told t x.event k).unit ≡ None) → (link_told t x.event k).delivered ≡ None
+        none-delivered contents is (inl none) = none
+        none-delivered contents is (inr none) = absurd (none-some contents (sym none ∙ is))
+
+        go : (o : Option (List ℕ)) → (link_told t x.event k).unit ≡ o → P (contents_in a)
+        go None is = absurd (true≢false (sym some ∙ unit-noted ∙ ap is_some is))
+        go (Some contents) is =
+            subst P (sym (x.contents ∙ ap (λ o. option_or o (link_told t x.event k).unit) (none-delivered contents is (event-tells t x.event k).2) ∙ is)) (each contents (sym (event-unit t k own-sound x.event) ∙ is))
 
     one-unit : list_any (is_unit_of service tei) (notes_of a) ≡ true → UnitData (contents_in a)
     one-unit = unit-by UnitData (λ contents some. unit-of c e a service tei x.event x.by n contents (within-is t.n201 (unit_heard x.event) contents some))

@@ -1,147 +1,171 @@
 -- What the observer of a line knows of its TEIs is what TEI management has, and what is due by an event is what that tells.
-use Rattle.laws_trace.proofs.Vocabulary.{◌≡◌, ℕ, ◌+◌, ◌*◌, ◌/◌, ◌%◌, ◌==◌, ◌&&◌, Bool, true, false, cond, not, List, [], ◌∷◌, length, drop, ◌++◌, length-append, Option, Some, None, IfSome, option_map, option_map_or, refl, sym, ap, ◌∙◌, subst, arith, eq-eqb, filter, is_some, nat_lt, find, range_with_len, leb-true, leb-false, Management, Remembered, Period, First, Second, Message}
+use Rattle.laws_trace.proofs.Vocabulary.{◌≡◌, ℕ, zero, suc, ◌≤◌, ◌+◌, ◌-◌, ◌*◌, ◌/◌, ◌%◌, ◌==◌, ◌&&◌, ◌||◌, Bool, true, false, true≢false, cond, not, List, [], ◌∷◌, length, drop, list_any, nat_le, ◌++◌, length-append, Option, Some, None, IfSome, option_map, option_map_or, refl, sym, ap, ◌∙◌, subst, arith, eq-eqb, nat_lt, find, range_with_len, Note, Places, place_of, Management, Remembered, Period}
+use Rattle.laws_trace.proofs.Vocabulary.{First, Second, Message}
 use Rattle.laws_trace.proofs.Vocabulary.{IdentityAssigned}
-use Rattle.laws_trace.proofs.Vocabulary.{IdentityDenied, IdentityRemove, heard_of_type, heard_in, IsSoundCheck, free_place, free_tei-is, Config, eqb-true, ltb-true, ltb-false, Removed, Doubled, Check, TeiCourse as Course, tei_begun as begun, Checked, Managed, nothing_due, owes, gives, leaves, over, checks, may_check, responded, ran_out, managing_is_on as is_on, is_of_teis}
-use Rattle.laws_trace.proofs.Vocabulary.{is_of_line, begin_check, end_check, leave, lose_one, no_room, send, unserved, tei_with_message as with_message, false_from_ne_true}
+use Rattle.laws_trace.proofs.Vocabulary.{IdentityDenied, IdentityRemove, heard_of_type, IsSoundCheck, free_place, free_tei-is, Config, eqb-true, ltb-true, ltb-false, Removed, Doubled, Check, TeiCourse as Course, tei_begun as begun, Checked, Managed, owes, gives, leaves, over, checks, responded, ran_out, managing_is_on as is_on}
+use Rattle.laws_trace.proofs.Vocabulary.{begin_check, end_check, leave, lose_one, no_room, send, unserved, false_from_ne_true}
 use Rattle.lapd_tei.specs.Rows as rows
+use Rattle.lapd_frame.specs.Readings.{by_reading}
+use Rattle.lapd_frame.specs.declared.readings.Reading.{Reading}
+use Rattle.lapd_frame.specs.declared.readings.Reading.TheVariants.{Profile, AnnexB}
+use Rattle.lapd_tei.specs.declared.messages.Message.TheVariants.{IdentityCheckRequest}
+use Rattle.lapd_tei.specs.Messages.{is_extended}
 use Rattle.lapd_tei.specs.Sound.{IsSound}
+use Rattle.lapd_tei.specs.Words.{check_is, check_is_due, join, nothing_happens, note, due_at}
 use Rattle.lapd_tei.specs.Table as table
-use Rattle.laws_trace.specs.Managing.{free_tei}
+use Rattle.laws_trace.specs.Managing.{asks, comes, defers, is_asked, is_given, removes, several, verified}
+use Rattle.laws_trace.specs.ManagingTerminal.{with_tei}
 use Rattle.laws_trace.proofs.ManagingNotes.{by_message}
-use Rattle.laws_trace.proofs.ManagingTables.{AreOn, free-fewer, none-free, comes-on, leaves-on}
+use Rattle.laws_trace.proofs.ManagingPlaces.{ArePlaced, came-placed, later-placed}
+use Rattle.laws_trace.proofs.ManagingTables.{AreOn, free-fewer, none-free, comes-on}
 use Rattle.std.specs.Option.{option_and_then, unwrap_or}
-
--- A terminal asks for a TEI.
-abbrev pub asked : Config → ℕ → Managed → Managed
-asked c ri w = gives ri (find (λ (r : Remembered). r.ri == ri) w.held) (free_tei c w) w
-
--- A check, as it is seen.
-abbrev pub is_second : Period → Bool
-is_second First = false
-is_second Second = true
-
-abbrev pub earlier : Period → ℕ → Option Bool
-earlier First n = None
-earlier Second n = Some (not (n == 0))
-
-abbrev pub seen_check : Check → Checked
-seen_check check = record { tei = check.tei; answered = not (rows.responses check == 0); before = earlier check.period check.first }
-
--- In the first period no answer is counted for the second.
-abbrev pub InOrder : Check → Type 0
-InOrder check = is_second check.period ≡ false → check.second ≡ 0
-
-abbrev pub as_seen : List ℕ → Management → Managed
-as_seen on m = record { on = on; held = m.remembered; check = option_map seen_check m.check; owed = m.waiting; own = None; notes = []; orders = []; lost = 0; begins = []; granted = None }
-
-pub record Follows (w : Managed) (m : Management) : Type 0 where
-  pub is : nothing_due w ≡ as_seen w.on m
-  pub on : AreOn w.on m.places
-  pub order : IfSome m.check InOrder
-
--- What is due is what is told.
-pub record Leads (d : Managed) (x : Course) : Type 0 where
-  pub notes : filter is_of_teis x.told.notes ≡ d.notes
-  pub orders : filter is_of_line x.told.orders ≡ d.orders
-  pub lost : x.told.lost ≡ d.lost
-  pub begins : d.begins ≡ []
-  pub granted : d.granted ≡ None
-  pub follows : Follows d x.now
+use Rattle.laws_trace.proofs.ManagingReads.{any-same, by-both, ends_once, ends-so, in-both, one-by-one, one-response, otherwise, seen_of}
+use Rattle.laws_trace.proofs.CheckEnds.{Follows, InOrder, Known, Leads, as_seen, earlier, is_second, known-leads, leaves-noted, leaving-led, leaving-own, led, noted, over-leads, seen_check}
 
 find-same : (f g : ℕ → Bool) → ((x : ℕ) → f x ≡ g x) → (xs : List ℕ) → find f xs ≡ find g xs
 find-same f g h [] = refl
 find-same f g h (x ∷ xs) = ap (λ b. cond b (Some x) (find f xs)) (h x) ∙ ap (λ o. cond (g x) (Some x) o) (find-same f g h xs)
 
-abbrev is_checked : ℕ → Option Checked → Bool
-is_checked tei o = option_map_or (λ (check : Checked). check.tei == tei) o false
+-- A place is free exactly while fewer TEIs are on the line than there are places.
+module _ (on : List ℕ) (places : Places) (h : AreOn on places) (n : ℕ) (size : length places ≡ n) where
+  pub fewer-on : (place : ℕ) → free_place places ≡ Some place → nat_lt (length on) n ≡ true
+  fewer-on place free = grind (arith, ltb-false, free-fewer)
 
-module _ (on : List ℕ) (m : Management) (h : AreOn on m.places) (order : IfSome m.check InOrder) (s : IsSound m) where
+  pub all-on : free_place places ≡ None → nat_lt (length on) n ≡ false
+  all-on none = grind (arith, false_from_ne_true, ltb-true, none-free)
+
+module _ (on : List ℕ) (places : Places) (later : List ℕ) (m : Management) (h : AreOn on m.places) (p : ArePlaced places later m.places m.to_check) (order : IfSome m.check InOrder) (s : IsSound m) where
   abbrev w : Managed
-  w = as_seen on m
+  w = as_seen on places later m
+
+  known-now : Known on places later m
+  known-now = record { on_is = h; placed = p; order = order }
 
   pub here : Follows w m
-  here = record { is = refl; on = h; order = order }
+  here = record { is = refl; on = h; placed = p; order = order }
 
   pub plain : (message : Message) → Leads (owes message w) (send message (begun m))
-  plain message = record { notes = refl; orders = refl; lost = refl; begins = refl; granted = refl; follows = record { is = refl; on = h; order = order } }
+  plain message = known-leads on places later (send message (begun m)) (record { on_is = h; placed = p; order = order })
 
   pub none-due : Leads w (unserved (begun m))
-  none-due = record { notes = refl; orders = refl; lost = refl; begins = refl; granted = refl; follows = here }
-
-  -- A TEI leaves, and where it is checked, the check is over.
-  abbrev left : Bool → ℕ → Managed
-  left b tei =
-      record (cond b (over w) w)
-      { on = filter (λ on. not (on == tei)) w.on; held = filter (λ (r : Remembered). not (r.tei == tei)) w.held }
-
-  own-check : (tei : ℕ) (check : Check) → m.check ≡ Some check → (check.tei == tei) ≡ true → is_checked tei w.check ≡ true
-  own-check tei check is own = (grind arith) ∙ ap (rows.is_checked tei) is ∙ own
+  none-due = known-leads on places later (unserved (begun m)) (record { on_is = h; placed = p; order = order })
 
   -- A check begins.
   pub begins-check : (tei : ℕ) → Leads (checks tei None w) (begin_check tei (begun m))
-  begins-check tei = record { notes = refl; orders = refl; lost = refl; begins = refl; granted = refl; follows = record { is = refl; on = h; order = λ first. refl } }
+  begins-check tei = known-leads on places later (begin_check tei (begun m)) (record { on_is = h; placed = p; order = λ first. refl })
 
   pub there : (check : Check) → m.check ≡ Some check → IsSoundCheck m.places check
   there check is = subst (λ o. IfSome o (IsSoundCheck m.places)) is s.checked
 
-  -- A response to a check: the second one of a period has the TEI leave.
-  module _ (tei : ℕ) (check : Check) (is : m.check ≡ Some check) where
-    abbrev doubling : Managed
-    doubling = record (owes (IdentityRemove tei) (leaves tei w)) { notes = Doubled tei ∷ [] }
+  -- What is told and sent before the check ends, and the TEI leaves.
+  abbrev removal : ℕ → Course → Course
+  removal tei x = send (IdentityRemove tei) x
 
+  module _ (check : Check) (is : m.check ≡ Some check) where
     abbrev answered : Managed
     answered = record w { check = Some (record { tei = check.tei; answered = true; before = earlier check.period check.first }) }
 
-    doubles : (check.tei == tei) ≡ true → Leads doubling (rows.doubled tei (begun m))
-    doubles own =
-        subst (λ b. Leads (record (owes (IdentityRemove tei) (left b tei)) { notes = Doubled tei ∷ [] }) (rows.doubled tei (begun m))) (sym (own-check tei check is own))
-        (record { notes = refl; orders = refl; lost = refl; begins = refl; granted = refl; follows = record { is = refl; on = leaves-on on m.places h tei s.table; order = tt } })
+    own : rows.is_checked check.tei m.check ≡ true
+    own = ap (rows.is_checked check.tei) is ∙ eq-eqb check.tei check.tei refl
 
-    responds-so : Leads (unwrap_or (responded tei w (seen_check check)) w) (rows.respond tei (Some check) (begun m))
-    responds-so = grind (arith, there, eqb-true, leb-true, leb-false, eq-eqb, doubles, none-due)
+    abbrev told_of : Note → Course
+    told_of n = note n (begun m)
 
-  -- T201 runs out.
-  module _ (check : Check) (is : m.check ≡ Some check) where
-    abbrev unanswered : Managed
-    unanswered = record (leaves check.tei w) { notes = Removed check.tei ∷ [] }
+    -- A response to a check: the second one of a period has the TEI leave.
+    doubles : Leads (record (removes check.tei w) { notes = Doubled check.tei ∷ [] }) (rows.doubled check.tei (begun m))
+    doubles =
+        subst (λ d. Leads d (rows.doubled check.tei (begun m))) (sym (leaves-noted (Doubled check.tei ∷ []) check.tei (owes (IdentityRemove check.tei) w)))
+        (leaving-own on places later (removal check.tei (told_of (Doubled check.tei))) (record { on_is = h; placed = p; order = order }) s.table s.read refl check.tei own)
 
-    removes : Leads unanswered (rows.removed check.tei (begun m))
-    removes =
-        subst (λ b. Leads (record (left b check.tei) { notes = Removed check.tei ∷ [] }) (rows.removed check.tei (begun m))) (sym (own-check check.tei check is (eq-eqb check.tei check.tei refl)))
-        (record { notes = refl; orders = refl; lost = refl; begins = refl; granted = refl; follows = record { is = refl; on = leaves-on on m.places h check.tei s.table; order = tt } })
+    counts : (now : Check) → InOrder now → Leads (record w { check = Some (seen_check now) }) (check_is (Some now) (begun m))
+    counts now order = known-leads on places later (check_is (Some now) (begun m)) (record { on_is = h; placed = p; order = order })
 
-    by-period : (p : Period) → check.period ≡ p
-        → Leads (ran_out w (record { tei = check.tei; answered = not (rows.responses (record check { period = p }) == 0); before = earlier p check.first })) (rows.expire_period check p (begun m))
-    by-period p at = grind (arith, removes)
+    -- T201 runs out.
+    module _ (c : Config) (read : m.reading ≡ c.reading) where
+      unanswered : Leads (record (by_reading c.reading (leaves check.tei w) (removes check.tei w)) { notes = Removed check.tei ∷ [] }) (rows.removed check.tei (begun m))
+      unanswered =
+          in-both (λ d x. Leads (noted (Removed check.tei ∷ []) d) (leave check.tei (end_check x))) m.reading c.reading read
+          (leaves check.tei w) (removes check.tei w) (told_of (Removed check.tei)) (removal check.tei (told_of (Removed check.tei)))
+          (subst (λ d. Leads d (leave check.tei (end_check (told_of (Removed check.tei))))) (sym (leaves-noted (Removed check.tei ∷ []) check.tei w))
+          (leaving-own on places later (told_of (Removed check.tei)) (record { on_is = h; placed = p; order = order }) s.table s.read refl check.tei own))
+          (subst (λ d. Leads d (leave check.tei (end_check (removal check.tei (told_of (Removed check.tei)))))) (sym (leaves-noted (Removed check.tei ∷ []) check.tei (owes (IdentityRemove check.tei) w)))
+          (leaving-own on places later (removal check.tei (told_of (Removed check.tei))) (record { on_is = h; placed = p; order = order }) s.table s.read refl check.tei own))
 
-  pub expire-leads : Leads (option_map_or (ran_out w) w.check w) (rows.expire (begun m))
-  expire-leads = go m.check refl
+  -- The check that runs, as it is counted.
+  pub responds-so : (tei : ℕ) (check : Check) → m.check ≡ Some check → Leads (unwrap_or (responded tei w (seen_check check)) w) (rows.respond tei (Some check) (begun m))
+  responds-so tei check is = go (check.tei == tei) refl
     where
-      go : (o : Option Check) → m.check ≡ o → Leads (option_map_or (ran_out w) (option_map seen_check o) w) (rows.expire_check o (begun m))
-      go None is = record { notes = refl; orders = refl; lost = refl; begins = refl; granted = refl; follows = here }
-      go (Some check) is = by-period check is check.period refl
+      told_twice : Managed
+      told_twice = record (removes check.tei w) { notes = Doubled check.tei ∷ [] }
+
+      once : Option Bool → Managed
+      once before = record w { check = Some (record { tei = check.tei; answered = true; before = before }) }
+
+      in-first : (n : ℕ) → n ≤ 1 → check.period ≡ First
+          → Leads (cond (not (n == 0)) told_twice (once None)) ((cond (nat_le 2 (n + 1)) (rows.doubled check.tei) (check_is (Some (record check { period = First; first = n + 1 })))) (begun m))
+      in-first zero few at = counts check is (record check { period = First; first = 1 }) (λ first. subst (λ o. IfSome o InOrder) is order (ap is_second at))
+      in-first (suc zero) few at = doubles check is
+      in-first (suc (suc n)) few at = absurd (omega (arith, few))
+
+      in-second : (n : ℕ) → n ≤ 1
+          → Leads (cond (not (n == 0)) told_twice (once (earlier Second check.first))) ((cond (nat_le 2 (n + 1)) (rows.doubled check.tei) (check_is (Some (record check { period = Second; second = n + 1 })))) (begun m))
+      in-second zero few = counts check is (record check { period = Second; second = 1 }) (λ first. absurd (true≢false first))
+      in-second (suc zero) few = doubles check is
+      in-second (suc (suc n)) few = absurd (omega (arith, few))
+
+      one-of : (b : Bool) (u v : Managed) (x : Course) → Leads (cond b u v) x → Leads (unwrap_or (cond b (Some u) (Some v)) w) x
+      one-of true u v x l = l
+      one-of false u v x l = l
+
+      by-count : (q : Period) → check.period ≡ q
+          → Leads (unwrap_or (cond (not (rows.responses (record check { period = q }) == 0)) (Some told_twice) (Some (once (earlier q check.first)))) w)
+          (rows.count check.tei (rows.counted (record check { period = q })) (begun m))
+      by-count First at = one-of (not (check.first == 0)) told_twice (once None) _ (in-first check.first (there check is).first at)
+      by-count Second at = one-of (not (check.second == 0)) told_twice (once (earlier Second check.first)) _ (in-second check.second (there check is).second)
+
+      go : (b : Bool) → (check.tei == tei) ≡ b
+          → Leads (unwrap_or (cond (not b) None (cond (seen_check check).answered (Some (record (removes tei w) { notes = Doubled tei ∷ [] })) (Some (record w { check = Some (record (seen_check check) { answered = true }) })))) w)
+          ((cond b (rows.count tei (rows.counted check)) unserved) (begun m))
+      go false other = none-due
+      go true same =
+          subst (λ n. Leads (unwrap_or (cond (seen_check check).answered (Some (record (removes n w) { notes = Doubled n ∷ [] })) (Some (record w { check = Some (record (seen_check check) { answered = true }) }))) w) (rows.count n (rows.counted check) (begun m)))
+          (eqb-true check.tei tei same) (by-count check.period refl)
+
+  module _ (c : Config) (read : m.reading ≡ c.reading) where
+    by-period : (check : Check) → m.check ≡ Some check → (q : Period) → check.period ≡ q
+        → Leads (ran_out c w (record { tei = check.tei; answered = not (rows.responses (record check { period = q }) == 0); before = earlier q check.first })) (rows.expire_period check q (begun m))
+    by-period check is First at =
+        let none : check.second ≡ 0 = subst (λ o. IfSome o InOrder) is order (ap is_second at) in
+        subst (λ n. Leads (checks check.tei (Some (not (check.first == 0))) w) (rows.expire_period (record check { second = n }) First (begun m))) (sym none)
+        (known-leads on places later (rows.expire_period (record check { second = 0 }) First (begun m)) (record { on_is = h; placed = p; order = λ e. absurd (true≢false e) }))
+    by-period check is Second at = by-answers (check.first == 0) (check.second == 0)
+      where
+        by-answers : (a b : Bool)
+            → Leads (cond (not a || not b) (over w) (record (by_reading c.reading (leaves check.tei w) (removes check.tei w)) { notes = Removed check.tei ∷ [] }))
+            ((cond (a && b) (rows.removed check.tei) end_check) (begun m))
+        by-answers true true = unanswered check is c read
+        by-answers true false = over-leads on places later (begun m) (record { on_is = h; placed = p; order = order }) s.table s.read refl
+        by-answers false b = over-leads on places later (begun m) (record { on_is = h; placed = p; order = order }) s.table s.read refl
+
+    pub expire-leads : Leads (option_map_or (ran_out c w) w.check w) (rows.expire (begun m))
+    expire-leads = go m.check refl
+      where
+        go : (o : Option Check) → m.check ≡ o → Leads (option_map_or (ran_out c w) (option_map seen_check o) w) (rows.expire_check o (begun m))
+        go None is = known-leads on places later (begun m) (record { on_is = h; placed = p; order = order })
+        go (Some check) is = by-period check is check.period refl
 
   -- Management asks.
-  pub assign-leads : (tei place : ℕ) → free_place m.places ≡ Some place → table.is_on tei m.places ≡ false → Leads (record w { on = tei ∷ on }) (rows.put_on tei (begun m))
+  pub assign-leads : (tei place : ℕ) → free_place m.places ≡ Some place → table.is_on tei m.places ≡ false → Leads (comes tei w) (rows.put_on tei (begun m))
   assign-leads tei place free off =
-      subst (λ o. Leads (record w { on = tei ∷ on }) (rows.join_at tei o (begun m))) (sym free)
-      (record { notes = refl; orders = refl; lost = refl; begins = refl; granted = refl; follows = record { is = refl; on = comes-on on m.places h place tei free off; order = order } })
+      subst (λ o. Leads (comes tei w) (rows.join_at tei o (begun m))) (sym free)
+      (known-leads (tei ∷ on) (with_tei tei (places ++ None ∷ [])) later (join tei place (begun m))
+      (record { on_is = comes-on on m.places h place tei free off; placed = came-placed places later m.places m.to_check p place tei free off; order = order }))
 
-  pub remove-leads : (tei : ℕ) → Leads (owes (IdentityRemove tei) (leaves tei w)) (rows.take_off tei (begun m))
-  remove-leads tei = subst (λ b. Leads (owes (IdentityRemove tei) (left b tei)) (rows.take_off tei (begun m))) (sym (grind arith)) (go (rows.is_checked tei m.check))
-    where
-      go : (b : Bool) → Leads (owes (IdentityRemove tei) (left b tei)) (leave tei ((cond b end_check rows.nothing_happens) (send (IdentityRemove tei) (begun m))))
-      go true = record { notes = refl; orders = refl; lost = refl; begins = refl; granted = refl; follows = record { is = refl; on = leaves-on on m.places h tei s.table; order = tt } }
-      go false = record { notes = refl; orders = refl; lost = refl; begins = refl; granted = refl; follows = record { is = refl; on = leaves-on on m.places h tei s.table; order = order } }
+  pub remove-leads : (tei : ℕ) → Leads (removes tei w) (rows.take_off tei (begun m))
+  remove-leads tei = leaving-led on places later (removal tei (begun m)) (record { on_is = h; placed = p; order = order }) s.table s.read refl tei
 
   -- A terminal asks for a TEI.
-  module _ (c : Config) (places : length m.places ≡ c.terminals) where
-    pub fewer-on : (place : ℕ) → free_place m.places ≡ Some place → nat_lt (length on) c.terminals ≡ true
-    fewer-on place free = grind (arith, ltb-false, free-fewer)
-
-    pub all-on : free_place m.places ≡ None → nat_lt (length on) c.terminals ≡ false
-    all-on none = grind (arith, false_from_ne_true, ltb-true, none-free)
-
+  module _ (c : Config) (size : length m.places ≡ c.terminals) (read : m.reading ≡ c.reading) where
     abbrev lowest : Option ℕ
     lowest = find (λ tei. not (is_on tei w)) (range_with_len 64 63)
 
@@ -149,72 +173,170 @@ module _ (on : List ℕ) (m : Management) (h : AreOn on m.places) (order : IfSom
     lowest-is = find-same (λ tei. not (is_on tei w)) (table.is_off m.places) (λ tei. ap not (h.same tei)) (range_with_len 64 63)
 
     module _ (ri : ℕ) where
-      comes : (place tei : ℕ) → free_place m.places ≡ Some place → table.free_tei m.places ≡ Some tei → Leads (gives ri None (Some tei) w) (rows.assign_new ri (Some place) (Some tei) (begun m))
-      comes place tei free is = record {
-        notes = refl;
-        orders = refl;
-        lost = refl;
-        begins = refl;
-        granted = refl;
-        follows = record {
-          is =
-              ap (λ n. record w { on = tei ∷ on; held = drop n (m.remembered ++ record { ri = ri; tei = tei } ∷ []); owed = with_message (IdentityAssigned ri tei) m.waiting })
-              (omega (arith, (length-append m.remembered (record { ri = ri; tei = tei } ∷ []))));
-          on = comes-on on m.places h place tei free (free_tei-is m.places tei is).off;
-          order = order;
-        };
-      }
+      abbrev longer : ℕ → List Remembered
+      longer tei = m.remembered ++ record { ri = ri; tei = tei } ∷ []
+
+      held-is : (tei : ℕ) → by_reading m.reading (drop (length (longer tei) - 4) (longer tei)) m.remembered ≡ by_reading c.reading (drop (length m.remembered - 3) (longer tei)) m.remembered
+      held-is tei =
+          ap (λ n. by_reading m.reading (drop n (longer tei)) m.remembered) (omega (arith, (length-append m.remembered (record { ri = ri; tei = tei } ∷ []))))
+          ∙ ap (λ r. by_reading r (drop (length m.remembered - 3) (longer tei)) m.remembered) read
+
+      comes-new : (place tei : ℕ) → free_place m.places ≡ Some place → table.free_tei m.places ≡ Some tei → Leads (gives c ri None (Some tei) w) (rows.assign_new ri (Some place) (Some tei) (begun m))
+      comes-new place tei free is =
+          subst (λ held. Leads (record (led (tei ∷ on) (with_tei tei (places ++ None ∷ [])) later (rows.assign_new ri (Some place) (Some tei) (begun m))) { held = held }) (rows.assign_new ri (Some place) (Some tei) (begun m))) (held-is tei)
+          (known-leads (tei ∷ on) (with_tei tei (places ++ None ∷ [])) later (rows.assign_new ri (Some place) (Some tei) (begun m))
+          (record { on_is = comes-on on m.places h place tei free (free_tei-is m.places tei is).off; placed = came-placed places later m.places m.to_check p place tei free (free_tei-is m.places tei is).off; order = order }))
 
       -- where there is room for the answer
-      new : (p t : Option ℕ) → free_place m.places ≡ p → table.free_tei m.places ≡ t → Leads (gives ri None (cond (nat_lt (length on) c.terminals && true) lowest None) w) (rows.assign_new ri p t (begun m))
-      new None t free is = grind (arith, all-on, plain)
-      new (Some place) t free is = grind (arith, fewer-on, lowest-is, go)
+      new : (o t : Option ℕ) → free_place m.places ≡ o → table.free_tei m.places ≡ t → Leads (gives c ri None (cond (nat_lt (length on) c.terminals && true) lowest None) w) (rows.assign_new ri o t (begun m))
+      new None t free is = subst (λ b. Leads (gives c ri None (cond (b && true) lowest None) w) (rows.assign_new ri None t (begun m))) (sym (all-on on m.places h c.terminals size free)) (plain (IdentityDenied ri 127))
+      new (Some place) t free is =
+          subst (λ b. Leads (gives c ri None (cond (b && true) lowest None) w) (rows.assign_new ri (Some place) t (begun m))) (sym (fewer-on on m.places h c.terminals size place free))
+          (subst (λ o. Leads (gives c ri None o w) (rows.assign_new ri (Some place) t (begun m))) (sym (lowest-is ∙ is)) (go t is))
         where
-          go : (t : Option ℕ) → table.free_tei m.places ≡ t → Leads (gives ri None t w) (rows.assign_new ri (Some place) t (begun m))
-          go None is = plain (IdentityDenied ri)
-          go (Some tei) is = comes place tei free is
+          go : (t : Option ℕ) → table.free_tei m.places ≡ t → Leads (gives c ri None t w) (rows.assign_new ri (Some place) t (begun m))
+          go None is = plain (IdentityDenied ri 127)
+          go (Some tei) is = comes-new place tei free is
 
-      by-held : (o : Option Remembered) → Leads (gives ri o (cond (nat_lt (length on) c.terminals && true) lowest None) w) (rows.assign ri (option_map rows.tei_in o) (begun m))
+      by-held : (o : Option Remembered) → Leads (gives c ri o (cond (nat_lt (length on) c.terminals && true) lowest None) w) (rows.assign ri (option_map rows.tei_in o) (begun m))
       by-held (Some r) = plain (IdentityAssigned ri r.tei)
       by-held None = new (free_place m.places) (table.free_tei m.places) refl refl
 
       -- and where there is none
       lose : (message : Message) → no_room m.waiting ≡ true → Leads (owes message w) (lose_one (begun m))
-      lose message full = grind arith
+      lose message full =
+          subst (λ b. Leads (record w { owed = cond b m.waiting (m.waiting ++ message ∷ []); lost = cond b 1 0 }) (lose_one (begun m))) (sym full) (known-leads on places later (lose_one (begun m)) (record { on_is = h; placed = p; order = order }))
 
-      loses : (o : Option Remembered) (b : Bool) → no_room m.waiting ≡ true → Leads (gives ri o (cond (b && false) lowest None) w) (lose_one (begun m))
-      loses o b full = grind (arith, lose)
+      loses : (o : Option Remembered) (b : Bool) → no_room m.waiting ≡ true → Leads (gives c ri o (cond (b && false) lowest None) w) (lose_one (begun m))
+      loses None true full = lose (IdentityDenied ri 127) full
+      loses None false full = lose (IdentityDenied ri 127) full
+      loses (Some r) b full = lose (IdentityAssigned ri r.tei) full
 
-      pub request-leads : Leads (asked c ri w) (rows.request ri (begun m))
-      request-leads = go (no_room m.waiting) refl
+      answers-request : Leads (asks c ri w) (rows.answer_request ri (begun m))
+      answers-request = go (no_room m.waiting) refl
         where
-          go : (b : Bool) → no_room m.waiting ≡ b → Leads (gives ri (find (rows.is_for ri) m.remembered) (cond (nat_lt (length on) c.terminals && not b) lowest None) w)
+          go : (b : Bool) → no_room m.waiting ≡ b → Leads (gives c ri (find (rows.is_for ri) m.remembered) (cond (nat_lt (length on) c.terminals && not b) lowest None) w)
               ((cond b lose_one (rows.assign ri (rows.remembered_in ri m.remembered))) (begun m))
           go true full = loses (find (rows.is_for ri) m.remembered) (nat_lt (length on) c.terminals) full
           go false room = by-held (find (rows.is_for ri) m.remembered)
 
-  -- What a terminal says.
-  module _ (c : Config) (places : length m.places ≡ c.terminals) where
-    by-both : {X Y : Type 0} (P : X → Y → Type 0) (b : Bool) (u v : X) (x y : Y) → P u x → P v y → P (cond b u v) (cond b x y)
-    by-both P b u v x y h k = grind arith
+      abbrev Answers : Option Managed → Course → Type 0
+      Answers d x = Leads (unwrap_or d w) x
 
-    otherwise : {X Y : Type 0} (P : X → Y → Type 0) (b : Bool) (u v : X) (x y : Y) → P u x → P v y → P (cond (not b) v u) (cond b x y)
-    otherwise P b u v x y h k = grind arith
+      request-leads : Answers (by_reading c.reading (Some (asks c ri w)) (cond (list_any (is_given ri) m.waiting) None (Some (asks c ri w)))) (rows.request ri (begun m))
+      request-leads =
+          in-both Answers m.reading c.reading read (Some (asks c ri w)) (cond (list_any (is_given ri) m.waiting) None (Some (asks c ri w))) (rows.answer_request ri (begun m)) (rows.request_anew ri (begun m))
+          answers-request
+          (subst (λ b. Answers (cond b None (Some (asks c ri w))) (rows.request_anew ri (begun m))) (sym (any-same (is_given ri) (rows.assigns_for ri) (λ message. same-given message) m.waiting))
+          (by-both (λ d f. Answers d (f (begun m))) (list_any (rows.assigns_for ri) m.waiting) None (Some (asks c ri w)) unserved (rows.answer_request ri) none-due answers-request))
+        where
+          same-given : (message : Message) → is_given ri message ≡ rows.assigns_for ri message
+          same-given message = grind arith
 
-    verifies : (action : ℕ) (b : Bool) → Leads (unwrap_or (cond (b && may_check action w) (Some (checks action None w)) None) w) (rows.serve (cond b (heard_of_type 7 0 action) None) (begun m))
-    verifies action b = grind (arith, is_some, begins-check, none-due)
+      denied-leads : (tei : ℕ) → Answers (by_reading c.reading None (Some (owes (IdentityDenied ri tei) w))) (rows.request_of ri tei (begun m))
+      denied-leads tei =
+          in-both Answers m.reading c.reading read None (Some (owes (IdentityDenied ri tei) w)) (unserved (begun m)) (send (IdentityDenied ri tei) (begun m)) none-due (plain (IdentityDenied ri tei))
 
-    by-type-leads : (type ri action : ℕ)
-        → Leads
-        (unwrap_or
-        (cond (type == 1 && action == 127) (Some (asked c ri w)) (cond (type == 5) (option_and_then (responded action w) w.check) (cond (type == 7 && may_check action w) (Some (checks action None w)) None)))
-        w)
-        (rows.serve (heard_of_type type ri action) (begun m))
+    -- It asks for a check.
+    defers-leads : (tei : ℕ) → table.is_on tei m.places ≡ true → Leads (defers tei w) (check_is_due tei (rows.ask_once tei (begun m)))
+    defers-leads tei there =
+        subst (λ b. Leads (record (cond b w (owes (IdentityCheckRequest tei) w)) { later = tei ∷ later }) (check_is_due tei (rows.ask_once tei (begun m)))) (sym (any-same (is_asked tei) (rows.asks_for tei) (λ message. same-asked message) m.waiting))
+        (go (list_any (rows.asks_for tei) m.waiting))
+      where
+        same-asked : (message : Message) → is_asked tei message ≡ rows.asks_for tei message
+        same-asked message = grind arith
+
+        known-later : Known on places (tei ∷ later) (record m { to_check = due_at (place_of tei m.places) true m.to_check })
+        known-later = record { on_is = h; placed = later-placed places later m.places m.to_check p s.table tei there; order = order }
+
+        go : (b : Bool) → Leads (record (cond b w (owes (IdentityCheckRequest tei) w)) { later = tei ∷ later }) (check_is_due tei ((cond b nothing_happens (send (IdentityCheckRequest tei))) (begun m)))
+        go true = known-leads on places (tei ∷ later) (check_is_due tei (begun m)) known-later
+        go false = known-leads on places (tei ∷ later) (check_is_due tei (send (IdentityCheckRequest tei) (begun m))) (record { on_is = h; placed = known-later.placed; order = order })
+
+    abbrev Serves : Option Managed → Course → Type 0
+    Serves d x = Leads (unwrap_or d w) x
+
+    verify-leads : (tei : ℕ) → Serves (verified c tei w) (rows.verify tei (begun m))
+    verify-leads tei =
+        subst (λ b. Serves (cond (not b) None beside) (rows.verify tei (begun m))) (sym (h.same tei)) (go (table.is_on tei m.places) refl)
+      where
+        beside : Option Managed
+        beside = option_map_or (λ (check : Checked). cond (check.tei == tei) None (by_reading c.reading None (Some (defers tei w)))) w.check (Some (checks tei None w))
+
+        by-check : (o : Option Check) → table.is_on tei m.places ≡ true
+            → Serves (option_map_or (λ (check : Checked). cond (check.tei == tei) None (by_reading c.reading None (Some (defers tei w)))) (option_map seen_check o) (Some (checks tei None w))) (rows.verify_beside tei o (begun m))
+        by-check None there = begins-check tei
+        by-check (Some check) there =
+            by-both (λ d f. Serves d (f (begun m))) (check.tei == tei) None (by_reading c.reading None (Some (defers tei w))) unserved (rows.verify_later tei) none-due
+            (in-both Serves m.reading c.reading read None (Some (defers tei w)) (unserved (begun m)) (check_is_due tei (rows.ask_once tei (begun m))) none-due (defers-leads tei there))
+
+        go : (b : Bool) → table.is_on tei m.places ≡ b → Serves (cond (not b) None beside) ((cond b (rows.verify_beside tei m.check) unserved) (begun m))
+        go false off = none-due
+        go true there = by-check m.check there
+
+    responds-leads : (tei : ℕ) → Serves (option_and_then (responded tei w) w.check) (rows.respond tei m.check (begun m))
+    responds-leads tei = go m.check refl
+      where
+        go : (o : Option Check) → m.check ≡ o → Serves (option_and_then (responded tei w) (option_map seen_check o)) (rows.respond tei o (begun m))
+        go None is = none-due
+        go (Some check) is = responds-so tei check is
+
+    -- One may answer for several.
+    none-several : (teis : Option (List ℕ)) (o : Option Check) → teis ≡ None → rows.respond_among teis o (begun m) ≡ unserved (begun m)
+    none-several teis None none = refl
+    none-several teis (Some check) none = ap (λ (teis : Option (List ℕ)). (cond (rows.is_among check.tei teis) (rows.count check.tei (rows.counted check)) unserved) (begun m)) none
+
+    not-several : Serves None (by_reading m.reading (unserved (begun m)) (rows.respond_among None m.check (begun m)))
+    not-several = go m.reading
+      where
+        go : (r : Reading) → Serves None (by_reading r (unserved (begun m)) (rows.respond_among None m.check (begun m)))
+        go Profile = none-due
+        go AnnexB = subst (λ x. Serves None x) (sym (none-several None m.check refl)) none-due
+
+    abbrev read_so : List ℕ → Bool
+    read_so octets = nat_le 2 (length octets) && nat_le (length octets) 64 && ends_once octets
+
+    ends-same : (octets : List ℕ) → ends_once octets ≡ is_extended octets
+    ends-same octets = ends-so octets
+
+    by-several : (octets : List ℕ) (o : Option Check) → m.check ≡ o
+        → Serves (option_and_then (λ (check : Checked). cond (list_any (λ octet. octet / 2 == check.tei) octets) (responded check.tei w check) None) (option_map seen_check o)) (rows.respond_among (Some octets) o (begun m))
+    by-several octets None is = none-due
+    by-several octets (Some check) is =
+        by-both (λ d f. Serves d (f (begun m))) (list_any (λ octet. octet / 2 == check.tei) octets) (responded check.tei w (seen_check check)) None (rows.count check.tei (rows.counted check)) unserved
+        (subst (λ b. Serves (responded check.tei w (seen_check check)) ((cond b (rows.count check.tei (rows.counted check)) unserved) (begun m))) (eq-eqb check.tei check.tei refl) (responds-so check.tei check is)) none-due
+
+    several-leads : (octets : List ℕ) (a b : Bool)
+        → Serves (cond (a && b) (by_reading c.reading None (several w octets)) None)
+        (by_reading m.reading (unserved (begun m)) (rows.respond_among (cond (a && b && nat_le 2 (length octets) && nat_le (length octets) 64 && is_extended octets) (Some octets) None) m.check (begun m)))
+    several-leads octets true true =
+        in-both Serves m.reading c.reading read None (several w octets) (unserved (begun m)) _ none-due
+        (subst (λ b. Serves (several w octets) (rows.respond_among (cond (nat_le 2 (length octets) && nat_le (length octets) 64 && b) (Some octets) None) m.check (begun m))) (ends-same octets) (go (read_so octets)))
+      where
+        go : (b : Bool) → Serves (cond (not b) None (option_and_then (λ (check : Checked). cond (list_any (λ octet. octet / 2 == check.tei) octets) (responded check.tei w check) None) w.check))
+            (rows.respond_among (cond b (Some octets) None) m.check (begun m))
+        go true = by-several octets m.check refl
+        go false = subst (λ x. Serves None x) (sym (none-several None m.check refl)) none-due
+    several-leads octets true false = not-several
+    several-leads octets false b = not-several
+
+    -- What a terminal says.
+    by-type-leads : (type ri action : ℕ) → Serves (seen_of c type ri action w) (rows.serve (heard_of_type type ri action) None (begun m))
     by-type-leads type ri action =
-        by-both (λ d o. Leads (unwrap_or d w) (rows.serve o (begun m))) (type == 1 && action == 127) _ _ _ _ (request-leads c places ri)
-        (by-both (λ d o. Leads (unwrap_or d w) (rows.serve o (begun m))) (type == 5) _ _ _ _ (grind (arith, option_map, none-due, responds-so)) (verifies action (type == 7)))
+        subst (λ d. Serves d (rows.serve (heard_of_type type ri action) None (begun m))) (sym (one-by-one c type ri action w))
+        (by-both (λ d o. Serves d (rows.serve o None (begun m))) (type == 1 && action == 127) _ _ _ _ (request-leads ri)
+        (by-both (λ d o. Serves d (rows.serve o None (begun m))) (type == 1 && nat_le 64 action && nat_le action 126) _ _ _ _ (denied-leads ri action)
+        (by-both (λ d o. Serves d (rows.serve o None (begun m))) (type == 5) _ _ _ _ (responds-leads action)
+        (by-both (λ d o. Serves d (rows.serve o None (begun m))) (type == 7) _ _ _ _ (verify-leads action) not-several))))
 
-    pub serve-leads : (info : List ℕ) → Leads (by_message c w info) (rows.serve (heard_in info) (begun m))
+    pub serve-leads : (info : List ℕ) → Leads (by_message c w info) (rows.hear info (begun m))
     serve-leads (a ∷ high ∷ low ∷ type ∷ last ∷ []) =
-        otherwise (λ d o. Leads (unwrap_or d w) (rows.serve o (begun m))) (a == 0x0F && last % 2 == 1) _ _ _ _ (by-type-leads type (256 * high + low) (last / 2)) none-due
-    serve-leads info = grind (arith, none-due)
+        let seen = seen_of c type (256 * high + low) (last / 2) w in
+        subst (λ teis. Serves (cond (not (a == 0x0F && last % 2 == 1)) None seen) (rows.serve (cond (a == 0x0F && last % 2 == 1) (heard_of_type type (256 * high + low) (last / 2)) None) teis (begun m))) (sym (ap (λ b. cond b (Some (last ∷ [])) None) (one-response a type last)))
+        (otherwise (λ d o. Serves d (rows.serve o None (begun m))) (a == 0x0F && last % 2 == 1) seen None (heard_of_type type (256 * high + low) (last / 2)) None (by-type-leads type (256 * high + low) (last / 2)) not-several)
+    serve-leads (a ∷ high ∷ low ∷ type ∷ last ∷ sixth ∷ more) = several-leads (last ∷ sixth ∷ more) (a == 0x0F) (type == 5)
+    serve-leads (a ∷ high ∷ low ∷ type ∷ []) = several-leads [] (a == 0x0F) (type == 5)
+    serve-leads (a ∷ high ∷ low ∷ []) = not-several
+    serve-leads (a ∷ high ∷ []) = not-several
+    serve-leads (a ∷ []) = not-several
+    serve-leads [] = not-several

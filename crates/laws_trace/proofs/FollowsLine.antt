@@ -1,6 +1,6 @@
 -- What is due of TEI management by one event of a line of the network's side, or of a trunk's end, is what its answer shows, and
 -- the observer follows it.
-use Rattle.laws_trace.proofs.Vocabulary.{◌≡◌, ℕ, true, false, cond, List, [], ◌∷◌, ◌++◌, map, take, drop, filter, Option, Some, None, IfSome, refl, sym, ap, ◌∙◌, subst, append-nil, true≢false, inl, inr, option_map_or, filter-append, Timer, Management, Message, Config, Aim, at_management, of_aim, hears, expiry, next, Line}
+use Rattle.laws_trace.proofs.Vocabulary.{◌≡◌, ℕ, true, false, cond, List, [], ◌∷◌, ◌++◌, map, take, drop, filter, Option, Some, None, IfSome, refl, sym, ap, ◌∙◌, subst, append-nil, true≢false, inl, inr, option_map_or, filter-append, Timer, Places, Management, Message, Config, Aim, at_management, of_aim, hears, expiry, next, Line}
 use Rattle.laws_trace.proofs.Vocabulary.{aim_of_heard, Taken, taken, line_of, heard_aims, IsOwed, IsIdle, contents_of_link, served, TimerT200 as T200, TimerT203 as T203, T201, message_frame as frame_of, information_of, Event, told, line_after as after, answer, IsSound, Managed, managing_by_event as by_event, is_of_teis, received, StreamEvent, tei_message, TeiEvent}
 use Rattle.laws_trace.proofs.Vocabulary.{tei_refusal, tei_course, tei_told, tei_after, told_of_management}
 use Rattle.lapd_frame.specs.declared.timers.Timer.TheVariants.{T202}
@@ -16,7 +16,9 @@ use Rattle.model_line.specs.Line.{is_terminal, Own, with_terminal}
 use Rattle.model_line.proofs.Managed.{idle_course}
 use Rattle.laws_trace.specs.Managing.{octets_of}
 use Rattle.laws_trace.specs.TeisAreManaged.{message_text}
-use Rattle.laws_trace.proofs.Follows.{Follows, Leads, InOrder, as_seen, serve-leads, expire-leads}
+use Rattle.laws_trace.proofs.CheckEnds.{Follows, Leads, InOrder, as_seen}
+use Rattle.laws_trace.proofs.Follows.{serve-leads, expire-leads}
+use Rattle.laws_trace.proofs.ManagingPlaces.{ArePlaced}
 use Rattle.laws_trace.proofs.ManagingTables.{AreOn}
 use Rattle.laws_trace.proofs.ManagingNotes.{by_message, none-of-teis, Cases, is_management, message_in, message-is-read, heard-cases, Behind, behind}
 use Rattle.laws_trace.proofs.ReadAgain.{message-text}
@@ -25,25 +27,25 @@ use Rattle.laws_trace.proofs.Tracked.{OfSide, Tracks, Shows, IsQuiet, IsUnmanage
 -- A message goes in the octets that are due.
 same-octets : (m : Message) → information_of m ≡ octets_of m
 same-octets (IdentityAssigned ri tei) = refl
-same-octets (IdentityDenied ri) = refl
+same-octets (IdentityDenied ri tei) = refl
 same-octets (IdentityCheckRequest tei) = refl
 same-octets (IdentityRemove tei) = refl
 
 same-text : (c : Config) (m : Message) → frame_of c.side m ≡ message_text c (octets_of m)
 same-text c m = message-text c m ∙ ap (message_text c) (same-octets m)
 
-module _ (c : Config) (l : Line) (s : IsSound c l) (net : is_terminal c ≡ false) (on : List ℕ) (h : AreOn on l.management.places) (order : IfSome l.management.check InOrder) where
+module _ (c : Config) (l : Line) (s : IsSound c l) (net : is_terminal c ≡ false) (on : List ℕ) (seen : Places) (dues : List ℕ) (h : AreOn on l.management.places) (p : ArePlaced seen dues l.management.places l.management.to_check) (order : IfSome l.management.check InOrder) where
   abbrev m : Management
   m = l.management
 
   abbrev w : Managed
-  w = as_seen on m
+  w = as_seen on seen dues m
 
   pub tracked : (d : Managed) (m : Management) (own : Own) → Follows d m → Tracks c d m own
   tracked d m own f = record { on = f.on; side = subst (λ b. OfSide c b d m own) (sym net) f }
 
   pub here : Tracks c w m l.own
-  here = tracked w m l.own (record { is = refl; on = h; order = order })
+  here = tracked w m l.own (record { is = refl; on = h; placed = p; order = order })
 
   pub none-due : IsQuiet w
   none-due = record { notes = refl; orders = refl; lost = refl; begins = refl; granted = refl }
@@ -88,7 +90,7 @@ module _ (c : Config) (l : Line) (s : IsSound c l) (net : is_terminal c ≡ fals
   by-cases e (inl x) =
       subst (λ aim. Heard e aim (message_in c e)) (sym x.aim_is)
       (subst (Heard e (at_management (tei_message x.info))) (sym x.said_is)
-      (managed-shows (hears e) (by_message c w x.info) (tei_message x.info) (serve-leads on m h order s.management c s.places x.info)))
+      (managed-shows (hears e) (by_message c w x.info) (tei_message x.info) (serve-leads on seen dues m h p order s.management c s.places s.reading x.info)))
   by-cases e (inr x) = subst (Heard e (aim_of_heard c l e)) (sym x.said_is) (others-show (hears e) (aim_of_heard c l e) x.aim_is (plain-aim e x.aim_is))
 
   pub hears-shows : (e : StreamEvent) → Shows c l (hears e) (by_event c (hears e) w) (answer c (hears e) l) (after c (hears e) l)
@@ -111,7 +113,7 @@ module _ (c : Config) (l : Line) (s : IsSound c l) (net : is_terminal c ≡ fals
   unfolding after answer tei_course tei_refusal
   expiry-shows (T200 service tei) = timer-shows c l w none-due here (T200 service tei) service tei link_timer.T200 refl
   expiry-shows (T203 service tei) = timer-shows c l w none-due here (T203 service tei) service tei link_timer.T203 refl
-  expiry-shows T201 = managed-shows (expiry T201) (by_event c (expiry T201) w) tei_expiry (expire-leads on m h order s.management)
+  expiry-shows T201 = managed-shows (expiry T201) (by_event c (expiry T201) w) tei_expiry (expire-leads on seen dues m h p order s.management c s.reading)
   expiry-shows T202 = t202-shows
 
   -- A call for the next frame.
@@ -127,7 +129,7 @@ module _ (c : Config) (l : Line) (s : IsSound c l) (net : is_terminal c ≡ fals
   stays : (new : Line) → new.management ≡ m → m.waiting ≡ [] → Tracks c later new.management new.own
   stays new is none =
       tracked later new.management new.own
-      (subst (Follows later) (sym is) (subst (λ ms. Follows (record w { owed = ms; begins = map octets_of (take 1 m.waiting) }) m) (sym (ap (drop 1) none ∙ sym none)) (record { is = refl; on = h; order = order })))
+      (subst (Follows later) (sym is) (subst (λ ms. Follows (record w { owed = ms; begins = map octets_of (take 1 m.waiting) }) m) (sym (ap (drop 1) none ∙ sym none)) (record { is = refl; on = h; placed = p; order = order })))
 
   none-goes : m.waiting ≡ [] → [] ≡ due_texts
   none-goes none = sym (ap (λ ms. map (message_text c) (map octets_of (take 1 ms))) none)
@@ -137,7 +139,7 @@ module _ (c : Config) (l : Line) (s : IsSound c l) (net : is_terminal c ≡ fals
   goes new (Some t) (inl x) = (
     one-or-none c t true (ap (is_managed c) x.spelled ∙ ap (is_managed c) (same-text c x.message) ∙ message-is c (octets_of x.message))
         ∙ ap (λ f. f ∷ []) (x.spelled ∙ same-text c x.message) ∙ sym (ap (λ ms. map (message_text c) (map octets_of ms)) (first-goes m.waiting x.message x.oldest)),
-    subst (λ (l : Line). Tracks c later l.management l.own) (sym x.line) (tracked later (record m { waiting = drop 1 m.waiting }) l.own (record { is = refl; on = h; order = order })),
+    subst (λ (l : Line). Tracks c later l.management l.own) (sym x.line) (tracked later (record m { waiting = drop 1 m.waiting }) l.own (record { is = refl; on = h; placed = p; order = order })),
   )
   goes new (Some t) (inr (inl x)) = absurd (true≢false (sym x.terminal ∙ net))
   goes new (Some t) (inr (inr (inl x))) = (

@@ -1,5 +1,5 @@
 -- What is due of TEI management by a request, and by any event of a terminal's line, is what its answer shows.
-use Rattle.laws_trace.proofs.Vocabulary.{◌≡◌, ℕ, ◌≤◌, ◌&&◌, ◌||◌, Bool, true, false, cond, not, [], ◌∷◌, ◌++◌, ◌∙◌, length, filter, Option, Some, None, is_some, refl, sym, ap, subst, inl, arith, leb-true, leb-false, ltb-true, ltb-false, nat_le, nat_lt, list_any, true≢false, false_from_ne_true, Refusal, free_place, on-range, Config, at_management, of_aim, hears, expiry, request, next}
+use Rattle.laws_trace.proofs.Vocabulary.{◌≡◌, ℕ, ◌≤◌, ◌&&◌, ◌||◌, Bool, true, false, cond, not, [], ◌∷◌, ◌++◌, ◌∙◌, length, replicate, filter, Option, Some, None, is_some, refl, sym, ap, subst, inl, arith, leb-true, leb-false, ltb-true, ltb-false, nat_le, nat_lt, list_any, true≢false, false_from_ne_true, Refusal, free_place, on-range, Config, at_management, of_aim, hears, expiry, request, next}
 use Rattle.laws_trace.proofs.Vocabulary.{Line, has_tei, unless_refused}
 use Rattle.laws_trace.proofs.Vocabulary.{unless_refused_told, bad_tei, no_link, tei_taken, bad_tei_or_all, tei_in_use, table_full, check_running, control_full, Assign, Remove, Disown, Deactivate, aim_of_request, passed, Down, at_no_link, Stop, Event, told, line_after as after, answer, Establish, Release, refusal, Request, Checking, SetBusy, ClearBusy, IsSound, Managed, by-down, stop_of}
 use Rattle.laws_trace.proofs.Vocabulary.{is_of_line, LinkSetBusy, LinkClearBusy, tei_assign, tei_remove, TeiEvent}
@@ -220,7 +220,7 @@ module _ (c : Config) (l : Line) (s : IsSound c l) (is : is_terminal c ≡ true)
         };
         lost = inl (sym quiet.lost);
         follows =
-            tracked c l s is v quiet known-so down (record l.management { check = None; waiting = [] }) (record l.own { procedure = None; waiting = [] }) s.management.table
+            tracked c l s is v quiet known-so down (record l.management { check = None; to_check = replicate (length l.management.to_check) false; waiting = [] }) (record l.own { procedure = None; waiting = [] }) s.management.table
             (record { own_is = refl; on_is = refl; owed = known-so.owed });
       })
 

@@ -2,14 +2,14 @@
 use Rattle.laws_trace.proofs.Vocabulary.{◌≡◌, ℕ, ◌<◌, true, false, List, [], subst, Config, CardEvent as Event, AreAtLines, IsInRange, Line, Managed, managed_after, nothing_due, fresh, after_all, line_at}
 use Rattle.model_line.specs.Line.{is_terminal, terminal_in}
 use Rattle.laws_trace.specs.Managing.{own_of}
-use Rattle.laws_trace.proofs.Follows.{as_seen}
+use Rattle.laws_trace.proofs.CheckEnds.{as_seen}
 use Rattle.laws_trace.proofs.FollowsTerminal.{known}
 use Rattle.laws_trace.proofs.ManagingTables.{AreOn}
 use Rattle.laws_trace.proofs.TeisAreManaged.{follows-now}
 use Rattle.laws_trace.proofs.Tracked.{OfSide, Tracks}
 
 pub record Knows (c : Config) (w : Managed) (l : Line) : Type 0 where
-  pub network : is_terminal c ≡ false → nothing_due w ≡ as_seen w.on l.management
+  pub network : is_terminal c ≡ false → nothing_due w ≡ as_seen w.on w.places w.later l.management
   pub on : AreOn w.on l.management.places
   pub terminal : is_terminal c ≡ true → own_of c w ≡ known (terminal_in l)
   pub none_owed : is_terminal c ≡ true → w.owed ≡ []

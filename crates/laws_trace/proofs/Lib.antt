@@ -69,6 +69,7 @@ pub mod ControlsSeen
 pub mod ControlsAtLine
 pub mod ControlFrames
 pub mod ManagingTables
+pub mod ManagingPlaces
 pub mod TerminalTables
 pub mod FollowsTerminal
 pub mod Tracked
@@ -76,6 +77,8 @@ pub mod TrackedRequests
 pub mod FollowsTerminalLine
 pub mod FollowsTerminalRequests
 pub mod ManagingNotes
+pub mod ManagingReads
+pub mod CheckEnds
 pub mod Follows
 pub mod FollowsLine
 pub mod FollowsRequests

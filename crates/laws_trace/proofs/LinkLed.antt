@@ -1,13 +1,13 @@
 -- Which state a link moves to: one event of a line, by what is seen of it.
 use Rattle.lapd_frame.specs.declared.timers.Timer.TheVariants.{T202}
-use Rattle.laws_trace.proofs.Vocabulary.{arith, ◌≡◌, ℕ, ◌==◌, ◌&&◌, Bool, true, false, cond, List, [], ◌∷◌, length, map, Option, Some, None, Result, Ok, refl, sym, ap, ◌∙◌, eq-eqb, true≢false, fold, is_some, nat_lt, option_map_or, Address, ReadFault, ErrorCode, L, Service, Timer, Parts, sapi_of, service_of, same_service, place_of-is, is_on-at, Config, Aim, at_link, expiry, Answer, aim_of_expiry}
+use Rattle.laws_trace.proofs.Vocabulary.{arith, ◌≡◌, ℕ, ◌==◌, ◌&&◌, Bool, true, false, cond, List, [], ◌∷◌, map, Option, Some, None, Result, Ok, refl, sym, ap, ◌∙◌, eq-eqb, true≢false, fold, is_some, option_map_or, Address, ReadFault, ErrorCode, L, Service, Timer, Parts, sapi_of, service_of, same_service, place_of-is, is_on-at, Config, Aim, at_link, expiry, Answer, aim_of_expiry}
 use Rattle.laws_trace.proofs.Vocabulary.{at_timer, Line, has_tei, place_in, terms, aim_of, addressed, aim_of_heard, aim_of_reading, message_of, Deactivate, aim_of_request, at_requested, at_deactivated, at_side, IsBy, IsDeactivated, addressed-is, sapi-is, service-same, both-true, eqb-true, T200, T203, Event, answer, Request, Establish, Release, option_and_then, result_ok, result_err, is_for}
 use Rattle.laws_trace.proofs.Vocabulary.{fault_of, is_own, seen, is_up, and-false, and-true, Seen, trace_begun as begun, heard, not-refused, StreamEvent, T201, TimerT203, TimerT200}
 use Rattle.model_link.specs.Events as link
 use Rattle.laws_trace.proofs.MovesWatched.{by_frame, by_parts, by_request, by_seen, by_expiry, led}
 use Rattle.laws_trace.proofs.States.{expired_of, one_more}
 use Rattle.laws_trace.proofs.TimersWatched.{Known}
-use Rattle.laws_trace.proofs.MovesOfLink.{expected, ticks}
+use Rattle.laws_trace.proofs.MovesOfLink.{expected, ticks, timer_of}
 use Rattle.laws_trace.proofs.Deliveries.{heard-by}
 use Rattle.laws_trace.proofs.OneLink.{is_at_link}
 use Rattle.model_bits.specs.Stream.{frame as stream_frame}
@@ -15,7 +15,7 @@ use Rattle.model_bits.specs.Stream.{overlong as stream_overlong}
 use Rattle.lapd_frame.specs.Senders.{long_reading}
 use Rattle.model_line.specs.Heard.{aim_of_long}
 use Rattle.lapd_frame.specs.declared.overlong.Long.{Long}
-use Rattle.laws_trace.specs.LinkFrames.{faulty_long}
+use Rattle.laws_trace.specs.LinkFrames.{begins_ui, faulty_long, is_annex_b, is_too_long}
 use Rattle.model_line.specs.Heard.{heard_side}
 use Rattle.laws_trace.proofs.Vocabulary.{reading}
 
@@ -60,7 +60,7 @@ module _ (c : Config) (service : Service) (tei : ℕ) (k : Known) where
     read-none : (x : ℕ) (r : Result Parts ReadFault) → is_at_link service tei (aim_of_reading c l r) ≡ false → by_reading x r ≡ x
     read-none x (Ok f) aims =
         no-fault x (by_parts c service tei k x (Some f)) false L refl
-        ∙ ap (λ b. cond b (by_frame k x f.address.command (nat_lt c.n201 (length f.info)) f.control) x) (go (is_for service tei f.address) refl)
+        ∙ ap (λ b. cond b (by_frame c.reading k x f.address.command (is_too_long c f) f.control) x) (go (is_for service tei f.address) refl)
       where
         go : (b : Bool) → is_for service tei f.address ≡ b → b ≡ false
         go false for = refl
@@ -70,12 +70,12 @@ module _ (c : Config) (service : Service) (tei : ℕ) (k : Known) where
             absurd (true≢false (sym (own-is service tei) ∙ sym (ap (λ aim. is_at_link service tei (at_side c f aim)) is) ∙ aims))
     read-none x r aims = grind (arith, no-fault, addressed-none)
 
-    long-none : (x : ℕ) (r : Result Long ReadFault) → is_at_link service tei (aim_of_long l r) ≡ false → cond (is_up x && is_some (faulty_long service tei r)) 5 x ≡ x
-    long-none x r aims = grind (arith, no-fault, addressed-none)
+    long-none : (x : ℕ) (ui : Bool) (r : Result Long ReadFault) → is_at_link service tei (aim_of_long c.reading ui l r) ≡ false → cond (is_up x && is_some (faulty_long (is_annex_b c && ui) service tei r)) 5 x ≡ x
+    long-none x ui r aims = grind (arith, no-fault, addressed-none)
 
     heard-none : (x : ℕ) (e : StreamEvent) → is_at_link service tei (aim_of_heard c l e) ≡ false → by_heard x e ≡ x
     heard-none x (stream_frame octets) aims = read-none x (reading (heard_side c) octets) aims
-    heard-none x (stream_overlong head) aims = long-none x (long_reading (heard_side c) head) aims
+    heard-none x (stream_overlong head) aims = long-none x (begins_ui head) (long_reading (heard_side c) head) aims
     heard-none x e aims = grind (arith, no-fault)
 
     -- an expiry, or a request, of another link
@@ -128,3 +128,6 @@ module _ (c : Config) (service : Service) (tei : ℕ) (k : Known) where
 
     pub one-ticks : (e : Event) (event : link.Event) → IsBy c e a service tei event → option_map_or one_more (expired_of service tei e) 0 ≡ ticks event
     one-ticks e event y = grind (arith, one_more, expired_of, heard-by, own-is)
+
+    pub one-timer : (e : Event) (event : link.Event) → IsBy c e a service tei event → expired_of service tei e ≡ timer_of event
+    one-timer e event y = grind (arith, expired_of, heard-by, own-is)

@@ -1,14 +1,14 @@
 -- Which state a link moves to: the law.
 use Rattle.laws_trace.proofs.Vocabulary.{◌≡◌, ℕ, ◌+◌, ◌≤◌, ◌==◌, not, Bool, true, false, cond, get_or, set, Option, Some, None, refl, sym, ap, ◌∙◌, subst, arith, eq-eqb, true≢false, inl, inr, IfSome, option_map_or, and_parts, get_or-set_same, Service, State, Terms, Link, state_number, Config, Answer, Line, fresh_line, link_of, place_in, state_of, terms, IsInRange, Card, line_at, is_full}
-use Rattle.laws_trace.proofs.Vocabulary.{has_lines, by_room, line_sound, AllHaveTheirTimers, IsBy, HaveTheirTimers, moves, eqb-true, IsSound, CardEvent as Event, after, card_answer as answer, IsAtLine, seen, LinkEvent, cleared}
+use Rattle.laws_trace.proofs.Vocabulary.{has_lines, by_room, line_sound, AllHaveTheirTimers, IsBy, HaveTheirTimers, moves, link_after, eqb-true, IsSound, CardEvent as Event, after, card_answer as answer, IsAtLine, seen, LinkEvent, cleared}
 use Rattle.model_line.specs.Event as line_event
 use Rattle.model_line.specs.Machine as lines
 use Rattle.model_card.specs.Sound as card_sound
-use Rattle.laws_trace.proofs.MovesWatched.{by_expiry, repeated, led}
+use Rattle.laws_trace.proofs.MovesWatched.{by_expiry, first, repeated, led}
 use Rattle.laws_trace.proofs.States.{expired_of, one_more, differ}
 use Rattle.laws_trace.proofs.TimersWatched.{Known}
-use Rattle.laws_trace.proofs.LinkLed.{on-line, none-led, none-ticks, one-led, one-ticks, ended-leads}
-use Rattle.laws_trace.proofs.MovesOfLink.{Counts, event-leads, event-counted}
+use Rattle.laws_trace.proofs.LinkLed.{on-line, none-led, none-ticks, one-led, one-ticks, one-timer, ended-leads}
+use Rattle.laws_trace.proofs.MovesOfLink.{Counts, event-leads, event-counted, first_at}
 use Rattle.laws_trace.proofs.OneLink.{HasOne, HasNone, Goes, event-goes}
 use Rattle.laws_trace.proofs.Runs.{nothing-seen, apart}
 use Rattle.laws_trace.proofs.TimerClaims.{told_state}
@@ -48,7 +48,7 @@ module _ (c : Config) (ranged : IsInRange c) (l : Line) (s : IsSound c l) (timed
   next = link_of service tei (lines.after c e l)
 
   abbrev counted : Option ℕ → Option ℕ → ℕ
-  counted from to = cond (differ from to) 0 (n + option_map_or one_more (expired_of service tei e) 0)
+  counted from to = cond (differ from to) (first c from (expired_of service tei e)) (n + option_map_or one_more (expired_of service tei e) 0)
 
   -- where the TEI is on the line before and after
   module _ (place there : ℕ) (on : place_in l tei ≡ Some place) (stays : place_in (lines.after c e l) tei ≡ Some there) where
@@ -81,15 +81,26 @@ module _ (c : Config) (ranged : IsInRange c) (l : Line) (s : IsSound c l) (timed
     none-counted x =
         subst (λ (y : Link). Counts y.state (counted (told_state own.state) (told_state y.state)) y.repeats) (sym (x.stays (on-line l tei place on) (on-line (lines.after c e l) tei there stays)))
         (subst (λ m. Counts own.state m own.repeats)
-        (sym (ap (λ b. cond b 0 (n + option_map_or one_more (expired_of service tei e) 0)) (differs own.state own.state ∙ same-state own.state)
+        (sym (ap (λ b. cond b (first c (told_state own.state) (expired_of service tei e)) (n + option_map_or one_more (expired_of service tei e) 0)) (differs own.state own.state ∙ same-state own.state)
         ∙ no-more n (option_map_or one_more (expired_of service tei e) 0) (ap (λ o. option_map_or one_more o 0) (none-ticks c service tei k l place on e x.aims)))) counts)
+
+    one-counted : HasOne c service tei e l (lines.after c e l) a → Counts next.state (counted (told_state own.state) (told_state next.state)) next.repeats
+    one-counted x =
+        let y = link_after t x.event own in
+        subst (λ (y : Link). Counts y.state (counted (told_state own.state) (told_state y.state)) y.repeats) (sym x.is)
+        (subst (λ m. Counts y.state m y.repeats)
+        (sym (ap (λ b. cond b (first c (told_state own.state) (expired_of service tei e)) (n + option_map_or one_more (expired_of service tei e) 0)) (differs own.state y.state)
+        ∙ ap (λ o. cond (moves own.state y.state) (first c (told_state own.state) o) (n + option_map_or one_more (expired_of service tei e) 0)) (one-timer c service tei k a e x.event x.by)
+        ∙ ap (λ k. cond (moves own.state y.state) (first_at t own.state x.event) (n + k)) (one-ticks c service tei k a e x.event x.by)))
+        (event-counted t own n x.event (no-event x.event c e a service tei x.by) (events.own-timed c ranged l s timed service tei k agrees e x.place x.placed) counts))
 
     stays-counted : Counts next.state (counted (told_state own.state) (told_state next.state)) next.repeats
     stays-counted = go (event-goes c e l service tei s)
       where
         go : Goes c service tei e l (lines.after c e l) a → Counts next.state (counted (told_state own.state) (told_state next.state)) next.repeats
-        go other =
-            grind (arith, none-counted, told_state, one_more, expired_of, differs, one-ticks, event-counted, no-event, events.own-timed)
+        go (inl x) = none-counted x
+        go (inr (inl x)) = one-counted x
+        go (inr (inr x)) = subst (λ (y : Link). Counts y.state (counted (told_state own.state) (told_state y.state)) y.repeats) (sym x.is) tt
 
   pub event-counts : IsCountOf service tei (counted (state_of service tei l) (state_of service tei (lines.after c e l))) (lines.after c e l)
   event-counts = go (place_in l tei) refl (place_in (lines.after c e l) tei) refl
@@ -143,7 +154,7 @@ module _ (service : Service) (tei number : ℕ) where
     now = get_or-set_same card.lines e.line its (fresh_line card.config) (omega (arith, s.count, here))
 
     abbrev counts_then : Option ℕ → ℕ
-    counts_then to = cond (differ (state_of service tei l) to) 0 (n + option_map_or one_more (expired_of service tei e.what) 0)
+    counts_then to = cond (differ (state_of service tei l) to) (first card.config (state_of service tei l) (expired_of service tei e.what)) (n + option_map_or one_more (expired_of service tei e.what) 0)
 
     still : lines.takes_slot card.config e.what l ≡ true → counts_then (state_of service tei l) ≡ n
     still takes = grind (arith, one_more, expired_of, differ-self, no-more, none-expires)
@@ -178,7 +189,7 @@ module _ (service : Service) (tei number : ℕ) where
   moment-counted card s timely e here k n agrees counts = go (e.line == number) refl
     where
       go : (b : Bool) → (e.line == number) ≡ b
-          → IsCountOf service tei (cond (not b) n (cond (differ (state_of service tei (line_at number card)) (state_of service tei (line_at number (after e card)))) 0 (n + option_map_or one_more (expired_of service tei e.what) 0))) (line_at number (after e card))
+          → IsCountOf service tei (cond (not b) n (cond (differ (state_of service tei (line_at number card)) (state_of service tei (line_at number (after e card)))) (first card.config (state_of service tei (line_at number card)) (expired_of service tei e.what)) (n + option_map_or one_more (expired_of service tei e.what) 0))) (line_at number (after e card))
       go true is = grind (arith, eqb-true, differ, one_more, expired_of, own-counted)
       go false other =
           subst (IsCountOf service tei n) (sym (apart card e number (λ same. true≢false (sym (eq-eqb e.line number (sym same)) ∙ other)))) counts

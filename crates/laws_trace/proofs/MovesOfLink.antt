@@ -1,8 +1,10 @@
 -- Which state an event of a link leads to, and how often its command was repeated: by what an observer knows, row by row.
-use Rattle.laws_trace.proofs.Vocabulary.{◌≡◌, ℕ, ◌+◌, ◌≤◌, ◌==◌, not, Bool, false, cond, length, Some, None, ap, ◌∙◌, arith, nat_le, nat_lt, is_some, leb-true, leb-false, ReceiveReady, Seq, named, distance_of, seq, HasItsTimer, State, TeiAssigned, AwaitingEstablishment, Established, TimerRecovery, Terms, received, expired, requested, offer, cleared, Link, state_number, as_heard, state_after}
+use Rattle.laws_trace.proofs.Vocabulary.{◌≡◌, ℕ, ◌+◌, ◌≤◌, ◌==◌, ◌&&◌, ◌||◌, not, Bool, true, false, cond, length, Option, Some, None, Parts, LinkTimer, is_ui, ap, ◌∙◌, arith, nat_le, nat_lt, is_some, leb-true, leb-false, ReceiveReady, Seq, named, distance_of, seq, HasItsTimer, State, TeiAssigned, AwaitingEstablishment, Established, TimerRecovery, Terms, received, expired, requested, offer}
+use Rattle.laws_trace.proofs.Vocabulary.{cleared, Link, state_number, as_heard, state_after}
 use Rattle.laws_trace.proofs.Vocabulary.{moves, event-follows, ltb-true, ltb-false, LinkEvent as Event, frame, LinkEstablish as Establish, LinkRelease as Release, is_up, link_after as after}
+use Rattle.lapd_frame.specs.Readings.{by_reading}
 use Rattle.laws_link.specs.States as states
-use Rattle.laws_trace.proofs.MovesWatched.{is_invalid, by_frame, by_expiry}
+use Rattle.laws_trace.proofs.MovesWatched.{is_invalid, by_frame, by_expiry, first_of}
 use Rattle.laws_trace.proofs.States.{one_more}
 use Rattle.laws_trace.proofs.TimersWatched.{Known}
 use Rattle.laws_trace.proofs.TimerClaims.{IsKnown, Agrees}
@@ -27,9 +29,20 @@ abbrev pub ticks : Event → ℕ
 ticks (expired timer) = one_more timer
 ticks other = 0
 
+-- As an observer says it, by the terms of a link.
+abbrev pub is_long : Terms → Parts → Bool
+is_long t f = (not (is_ui f.control) || by_reading t.reading false true) && nat_lt t.n201 (length f.info)
+
+abbrev pub timer_of : Event → Option LinkTimer
+timer_of (expired timer) = Some timer
+timer_of other = None
+
+abbrev pub first_at : Terms → State → Event → ℕ
+first_at t from e = first_of t.reading t.n200 (state_number from == 7) (timer_of e)
+
 -- What an observer says that an event leads to.
 abbrev pub expected : Terms → Known → ℕ → Event → ℕ → ℕ
-expected t k n (received (frame f)) state = by_frame k state f.address.command (nat_lt t.n201 (length f.info)) f.control
+expected t k n (received (frame f)) state = by_frame t.reading k state f.address.command (is_long t f) f.control
 expected t k n (expired timer) state = by_expiry (nat_lt n t.n200) k state timer
 expected t k n (requested Establish full) state = cond (state == 4) 5 state
 expected t k n (requested Release full) state = cond (is_up state) 6 state
@@ -46,8 +59,8 @@ module _ (t : Terms) (k : Known) (l : Link) (n : ℕ) (ordered : l.a ≤ l.s) (w
 
   -- RR, RNR and REJ in state 8
   ready-8 : IsKnown k l.a l.s l.peer_busy → (command f : Bool) (nr : Seq)
-      → state_number (cond (not (is_some (named l.a l.s nr))) AwaitingEstablishment (states.by_frame TimerRecovery command (ReceiveReady nr f)))
-      ≡ by_frame k 8 command false (ReceiveReady nr f)
+      → state_number (cond (not (is_some (named l.a l.s nr))) AwaitingEstablishment (states.by_frame t.reading TimerRecovery command (ReceiveReady nr f)))
+      ≡ by_frame t.reading k 8 command false (ReceiveReady nr f)
   ready-8 known command f nr = grind (arith, numbered)
 
   -- Any event but the end of the TEI.
@@ -61,5 +74,5 @@ module _ (t : Terms) (k : Known) (l : Link) (n : ℕ) (ordered : l.a ≤ l.s) (w
 
 -- RC, where T200 runs in states 5, 6 and 8.
 module _ (t : Terms) (l : Link) (n : ℕ) (e : Event) (some : e ≡ cleared → ⊥) where
-  pub event-counted : HasItsTimer l → Counts l.state n l.repeats → let y = after t e l in Counts y.state (cond (moves l.state y.state) 0 (n + ticks e)) y.repeats
+  pub event-counted : HasItsTimer l → Counts l.state n l.repeats → let y = after t e l in Counts y.state (cond (moves l.state y.state) (first_at t l.state e) (n + ticks e)) y.repeats
   event-counted timed counts = grind (arith, event-follows)

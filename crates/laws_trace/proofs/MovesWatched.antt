@@ -1,8 +1,12 @@
 -- Which state a link moves to, by its numbers and by how often T200 expired: a part of what an observer knows.
-use Rattle.laws_trace.proofs.Vocabulary.{ℕ, ◌+◌, ◌==◌, ◌&&◌, ◌||◌, not, nat_lt, Bool, List, length, fold, Option, Some, None, is_some, if◌then◌else◌, option_map_or, Information, ReceiveReady, ReceiveNotReady, Reject, Sabme, Disc, Ua, Dm, Frmr, Service, Parts, Seq, LinkTimer, Config, Deactivate, Control, T200, T203, Request, Establish, Release, Moment, is_for, frame_of, malformed, steps, is_own}
+use Rattle.laws_trace.proofs.Vocabulary.{ℕ, ◌+◌, ◌==◌, ◌&&◌, ◌||◌, not, nat_lt, Bool, true, List, fold, Option, Some, None, is_some, if◌then◌else◌, option_map_or, Information, ReceiveReady, ReceiveNotReady, Reject, Sabme, Disc, Ua, Ui, Dm, Frmr, Service, Parts, Seq, LinkTimer, Config, Deactivate, Control, T200, T203, Request, Establish, Release, Moment, is_for, frame_of, malformed, steps, is_own}
 use Rattle.laws_trace.proofs.Vocabulary.{is_up, Seen, heard, granted, Event}
+use Rattle.std.specs.Prelude.{min}
+use Rattle.lapd_frame.specs.declared.readings.Reading.{Reading}
+use Rattle.lapd_frame.specs.Readings.{by_reading}
+use Rattle.laws_trace.specs.LinkFrames.{is_too_long}
 use Rattle.laws_trace.proofs.TimersWatched.{Known, awaits}
-use Rattle.laws_trace.proofs.States.{state_before, state_after, differ, expired_of, one_more}
+use Rattle.laws_trace.proofs.States.{state_before, state_after, is_state, differ, expired_of, one_more}
 
 abbrev pub is_invalid : Known → Seq → Bool
 is_invalid k nr = nat_lt (steps k.acknowledged k.next) (steps k.acknowledged nr.value)
@@ -12,33 +16,35 @@ is_invalid k nr = nat_lt (steps k.acknowledged k.next) (steps k.acknowledged nr.
 abbrev pub by_receipt : Known → ℕ → Bool → Seq → ℕ
 by_receipt k state final nr = if is_up state && is_invalid k nr then 5 else if state == 8 && final then 7 else state
 
--- The state that a frame leads to from this one. The first bit says that it is a command, the second that its
--- information is longer than N201.
-abbrev pub by_frame : Known → ℕ → Bool → Bool → Control → ℕ
+-- The state that a frame leads to from this one. The first bit says that it is a command, the second that it is too long.
+abbrev pub by_frame : Reading → Known → ℕ → Bool → Bool → Control → ℕ
 -- clauses 5.5.1.2, 5.5.5 and 5.7
-by_frame k state command too_long (Sabme p) = if state == 4 || is_up state then 7 else state
+by_frame r k state command too_long (Sabme p) = if state == 4 || is_up state then 7 else state
 -- clauses 5.5.3.2, 5.5.4 and 5.5.5
-by_frame k state command too_long (Disc p) = if is_up state then 4 else state
+by_frame r k state command too_long (Disc p) = if is_up state then 4 else state
 -- clauses 5.5.1.2, 5.5.3.2 and 5.8.7
-by_frame k state command too_long (Ua f) = if f && state == 5 then 7 else if f && state == 6 then 4 else state
+by_frame r k state command too_long (Ua f) = if f && state == 5 then 7 else if f && state == 6 then 4 else state
 -- clauses 5.5.1.2, 5.5.3.2, 5.7.1 and 5.8.7
-by_frame k state command too_long (Dm f) =
-    if f && (state == 5 || state == 6) then 4 else if state == 8 || (state == 7 && not f) then 5 else state
+by_frame r k state command too_long (Dm f) =
+    if f && (state == 5 || state == 6) then 4 else if state == 8 || (state == 7 && not f) then 5
+    else if not f && state == 4 then by_reading r state 5 else state
 -- clause 5.8.6
-by_frame k state command too_long (Frmr f) = if is_up state then 5 else state
+by_frame r k state command too_long (Frmr f) = if is_up state then 5 else state
 -- clauses 5.8.2 and 5.8.5
-by_frame k state command too_long (Information ns nr p) = if is_up state && (too_long || is_invalid k nr) then 5 else state
+by_frame r k state command too_long (Information ns nr p) = if is_up state && (too_long || is_invalid k nr) then 5 else state
 -- clauses 5.6.3 to 5.6.5 and 5.6.7
-by_frame k state command too_long (ReceiveReady nr f) = by_receipt k state (not command && f) nr
-by_frame k state command too_long (ReceiveNotReady nr f) = by_receipt k state (not command && f) nr
-by_frame k state command too_long (Reject nr f) = by_receipt k state (not command && f) nr
--- clause 5.2.3, and XID (profile)
-by_frame k state command too_long other = state
+by_frame r k state command too_long (ReceiveReady nr f) = by_receipt k state (not command && f) nr
+by_frame r k state command too_long (ReceiveNotReady nr f) = by_receipt k state (not command && f) nr
+by_frame r k state command too_long (Reject nr f) = by_receipt k state (not command && f) nr
+-- clauses 5.2.3 and 5.8.5
+by_frame r k state command too_long (Ui p) = if is_up state && too_long then 5 else state
+-- XID (profile)
+by_frame r k state command too_long other = state
 
 abbrev pub by_parts : Config → Service → ℕ → Known → ℕ → Option Parts → ℕ
 by_parts c service tei k state None = state
 by_parts c service tei k state (Some f) =
-    if is_for service tei f.address then by_frame k state f.address.command (nat_lt c.n201 (length f.info)) f.control else state
+    if is_for service tei f.address then by_frame c.reading k state f.address.command (is_too_long c f) f.control else state
 
 -- Layer 3 asks for the establishment of a link that is down, or for the release of one that is up (clauses 5.5.1.1 and
 -- 5.5.3.2); or the link is deactivated (annex B).
@@ -62,10 +68,18 @@ by_expiry again k state T200 =
     if state == 7 then (if awaits k (Some 7) then 8 else 7) else if again then state else if state == 8 then 5 else 4
 by_expiry again k state T203 = if state == 7 && not (awaits k (Some 7)) then 8 else state
 
+-- As it leads from state 7 T200 is counted by annex B, unless N200 is 0 (clause 5.6.7).
+abbrev pub first_of : Reading → ℕ → Bool → Option LinkTimer → ℕ
+first_of r n200 true (Some T200) = by_reading r 0 (min 1 n200)
+first_of r n200 up timer = 0
+
+abbrev pub first : Config → Option ℕ → Option LinkTimer → ℕ
+first c from timer = first_of c.reading c.n200 (is_state 7 from) timer
+
 abbrev pub repeated : Service → ℕ → ℕ → ℕ → Moment → ℕ
 repeated service tei number n m =
     if not (m.event.line == number) then n
-    else if differ (state_before service tei number m) (state_after service tei number m) then 0
+    else if differ (state_before service tei number m) (state_after service tei number m) then first m.card.config (state_before service tei number m) (expired_of service tei m.event.what)
     else n + option_map_or one_more (expired_of service tei m.event.what) 0
 
 -- The state that an event leads to, with what is seen of it.

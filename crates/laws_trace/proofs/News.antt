@@ -5,7 +5,7 @@ use Rattle.laws_trace.proofs.Vocabulary.{releases, wrong}
 use Rattle.laws_trace.proofs.Vocabulary.{moment_of, seen, Always, CardIsSound as IsSound, and-false}
 use Rattle.model_line.specs.Event as line_event
 use Rattle.model_line.specs.Machine as lines
-use Rattle.laws_trace.proofs.NewsWatched.{establishes, asked, Owing, none_owed, owing, due, NewsIsTold}
+use Rattle.laws_trace.proofs.NewsWatched.{asked, Owing, none_owed, owing, due, NewsIsTold}
 use Rattle.laws_trace.proofs.TimersWatched.{brings, Known, watch}
 use Rattle.laws_trace.proofs.States.{is_state, differ}
 use Rattle.laws_trace.proofs.LinksMove.{differ-self}
@@ -29,15 +29,15 @@ module _ (service : Service) (tei number : ℕ) where
     now : get_or (set card.lines e.line its) e.line (fresh_line card.config) ≡ its
     now = get_or-set_same card.lines e.line its (fresh_line card.config) (omega (arith, s.count, here))
 
-    abbrev asked_then : Option ℕ → Answer → Bool
-    asked_then to b = cond (is_state 5 to && differ (state_of service tei l) to) (establishes service tei e.what b) was
+    abbrev asked_then : Option ℕ → Bool
+    asked_then to = cond (is_state 5 to && differ (state_of service tei l) to) (is_state 4 (state_of service tei l)) was
 
-    pub own-asked : IsAskedOf service tei (asked_then (state_of service tei (line_at e.line (after e card))) (answer e card)) (line_at e.line (after e card))
+    pub own-asked : IsAskedOf service tei (asked_then (state_of service tei (line_at e.line (after e card)))) (line_at e.line (after e card))
     own-asked =
-        by_room (λ ls b. let x = get_or ls e.line (fresh_line card.config) in IsAskedOf service tei (asked_then (state_of service tei x) b) x) e card
-        (λ full. subst (λ b. IsAskedOf service tei b l) (sym (grind (arith, is_state, establishes, differ-self, and-false))) asks)
+        by_room (λ ls b. let x = get_or ls e.line (fresh_line card.config) in IsAskedOf service tei (asked_then (state_of service tei x)) x) e card
+        (λ full. subst (λ b. IsAskedOf service tei b l) (sym (grind (arith, is_state, differ-self, and-false))) asks)
         (λ room.
-        subst (λ x. IsAskedOf service tei (asked_then (state_of service tei x) (lines.answer card.config e.what l)) x) (sym now)
+        subst (λ x. IsAskedOf service tei (asked_then (state_of service tei x)) x) (sym now)
         (event-asks card.config l (line_sound card e.line (has_lines card s) here) service tei was asks outstanding owes e.what))
 
     abbrev IsDue : Line → Answer → Type 0
@@ -83,8 +83,8 @@ module _ (service : Service) (tei number : ℕ) where
     moment-asked was asks outstanding owes = go (e.line == number) refl
       where
         go : (b : Bool) → (e.line == number) ≡ b
-            → IsAskedOf service tei (cond (b && is_state 5 (state_of service tei later) && differ (state_of service tei (line_at number card)) (state_of service tei later)) (establishes service tei e.what (answer e card)) was) later
-        go true is = grind (arith, eqb-true, IsAskedOf, is_state, differ, establishes, own-asked, IsOwed)
+            → IsAskedOf service tei (cond (b && is_state 5 (state_of service tei later) && differ (state_of service tei (line_at number card)) (state_of service tei later)) (is_state 4 (state_of service tei (line_at number card))) was) later
+        go true is = grind (arith, eqb-true, IsAskedOf, is_state, differ, own-asked, IsOwed)
         go false other = subst (IsAskedOf service tei was) (sym (apart card e number (λ same. true≢false (sym (eq-eqb e.line number (sym same)) ∙ other)))) asks
 
     -- in state 5 what is outstanding stays

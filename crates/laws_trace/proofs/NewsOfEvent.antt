@@ -1,7 +1,7 @@
 -- What layer 3 is told of the establishment and release of a link: one event of its line.
 use Rattle.laws_trace.proofs.Vocabulary.{arith, ◌≡◌, ℕ, ◌==◌, ◌&&◌, Bool, false, cond, List, [], Option, Some, None, refl, sym, ap, ◌∙◌, subst, true≢false, inl, inr, filter, list_any, none-some, ErrorCode, Service, State, Link, state_number, Config, Answer, Line, has_tei, link_of, place_in, state_of, notes_of, is-off, moves, unwrap_or, Control, fresh_link, IsSound, is_news, is_sabme, is_xid}
 use Rattle.laws_trace.proofs.Vocabulary.{releases, wrong, seen, Event, and-false, line_after, answer, event-follows}
-use Rattle.laws_trace.proofs.NewsWatched.{establishes, due}
+use Rattle.laws_trace.proofs.NewsWatched.{due}
 use Rattle.laws_trace.proofs.TimersWatched.{brings, control_in}
 use Rattle.laws_trace.proofs.States.{is_state, differ}
 use Rattle.laws_trace.proofs.ErrorsSeen.{none-wrong, one-wrong}
@@ -15,7 +15,7 @@ use Rattle.laws_trace.proofs.OwedOfEvent.{IsOwed}
 use Rattle.laws_trace.proofs.OneLink.{HasOne, HasNone, Goes, event-goes, IsGivenUp}
 use Rattle.laws_trace.proofs.TimerClaims.{told_state}
 use Rattle.laws_trace.proofs.TimersOfEvent.{state-on, off-fresh, off-state, comes}
-use Rattle.laws_trace.proofs.NewsSeen.{one-begins, one-establishes, none-begins, none-releases}
+use Rattle.laws_trace.proofs.NewsSeen.{one-begins, none-begins, none-releases}
 use Rattle.laws_trace.proofs.TimersOfLine.{seen-brings}
 use Rattle.laws_trace.proofs.Deliveries.{frame_by, heard-by}
 use Rattle.laws_trace.proofs.Facts.{same-state}
@@ -40,10 +40,10 @@ module _ (c : Config) (l : Line) (s : IsSound c l) (service : Service) (tei : �
   unmoved state outstanding = grind arith
 
   abbrev then_asked : Option ℕ → Option ℕ → Bool
-  then_asked from to = cond (is_state 5 to && differ from to) (establishes service tei e a) was
+  then_asked from to = cond (is_state 5 to && differ from to) (is_state 4 from) was
 
-  asked-in : (from to : State) → then_asked (told_state from) (told_state to) ≡ cond ((state_number to == 5) && moves from to) (establishes service tei e a) was
-  asked-in from to = ap (λ b. cond ((state_number to == 5) && b) (establishes service tei e a) was) (differs from to)
+  asked-in : (from to : State) → then_asked (told_state from) (told_state to) ≡ cond ((state_number to == 5) && moves from to) (state_number from == 4) was
+  asked-in from to = ap (λ b. cond ((state_number to == 5) && b) (state_number from == 4) was) (differs from to)
 
   abbrev heard : (Control → Bool) → Bool
   heard which = list_any (brings which c service tei) (seen e a)
@@ -112,7 +112,7 @@ module _ (c : Config) (l : Line) (s : IsSound c l) (service : Service) (tei : �
     stays-asked = go (event-goes c e l service tei s)
       where
         go : Goes c service tei e l (line_after c e l) a → Asks next.state (then_asked (told_state own.state) (told_state next.state)) next.asked
-        go other = grind (arith, same, same-state, and-false, told_state, asked-in, one-establishes, event-asking, no-event)
+        go other = grind (arith, same, same-state, and-false, told_state, asked-in, event-asking, no-event)
 
   begins-asked : (b : Bool) → next ≡ fresh_link → Asks next.state b next.asked
   begins-asked b is = subst (λ (y : Link). Asks y.state b y.asked) (sym is) tt

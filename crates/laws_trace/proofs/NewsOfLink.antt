@@ -1,5 +1,5 @@
 -- What a link tells of establishments and releases: each event of it; and who asked for the establishment that it awaits.
-use Rattle.laws_trace.proofs.Vocabulary.{arith, ◌≡◌, ◌==◌, ◌&&◌, not, Bool, cond, List, sym, ◌∙◌, subst, filter, State, AwaitingEstablishment, Terms, received, requested, cleared, Link, state_number, notes-own, asks_establishment, as_heard, state_after, moves, told_by, event-follows, Note, LinkEvent as Event, LinkRequest as Request, frame, is_news, link_told, link_after}
+use Rattle.laws_trace.proofs.Vocabulary.{arith, ◌≡◌, ◌==◌, ◌&&◌, not, Bool, cond, List, sym, ◌∙◌, subst, filter, State, AwaitingEstablishment, Terms, received, requested, cleared, Link, state_number, notes-own, as_heard, state_after, moves, told_by, event-follows, Note, LinkEvent as Event, LinkRequest as Request, frame, is_news, link_told, link_after}
 use Rattle.laws_trace.proofs.NewsWatched.{due}
 use Rattle.laws_trace.proofs.NewsRows.{all-news, errors_of, xid_of, sabme_of, released_of, Fits, Told, nothing-fits, by-control}
 
@@ -30,5 +30,5 @@ Asks other was asked = Unit {0}
 
 module _ (t : Terms) (l : Link) (was : Bool) where
   pub event-asking : (e : Event) → (e ≡ cleared → ⊥) → Asks l.state was l.asked
-      → let y = link_after t e l in Asks y.state (cond ((state_number y.state == 5) && moves l.state y.state) (asks_establishment e) was) y.asked
+      → let y = link_after t e l in Asks y.state (cond ((state_number y.state == 5) && moves l.state y.state) (state_number l.state == 4) was) y.asked
   event-asking e some asks = grind (arith, event-follows)

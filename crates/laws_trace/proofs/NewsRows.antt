@@ -1,9 +1,11 @@
 -- What a link tells of establishments, releases and errors, by each frame that it hears.
-use Rattle.laws_trace.proofs.Vocabulary.{arith, ◌≡◌, ℕ, ◌==◌, not, Bool, true, false, cond, List, [], ◌∷◌, ◌++◌, length, refl, sym, ap, ◌∙◌, All, filter, nat_lt, is_some, All-head, All-tail, Address, ErrorCode, Note, State, AwaitingEstablishment, Established, Terms, undefined, wrong_size, overlong, received, expired, requested, Link, state_number, as_heard, state_after, told_by, numbered_as}
+use Rattle.laws_trace.proofs.Vocabulary.{arith, ◌≡◌, ℕ, ◌==◌, ◌&&◌, ◌||◌, not, Bool, true, false, cond, List, [], ◌∷◌, ◌++◌, refl, sym, ap, ◌∙◌, All, filter, is_some, All-head, All-tail, Address, ErrorCode, Note, State, AwaitingEstablishment, Established, Terms, undefined, wrong_size, overlong, received, expired, requested, Link, state_number, as_heard, state_after, told_by, numbered_as}
 use Rattle.laws_trace.proofs.Vocabulary.{Control, NoteXid as Xid, LinkEvent as Event, frame, LinkRelease as Release, IsOwn, is_up, is_news, is_sabme, is_xid, wrong_number, wrong_frame, given_up, F, L, N, O, NoteData as Data, Error, EstablishConfirm, EstablishIndication, ReleaseConfirm, ReleaseIndication}
 use Rattle.laws_trace.proofs.NewsWatched.{due}
 use Rattle.laws_trace.proofs.LinkLed.{own-is}
+use Rattle.laws_trace.proofs.MovesOfLink.{is_long}
 use Rattle.laws_trace.proofs.TimerRows.{in_state}
+use Rattle.lapd_frame.specs.Readings.{by_reading}
 
 -- The kinds of notes alone: notes of a link are its own.
 abbrev pub is_kind : Note → Bool
@@ -31,12 +33,16 @@ sabme_of e = heard_of is_sabme e
 abbrev pub xid_of : Event → Bool
 xid_of e = heard_of is_xid e
 
+-- What is malformed or too long is an error in states 7 and 8, and by annex B in each.
+abbrev pub minds_by : Terms → ℕ → Bool
+minds_by t state = is_up state || by_reading t.reading false true
+
 -- The errors of an event of a link.
 abbrev pub errors_of : Terms → Event → ℕ → ℕ → List ErrorCode
-errors_of t (received (frame f)) from to = wrong_frame (nat_lt t.n201 (length f.info)) f.address.command f.control from to
-errors_of t (received undefined) from to = cond (is_up from) (L ∷ []) []
-errors_of t (received wrong_size) from to = cond (is_up from) (N ∷ []) []
-errors_of t (received overlong) from to = cond (is_up from) (O ∷ []) []
+errors_of t (received (frame f)) from to = wrong_frame (is_long t f && minds_by t from) f.address.command f.control from to
+errors_of t (received undefined) from to = cond (minds_by t from) (L ∷ []) []
+errors_of t (received wrong_size) from to = cond (minds_by t from) (N ∷ []) []
+errors_of t (received overlong) from to = cond (minds_by t from) (O ∷ []) []
 errors_of t (expired timer) from to = given_up from to
 errors_of t other from to = []
 

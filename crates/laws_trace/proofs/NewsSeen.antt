@@ -1,10 +1,9 @@
 -- What is seen of a link: SABME, and requests that are granted.
-use Rattle.laws_trace.proofs.Vocabulary.{arith, ◌≡◌, ℕ, ◌&&◌, Bool, false, Some, refl, ap, ◌∙◌, list_any, Service, Config, request, Answer, Line, place_in, at_requested, aim_of_request, is_granted, IsBy, asks_establishment, Control, Request, Release, releases, seen, and-false, Event, aim_of, answer, not-refused, requested, LinkEvent, LinkRelease}
-use Rattle.laws_trace.proofs.NewsWatched.{establishes}
+use Rattle.laws_trace.proofs.Vocabulary.{arith, ◌≡◌, ℕ, ◌&&◌, Bool, false, Some, refl, ap, ◌∙◌, list_any, Service, Config, request, Answer, Line, place_in, at_requested, aim_of_request, is_granted, IsBy, Control, Request, Release, releases, seen, and-false, Event, aim_of, answer, not-refused, requested, LinkEvent, LinkRelease}
 use Rattle.laws_trace.proofs.TimersWatched.{nothing_yet, control_in, brings}
-use Rattle.laws_trace.proofs.Deliveries.{frame_by, brings-frame, brings-none, heard-by}
+use Rattle.laws_trace.proofs.Deliveries.{frame_by, brings-frame, brings-none}
 use Rattle.laws_trace.proofs.DeliveriesRun.{event-aims}
-use Rattle.laws_trace.proofs.LinkLed.{own-is, elsewhere}
+use Rattle.laws_trace.proofs.LinkLed.{elsewhere}
 use Rattle.laws_trace.proofs.NewsRows.{heard_of}
 use Rattle.laws_trace.proofs.OneLink.{is_at_link}
 use Rattle.laws_trace.proofs.TimersOfLine.{seen-brings}
@@ -14,9 +13,6 @@ module _ (c : Config) (service : Service) (tei : ℕ) (which : Control → Bool)
     -- one event of the link
     pub one-begins : (event : LinkEvent) → IsBy c e a service tei event → list_any (brings which c service tei) (seen e a) ≡ heard_of which event
     one-begins event by = grind (arith, seen-brings, control_in, frame_by, heard_of, brings-frame, brings-none)
-
-    pub one-establishes : (event : LinkEvent) → IsBy c e a service tei event → establishes service tei e a ≡ asks_establishment event
-    one-establishes event by = grind (arith, establishes, heard-by, own-is)
 
   -- and none
   module _ (l : Line) (place : ℕ) (on : place_in l tei ≡ Some place) where

@@ -1,21 +1,16 @@
 -- Whether layer 3 asked, and whether I-frames are outstanding: a part of what an observer knows; and by it the news.
-use Rattle.laws_trace.proofs.Vocabulary.{◌≡◌, ℕ, ◌==◌, ◌&&◌, ◌||◌, not, Bool, false, List, [], ◌∷◌, ◌++◌, fold, map, filter, Some, if◌then◌else◌, list_any, ErrorCode, Note, EstablishIndication, EstablishConfirm, ReleaseIndication, ReleaseConfirm, Error, Service, Config, request, Answer, notes_of, is_granted, at, moments, unwrap_or, NoteXid as Xid, Establish, fresh, CardEvent as Event}
-use Rattle.laws_trace.proofs.Vocabulary.{card_answer as answer, Moment, after_all, is_news, is_sabme, is_xid, releases, wrong, is_own, seen_in}
+use Rattle.laws_trace.proofs.Vocabulary.{◌≡◌, ℕ, ◌==◌, ◌&&◌, ◌||◌, not, Bool, false, List, [], ◌∷◌, ◌++◌, fold, map, filter, Some, if◌then◌else◌, list_any, ErrorCode, Note, EstablishIndication, EstablishConfirm, ReleaseIndication, ReleaseConfirm, Error, Service, Config, notes_of, at, moments, unwrap_or, NoteXid as Xid, fresh, CardEvent as Event}
+use Rattle.laws_trace.proofs.Vocabulary.{card_answer as answer, Moment, after_all, is_news, is_sabme, is_xid, releases, wrong, seen_in}
 use Rattle.model_line.specs.Event as line_event
 use Rattle.laws_trace.proofs.TimersWatched.{Known, nothing_yet, watch, brings}
 use Rattle.laws_trace.proofs.States.{is_state, state_before, state_after, differ}
 
--- Layer 3 asks for the establishment of a link, or for its release; and the terminal begins to establish it, or sends XID.
-abbrev pub establishes : Service → ℕ → line_event.Event → Answer → Bool
-establishes service tei (request (Establish of by)) a = is_granted a && is_own service tei of by
-establishes service tei other a = false
-
--- Whether it was layer 3 that asked for the establishment that a link in state 5 awaits, or this side began it (clauses
--- 5.5.1.1 and 5.7.2).
+-- Whether it was asked for the establishment that a link in state 5 awaits, as it is from state 4, or this side began it
+-- (clauses 5.5.1.1, 5.5.4 and 5.7.2).
 abbrev pub asked : Service → ℕ → ℕ → Bool → Moment → Bool
 asked service tei number was m =
     let after = state_after service tei number m in
-    if m.event.line == number && is_state 5 after && differ (state_before service tei number m) after then establishes service tei m.event.what m.answer else was
+    if m.event.line == number && is_state 5 after && differ (state_before service tei number m) after then is_state 4 (state_before service tei number m) else was
 
 -- And whether an I-frame is outstanding: in state 5, as it was where the link came there.
 pub record Owing : Type 0 where

@@ -6,7 +6,6 @@ use Rattle.laws_trace.proofs.States.{is_state, differ}
 use Rattle.laws_trace.proofs.ObservedMoves.{grown, event-moves}
 use Rattle.laws_trace.proofs.ObservedShape.{When, known_of, at_state, Shape, Moved, none_more, one_more}
 use Rattle.laws_trace.proofs.MovesWatched as moves
-use Rattle.laws_trace.proofs.NewsWatched as news
 
 -- Where the TEI is on the line, in a state: the numbers, whether layer 3 asked for the establishment, whether I-frames are
 -- outstanding, and how often T200 expired.
@@ -24,8 +23,8 @@ IsSeen None k asked owed n o = o ≡ in_state 1
 IsSeen (Some s) k asked owed n o = IsObserved s k asked owed n o
 
 -- One step behind what was known.
-module _ (s to : ℕ) (k l : Known) (new asked owed : Bool) (more : ℕ → ℕ) (n : ℕ) (p q : Observed) (m : Moved s to l new more p q) (h : IsObserved s k asked owed n p) where
-  joined : IsObserved to l (cond (to == 5 && not (to == s)) new asked) (cond (to == 5) owed (not (l.next == l.acknowledged))) (cond (not (to == s)) 0 (more n)) q
+module _ (s to : ℕ) (k l : Known) (new asked owed : Bool) (first : ℕ) (more : ℕ → ℕ) (n : ℕ) (p q : Observed) (m : Moved s to l new first more p q) (h : IsObserved s k asked owed n p) where
+  joined : IsObserved to l (cond (to == 5 && not (to == s)) new asked) (cond (to == 5) owed (not (l.next == l.acknowledged))) (cond (not (to == s)) first (more n)) q
   joined = grind (arith, eq-eqb, eqb-true, Known)
 
 module _ (c : Config) (service : Service) (tei : ℕ) where
@@ -47,14 +46,14 @@ module _ (c : Config) (service : Service) (tei : ℕ) where
     abbrev Follows : ℕ → ℕ → Observed → Type 0
     Follows to m q =
         let l = learned c service tei (Some s) (Some to) k (seen what a) in
-        IsObserved to l (cond (to == 5 && not (to == s)) (news.establishes service tei what a) asked) (cond (to == 5) owed (not (l.next == l.acknowledged))) (cond (not (to == s)) 0 m) q
+        IsObserved to l (cond (to == 5 && not (to == s)) (s == 4) asked) (cond (to == 5) owed (not (l.next == l.acknowledged))) (cond (not (to == s)) (moves.first c (Some s) (states.expired_of service tei what)) m) q
 
     pub observed : Follows (leads n) (n + counted_by what) (by_event c service tei what a o)
     observed =
         let p = at_state s k o in
         let to = leads o.expiries in
         let l = learned c service tei (Some s) (Some to) k (seen what a) in
-        let whole = joined s to k l (news.establishes service tei what a) asked owed (grown c service tei what) n p (by_event c service tei what a p)
+        let whole = joined s to k l (s == 4) asked owed (moves.first c (Some s) (states.expired_of service tei what)) (grown c service tei what) n p (by_event c service tei what a p)
         (event-moves c service tei x k shape o what a) (subst (IsObserved s k asked owed n) same h) in
         subst (λ to. Follows to (n + counted_by what) (by_event c service tei what a o)) (sym (ap (λ m. fold (moves.by_seen c service tei k) m (seen what a)) (grind (arith, moves.by_expiry))))
         (subst (λ m. Follows to m (by_event c service tei what a o)) (grind (arith, one_more, none_more, states.one_more, cond_both))
@@ -62,8 +61,8 @@ module _ (c : Config) (service : Service) (tei : ℕ) where
 
     -- from a state to one, or off the line
     pub goes-on : (to : Option ℕ) → IfSome to (λ state. state ≡ leads n) → let from = Some s in let l = learned c service tei from to k (seen what a) in
-        IsSeen to l (cond (is_state 5 to && differ from to) (news.establishes service tei what a) asked) (cond (is_state 5 to) owed (not (l.next == l.acknowledged)))
-        (cond (differ from to) 0 (n + counted_by what)) (cond (not (is_some to)) (in_state 1) (by_event c service tei what a o))
+        IsSeen to l (cond (is_state 5 to && differ from to) (is_state 4 from) asked) (cond (is_state 5 to) owed (not (l.next == l.acknowledged)))
+        (cond (differ from to) (moves.first c from (states.expired_of service tei what)) (n + counted_by what)) (cond (not (is_some to)) (in_state 1) (by_event c service tei what a o))
     goes-on to led = grind (arith, observed)
 
   -- One that comes to the line.

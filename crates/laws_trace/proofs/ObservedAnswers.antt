@@ -1,10 +1,12 @@
 -- How the observer's link stands behind a frame that is answered in states 7 and 8, whatever state it leads to.
-use Rattle.laws_trace.proofs.Vocabulary.{◌≡◌, ℕ, ◌+◌, ◌==◌, ◌&&◌, ◌||◌, not, Bool, true, false, cond, length, Some, None, refl, sym, ap, ◌∙◌, subst, true≢false, nat_lt, is_some, Result, Ok, Err, list_any, option_map_or, and_parts, none-some, Information, ReceiveReady, ReceiveNotReady, Reject, ReadFault, Service, Parts, reading, State, state_number, Config, hears, Answer, heard_side}
+use Rattle.laws_trace.proofs.Vocabulary.{arith, ◌≡◌, ℕ, ◌+◌, ◌==◌, ◌&&◌, ◌||◌, not, Bool, true, false, cond, length, Some, None, refl, sym, ap, ◌∙◌, subst, true≢false, nat_lt, is_some, Result, Ok, Err, list_any, option_map_or, and_parts, none-some, Information, ReceiveReady, ReceiveNotReady, Reject, ReadFault, Service, Parts, reading, State, state_number, Config, hears, Answer, heard_side}
 use Rattle.laws_trace.proofs.Vocabulary.{Line, link_of}
 use Rattle.laws_trace.proofs.Vocabulary.{place_in, IsInRange, notes_of, is_data_of, Card, line_at, is_full, at, has_lines, by_room, line_sound, Control, IsSound, card_answer as answer, IsAtLine, option_and_then, result_ok, result_err, frame_of, its_frame, malformed, fault_of, Observed, takes_next, observer_is_invalid as is_invalid, observer_takes as takes, anew, while_up, while_down}
 use Rattle.laws_trace.proofs.Vocabulary.{observer_by_frame as by_frame, by_heard, brings_next, is_up, seen, and-false, stream_frame, StreamEvent}
 use Rattle.model_line.specs.Machine as lines
 use Rattle.model_card.specs.Sound as card_sound
+use Rattle.laws_trace.specs.LinkFrames.{is_annex_b, is_too_long}
+use Rattle.laws_trace.specs.Units.{is_ui}
 use Rattle.laws_trace.proofs.Counting.{begins}
 use Rattle.laws_trace.proofs.Deliveries.{frame_by}
 use Rattle.laws_trace.proofs.DeliveriesRun.{IsCount}
@@ -55,6 +57,13 @@ frame-stays long command (Reject nr f) o is =
     received long true false (not command && f) o (is_invalid o nr) (o.state == 8 && (not command && f)) nr.value (cond (true && o.state == 7) nr.value o.next)
 frame-stays b command other o is = absurd (true≢false (sym is))
 
+-- By annex B a UI may be too long, too, which is none of them.
+same-answered : (b n : Bool) (control : Control) → is_answered ((not (is_ui control) || b) && n) control ≡ is_answered n control
+same-answered b n control = grind arith
+
+same-taken : (b n : Bool) (o : Observed) (control : Control) → (not ((not (is_ui control) || b) && n) && brings_next o control) ≡ (not n && brings_next o control)
+same-taken b n o control = grind (arith, and-false)
+
 -- By none of them the numbers begin.
 goes-on : (s : ℕ) (long : Bool) (control : Control) → is_answered long control ≡ true → begun_by s control ≡ false
 goes-on s long (Information ns nr p) is = refl
@@ -74,12 +83,12 @@ module _ (c : Config) (service : Service) (tei : ℕ) where
   clean other f is = absurd (none-some f is)
 
   heard-so : (e : StreamEvent) (f : Parts) (o : Observed) → its_frame service tei (frame_of c e) ≡ Some f → is_up o.state ≡ true
-      → by_heard c service tei e o ≡ while_up (nat_lt c.n201 (length f.info)) f.address.command f.control o
+      → by_heard c service tei e o ≡ while_up (is_too_long c f) f.address.command f.control o
   heard-so e f o is up =
       ap (λ m. cond (is_up o.state && is_some m) (anew o) (option_map_or (by_frame c o) (its_frame service tei (frame_of c e)) o)) (clean e f is)
       ∙ ap (λ b. cond b (anew o) (option_map_or (by_frame c o) (its_frame service tei (frame_of c e)) o)) (and-false (is_up o.state))
       ∙ ap (λ g. option_map_or (by_frame c o) g o) is
-      ∙ ap (λ b. cond b (while_up (nat_lt c.n201 (length f.info)) f.address.command f.control o) (while_down f.control o)) up
+      ∙ ap (λ b. cond b (while_up (is_too_long c f) f.address.command f.control o) (while_down c f.control o)) up
 
   -- One event of a line.
   module _ (ranged : IsInRange c) (l : Line) (s : IsSound c l) (e : StreamEvent) (place : ℕ) (on : place_in l tei ≡ Some place) (n : ℕ) (count : IsCount (link_of service tei l) n)
@@ -120,7 +129,10 @@ module _ (c : Config) (service : Service) (tei : ℕ) where
 
     pub answered-behind : let u = behind service tei c (hears e) l a n busy rejected in Same (by_heard c service tei e o) u.told.count u.busy u.rejected
     answered-behind =
-        let h = subst (Stays taken (is_information f.control) o) (sym (heard-so e f o its up)) (frame-stays (nat_lt c.n201 (length f.info)) f.address.command f.control o answered) in
+        let long = is_too_long c f in
+        let stays = frame-stays long f.address.command f.control o (same-answered (is_annex_b c) (nat_lt c.n201 (length f.info)) f.control ∙ answered) in
+        let h = subst (Stays taken (is_information f.control) o) (sym (heard-so e f o its up))
+        (subst (λ b. Stays b (is_information f.control) o (while_up long f.address.command f.control o)) (same-taken (is_annex_b c) (nat_lt c.n201 (length f.info)) o f.control) stays) in
         record {
           count_is =
               h.count_is ∙ ap (λ d. cond d (o.count + 1) o.count) (sym taken-so) ∙ ap (λ m. cond D (m + 1) m) same.count_is

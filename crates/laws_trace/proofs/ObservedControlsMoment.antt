@@ -8,6 +8,7 @@ use Rattle.laws_trace.proofs.ControlsSeen.{answers_seen, heard-answers, begun-no
 use Rattle.laws_trace.proofs.ControlsWatched as old
 use Rattle.laws_trace.proofs.DeliveriesWatched.{Standing, busy_asked}
 use Rattle.laws_trace.proofs.LinksMove.{differ-self}
+use Rattle.laws_trace.proofs.MovesWatched as moves
 use Rattle.laws_trace.proofs.MovesWatched.{repeated}
 use Rattle.laws_trace.proofs.NewsWatched as news
 use Rattle.laws_trace.proofs.NewsWatched.{Owing, owing}
@@ -218,7 +219,8 @@ module _ (service : Service) (tei number : ℕ) where
       differs same = sym (differs-is from to k l' asked asks' w.outstanding owes' m m' o q before behind) ∙ ap not same
 
       count-is : (o.state == q.state) ≡ true → m' ≡ m + again
-      count-is same = ap (λ b. cond (not b) m (cond (differ from to) 0 (m + again))) mine ∙ ap (λ b. cond b 0 (m + again)) (differs same)
+      count-is same = let first = moves.first c from (expired_of service tei e.what) in
+          ap (λ b. cond (not b) m (cond (differ from to) first (m + again))) mine ∙ ap (λ b. cond b first (m + again)) (differs same)
 
       by-state : (y : State) → IsObserved (state_number y) l' asks' owes' m' q → Commands
       by-state y i = grind (arith, eqb-true, count-is, lt-ltb, le-ltb, either-none)

@@ -1,5 +1,6 @@
 -- How often T200 of a link expired, to an observer: it rises by an expiry of it alone.
 use Rattle.laws_trace.proofs.Vocabulary.{◌≡◌, ℕ, ◌==◌, ◌&&◌, ◌||◌, not, Bool, true, false, cond, refl, ap, ◌∙◌, arith, is_some, nat_lt, le-ltb, Service, Config, expiry, Answer, Deactivate, eqb-true, lt-ltb, Event, Request, Establish, Release, SetBusy, ClearBusy, Observed, in_state, awaits, observer_by_request as by_request, by_t200, enquires, enters, by_event, is_own, is_up, or-true}
+use Rattle.laws_trace.specs.Observer.{asked_for}
 use Rattle.laws_trace.proofs.Vocabulary.{TimerT200 as T200}
 
 abbrev pub IsNoMore : Observed → Observed → Type 0
@@ -17,7 +18,7 @@ either o b p q h i = grind arith
 module _ (o : Observed) where
   module _ (c : Config) (service : Service) (tei : ℕ) where
     asked : (r : Request) → IsNoMore o (by_request service tei r o)
-    asked (Establish of by) = either o (is_own service tei of by && o.state == 4) (record (in_state 5) { asked = true }) o (zero o) (same o)
+    asked (Establish of by) = either o (is_own service tei of by && o.state == 4) asked_for o (zero o) (same o)
     asked (Release of by) = either o (is_own service tei of by && is_up o.state) (in_state 6) o (zero o) (same o)
     asked (Deactivate of by) = either o (is_own service tei of by) (in_state 4) o (zero o) (same o)
     asked (SetBusy of by) = either o (is_own service tei of by) (record o { own_busy = true }) o (same o) (same o)
@@ -32,8 +33,8 @@ module _ (o : Observed) where
   moved : (n : ℕ) (q : Observed) → o.state ≡ n → (n == q.state) ≡ false → enters o q ≡ true
   moved n q is other = ap (λ s. not (s == q.state) || nat_lt o.expiries q.expiries) is ∙ ap (λ b. not b || nat_lt o.expiries q.expiries) other
 
-  pub enquired : o.state ≡ 7 → enters o (enquires o) ≡ true
-  enquired is = moved 7 (enquires o) is refl
+  pub enquired : (n : ℕ) → o.state ≡ 7 → enters o (enquires n o) ≡ true
+  enquired n is = moved 7 (enquires n o) is refl
 
   pub t200-enters : (c : Config) → awaits o ≡ true → enters o (by_t200 c o) ≡ true
   t200-enters c waits = grind (arith, moved, eqb-true, lt-ltb, or-true, enquired)

@@ -1,5 +1,5 @@
 -- How an event moves what an observer knows of a link: the state, the numbers, what layer 3 asked and how often T200 expired.
-use Rattle.laws_trace.proofs.Vocabulary.{arith, ℕ, ◌==◌, ◌&&◌, ◌||◌, Bool, false, cond, length, Option, Some, None, is_some, nat_lt, option_map_or, Service, Timer, Parts, State, TeiAssigned, AwaitingEstablishment, AwaitingRelease, Established, TimerRecovery, LinkTimer, state_number, Config, expiry, request, Answer, LineTold, Control, T200, Event, told, Request, its_frame, Observed, anew}
+use Rattle.laws_trace.proofs.Vocabulary.{arith, ℕ, ◌==◌, ◌&&◌, ◌||◌, Bool, false, cond, Option, Some, None, is_some, option_map_or, Service, Timer, Parts, State, TeiAssigned, AwaitingEstablishment, AwaitingRelease, Established, TimerRecovery, LinkTimer, state_number, Config, expiry, request, Answer, LineTold, Control, T200, Event, told, Request, its_frame, Observed, anew}
 use Rattle.laws_trace.proofs.Vocabulary.{while_up}
 use Rattle.laws_trace.proofs.Vocabulary.{while_down, observer_by_frame as by_frame, by_t200, observer_by_expiry as by_expiry, enquires, by_event, is_own, is_up, seen, TimerT200}
 use Rattle.laws_trace.specs.Observer.{may_repeat}
@@ -7,44 +7,44 @@ use Rattle.laws_trace.proofs.TimersWatched.{sent_by, Known, nothing_yet}
 use Rattle.laws_trace.proofs.States as states
 use Rattle.laws_trace.proofs.MovesWatched as moves
 use Rattle.laws_trace.proofs.TimersWatched as known
-use Rattle.laws_trace.proofs.NewsWatched as news
+use Rattle.laws_trace.specs.LinkFrames.{is_too_long}
 use Rattle.laws_trace.proofs.ObservedShape.{at_state, Shape, Moved, none_more, one_more}
 
 -- The numbers behind a control field.
 abbrev heard_known : ℕ → ℕ → Known → Option Control → Known
 heard_known s to k o = cond (to == 7 || to == 8) (option_map_or (known.listens (s == 8 && to == 7) (to == 7) k) o k) nothing_yet
 
-abbrev Frame : State → Known → Bool → Bool → Control → Type 0
-Frame x k long command control =
-    (o : Observed) → let s = state_number x in let to = moves.by_frame k s command long control in let p = at_state s k o in
-    Moved s to (heard_known s to k (Some control)) false none_more p (cond (is_up s) (while_up long command control p) (while_down control p))
+abbrev Frame : Config → State → Known → Bool → Bool → Control → Type 0
+Frame c x k long command control =
+    (o : Observed) → let s = state_number x in let to = moves.by_frame c.reading k s command long control in let p = at_state s k o in
+    Moved s to (heard_known s to k (Some control)) (s == 4) 0 none_more p (cond (is_up s) (while_up long command control p) (while_down c control p))
 
 -- In state 4.
-in_4 : (long command : Bool) (control : Control) → Frame TeiAssigned nothing_yet long command control
-in_4 long command control o = grind arith
+in_4 : (c : Config) (long command : Bool) (control : Control) → Frame c TeiAssigned nothing_yet long command control
+in_4 c long command control o = grind arith
 
 -- In state 5.
-in_5 : (long command : Bool) (control : Control) → Frame AwaitingEstablishment nothing_yet long command control
-in_5 long command control o = grind arith
+in_5 : (c : Config) (long command : Bool) (control : Control) → Frame c AwaitingEstablishment nothing_yet long command control
+in_5 c long command control o = grind arith
 
 -- In state 6.
-in_6 : (long command : Bool) (control : Control) → Frame AwaitingRelease nothing_yet long command control
-in_6 long command control o = grind arith
+in_6 : (c : Config) (long command : Bool) (control : Control) → Frame c AwaitingRelease nothing_yet long command control
+in_6 c long command control o = grind arith
 
 module _ (k : Known) where
   -- An N(R) in state 7 or 8, by whether it is invalid.
   -- RR, RNR and REJ.
   -- In state 7.
-  in_7 : (long command : Bool) (control : Control) → Frame Established k long command control
-  in_7 long command control o = grind (arith, moves.is_invalid)
+  in_7 : (c : Config) (long command : Bool) (control : Control) → Frame c Established k long command control
+  in_7 c long command control o = grind (arith, moves.is_invalid)
 
   -- In state 8.
-  in_8 : (long command : Bool) (control : Control) → Frame TimerRecovery k long command control
-  in_8 long command control o = grind (arith, moves.is_invalid)
+  in_8 : (c : Config) (long command : Bool) (control : Control) → Frame c TimerRecovery k long command control
+  in_8 c long command control o = grind (arith, moves.is_invalid)
 
 -- Nothing moves.
 abbrev Stays : State → Known → Type 0
-Stays x k = (new : Bool) (o : Observed) → let s = state_number x in let p = at_state s k o in Moved s s (cond (s == 7 || s == 8) k nothing_yet) new none_more p p
+Stays x k = (new : Bool) (first : ℕ) (o : Observed) → let s = state_number x in let p = at_state s k o in Moved s s (cond (s == 7 || s == 8) k nothing_yet) new first none_more p p
 
 stays : (x : State) (k : Known) → Shape x k → Stays x k
 stays x k shape = grind arith
@@ -55,21 +55,21 @@ module _ (c : Config) (service : Service) (tei : ℕ) where
   Heard x k o m f =
       let s = state_number x in let p = at_state s k o in
       let to = cond {A = ℕ} (is_up s && m) 5 (moves.by_parts c service tei k s f) in
-      Moved s to (heard_known s to k (known.control_in service tei f)) false none_more p
+      Moved s to (heard_known s to k (known.control_in service tei f)) (s == 4) 0 none_more p
       (cond (is_up s && m) (anew p) (option_map_or (by_frame c p) (its_frame service tei f) p))
 
   of-frame : (x : State) (k : Known) → Shape x k → (o : Observed) (f : Parts) (b : Bool) → let s = state_number x in let p = at_state s k o in
-      let to = cond {A = ℕ} b (moves.by_frame k s f.address.command (nat_lt c.n201 (length f.info)) f.control) s in
-      Moved s to (heard_known s to k (cond b (Some f.control) None)) false none_more p (option_map_or (by_frame c p) (cond b (Some f) None) p)
+      let to = cond {A = ℕ} b (moves.by_frame c.reading k s f.address.command (is_too_long c f) f.control) s in
+      Moved s to (heard_known s to k (cond b (Some f.control) None)) (s == 4) 0 none_more p (option_map_or (by_frame c p) (cond b (Some f) None) p)
   of-frame x k shape o f b = grind (arith, in_4, in_5, in_6, in_7, in_8, stays)
 
   heard-moves : (x : State) (k : Known) → Shape x k → (o : Observed) (m : Bool) (f : Option Parts) → Heard x k o m f
   heard-moves x k shape o m f = grind (arith, stays, of-frame)
 
   -- What runs out.
-  enquiry : (k : Known) (o : Observed) (more : ℕ → ℕ) (b : Bool) → let p = at_state 7 k o in let to = cond {A = ℕ} b 8 7 in
-      Moved 7 to (cond (to == 7 || to == 8) k nothing_yet) false more p (cond b (enquires p) p)
-  enquiry k o more b = grind arith
+  enquiry : (k : Known) (o : Observed) (more : ℕ → ℕ) (n : ℕ) (b : Bool) → let p = at_state 7 k o in let to = cond {A = ℕ} b 8 7 in
+      Moved 7 to (cond (to == 7 || to == 8) k nothing_yet) false n more p (cond b (enquires n p) p)
+  enquiry k o more n b = grind arith
 
   abbrev pub grown : Event → ℕ → ℕ
   grown (expiry (TimerT200 of by)) = cond (is_own service tei of by) one_more none_more
@@ -80,11 +80,11 @@ module _ (c : Config) (service : Service) (tei : ℕ) where
   EventMoves x k o what a =
       let s = state_number x in let p = at_state s k o in
       let to = moves.led c service tei k o.expiries what (seen what a) s in
-      Moved s to (known.learned c service tei (Some s) (Some to) k (seen what a)) (news.establishes service tei what a) (grown what) p (by_event c service tei what a p)
+      Moved s to (known.learned c service tei (Some s) (Some to) k (seen what a)) (s == 4) (moves.first c (Some s) (states.expired_of service tei what)) (grown what) p (by_event c service tei what a p)
 
   abbrev Timed : State → Known → (ℕ → ℕ) → Option LinkTimer → Observed → Observed → Type 0
   Timed x k more timer p q =
-      let s = state_number x in let to = option_map_or (moves.by_expiry (may_repeat c p) k s) timer s in Moved s to (cond (to == 7 || to == 8) k nothing_yet) false more p q
+      let s = state_number x in let to = option_map_or (moves.by_expiry (may_repeat c p) k s) timer s in Moved s to (cond (to == 7 || to == 8) k nothing_yet) (s == 4) (moves.first c (Some s) timer) more p q
 
   by-t200 : (x : State) (k : Known) → Shape x k → (o : Observed) (b : Bool) → let p = at_state (state_number x) k o in
       Timed x k (cond b one_more none_more) (cond b (Some T200) None) p (cond b (by_t200 c p) p)
@@ -101,4 +101,4 @@ module _ (c : Config) (service : Service) (tei : ℕ) where
   -- Any event of the line.
   pub event-moves : (x : State) (k : Known) → Shape x k → (o : Observed) (what : Event) (a : Answer) → EventMoves x k o what a
   event-moves x k shape o (request r) (told t) = asked-moves x k shape o r t
-  event-moves x k shape o what a = grind (arith, heard-moves, is_some, timer-moves, stays, news.establishes, at_state, sent_by)
+  event-moves x k shape o what a = grind (arith, heard-moves, is_some, timer-moves, stays, at_state, sent_by)

@@ -6,6 +6,7 @@ use Rattle.laws_trace.proofs.Vocabulary.{CardIsSound as IsSound}
 use Rattle.model_line.specs.Event as line_event
 use Rattle.laws_trace.proofs.MovesWatched.{repeated}
 use Rattle.laws_trace.proofs.TimersWatched.{Known, nothing_yet, learned, watch}
+use Rattle.laws_trace.proofs.States as states
 use Rattle.laws_trace.proofs.States.{is_state, differ}
 use Rattle.laws_trace.proofs.NewsWatched.{Owing, none_owed, owing}
 use Rattle.laws_trace.proofs.LinkLed.{on-line}
@@ -42,15 +43,15 @@ module _ (service : Service) (tei : ℕ) where
     abbrev Seen : Option ℕ → Option ℕ → Event → Card → Observed → Type 0
     Seen from to e card q =
         let l = learned c service tei from to k (seen e.what (answer e card)) in
-        IsSeen to l (cond (is_state 5 to && differ from to) (news.establishes service tei e.what (answer e card)) asked)
-        (cond (is_state 5 to) owed (not (l.next == l.acknowledged))) (cond (differ from to) 0 (n + counted_by c service tei e.what)) q
+        IsSeen to l (cond (is_state 5 to && differ from to) (is_state 4 from) asked)
+        (cond (is_state 5 to) owed (not (l.next == l.acknowledged))) (cond (differ from to) (moves.first c from (states.expired_of service tei e.what)) (n + counted_by c service tei e.what)) q
 
     abbrev Led : Option ℕ → Option ℕ → Event → Card → Type 0
     Led from to e card = IfSome to (λ state. state ≡ option_map_or (moves.led c service tei k n e.what (seen e.what (answer e card))) from 4)
 
     moves-on : (from : Option ℕ) → IsFrom from k → IsSeen from k asked owed n o → (to : Option ℕ) (e : Event) (card : Card) → Led from to e card
         → Seen from to e card (cond (not (is_some to)) (in_state 1) (cond (is_some from) (by_event c service tei e.what (answer e card) o) (in_state 4)))
-    moves-on from o h to e card led = grind (arith, is_some, comes, news.establishes, goes-on, IsSeen)
+    moves-on from o h to e card led = grind (arith, is_some, comes, goes-on, IsSeen)
 
     -- nothing at this line
     renewed : (from : Option ℕ) → IsSeen from k asked owed n o → IsSeen from k asked (cond (is_state 5 from) owed (not (k.next == k.acknowledged))) n o
@@ -90,9 +91,9 @@ module _ (service : Service) (tei number : ℕ) where
     abbrev Next : Bool → Bool → Bool → Type 0
     Next b is was =
         let l = learned c service tei from to k (cond b (seen e.what (answer e card)) []) in
-        IsSeen to l (cond (b && is_state 5 to && differ from to) (news.establishes service tei e.what (answer e card)) asked)
+        IsSeen to l (cond (b && is_state 5 to && differ from to) (is_state 4 from) asked)
         (cond (is_state 5 to) w.outstanding (not (l.next == l.acknowledged)))
-        (cond (not b) n (cond (differ from to) 0 (n + counted_by c service tei e.what)))
+        (cond (not b) n (cond (differ from to) (moves.first c from (states.expired_of service tei e.what)) (n + counted_by c service tei e.what)))
         (cond (not is) (in_state 1) (cond was (cond b (by_event c service tei e.what (answer e card) v.link) v.link) (in_state 4)))
 
     abbrev its-from : ℕ → Option ℕ

@@ -19,13 +19,13 @@ Shape Established k = Unit {0}
 Shape TimerRecovery k = Unit {0}
 Shape other k = k ≡ nothing_yet
 
--- From one state to another, with numbers, whether layer 3 asked for the establishment, and what an expiry adds.
-pub record Moved (s to : ℕ) (k : Known) (new : Bool) (more : ℕ → ℕ) (o p : Observed) : Type 0 where
+-- From one state to another, with numbers, whether the establishment was asked for, what an expiry that moves it counts, and what another adds.
+pub record Moved (s to : ℕ) (k : Known) (new : Bool) (first : ℕ) (more : ℕ → ℕ) (o p : Observed) : Type 0 where
   pub state_is : p.state ≡ to
   pub known_is : known_of p ≡ k
   pub asks : When (to == 5) (p.asked ≡ cond (s == 5) o.asked new)
   pub owes : When (to == 5) (p.outstanding ≡ cond (s == 5) o.outstanding (not (o.next == o.acknowledged)))
-  pub counts : When (to == 5 || (to == 6 || to == 8)) (p.expiries ≡ cond (s == to) (more o.expiries) 0)
+  pub counts : When (to == 5 || (to == 6 || to == 8)) (p.expiries ≡ cond (s == to) (more o.expiries) first)
 
 abbrev pub none_more : ℕ → ℕ
 none_more n = n

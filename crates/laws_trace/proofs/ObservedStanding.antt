@@ -2,6 +2,7 @@
 -- is busy, and whether an I-frame is rejected.
 use Rattle.laws_trace.proofs.Vocabulary.{arith, ◌≡◌, ℕ, ◌+◌, ◌==◌, ◌&&◌, ◌||◌, not, Bool, true, false, cond, Option, is_some, option_map_or, Sabme, Ua, Service, Parts, State, Established, TimerRecovery, state_number, Config, Answer, Control, Event, brings_next, brought, Observed, anew, while_up, while_down, observer_by_frame as by_frame, by_event, is_up}
 use Rattle.laws_trace.specs.Deliveries.{is_taken}
+use Rattle.laws_trace.specs.Units.{is_ui}
 use Rattle.laws_trace.proofs.ObservedShape.{When}
 use Rattle.laws_trace.proofs.Standing.{asked_busy}
 use Rattle.model_link.specs.Sound.{is_information}
@@ -22,17 +23,17 @@ pub record Stood (up begins taken information busy : Bool) (o q : Observed) : Ty
 abbrev pub in_number : ℕ → Observed → Observed
 in_number s o = record o { state = s }
 
-abbrev Frame : State → Bool → Bool → Control → Type 0
-Frame x long command control =
-    (o : Observed) → let s = state_number x in let p = in_number s o in let q = cond (is_up s) (while_up long command control p) (while_down control p) in
+abbrev Frame : Config → State → Bool → Bool → Bool → Control → Type 0
+Frame c x units long command control =
+    (o : Observed) → let s = state_number x in let p = in_number s o in let q = cond (is_up s) (while_up ((not (is_ui control) || units) && long) command control p) (while_down c control p) in
     When (is_up q.state) (Stood (is_up s) (begun_by s control) (is_up s && (not long && brings_next p control)) (is_information control) p.own_busy p q)
 
--- An N(R) in states 7 and 8, by whether it is invalid.
-in_7 : (long command : Bool) (control : Control) → Frame Established long command control
-in_7 long command control o = grind arith
+-- An N(R) in states 7 and 8, by whether it is invalid. The first bit says that a UI may be too long, too.
+in_7 : (c : Config) (units long command : Bool) (control : Control) → Frame c Established units long command control
+in_7 c units long command control o = grind arith
 
-in_8 : (long command : Bool) (control : Control) → Frame TimerRecovery long command control
-in_8 long command control o = grind arith
+in_8 : (c : Config) (units long command : Bool) (control : Control) → Frame c TimerRecovery units long command control
+in_8 c units long command control o = grind arith
 
 -- Nothing moves.
 rests : (x : State) (o : Observed) → let p = in_number (state_number x) o in When (is_up (state_number x)) (Stood (is_up (state_number x)) false false false p.own_busy p p)

@@ -14,7 +14,7 @@ use Rattle.laws_trace.specs.ManagingTerminal.{OfTerminal}
 use Rattle.laws_trace.specs.Reasons.{refusal_due}
 use Rattle.laws_trace.proofs.Addressed.{at-some-place}
 use Rattle.laws_trace.proofs.Facts.{number-up}
-use Rattle.laws_trace.proofs.Follows.{seen_check}
+use Rattle.laws_trace.proofs.CheckEnds.{seen_check}
 use Rattle.laws_trace.proofs.Known.{Knows, knows-now}
 use Rattle.laws_trace.proofs.LineAtEnd.{line-at-end}
 use Rattle.laws_trace.proofs.ManagingTables.{free-fewer, none-free, used-same}

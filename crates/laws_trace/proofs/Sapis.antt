@@ -1,5 +1,5 @@
 -- Which SAPI a service has on a line: the law.
-use Rattle.laws_trace.proofs.Vocabulary.{arith, ◌≡◌, ℕ, ◌≤◌, ◌==◌, cond, List, slice_index, Result, Ok, Err, sym, ap, ◌∙◌, subst, IfOk, IfSome, Address, Side, Sender, ReadFault, Parts, Control, refl, header_of, completed, exchanged, exchanged-back, side_reading, reading, named_by, parts_named, renamed, Config, IsInRange, heard_side, own_side, le-leb, ranges_of}
+use Rattle.laws_trace.proofs.Vocabulary.{arith, ◌≡◌, ℕ, ◌≤◌, ◌==◌, cond, List, slice_index, Result, Ok, Err, sym, ap, ◌∙◌, subst, IfSome, Address, Side, Sender, ReadFault, Parts, Control, refl, header_of, completed, exchanged, exchanged-back, side_reading, reading, named_by, renamed, Config, IsInRange, heard_side, own_side, le-leb, ranges_of}
 use Rattle.std.proofs.lemmas.Bool.{eq-eqb, ne_eqb}
 use Rattle.std.proofs.lemmas.Bool.Decides.{eqb_tells}
 use Rattle.lapd_frame.specs.declared.faults.ReadFault.TheVariants.{BadExtension, Undefined, WrongSize, Short}

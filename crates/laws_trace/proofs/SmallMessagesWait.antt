@@ -1,10 +1,17 @@
 -- The messages of TEI management that wait stay small: what it hears are octets.
-use Rattle.laws_trace.proofs.Vocabulary.{arith, ◌≡◌, ℕ, ◌<◌, ◌%◌, Bool, true, false, cond, List, [], ◌∷◌, ◌++◌, length, drop, slice_get, Option, Some, None, IfSome, refl, sym, subst, Ok, All, option_map, option_map_or, option_or, unwrap_or, cond_both, All-nil, All-drop, All-head, AreOctets, Parts, reading, reading-found, Config, Aim, at_link, at_management, at_no_link, at_none, at_units}
+use Rattle.laws_trace.proofs.Vocabulary.{arith, ◌≡◌, ℕ, ◌<◌, ◌%◌, Bool, true, false, cond, Result, List, [], ◌∷◌, ◌++◌, length, drop, slice_get, Option, Some, None, IfSome, refl, sym, subst, Ok, All, option_map, option_map_or, option_or, unwrap_or, cond_both, All-nil, All-drop, All-head, AreOctets, Parts, reading, reading-found, Config, Aim, at_link, at_management, at_no_link, at_none, at_units}
 use Rattle.laws_trace.proofs.Vocabulary.{of_aim, of_change, hears, expiry, request, next, Answer, Line}
 use Rattle.laws_trace.proofs.Vocabulary.{fresh_line, aim_of_heard, aim_of_expiry, aim_of_request, heard_side, Taken, taken, line_of, side_aims, head_of, Event, line_after as after, IsSound, LineTold, UnitData, first_taken, round, round_below, OfLink, of-links, terms, service_at, with_given_frame, with_message, with_unit, TeiEvent, tei_after, tei_told, told_of_management, Change, Gained}
 use Rattle.laws_trace.proofs.Vocabulary.{Left, Management, Refusal, Request, Timer, refusal, unless_refused}
 use Rattle.laws_trace.proofs.Vocabulary.{HasOctets, GivesOctets, seen, heard, seen_told, StreamEvent, other_side, renamed}
 use Rattle.std.proofs.Math.Nat.{mod-lt}
+use Rattle.lapd_frame.specs.declared.faults.ReadFault.{ReadFault}
+use Rattle.lapd_frame.specs.declared.overlong.Long.{Long}
+use Rattle.lapd_frame.specs.declared.readings.Reading.{Reading}
+use Rattle.lapd_frame.specs.Overlong.{is_unit}
+use Rattle.lapd_frame.specs.Senders.{long_reading}
+use Rattle.model_bits.specs.Stream as stream
+use Rattle.model_line.specs.Heard.{aim_of_long}
 use Rattle.lapd_tei.specs.Events as teis
 use Rattle.lapd_tei.specs.Events.{down as tei_down}
 use Rattle.lapd_terminal.specs.Events as terminals
@@ -31,7 +38,11 @@ module _ (c : Config) (l : Line) where
       drop-head [] back = refl
       drop-head (x ∷ front) back = drop-head front back
 
+  long-aims : (q : Reading) (ui : Bool) (r : Result Long ReadFault) → IsOfOctetsAt (aim_of_long q ui l r)
+  long-aims q ui r = grind arith
+
   heard-aims : (e : StreamEvent) → HasOctets e → IsOfOctetsAt (aim_of_heard c l e)
+  heard-aims (stream.overlong head) h = long-aims c.reading (is_unit head) (long_reading (heard_side c) head)
   heard-aims e h = grind (arith, side_aims, info-octets)
 
 -- What management asks for, and an expiry, is no message.

@@ -13,6 +13,7 @@ use Rattle.laws_trace.specs.ManagingTerminal.{teis_of}
 use Rattle.laws_trace.proofs.FollowsRequests.{network-event-shows}
 use Rattle.laws_trace.proofs.FollowsTerminal.{known}
 use Rattle.laws_trace.proofs.FollowsTerminalRequests.{terminal-event-shows}
+use Rattle.laws_trace.proofs.ManagingPlaces.{none-placed}
 use Rattle.laws_trace.proofs.ManagingTables.{none-on}
 use Rattle.laws_trace.proofs.Runs.{apart}
 use Rattle.laws_trace.proofs.Tracked.{OfSide, Tracks, TracksLine, Shows, IsQuiet, none-granted}
@@ -23,7 +24,7 @@ kept-quiet c w m own x = record { on = x.on; side = go (is_terminal c) x.side }
   where
     go : (b : Bool) → OfSide c b w m own → OfSide c b (nothing_due w) m own
     go true x = record { own_is = x.own_is; on_is = x.on_is; owed = x.owed }
-    go false x = record { is = x.is; on = x.on; order = x.order }
+    go false x = record { is = x.is; on = x.on; placed = x.placed; order = x.order }
 
 is-quiet : (w : Managed) → IsQuiet (nothing_due w)
 is-quiet w = record { notes = refl; orders = refl; lost = refl; begins = refl; granted = refl }
@@ -97,7 +98,7 @@ pub fresh-follows : (c : Config) → TracksLine c none_on (fresh_line c)
 fresh-follows c = record { on = none-on c.terminals; side = go (is_terminal c) refl }
   where
     go : (b : Bool) → is_terminal c ≡ b → OfSide c b none_on (fresh_line c).management (fresh_line c).own
-    go false net = record { is = refl; on = none-on c.terminals; order = tt }
+    go false net = record { is = refl; on = none-on c.terminals; placed = none-placed c.terminals; order = tt }
     go true is = record {
       own_is = ap (λ b. known (record { places = replicate c.terminals None; number = cond b (unwrap_or c.seed 0 % 65536) 0; procedure = None; waiting = [] })) (sym is);
       on_is = none-there c.terminals;

@@ -5,7 +5,7 @@ use Rattle.laws_trace.proofs.Vocabulary.{Card, line_at, at, moments, runs_at_cal
 use Rattle.laws_trace.proofs.Vocabulary.{list_any, or-false, T201, TimerT203, TimerT200, after_all-append}
 use Rattle.lapd_frame.specs.declared.timers.Timer.TheVariants.{T202}
 use Rattle.model_line.specs.Event as line_event
-use Rattle.laws_trace.specs.Observer.{may_repeat}
+use Rattle.laws_trace.specs.Observer.{counted, may_repeat}
 use Rattle.laws_trace.specs.TimersAreTimely as timely
 use Rattle.laws_trace.proofs.ObservedControls.{none-due}
 use Rattle.laws_trace.proofs.ObservedExpiries.{IsNoMore, same, zero, either, no-more, enquired, t200-enters}
@@ -157,8 +157,8 @@ module _ (c : Config) (events : List Event) (number : ℕ) (ranged : IsInRange c
       ap (λ b. not (cond b false runs_on) || moved_or_renewed c service tei T203 was (then_of what) what) own
       ∙ ended runs_on (not (was.state == (then_of what).state)) (nat_lt was.expiries (then_of what).expiries) (renewed T203 what)
       (λ runs.
-      ap (enters was) (on-then T203 what (λ w. ap (list_any (λ on. on == tei)) (none-due c w)) runs ∙ ap (λ b. cond (b && runs_on) (enquires was) was) own ∙ ap (λ b. cond b (enquires was) was) runs)
-      ∙ enquired was (eqb-true was.state 7 (and_parts (was.state == 7) (not (awaits was)) runs).0))
+      ap (enters was) (on-then T203 what (λ w. ap (list_any (λ on. on == tei)) (none-due c w)) runs ∙ ap (λ b. cond (b && runs_on) (enquires 0 was) was) own ∙ ap (λ b. cond b (enquires 0 was) was) runs)
+      ∙ enquired was 0 (eqb-true was.state 7 (and_parts (was.state == 7) (not (awaits was)) runs).0))
 
   -- While T203 runs an expiry of T200 does nothing.
   idle-then : (of : Service) (by : ℕ) → is_own service tei of by ≡ true → timely.runs T203 was ≡ true → then_of (expiry (TimerT200 of by)) ≡ was
@@ -166,8 +166,8 @@ module _ (c : Config) (events : List Event) (number : ℕ) (ranged : IsInRange c
       let parts = and_parts (was.state == 7) (not (awaits was)) runs in
       let last = cond (may_repeat c was) (record was { expiries = was.expiries + 1 }) (cond (was.state == 8) (anew was) (in_state 4)) in
       on-then T203 (expiry (TimerT200 of by)) (none-ends of by) runs ∙ ap (λ b. cond b (by_t200 c was) was) own
-      ∙ ap (λ b. cond b (cond (awaits was) (enquires was) was) (cond (not (awaits was)) was last)) parts.0
-      ∙ ap (λ b. cond b (enquires was) was) (not-so (awaits was) parts.1)
+      ∙ ap (λ b. cond b (cond (awaits was) (enquires (counted c) was) was) (cond (not (awaits was)) was last)) parts.0
+      ∙ ap (λ b. cond b (enquires (counted c) was) was) (not-so (awaits was) parts.1)
 
   t203-by-t200 : (of : Service) (by : ℕ) (b : Bool) → is_own service tei of by ≡ b → Due T203 (expiry (TimerT200 of by))
   t203-by-t200 of by false other = by-plain T203 (expiry (TimerT200 of by)) (other-t200 of by other)

@@ -11,7 +11,7 @@ use Rattle.model_link.specs.declared.timers.LinkTimer.{LinkTimer}
 use Rattle.laws_trace.specs.Managing.{own_of}
 use Rattle.laws_trace.specs.ManagingTerminal.{teis_of}
 use Rattle.laws_trace.specs.TeisAreManaged.{message_text}
-use Rattle.laws_trace.proofs.Follows.{Follows}
+use Rattle.laws_trace.proofs.CheckEnds.{Follows}
 use Rattle.laws_trace.proofs.FollowsTerminal.{known}
 use Rattle.laws_trace.proofs.ManagingTables.{AreOn}
 use Rattle.laws_trace.proofs.ManagingNotes.{none-of-teis, link-others, told-orders, is_management}

@@ -1,5 +1,5 @@
 -- Which control frames of a link are due.
-use Rattle.std.specs.Prelude.{ℕ, ◌==◌, ◌&&◌, ◌||◌, not, Bool, true, false, List, [], ◌++◌, length, nat_lt, if◌then◌else◌}
+use Rattle.std.specs.Prelude.{ℕ, ◌==◌, ◌&&◌, ◌||◌, not, Bool, true, false, List, [], ◌++◌, if◌then◌else◌}
 use Rattle.std.specs.Option.{option_map_or}
 use Rattle.lapd_seq.specs.Numbers.{seq}
 use Rattle.lapd_frame.specs.declared.controls.Control.{Control}
@@ -11,7 +11,7 @@ use Rattle.model_line.specs.declared.config.Config.{Config}
 use Rattle.model_line.specs.Event as line_event
 use Rattle.laws_link.specs.Waiting.{as_response, as_command}
 use Rattle.model_card.specs.Run.{Moment}
-use Rattle.laws_trace.specs.LinkFrames.{brought}
+use Rattle.laws_trace.specs.LinkFrames.{brought, is_too_long}
 use Rattle.laws_trace.specs.Observer.{Observed, enters}
 use Rattle.laws_trace.specs.Trace.{is_up}
 
@@ -41,7 +41,7 @@ abbrev pub answer_to : Config → Observed → Observed → Parts → Control �
 answer_to c was now f (Sabme p) = as_response (if was.state == 6 then Dm p else Ua p)
 -- clauses 5.5.3.2, 5.5.4 and 5.5.5
 answer_to c was now f (Disc p) = as_response (if was.state == 4 || was.state == 5 then Dm p else Ua p)
-answer_to c was now f other = if is_up was.state then answer_up was now (nat_lt c.n201 (length f.info)) f.address.command other else []
+answer_to c was now f other = if is_up was.state then answer_up was now (is_too_long c f) f.address.command other else []
 
 -- Layer 3 comes to be busy in states 7 and 8, which RNR says, or is so no more, and RR says it (clause 5.6.6).
 abbrev pub changed : Observed → Observed → List ControlFrame

@@ -38,6 +38,7 @@ pub mod WorkedControls
 pub mod WorkedLoss
 pub mod WorkedAnswers
 pub mod WorkedManaging
+pub mod WorkedReadings
 pub mod WorkedTerminal
 pub mod WorkedAsking
 pub mod WorkedOtherSide

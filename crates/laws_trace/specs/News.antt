@@ -1,9 +1,9 @@
 -- What layer 3 and layer management are told of a link, but for data and unit data.
-use Rattle.std.specs.Prelude.{◌≡◌, ℕ, ◌==◌, ◌&&◌, ◌||◌, not, nat_le, nat_lt, Bool, true, false, List, [], ◌∷◌, ◌++◌, length, map, filter, option_to_list, if◌then◌else◌}
+use Rattle.std.specs.Prelude.{◌≡◌, ℕ, ◌==◌, ◌&&◌, ◌||◌, not, nat_le, Bool, true, false, List, [], ◌∷◌, ◌++◌, map, filter, option_to_list, if◌then◌else◌}
 use Rattle.std.specs.Option.{option_map_or}
 use Rattle.lapd_frame.specs.declared.controls.Control.{Control}
 use Rattle.lapd_frame.specs.declared.controls.Control.TheVariants as control
-use Rattle.lapd_frame.specs.declared.controls.Control.TheVariants.{Information, ReceiveReady, ReceiveNotReady, Reject, Sabme, Ua, Dm, Frmr}
+use Rattle.lapd_frame.specs.declared.controls.Control.TheVariants.{Information, ReceiveReady, ReceiveNotReady, Reject, Sabme, Ua, Ui, Dm, Frmr}
 use Rattle.lapd_frame.specs.declared.notes.ErrorCode.{ErrorCode}
 use Rattle.lapd_frame.specs.declared.notes.ErrorCode.TheVariants.{A, B, C, D, E, F, G, H, I, J, K, O}
 use Rattle.lapd_frame.specs.declared.notes.Note.{Note}
@@ -18,7 +18,7 @@ pub use Rattle.laws_link.specs.States.{is_sabme}
 use Rattle.laws_line.specs.Heard.{notes_of}
 use Rattle.laws_line.specs.Share.{is_granted}
 use Rattle.model_card.specs.Event.{Event, at}
-use Rattle.laws_trace.specs.LinkFrames.{frame_of, its_frame, brought, malformed}
+use Rattle.laws_trace.specs.LinkFrames.{frame_of, its_frame, brought, is_annex_b, is_too_long, malformed}
 use Rattle.laws_trace.specs.Observer.{Observed, is_outstanding, view_of, moment_of, view_behind}
 use Rattle.laws_trace.specs.Trace.{is_own, is_up}
 
@@ -65,9 +65,14 @@ due service tei xid sabme released was to =
 abbrev pub wrong_number : Bool → ℕ → ℕ → List ErrorCode
 wrong_number final was to = (if was == 7 && final then A ∷ [] else []) ++ (if is_up was && to == 5 then J ∷ [] else [])
 
--- clauses 5.7.1 and 5.8.5 to 5.8.7: the first bit says that the information is longer than N201, the second that it is a command;
+-- clauses 5.7.1 and 5.8.5 to 5.8.7: what is malformed or too long is an error in states 7 and 8, by annex B in each. The first bit
+-- says that the frame is such an error, the second that it is a command;
+abbrev pub minds : Config → ℕ → Bool
+minds c state = is_up state || is_annex_b c
+
 abbrev pub wrong_frame : Bool → Bool → Control → ℕ → ℕ → List ErrorCode
-wrong_frame long command (Information ns nr p) was to = if long && is_up was then O ∷ [] else wrong_number false was to
+wrong_frame long command (Information ns nr p) was to = if long then O ∷ [] else wrong_number false was to
+wrong_frame long command (Ui p) was to = if long then O ∷ [] else []
 wrong_frame long command (ReceiveReady nr pf) was to = wrong_number (not command && pf) was to
 wrong_frame long command (ReceiveNotReady nr pf) was to = wrong_number (not command && pf) was to
 wrong_frame long command (Reject nr pf) was to = wrong_number (not command && pf) was to
@@ -83,8 +88,8 @@ given_up was to = if was == 5 && to == 4 then G ∷ [] else if was == 6 && to ==
 
 abbrev pub wrong : Config → Service → ℕ → line_event.Event → ℕ → ℕ → List ErrorCode
 wrong c service tei (hears e) was to =
-    (if is_up was then option_to_list (malformed c service tei e) else [])
-    ++ option_map_or (λ (f : Parts). wrong_frame (nat_lt c.n201 (length f.info)) f.address.command f.control was to) (its_frame service tei (frame_of c e)) []
+    (if minds c was then option_to_list (malformed c service tei e) else [])
+    ++ option_map_or (λ (f : Parts). wrong_frame (is_too_long c f && minds c was) f.address.command f.control was to) (its_frame service tei (frame_of c e)) []
 wrong c service tei (expiry timer) was to = given_up was to
 wrong c service tei other was to = []
 

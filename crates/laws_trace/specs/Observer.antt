@@ -1,15 +1,16 @@
 -- What an observer of a line knows of a link, by the procedures of Q.921: what the link hears, what layer 3 asks, what
 -- runs out, and what it sends.
-use Rattle.std.specs.Prelude.{ℕ, ◌+◌, ◌-◌, ◌%◌, ◌==◌, ◌&&◌, ◌||◌, not, nat_lt, Bool, true, false, List, length, fold, is_some, if◌then◌else◌}
+use Rattle.std.specs.Prelude.{ℕ, ◌+◌, ◌-◌, ◌%◌, min, ◌==◌, ◌&&◌, ◌||◌, not, nat_lt, Bool, true, false, List, fold, is_some, if◌then◌else◌}
 use Rattle.std.specs.Option.{option_map_or}
 use Rattle.std.specs.Result.{result_ok}
 use Rattle.model_bits.specs.Stream as stream
 use Rattle.lapd_frame.specs.declared.controls.Control.{Control}
-use Rattle.lapd_frame.specs.declared.controls.Control.TheVariants.{Information, ReceiveReady, ReceiveNotReady, Reject, Sabme, Disc, Ua, Dm, Frmr}
+use Rattle.lapd_frame.specs.declared.controls.Control.TheVariants.{Information, ReceiveReady, ReceiveNotReady, Reject, Sabme, Disc, Ua, Ui, Dm, Frmr}
 use Rattle.lapd_frame.specs.declared.services.Service.{Service}
 use Rattle.lapd_frame.specs.declared.timers.Timer.{Timer}
 use Rattle.lapd_frame.specs.declared.timers.Timer.TheVariants.{T200, T203}
 use Rattle.lapd_frame.specs.Grammar.{Parts}
+use Rattle.lapd_frame.specs.Readings.{by_reading}
 use Rattle.lapd_frame.specs.Senders.{reading}
 use Rattle.lapd_seq.specs.declared.numbers.Seq.{Seq}
 use Rattle.model_line.specs.declared.config.Config.{Config}
@@ -22,7 +23,7 @@ use Rattle.model_card.specs.Card.{fresh}
 use Rattle.model_card.specs.Event.{Event, at}
 use Rattle.model_card.specs.Machine.{answer}
 use Rattle.model_card.specs.Run.{Moment, moments, after_all}
-use Rattle.laws_trace.specs.LinkFrames.{frame_of, its_frame, malformed}
+use Rattle.laws_trace.specs.LinkFrames.{frame_of, its_frame, is_too_long, malformed}
 use Rattle.laws_trace.specs.Managing.{Managed, none_on, is_on, led}
 use Rattle.laws_trace.specs.Trace.{is_own, is_up, frame_in}
 
@@ -88,8 +89,7 @@ apply_supervisory final again busy nr o =
     else if o.state == 8 && final then record o { state = 7; acknowledged = nr.value; next = nr.value; busy = busy }
     else record o { acknowledged = nr.value; next = if again && o.state == 7 then nr.value else o.next; busy = busy }
 
--- What a link hears in states 7 and 8. The first bit says that the information is longer than N201, the second that it is
--- a command.
+-- What a link hears in states 7 and 8. The first bit says that it is too long, the second that it is a command.
 abbrev pub while_up : Bool → Bool → Control → Observed → Observed
 -- clauses 5.5.1.2 and 5.7.1
 while_up long command (Sabme p) o = in_state 7
@@ -104,18 +104,24 @@ while_up long command (Information ns nr p) o = if long then anew o else numbere
 while_up long command (ReceiveReady nr pf) o = apply_supervisory (not command && pf) false false nr o
 while_up long command (ReceiveNotReady nr pf) o = apply_supervisory (not command && pf) false true nr o
 while_up long command (Reject nr pf) o = apply_supervisory (not command && pf) true false nr o
+-- clause 5.8.5
+while_up long command (Ui p) o = if long then anew o else o
 while_up long command other o = o
 
--- In states 4, 5 and 6 (clauses 5.5.1.2, 5.5.3.2, 5.5.5 and 5.8.7); in state 1 nothing.
-abbrev pub while_down : Control → Observed → Observed
-while_down (Sabme p) o = if o.state == 4 then in_state 7 else o
-while_down (Ua f) o = if f && o.state == 5 then in_state 7 else if f && o.state == 6 then in_state 4 else o
-while_down (Dm f) o = if f && (o.state == 5 || o.state == 6) then in_state 4 else o
-while_down other o = o
+-- In states 4, 5 and 6 (clauses 5.5.1.2, 5.5.3.2, 5.5.5 and 5.8.7); in state 1 nothing. By annex B the other side asks for
+-- an establishment by DM with F=0 in state 4, as if layer 3 did (clause 5.5.4).
+abbrev pub asked_for : Observed
+asked_for = record (in_state 5) { asked = true }
+
+abbrev pub while_down : Config → Control → Observed → Observed
+while_down c (Sabme p) o = if o.state == 4 then in_state 7 else o
+while_down c (Ua f) o = if f && o.state == 5 then in_state 7 else if f && o.state == 6 then in_state 4 else o
+while_down c (Dm f) o = if f && (o.state == 5 || o.state == 6) then in_state 4 else if not f && o.state == 4 then by_reading c.reading o asked_for else o
+while_down c other o = o
 
 abbrev pub by_frame : Config → Observed → Parts → Observed
 by_frame c o f =
-    if is_up o.state then while_up (nat_lt c.n201 (length f.info)) f.address.command f.control o else while_down f.control o
+    if is_up o.state then while_up (is_too_long c f) f.address.command f.control o else while_down c f.control o
 
 abbrev pub by_heard : Config → Service → ℕ → stream.Event → Observed → Observed
 by_heard c service tei e o =
@@ -124,7 +130,7 @@ by_heard c service tei e o =
 -- What layer 3 asks, and is granted: that the link is established, or released (clauses 5.5.1.1 and 5.5.3.1); or, as its line
 -- is down, deactivated (annex B); and that it is busy, or no more (clause 5.6.6).
 abbrev pub by_request : Service → ℕ → Request → Observed → Observed
-by_request service tei (Establish of by) o = if is_own service tei of by && o.state == 4 then record (in_state 5) { asked = true } else o
+by_request service tei (Establish of by) o = if is_own service tei of by && o.state == 4 then asked_for else o
 by_request service tei (Release of by) o = if is_own service tei of by && is_up o.state then in_state 6 else o
 by_request service tei (Deactivate of by) o = if is_own service tei of by then in_state 4 else o
 by_request service tei (SetBusy of by) o = if is_own service tei of by then record o { own_busy = true } else o
@@ -133,23 +139,26 @@ by_request service tei other o = o
 
 -- What runs out. The timer that runs in state 7 leads to an enquiry, in state 8 (clauses 5.6.7 and 5.10.3). In states 5,
 -- 6 and 8 T200 repeats SABME, DISC or the enquiry, N200 times, and then the link is given up, or established anew
--- (clauses 5.5.1.3, 5.5.3.3, 5.6.7 and 5.9.2).
-abbrev pub enquires : Observed → Observed
-enquires o = record o { state = 8; expiries = 0 }
+-- (clauses 5.5.1.3, 5.5.3.3, 5.6.7 and 5.9.2). By annex B the T200 that leads to the enquiry is one of these N200, if any is.
+abbrev pub enquires : ℕ → Observed → Observed
+enquires expiries o = record o { state = 8; expiries = expiries }
+
+abbrev pub counted : Config → ℕ
+counted c = by_reading c.reading 0 (min 1 c.n200)
 
 abbrev pub may_repeat : Config → Observed → Bool
 may_repeat c o = nat_lt o.expiries c.n200
 
 abbrev pub by_t200 : Config → Observed → Observed
 by_t200 c o =
-    if o.state == 7 then (if awaits o then enquires o else o)
+    if o.state == 7 then (if awaits o then enquires (counted c) o else o)
     else if not (awaits o) then o
     else if may_repeat c o then record o { expiries = o.expiries + 1 }
     else if o.state == 8 then anew o else in_state 4
 
 abbrev pub by_expiry : Config → Service → ℕ → Timer → Observed → Observed
 by_expiry c service tei (T200 of by) o = if is_own service tei of by then by_t200 c o else o
-by_expiry c service tei (T203 of by) o = if is_own service tei of by && (o.state == 7 && not (awaits o)) then enquires o else o
+by_expiry c service tei (T203 of by) o = if is_own service tei of by && (o.state == 7 && not (awaits o)) then enquires 0 o else o
 by_expiry c service tei other o = o
 
 -- What it sends: an I-frame, behind which the next number goes (clause 5.6.1).

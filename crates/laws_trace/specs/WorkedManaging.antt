@@ -52,7 +52,7 @@ answer_is : message_text usual (octets_of (IdentityAssigned 0x1234 64)) ≡ 0xFE
 unfolding exchanged
 answer_is = refl
 
-denial_is : message_text usual (octets_of (IdentityDenied 0x1234)) ≡ 0xFE ∷ 0xFF ∷ 0x03 ∷ 0x0F ∷ 0x12 ∷ 0x34 ∷ 0x03 ∷ 0xFF ∷ []
+denial_is : message_text usual (octets_of (IdentityDenied 0x1234 127)) ≡ 0xFE ∷ 0xFF ∷ 0x03 ∷ 0x0F ∷ 0x12 ∷ 0x34 ∷ 0x03 ∷ 0xFF ∷ []
 unfolding exchanged
 denial_is = refl
 
@@ -79,7 +79,7 @@ next_lowest : owed_after usual (on_0 (Assign 64) ∷ asks ∷ []) ≡ IdentityAs
 unfolding exchanged read_by reading header_of control_of unnumbered_of
 next_lowest = refl
 
-denied : owed_after (record usual { terminals = 1 }) (on_0 (Assign 64) ∷ asks ∷ []) ≡ IdentityDenied 0x1234 ∷ []
+denied : owed_after (record usual { terminals = 1 }) (on_0 (Assign 64) ∷ asks ∷ []) ≡ IdentityDenied 0x1234 127 ∷ []
 unfolding exchanged read_by reading header_of control_of unnumbered_of
 denied = refl
 
@@ -134,7 +134,7 @@ verified_again = refl
 disowned : owed_after usual (on_0 (Disown 127) ∷ on_0 (Disown 127) ∷ []) ≡ IdentityRemove 127 ∷ IdentityRemove 127 ∷ []
 disowned = refl
 
-disowned_beside : due_behind usual (on_0 (Assign 64) ∷ []) (on_0 (Disown 65)) ≡ record none_on { on = 64 ∷ []; owed = IdentityRemove 65 ∷ []; granted = Some true }
+disowned_beside : due_behind usual (on_0 (Assign 64) ∷ []) (on_0 (Disown 65)) ≡ record none_on { on = 64 ∷ []; places = Some 64 ∷ []; owed = IdentityRemove 65 ∷ []; granted = Some true }
 disowned_beside = refl
 
 in_use : (due_behind usual (on_0 (Assign 64) ∷ []) (on_0 (Disown 64))).granted ∷ (due_behind usual (on_0 (Assign 64) ∷ []) (on_0 (Disown 127))).granted ∷ [] ≡ Some false ∷ Some false ∷ []

@@ -163,8 +163,8 @@ pub fn what_is_due_joins_the_queue()
 /// Nothing is lost without need. Let control frames of a link become due by an event, as [`what_is_given_is_due`] has
 /// them, while its TEI stays on the line. Then an answer tells as many as lost as find no place beside those of the link
 /// that wait. At most as many wait as the configuration says. If none of any link becomes due, it tells as many as
-/// messages of TEI management are lost, by [`teis_are_managed`]. On the network's side that is one if four are owed and
-/// another is, and none otherwise. A terminal loses none (profile).
+/// messages of TEI management are lost, by [`teis_are_managed`]. On the network's side these are those for which no place
+/// is left, as four are owed. A terminal loses none (profile).
 pub fn nothing_is_lost_in_vain()
     ensures { Always NoLossInVain }
 {}
@@ -175,13 +175,18 @@ pub fn nothing_is_lost_in_vain()
 ///
 /// **Requests of terminals.** A terminal that asks for a TEI by an Ri is owed the one that is held for this Ri.
 /// Otherwise it is owed the lowest from 64 on that is not on the line, which is told, while that has fewer than the
-/// configuration has terminals; or a denial. If there is no room for the answer, it is owed nothing.
+/// configuration has terminals; or a denial. If there is no room for the answer, it is owed nothing. By annex B none is
+/// held. Then a request whose answer is owed is not served, and one for a TEI of 64 to 126 is denied.
 ///
 /// **Checks.** A check of a TEI on the line begins by a granted request, and by a verify while none runs. Its terminals
 /// are asked, if fewer than four messages are owed, and T201 is started; both once more as it expires. As it expires
 /// again the check is over, and a TEI of which no terminal answered is told as removed. If a second one answers in one
 /// of the periods, it is told that two have it, they are owed a removal, and the TEI leaves. As a check is over, T201 is
 /// stopped.
+///
+/// By annex B the terminals of a TEI of which none answered are owed a removal, too. One response may name up to 64 TEIs.
+/// If a TEI is verified while another is checked, its terminal is asked at once, unless that is owed, and the TEI is
+/// checked later: as a check is over, that at the lowest place is, and T201 is started, not stopped.
 ///
 /// **Removals** are owed by a granted request, too, and the TEI leaves. The terminals of a TEI that is disowned are owed
 /// one.
@@ -255,14 +260,15 @@ pub fn timers_run()
 /// - 7 in state 8 by RR, RNR or REJ as a response with F=1 whose N(R) is valid;
 /// - 4 by DISC in states 7 and 8, and by a deactivation in any state;
 /// - 4 by DM with F=1 in states 5 and 6, and by UA with F=1 in state 6;
-/// - 5 by a request to establish it in state 4, and by DM with F=0 in state 7;
-/// - 5 in states 7 and 8 by FRMR, an invalid N(R), a malformed frame, and an I-frame that is too long, and in state 8 by
-///   any DM;
+/// - 5 by a request to establish it in state 4, and by DM with F=0 in state 7, by annex B also in state 4;
+/// - 5 in states 7 and 8 by FRMR, an invalid N(R), a malformed frame, and an I-frame that is too long, by annex B also a
+///   UI, and in state 8 by any DM;
 /// - 6 by a request to release it in states 7 and 8;
 /// - 8 by the expiry of the timer that runs in state 7.
 ///
 /// As T200 expires in states 5, 6 and 8, the link leaves them, for 4, 4 and 5, if it has expired N200 times before since
-/// the link came there. Nothing else moves a link. So a link awaits an answer through N200 expiries, and no more (Q.921
+/// the link came there. By annex B the expiry that leads from state 7 to 8 is one of these, unless N200 is 0. Nothing else
+/// moves a link. So a link awaits an answer through N200 expiries, and no more (Q.921
 /// clauses 3.5.2.3, 5.3, 5.5.1 to 5.5.5, 5.6.7, 5.7, 5.8, 5.9.2 and 5.10.3, and annex B).
 pub fn links_move()
     ensures { Always LinksMove }
@@ -281,11 +287,12 @@ pub fn links_move()
 /// - a release indication as it comes there from another state;
 /// - XID that is heard of it.
 ///
-/// So no confirm is told that layer 3 did not ask for, none twice, and no end of a link goes untold. Errors are, by
-/// letter,
+/// So no confirm is told that layer 3 did not ask for, but by annex B as if it did after DM with F=0 in state 4; none twice,
+/// and no end of a link goes untold. Errors are, by letter,
 ///
 /// - in states 7 and 8: B and E, DM with F=1 and F=0; F, SABME; J, an invalid N(R); K, FRMR;
-/// - there, too: A, RR, RNR or REJ with F=1 in state 7; L, N and O, what is malformed, of wrong size or too long;
+/// - there, too: A, RR, RNR or REJ with F=1 in state 7; L, N and O, what is malformed, of wrong size or too long, by annex
+///   B in any state, and UI as an I-frame;
 /// - in any state: C and D, UA with F=1 that no command asked for, and any with F=0;
 /// - G, H and I, as T200 gives up states 5, 6 and 8 (Q.921 clauses 4.1.1.1, 4.1.1.2, 4.1.1.7, 5.5.1, 5.5.3, 5.6.7, 5.7,
 ///   5.8 and appendix II).
@@ -305,11 +312,12 @@ pub fn news_is_told()
 /// A frame for a link whose TEI is on the line has `Unserved` if the link does not serve it in the state that
 /// [`links_move`] tells. In states 7 and 8 a link serves each frame, also one that is malformed. In states 4, 5 and 6 it
 /// serves SABME, DISC, UA, XID and UI, and in states 5 and 6 DM with F=1. In no state it serves a UI of more than N201
-/// octets, nor a UI or XID that was too long to keep.
+/// octets, nor a UI or XID that was too long to keep. By annex B it serves in each state also what is malformed, and an
+/// I-frame or a UI that is too long, and in state 4 DM with F=0.
 ///
 /// A frame for TEI management has `Unserved`, too. On the network's side a UI has none if its information is one of
 /// three messages. It asks for a TEI with Ai 127. Or it answers the check that runs. Or it asks for a check of a TEI on
-/// the line, and none runs. At a terminal a UI command has none if its information is one of five messages. By the Ri of
+/// the line, and none runs; by annex B these are more and fewer, as [`teis_are_managed`] has it. At a terminal a UI command has none if its information is one of five messages. By the Ri of
 /// the request that is outstanding it assigns a TEI that may come to the line, or denies one. Or it assigns a TEI on the
 /// line, and no procedure runs. Or it checks or removes TEIs on the line. [`teis_are_managed`] has the TEIs on the line,
 /// the check and the procedure (Q.921 clauses 2.6, 2.7, 2.9, 2.10, 3.3.1 to 3.3.4, 5.3.1 to 5.3.6 and 5.8.5, annex B, and

@@ -3,6 +3,7 @@ use Rattle.laws_wire.proofs.Vocabulary.{◌≡◌, ℕ, zero, suc, ◌<◌, ◌�
 use Rattle.laws_wire.proofs.Vocabulary.{place_of-is, table-put, table-empty, Link, fresh, LinkEndpoint, with_link, Config, Effect, of_change, told_of_management, request, Line, fresh_line, link_number, terms, terms_at, link_at, link_of, link_in, link_count, has_tei, Assign, fresh_gives_nothing, ranges_of, Card, line_at, wants_room, after_is_sound, fresh_is_sound, by-two, has-place, Event, nothing}
 use Rattle.laws_wire.proofs.Vocabulary.{told, Establish, Endpoint, answered, happens, told_by, endpoint, assigned, requested, LinkEstablish, line_answer, line_takes_slot, line_after, tei_unless_refused, tei_assign, tei_refusal, tei_course, given}
 use Rattle.std.specs.Prelude.{Bool, cond}
+use Rattle.lapd_frame.specs.declared.readings.Reading.{Reading}
 use Rattle.lapd_tei.specs.Words.{Course, begun as tei_begun}
 use Rattle.lapd_terminal.specs.Events as terminals
 unfoldable use Rattle.lapd_terminal.specs.Events.{course as terminal_course}
@@ -48,13 +49,13 @@ frees n = replicate n None
 pub free-is : (n : ℕ) → 1 ≤ n → free_place (frees n) ≡ Some 0
 free-is n some = grind (arith, lt-ltb)
 
-module _ (tei n : ℕ) (some : 1 ≤ n) where
-  joined : tei_course (tei_assign tei) (empty n) ≡ join tei 0 (tei_begun (empty n))
+module _ (reading : Reading) (tei n : ℕ) (some : 1 ≤ n) where
+  joined : tei_course (tei_assign tei) (empty reading n) ≡ join tei 0 (tei_begun (empty reading n))
   unfolding tei_course tei_refusal
   joined =
-      ap (λ o. tei_unless_refused o (put_on tei) (empty n))
+      ap (λ o. tei_unless_refused o (put_on tei) (empty reading n))
       (by-two (is_on tei (replicate n None)) (not (is_some (free_place (replicate n None)))) TeiTaken TableFull (none-on tei n) (ap (λ o. not (is_some o)) (free-is n some)))
-      ∙ ap (λ o. join_at tei o (tei_begun (empty n))) (free-is n some)
+      ∙ ap (λ o. join_at tei o (tei_begun (empty reading n))) (free-is n some)
 
 module _ (service : Service) (tei : ℕ) (c : Config) (ranged : line_sound.IsInRange c) (few : tei ≤ 126) where
   abbrev l : Line
@@ -67,7 +68,7 @@ module _ (service : Service) (tei : ℕ) (c : Config) (ranged : line_sound.IsInR
   with_course x = of_change c x.told.change (told_of_management x.told) (record l { management = x.now })
 
   abbrev on_line : Effect
-  on_line = with_course (join tei 0 (tei_begun (empty c.terminals)))
+  on_line = with_course (join tei 0 (tei_begun (empty c.reading c.terminals)))
 
   some : 1 ≤ c.terminals
   some = (ranges_of c ranged).terminals.least
@@ -84,7 +85,7 @@ module _ (service : Service) (tei : ℕ) (c : Config) (ranged : line_sound.IsInR
   there = ap (λ (x : terminal_words.Course). of_change c x.told.change (told_of_terminal x.told) (with_terminal x.now l)) joined-there
 
   here : of_network c (tei_assign tei) l ≡ on_line
-  here = ap with_course (joined tei c.terminals some)
+  here = ap with_course (joined c.reading tei c.terminals some)
 
   is-assigned : of_aim c (at_management (tei_assign tei)) l ≡ on_line
   is-assigned = go (is_terminal c)

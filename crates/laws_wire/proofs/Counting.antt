@@ -4,6 +4,9 @@ use Rattle.laws_wire.proofs.Vocabulary.{Config, Line}
 use Rattle.laws_wire.proofs.Vocabulary.{place_in, at_requested, aim_of_request, request, terms, awaits_answer, as_heard, is_clearing, is_time, event-follows, T200, after, Request, Data, SetBusy, ClearBusy, Endpoint, Wire, happens, with_first_of, EndStep, requests, expires, sends, receives, StepAt, at_near, at_far, acting, turned, doing, doing_all, calling, IsRoughTalk, IsFullTalkOf, IsFullTalk}
 use Rattle.laws_wire.proofs.Vocabulary.{own_link, IsTimelyOf, StayTimely, StayPatient, Counts, is_7, is_in_7, counted, counting, uncounted, IsCountedOf, IsCounted, StayCounted, StaySpared, ExpiriesAreCounted, LossyExpiriesAreCounted, frame, requested, offer, expired, LinkSetBusy, received, LinkClearBusy, LinkData, LinkRequest, timer_T200, timer_T203, IsPatient, Called, uncalled, seeing, seen}
 use Rattle.laws_wire.proofs.Vocabulary.{own_side}
+use Rattle.std.specs.Prelude.{min}
+use Rattle.lapd_frame.specs.declared.readings.Reading.{Reading}
+use Rattle.lapd_frame.specs.Readings.{by_reading}
 use Rattle.model_link.specs.Events.{Event}
 use Rattle.model_line.specs.Line.{tries}
 use Rattle.laws_wire.proofs.Awaited.{link-is, state-is, awaits-is, may-here}
@@ -32,8 +35,12 @@ module _ (t : Terms) (e : Event) (l : Link) (k k' : ℕ) where
   heard = as_heard t e
 
   pub counts-on : is_clearing heard ≡ false → IsBelow l k → (awaits_answer l.state ≡ true → k ≤ k') → (awaits_answer l.state ≡ true → is_time heard l ≡ true → k + 1 ≤ k')
-      → IsBelow (after t e l) k'
-  counts-on stays below keeps adds awaits = grind (arith, event-follows, eqb-true)
+      → (is_time heard l ≡ true → by_reading t.reading 0 (min 1 t.n200) ≤ k') → IsBelow (after t e l) k'
+  counts-on stays below keeps adds first awaits = grind (arith, event-follows, eqb-true)
+
+-- by annex B the expiry that leads out of state 7 counts
+first-counted : (r : Reading) (n k : ℕ) (b : Bool) → by_reading r 0 (min 1 n) ≤ cond b (by_reading r 0 1) (k + 1)
+first-counted r n k b = grind arith
 
 -- ---- a station
 
@@ -57,8 +64,15 @@ module _ (service : Service) (tei : ℕ) where
     keeps : (i : ℕ) → k ≤ i → awaits_answer n.link.state ≡ true → k ≤ cond in_7 0 i
     keeps i few awaits = subst (λ b. k ≤ cond b 0 i) (sym (seven awaits)) few
 
-    adds : awaits_answer n.link.state ≡ true → k + 1 ≤ cond in_7 0 (k + 1)
-    adds awaits = subst (λ b. k + 1 ≤ cond b 0 (k + 1)) (sym (seven awaits)) (omega arith)
+    -- with T200
+    abbrev more : ℕ
+    more = cond in_7 (by_reading own.reading 0 1) (k + 1)
+
+    adds : awaits_answer n.link.state ≡ true → k + 1 ≤ more
+    adds awaits = subst (λ b. k + 1 ≤ cond b (by_reading own.reading 0 1) (k + 1)) (sym (seven awaits)) (omega arith)
+
+    first : by_reading n.terms.reading 0 (min 1 n.terms.n200) ≤ more
+    first = subst (λ (t : Terms). by_reading t.reading 0 (min 1 t.n200) ≤ more) (sym own-stands.terms) (first-counted own.reading own.n200 k in_7)
 
     own-below : IsBelow n.link k
     own-below = subst (λ l. IsBelow l k) (link-is service tei c p w.near n near) below
@@ -68,7 +82,7 @@ module _ (service : Service) (tei : ℕ) where
         → is_time (as_heard n.terms e) n.link ≡ false → Below s' (cond in_7 0 k)
     by-event b e s' n' stands is stays none =
         subst (λ l. IsBelow l (cond in_7 0 k)) (sym (link-is service tei b p s' n' stands ∙ is))
-        (counts-on n.terms e n.link k (cond in_7 0 k) stays own-below (keeps k (omega arith)) (λ awaits time. absurd (true≢false (sym time ∙ none))))
+        (counts-on n.terms e n.link k (cond in_7 0 k) stays own-below (keeps k (omega arith)) (λ awaits time. absurd (true≢false (sym time ∙ none))) (λ time. absurd (true≢false (sym time ∙ none))))
 
     same : Below w.near (cond in_7 0 k)
     same awaits = grind (arith, link-is, keeps)
@@ -80,12 +94,11 @@ module _ (service : Service) (tei : ℕ) where
           | inr x ↦ by-event own (requested rq false) (happens (request r) w.near) _ x.stands refl refl refl
         ]
 
-    near-t200 : Below (acting (expires (timer_T200 service tei)) w).near (cond in_7 0 (k + 1))
+    near-t200 : Below (acting (expires (timer_T200 service tei)) w).near more
     near-t200 =
         let s' = (acting (expires (timer_T200 service tei)) w).near in
-        let k' = cond in_7 0 (k + 1) in
-        subst (λ l. IsBelow l k') (sym (link-is service tei own p s' _ (expires-stands service tei p w.near n own-stands (timer_T200 service tei) T200 (λ l. refl))))
-        (counts-on n.terms (expired T200) n.link k k' refl own-below (keeps (k + 1) (omega arith)) (λ awaits time. adds awaits))
+        subst (λ l. IsBelow l more) (sym (link-is service tei own p s' _ (expires-stands service tei p w.near n own-stands (timer_T200 service tei) T200 (λ l. refl))))
+        (counts-on n.terms (expired T200) n.link k more refl own-below (λ awaits. let x = adds awaits in omega (arith, x)) (λ awaits time. adds awaits) (λ time. first))
 
     near-t203 : Below (acting (expires (timer_T203 service tei)) w).near (cond in_7 0 k)
     near-t203 =

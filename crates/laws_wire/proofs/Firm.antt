@@ -43,7 +43,7 @@ module _ (t : Terms) where
 
 -- ---- own busy stays off
 
-free : (t : Terms) (e : Event) (l : Link) → busy_asked (as_heard t e) false ≡ false → l.own_busy ≡ false → (after t e l).own_busy ≡ false
+pub free : (t : Terms) (e : Event) (l : Link) → busy_asked (as_heard t e) false ≡ false → l.own_busy ≡ false → (after t e l).own_busy ≡ false
 free t e l asked is = grind (arith, event-follows, off)
 
 -- ---- two ends

@@ -78,7 +78,7 @@ module _ (t : Terms) (l : Link) where
 
   expired-goes : (here : State) → IsTrue (is_multiple_frame here) → (timer : LinkTimer) → IsTrue (is_multiple_frame (Machine.expired_in here timer t (begun l)).link.state)
       → Goes l (Machine.expired_in here timer t (begun l)).link []
-  expired-goes Established before timer up = by-up _ ((timer_7_up t l {S = still l.s}).leads (begun l) (at-first t l)) up
+  expired-goes Established before timer up = by-up _ ((timer_7_up t l {S = still l.s} timer).leads (begun l) (at-first t l)) up
   expired-goes here before timer up = grind (arith, by-up, t200_8_up, at-first, stays)
 
   either : (b : Bool) (u v : Course) → (IsTrue (is_multiple_frame u.link.state) → Goes l u.link []) → (IsTrue (is_multiple_frame v.link.state) → Goes l v.link [])

@@ -11,7 +11,7 @@ use Rattle.laws_wire.proofs.LoadsHeard.{frame-hears}
 use Rattle.laws_wire.proofs.LossyPhases.{IsRinging, IsUp, Goes, HasErred, Went}
 use Rattle.laws_wire.proofs.LossyRun.{goes, errs, setting, rings}
 use Rattle.laws_wire.proofs.Rested.{TakesWell, then-acts}
-use Rattle.laws_wire.proofs.Ringing.{ringing, IsSabme, AreSabmes, ignores}
+use Rattle.laws_wire.proofs.Ringing.{ringing, IsSabme, AreSabmes, untouched}
 use Rattle.laws_wire.proofs.Standing.{StationStands}
 use Rattle.laws_wire.proofs.Talking.{Face}
 use Rattle.laws_wire.proofs.Weighing.{same-way, weigh_of, weigh, Fell, fell-turned}
@@ -65,7 +65,7 @@ module _ (service : Service) (tei : ℕ) (c d : Config) (p q : ℕ) (face : Face
   near-well : (w : Wire) (h : Goes service tei c d p q w) (f : Parts) (fs : List Parts) → (seen w h).m.way ≡ f ∷ fs → Well service tei v (seen w h).n (seen w h).m f
   unfolding seen
   near-well w (inl h) f fs e = let wrong : [] ≡ f ∷ fs = e in absurd (cc)
-  near-well w (inr (inl h)) f fs e = grind (arith, which, frames_of, end, ringing, ua, first-means, caller, ignores)
+  near-well w (inr (inl h)) f fs e = grind (arith, which, frames_of, end, ringing, ua, first-means, caller, untouched)
   near-well w (inr (inr h)) f fs e =
       let rest = fs ++ frames_of h.m.terms h.m.link.waiting in
       let is : h.here ≡ f ∷ rest = sym h.far.line ∙ ap (λ way. way ++ frames_of h.m.terms h.m.link.waiting) e in

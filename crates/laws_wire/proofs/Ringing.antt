@@ -1,5 +1,6 @@
 -- A link that awaits its establishment, as often as SABME was repeated and whatever waits; and what comes of it.
-use Rattle.laws_wire.proofs.Vocabulary.{arith, ◌≡◌, ℕ, ◌+◌, ◌<◌, Bool, true, false, cond, List, [], ◌∷◌, ◌++◌, length, drop, None, Some, refl, sym, ap, subst, ◌∙◌, ◌⊎◌, inl, inr, append-nil, append_assoc, All, nat_lt, lt-ltb, All-nil, All-cons, All-tail, All-append, Sabme, Parts, T203, ControlFrame, Terms, Link, fresh, may_repeat, frame_of, received, expired, course, begun, ◌then◌, with_sent}
+use Rattle.laws_wire.proofs.Vocabulary.{arith, ◌≡◌, ℕ, ◌+◌, ◌<◌, Bool, true, false, cond, List, [], ◌∷◌, ◌++◌, length, drop, None, Some, refl, sym, ap, subst, ◌∙◌, ◌⊎◌, inl, inr, append-nil, append_assoc, All, nat_lt, lt-ltb, All-nil, All-cons, All-tail, All-append, Sabme, Parts, T203, ControlFrame, Terms, Link, fresh, may_repeat, frame_of, received, expired, course, begun, ◌then◌, with_sent, ◌≤◌}
+use Rattle.laws_wire.proofs.Vocabulary.{le-ltb}
 use Rattle.laws_wire.proofs.Vocabulary.{command}
 use Rattle.laws_wire.proofs.Vocabulary.{frames_of, frames-append, Means, T200, frame, after, Course, code_G}
 use Rattle.model_link.specs.declared.states.State.TheVariants as state
@@ -61,8 +62,12 @@ module _ (t : Terms) (k : ℕ) (ws : List ControlFrame) where
     pub delivered : (course t (received (frame f)) l).delivered ≡ None
     pub unit : (course t (received (frame f)) l).unit ≡ None
 
-  pub ignores : (f : Parts) (m : ℕ) → Means m f.control → Ignores f
-  ignores f m means = grind arith
+  pub untouched : (f : Parts) (m : ℕ) → Means m f.control → after t (received (frame f)) l ≡ l
+  untouched f m means = grind arith
+
+  -- one of at most N201 octets tells nothing (by annex B more of them are an error)
+  pub ignores : (f : Parts) (m : ℕ) → Means m f.control → length f.info ≤ t.n201 → Ignores f
+  ignores f m means few = let fits = le-ltb t.n201 (length f.info) few in grind arith
 
 -- where nothing waits, and there is room, SABME waits again
 module _ (t : Terms) (k : ℕ) (room : nat_lt 0 t.control ≡ true) where

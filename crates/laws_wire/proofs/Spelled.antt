@@ -1,5 +1,7 @@
 -- A frame that a sound link gives comes as it is, and is read again.
-use Rattle.laws_wire.proofs.Vocabulary.{◌≡◌, ℕ, ◌+◌, ◌≤◌, false, nat_lt, List, length, Ok, refl, sym, ap, ◌∙◌, arith, le-ltb, Side, Sender, Config, own_side, heard_side, Parts, IsFrame, spelling, other_side, reading, reading-again, came, IsNotShort, not-short, is_short}
+use Rattle.laws_wire.proofs.Vocabulary.{◌≡◌, ℕ, ◌+◌, ◌≤◌, false, nat_lt, List, length, Ok, refl, sym, ap, ◌∙◌, arith, le-ltb, Side, Sender, Config, own_side, heard_side, Parts, IsFrame, spelling, other_side, reading, reading-again, came, IsNotShort, not-short, is_short, Means, length-append}
+use Rattle.lapd_frame.specs.Grammar.{spelling as side_spelling}
+use Rattle.lapd_frame.specs.Senders.{parts_named}
 use Rattle.model_bits.specs.Stream.{frame}
 
 -- A frame that is neither too short nor too long comes as it is.
@@ -19,6 +21,19 @@ carries sender n201 f is few = record {
   whole = came-whole n201 (spelling sender f) (not-short sender f.address f.control f.info) few;
   read = reading-again sender f (spelling sender f) (record { is_frame = is; octets_are = refl });
 }
+
+-- A frame that has an N(R), or is an I-frame, has four octets before its information: of the latter at most N201 come as they are.
+kept-short : (n201 : ℕ) (octets : List ℕ) → came n201 octets ≡ frame octets → length octets ≤ n201 + 4
+kept-short n201 octets whole = grind (arith, nat_lt)
+
+spelled-long : (side : Side) (f : Parts) (m : ℕ) → Means m f.control → length (side_spelling side f) ≡ length f.info + 4
+spelled-long side f m means = grind (arith, length-append)
+
+pub carried-short : (sender : Sender) (n201 : ℕ) (f : Parts) (m : ℕ) → Means m f.control → Carries sender n201 f (spelling sender f) → length f.info ≤ n201
+carried-short sender n201 f m means h =
+    let few = kept-short n201 (spelling sender f) h.whole in
+    let all = spelled-long sender.side (parts_named sender.sapi f) m means in
+    omega (arith, few, all)
 
 pub twice-other : (side : Side) → other_side (other_side side) ≡ side
 twice-other side = grind arith

@@ -1,5 +1,5 @@
 -- An end that rings: what it does, whatever the other does; and what it hears.
-use Rattle.laws_wire.proofs.Vocabulary.{◌≡◌, ℕ, false, List, [], map, drop, None, sym, ap, subst, ◌∙◌, ◌⊎◌, inl, inr, All, option_to_list, Service, Timer, Parts, ControlFrame, Terms, LinkTimer, course, LinkEndpoint, with_link, with_sent, Config, terms, expiry, request, next, refusal, Course, Data, Endpoint, happens, without_first, LinkData, expired}
+use Rattle.laws_wire.proofs.Vocabulary.{◌≡◌, ℕ, false, List, [], map, drop, None, sym, ap, subst, ◌∙◌, ◌⊎◌, inl, inr, All, option_to_list, Service, Timer, Parts, ControlFrame, Terms, LinkTimer, course, LinkEndpoint, with_link, with_sent, Config, terms, expiry, request, next, refusal, Course, Data, Endpoint, happens, without_first, LinkData, expired, ◌≤◌, length}
 use Rattle.laws_wire.proofs.Vocabulary.{◌∷◌, refl, spelling, fresh, IsInRange, LineTold, Wire, frame_comes, with_first_of, confirmed, indicated, NoteData, Means, own_side}
 use Rattle.model_link.specs.Events as link
 use Rattle.model_link.specs.declared.timers.LinkTimer.TheVariants as link_timer
@@ -9,6 +9,7 @@ use Rattle.laws_wire.proofs.Fair.{HasError}
 use Rattle.laws_wire.proofs.Held.{Held, TellsIt, Erred, now-erred, held-given, held-lost, held-first, held-taken, taken-told, taken-stands, expired-told, held-expired, held-asked}
 use Rattle.laws_wire.proofs.LossyPhases.{Aims, first-way}
 use Rattle.laws_wire.proofs.Ringing.{ringing, answered, Ignores, ignores, IsSabme, AreSabmes, Rings, t200-rings, t203-rings, RingsOn, gives-sabme, one-sabme_more, one-sabme_less}
+use Rattle.laws_wire.proofs.Spelled.{carried-short}
 use Rattle.laws_wire.proofs.Standing.{StationStands}
 use Rattle.laws_wire.proofs.Talking.{Face}
 
@@ -96,7 +97,8 @@ module _ (service : Service) (tei : ℕ) (c d : Config) (p q : ℕ) (face : Face
     pub ignores-frame : (f : Parts) (fs : List Parts) → M.way ≡ f ∷ fs → (number : ℕ) → Means number f.control → Held c service tei p [] (with_first_of w.far.way w.near) it
     ignores-frame f fs first number means =
         let its_way = first-way service tei d q past w.far M f fs first far in
-        let i : Ignores (terms c service tei) k ws f = ignores (terms c service tei) k ws f number means in
+        let few : length f.info ≤ c.n201 = subst (λ n. length f.info ≤ n) (sym face.n201) (carried-short (own_side d) d.n201 f number means its_way.1.carried) in
+        let i : Ignores (terms c service tei) k ws f = ignores (terms c service tei) k ws f number means few in
         let s' = frame_comes (spelling (own_side d) f) w.near in
         let event = link.received (link.frame f) in
         let tells : TellsIt service tei (course (terms c service tei) event it.link) =

@@ -11,10 +11,14 @@ use Rattle.lapd_frame.specs.declared.notes.Note.TheVariants as notes
 use Rattle.lapd_frame.specs.declared.timers.Order.TheVariants as orders
 use Rattle.lapd_frame.specs.declared.timers.Timer.TheVariants.{T202}
 use Rattle.lapd_frame.specs.Grammar as grammar
+use Rattle.lapd_frame.specs.declared.readings.Reading.{Reading}
+use Rattle.lapd_frame.specs.declared.readings.Reading.TheVariants.{Profile, AnnexB}
+use Rattle.lapd_frame.specs.Readings.{by_reading}
 use Rattle.lapd_frame.proofs.Naming.{management-spelled}
 use Rattle.lapd_tei.specs.Events as teis
 use Rattle.lapd_tei.specs.declared.messages.Message.TheVariants as sent
 use Rattle.lapd_tei.specs.declared.outcome.Change.TheVariants.{Gained}
+use Rattle.lapd_tei.specs.Machine.{Management}
 use Rattle.lapd_tei.specs.Messages as messages
 use Rattle.lapd_tei.specs.Rows as tei_rows
 use Rattle.lapd_tei.specs.Table.{automatic, is_off, free_tei}
@@ -89,20 +93,20 @@ first n = set (frees n) 0 (Some 64)
 
 abbrev pub has_it : Config → Line
 has_it c = with_opened 0 (record (fresh_line c) {
-  management = record (empty c.terminals) { places = first c.terminals };
+  management = record (empty c.reading c.terminals) { places = first c.terminals };
   own = record { number = next_number (seed_of c); procedure = None; waiting = [] };
 })
 
--- The network's: it has assigned the TEI by this Ri, and its message has gone.
+-- The network's: it has assigned the TEI by this Ri, which it remembers in the profile, and its message has gone.
+abbrev pub granting : Reading → ℕ → ℕ → Management
+granting reading ri n = record (empty reading n) {
+  places = first n;
+  remembered = by_reading reading (record { ri = ri; tei = 64 } ∷ []) [];
+  waiting = sent.IdentityAssigned ri 64 ∷ [];
+}
+
 abbrev pub assigning : ℕ → Config → Line
-assigning ri d = with_opened 0 (record (fresh_line d) {
-  management = record {
-    places = first d.terminals;
-    remembered = record { ri = ri; tei = 64 } ∷ [];
-    check = None;
-    waiting = sent.IdentityAssigned ri 64 ∷ [];
-  };
-})
+assigning ri d = with_opened 0 (record (fresh_line d) { management = granting d.reading ri d.terminals })
 
 abbrev pub gave_it : ℕ → Config → Line
 gave_it ri d = record (assigning ri d) { management = record (assigning ri d).management { waiting = [] } }
@@ -158,26 +162,39 @@ module _ (c : Config) (own : is_terminal c ≡ true) (ranged : IsInRange c) wher
 
 -- ---- the network serves the request
 
-module _ (ri n : ℕ) (some : 1 ≤ n) where
+module _ (reading : Reading) (ri n : ℕ) (some : 1 ≤ n) where
   -- the lowest TEI that it assigns
   lowest : free_tei (frees n) ≡ Some 64
   lowest = ap (λ b. cond (not b) (Some 64) (find (is_off (frees n)) (drop 1 automatic))) (none-on 64 n)
 
   abbrev served_course : tei_words.Course
   served_course = record {
-    now = record { places = first n; remembered = record { ri = ri; tei = 64 } ∷ []; check = None; waiting = sent.IdentityAssigned ri 64 ∷ [] };
+    now = granting reading ri n;
     told = record { notes = notes.Assigned 64 ∷ []; change = Some (Gained 64 0); orders = []; lost = 0; unserved = false };
   }
 
-  serves : (x : ℕ) → x ≡ ri → tei_rows.assign_new x (free_place (frees n)) (free_tei (frees n)) (tei_words.begun (empty n)) ≡ served_course
-  serves x is =
-      ap (λ x. tei_rows.assign_new x (free_place (frees n)) (free_tei (frees n)) (tei_words.begun (empty n))) is
-      ∙ ap (λ o. tei_rows.assign_new ri o (free_tei (frees n)) (tei_words.begun (empty n))) (free-is n some)
-      ∙ ap (λ o. tei_rows.assign_new ri (Some 0) o (tei_words.begun (empty n))) lowest
+  abbrev its_start : tei_words.Course
+  its_start = tei_words.begun (empty reading n)
 
-  served : tei_course (teis.message (messages.information ri 1 127)) (empty n) ≡ served_course
+  -- of whatever reading, as nothing is remembered and nothing waits
+  granted : (r : Reading) → reading ≡ r → tei_rows.assign_new ri (Some 0) (Some 64) its_start ≡ served_course
+  granted Profile is = rw is refl
+  granted AnnexB is = rw is refl
+
+  serves : (x : ℕ) → x ≡ ri → tei_rows.assign_new x (free_place (frees n)) (free_tei (frees n)) its_start ≡ served_course
+  serves x is =
+      ap (λ x. tei_rows.assign_new x (free_place (frees n)) (free_tei (frees n)) its_start) is
+      ∙ ap (λ o. tei_rows.assign_new ri o (free_tei (frees n)) its_start) (free-is n some)
+      ∙ ap (λ o. tei_rows.assign_new ri (Some 0) o its_start) lowest
+      ∙ granted reading refl
+
+  anew : (r : Reading) → reading ≡ r → (x : ℕ) → tei_rows.request x its_start ≡ tei_rows.assign_new x (free_place (frees n)) (free_tei (frees n)) its_start
+  anew Profile is x = rw is refl
+  anew AnnexB is x = rw is refl
+
+  served : tei_course (teis.message (messages.information ri 1 127)) (empty reading n) ≡ served_course
   unfolding tei_course tei_refusal
-  served = serves (256 * (ri / 256) + ri % 256) (same-ri ri)
+  served = anew reading refl (256 * (ri / 256) + ri % 256) ∙ serves (256 * (ri / 256) + ri % 256) (same-ri ri)
 
   -- ---- the terminal takes the TEI
 
@@ -228,7 +245,7 @@ module _ (d : Config) (side : d.side ≡ Network) (some : 1 ≤ d.terminals) (ri
   served_effect x = of_change d x.told.change (told_of_management x.told) (record (fresh_line d) { management = x.now })
 
   request-served : of_heard d (came d.n201 octets) (fresh_line d) ≡ record { line = assigning ri d; told = record nothing { notes = notes.Assigned 64 ∷ [] } }
-  request-served = to-network d (fresh_line d) ri 1 127 octets whole read side ∙ ap served_effect (served ri d.terminals some)
+  request-served = to-network d (fresh_line d) ri 1 127 octets whole read side ∙ ap served_effect (served d.reading ri d.terminals some)
 
   pub assigns-after : line_after d (hears (came d.n201 octets)) (fresh_line d) ≡ assigning ri d
   unfolding line_after
@@ -245,7 +262,7 @@ module _ (c : Config) (own : is_terminal c ≡ true) (some : 1 ≤ c.terminals) 
       ≡ record { line = has_it c; told = record nothing { notes = notes.Assigned 64 ∷ []; orders = orders.Stop T202 ∷ [] } }
   answer-taken =
       to-terminal c (waits c) (seed_of c) 2 64 octets whole read own
-      ∙ ap (λ x. by_course c x (waits c)) (took (seed_of c) c.terminals some (next_number (seed_of c)))
+      ∙ ap (λ x. by_course c x (waits c)) (took c.reading (seed_of c) c.terminals some (next_number (seed_of c)))
 
   pub gets-after : line_after c (hears (came c.n201 octets)) (waits c) ≡ has_it c
   unfolding line_after

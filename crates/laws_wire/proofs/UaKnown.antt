@@ -5,6 +5,7 @@ use Rattle.laws_wire.proofs.Vocabulary.{LinkSetBusy, received, LinkClearBusy, Li
 use Rattle.laws_wire.specs.Facing.{line_of}
 use Rattle.laws_wire.specs.Settling.{Busy, busy_by, busy_behind, busy}
 use Rattle.laws_wire.proofs.Awaited.{link-is}
+use Rattle.laws_wire.proofs.Firm.{free as stays-free}
 use Rattle.laws_wire.proofs.LooseUp.{for-asked}
 use Rattle.laws_wire.proofs.LossyPhases.{Aims, for-timer}
 use Rattle.laws_wire.proofs.Standing.{IsCarried, StationStands, link-sound, link-ranges, gives-stands, expires-stands, Granted, asks-stands, asks-answered}
@@ -41,7 +42,7 @@ module _ (service : Service) (tei : ℕ) where
     by-event e s' b' to calm = grind (arith, timed, free)
 
     mild : (e : LinkEvent) → busy_asked (as_heard n.terms e) false ≡ false → b ≡ false → (after n.terms e n.link).own_busy ≡ false
-    mild e none off = grind (arith, each-row)
+    mild e none off = stays-free n.terms e n.link none (free off)
 
     pub known-gives : Known b (happens next s)
     known-gives = by-event offer (happens next s) b (link-is service tei s.card.config p (happens next s) _ (gives-stands service tei p s n own)) (mild offer refl)

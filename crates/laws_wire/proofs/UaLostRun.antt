@@ -158,7 +158,11 @@ module _ (service : Service) (tei : ℕ) (c d : Config) (p q : ℕ) (face : Face
     far-loses : IsCalled past b w → IsCalled past b (done loses w)
     far-loses (inl h) = inl (all-far (Away past b) (Away past b) w (done loses w) refl (λ y. away-loses service tei c d p q face back rt ru past b (turned w) y) h)
     far-loses (inr (inl h)) = inr (inl (rings-far (Waiting past b) (Waiting past b) [] [] w (done loses w) refl (λ y. waiting-loses service tei c d p q face back rt ru past b (turned w) y) h))
-    far-loses (inr (inr (inl h))) = grind (arith, comes-loses)
+    far-loses (inr (inr (inl h))) = go (comes-loses service tei c d p q face back rt ru past b w h)
+      where
+        go : Coming past b (done loses w) ⊎ Away past b (done loses w).far → IsCalled past b (done loses w)
+        go (inl y) = inr (inr (inl y))
+        go (inr y) = inl (inl (record { repeats = h.repeats; near = h.near; far = y }))
     far-loses (inr (inr (inr h))) = inr (inr (inr (up-far past w h loses tt tt)))
 
     abbrev Takes : Type 0

@@ -11,7 +11,7 @@ use Rattle.laws_wire.proofs.LoadsHeard.{frame-hears}
 use Rattle.laws_wire.proofs.Loose.{Loose, loose-turned, loose-after}
 use Rattle.laws_wire.proofs.LossyPhases.{first-way}
 use Rattle.laws_wire.proofs.Rested.{TakesWell, takes-nothing, takes-well}
-use Rattle.laws_wire.proofs.Ringing.{ringing, its_sabme, ignores}
+use Rattle.laws_wire.proofs.Ringing.{ringing, its_sabme, untouched}
 use Rattle.laws_wire.proofs.Standing.{StationStands}
 use Rattle.laws_wire.proofs.Talking.{Face}
 use Rattle.laws_wire.proofs.UaCalled.{again, renews}
@@ -101,7 +101,7 @@ module _ (service : Service) (tei : ℕ) (c d : Config) (p q : ℕ) (face : Face
     ignores-one g gs e number means =
         let l = ringing k ws in
         let well : TakesWell v l (after t (link.received (link.frame g)) l) g × ((after t (link.received (link.frame g)) l).r ≤ length f.m.link.contents) =
-        subst (λ l'. TakesWell v l l' g × (l'.r ≤ length f.m.link.contents)) (sym (ignores t k ws g number means).stays) (record { contents = refl; falls = inl (refl, omega arith) }, omega arith) in
+        subst (λ l'. TakesWell v l l' g × (l'.r ≤ length f.m.link.contents)) (sym (untouched t k ws g number means)) (record { contents = refl; falls = inl (refl, omega arith) }, omega arith) in
         from-then service tei c d p q [] f.past face v w (end t l way) f.m near f.held f.none (acting receives w) (moved_by receives w) 0
         (takes-well service tei c d p q [] f.past face v w (end t l way) f.m near f.held f.none g gs e well.0 well.1)
 

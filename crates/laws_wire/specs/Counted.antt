@@ -2,6 +2,7 @@
 use Rattle.std.specs.Prelude.{◌≡◌, ◌<◌, ℕ, ◌+◌, ◌==◌, Bool, true, false, List, [], ◌∷◌, All, Option, None, Some, if◌then◌else◌}
 use Rattle.lapd_frame.specs.declared.services.Service.{Service}
 use Rattle.lapd_frame.specs.declared.timers.Timer.TheVariants.{T200}
+use Rattle.lapd_frame.specs.Readings.{by_reading}
 use Rattle.model_line.specs.declared.config.Config.{Config}
 use Rattle.model_line.specs.Line.{state_of, tries}
 use Rattle.laws_wire.specs.Wire.{Endpoint, Wire, Step, expires, turned, StepAt, at_near, at_far, doing}
@@ -12,7 +13,7 @@ use Rattle.laws_wire.specs.Timely.{awaits_reply, IsLongEnough, IsSpared, StayTim
 use Rattle.laws_wire.specs.Answering.{IsFullTalk, StayPatient}
 
 -- How often T200 expired at each end since its link was last in state 7, or since the call began. The expiry that led
--- out of state 7 is not among them.
+-- out of state 7 is not among them in the profile; by annex B it is, as it began the first of N200 enquiries (clause 5.6.7).
 pub record Counts : Type 0 where
   pub near : ℕ
   pub far : ℕ
@@ -25,7 +26,7 @@ abbrev pub is_in_7 : Service → ℕ → Endpoint → Bool
 is_in_7 service tei s = is_7 (state_of service tei (line_of s))
 
 abbrev pub counted : Service → ℕ → Step → Endpoint → ℕ → ℕ
-counted service tei (expires (T200 s t)) x k = if is_in_7 service tei x then 0 else k + 1
+counted service tei (expires (T200 s t)) x k = if is_in_7 service tei x then by_reading x.card.config.reading 0 1 else k + 1
 counted service tei other x k = if is_in_7 service tei x then 0 else k
 
 abbrev pub counting : Service → ℕ → StepAt → Wire → Counts → Counts

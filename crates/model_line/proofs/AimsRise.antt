@@ -1,5 +1,6 @@
 -- By how much an aim raises what a line may still send.
 use Rattle.model_line.proofs.Vocabulary.{◌≡◌, ℕ, refl, arith, Service, Link, event-rises, Config, may_send, fresh_line, link_count, terms, IsInRange, LinkEvent, rises_price, rises_may_send}
+use Rattle.model_line.proofs.Checks.{none-counted}
 use Rattle.model_line.proofs.Ranges.{terms_in_range}
 use Rattle.model_line.proofs.Sums.{Rise, all_begin}
 
@@ -18,4 +19,4 @@ sends c ranged = record {
 
 -- a line that begins has nothing to send
 pub fresh_may_send : (c : Config) → may_send c (fresh_line c) ≡ 0
-fresh_may_send c = omega (arith, all_begin c (may_send_of c) (λ service. refl) 0 (link_count c))
+fresh_may_send c = omega (arith, none-counted c.terminals, all_begin c (may_send_of c) (λ service. refl) 0 (link_count c))

@@ -20,11 +20,11 @@ IsProper c l at_no_link = Unit {0}
 
 module _ (c : Config) (ranged : IsInRange c) where
   -- a TEI comes to a place, or leaves it, and both links of the place begin
-  place_changed : (l : Line) (m : Management) (own : Own) (place : ℕ) (o : Option ℕ) → IsSound c l → tei.IsSound m → IsOfSide (is_terminal c) m own → m.places ≡ set l.management.places place o
+  place_changed : (l : Line) (m : Management) (own : Own) (place : ℕ) (o : Option ℕ) → IsSound c l → tei.IsSound m → m.reading ≡ c.reading → IsOfSide (is_terminal c) m own → m.places ≡ set l.management.places place o
       → place < length l.management.places
       → IsSound c (record l { management = m; own = own; links = set (set l.links (link_number place Call) fresh) (link_number place Packet) fresh })
-  place_changed l m own place o s ms owned here within =
-      with_links c l s m own (set (set l.links (link_number place Call) fresh) (link_number place Packet) fresh) l.turn ms owned
+  place_changed l m own place o s ms reading owned here within =
+      with_links c l s m own (set (set l.links (link_number place Call) fresh) (link_number place Packet) fresh) l.turn ms reading owned
       (ap (λ p. length p) here ∙ length-set l.management.places place o ∙ s.places) (length-set _ _ _ ∙ length-set _ _ _ ∙ s.count) s.turn
       (with_both c ranged l.links m.places place s.count (omega (arith, within, s.places)) (λ t at. ms.table.range place t at)
       (λ n few away.
@@ -32,19 +32,19 @@ module _ (c : Config) (ranged : IsInRange c) where
       (sym (ap (λ p. get_or p (place_at n) None) here ∙ get_or-set_other l.management.places place (place_at n) o None away)) (s.links n few)))
 
   -- the links after a change of the table
-  links_moved : (l : Line) (change : Option Change) (m : Management) (own : Own) (told : LineTold) → IsSound c l → tei.IsSound m → IsOfSide (is_terminal c) m own
+  links_moved : (l : Line) (change : Option Change) (m : Management) (own : Own) (told : LineTold) → IsSound c l → tei.IsSound m → m.reading ≡ c.reading → IsOfSide (is_terminal c) m own
       → Moves l.management.places change m.places → IsSound c (of_change c change told (record l { management = m; own = own })).line
-  links_moved l None m own told s ms owned same = grind (arith, with_links)
-  links_moved l (Some (Gained tei place)) m own told s ms owned joined = place_changed l m own place (Some tei) s ms owned joined.is_there joined.within
-  links_moved l (Some (Left tei place)) m own told s ms owned left = place_changed l m own place None s ms owned left.is_free left.within
+  links_moved l None m own told s ms reading owned same = grind (arith, with_links)
+  links_moved l (Some (Gained tei place)) m own told s ms reading owned joined = place_changed l m own place (Some tei) s ms reading owned joined.is_there joined.within
+  links_moved l (Some (Left tei place)) m own told s ms reading owned left = place_changed l m own place None s ms reading owned left.is_free left.within
 
   pub management_event_sound : (l : Line) (e : TeiEvent) → IsSound c l → tei_laws.IsInRange e → IsSound c (of_management c e l).line
   management_event_sound l e s fits =
-      by-managed c l s (λ change f. IsSound c f.line) e fits (λ change told m own step. links_moved l change m own told s step.sound step.owned step.moves)
+      by-managed c l s (λ change f. IsSound c f.line) e fits (λ change told m own step. links_moved l change m own told s step.sound step.reading step.owned step.moves)
 
   own_event_sound : (l : Line) (e : TerminalEvent) → IsSound c l → IsOwnEvent c e → IsSound c (of_terminal c e l).line
   own_event_sound l e s proper =
-      by-own-event c l s (λ change f. IsSound c f.line) e proper (λ change told m own step. links_moved l change m own told s step.sound step.owned step.moves)
+      by-own-event c l s (λ change f. IsSound c f.line) e proper (λ change told m own step. links_moved l change m own told s step.sound step.reading step.owned step.moves)
 
   pub aim_sound : (l : Line) (aim : Aim) → IsSound c l → IsProper c l aim → IsSound c (of_aim c aim l).line
   aim_sound l (at_none what) s proper = s

@@ -1,20 +1,21 @@
 -- What comes of it that a line is down.
-use Rattle.model_line.proofs.Vocabulary.{◌≡◌, Bool, true, false, cond, List, [], ◌∷◌, ◌++◌, Option, None, Some, option_map, refl, sym, subst, ap, ◌∙◌, arith, All-nil, Config, nothing, Effect, Order, order_of, Procedure, at_no_link, of_aim, of_change, of_network, of_terminal, without_units, Line, Own, is_terminal, Management, stop_of, down_gives_up, IsOfSide, IsSound, IsUnitData, tei_down}
+use Rattle.model_line.proofs.Vocabulary.{◌≡◌, Bool, true, false, cond, length, List, [], ◌++◌, Option, None, option_map, replicate, sym, subst, arith, All-nil, Config, nothing, Effect, Order, order_of, Procedure, at_no_link, of_aim, of_network, of_terminal, without_units, Line, Own, is_terminal, Management, stop_of, down_gives_up, IsOfSide, IsSound, IsUnitData, tei_down}
 use Rattle.model_line.proofs.Vocabulary.{terminal_down}
 use Rattle.std.specs.Prelude.{option_to_list}
 use Rattle.lapd_terminal.specs.Words as terminals
 use Rattle.lapd_terminal.proofs.GivenUp.{given_up as terminal_given_up}
+use Rattle.model_line.proofs.Checks.{still-unused}
 use Rattle.model_line.proofs.SoundParts.{with_units}
 
 -- T202 stops, if it runs.
 abbrev pub stop_202 : Option Procedure → List Order
 stop_202 o = option_to_list (option_map order_of (terminals.stop_of o))
 
--- The effect: no unit data, no message, no check and no procedure are left, and T201 or T202 stops.
+-- The effect: no unit data, no message, no check, none that is due, and no procedure are left, and T201 or T202 stops.
 abbrev pub given_up : Line → Effect
 given_up l = record {
   line = record l {
-    management = record l.management { check = None; waiting = [] };
+    management = record l.management { check = None; to_check = replicate (length l.management.to_check) false; waiting = [] };
     own = record l.own { procedure = None; waiting = [] };
     units = [];
   };
@@ -26,11 +27,14 @@ abbrev effect_of : Line → List Order → Management → Own → Effect
 effect_of l orders m own = record { line = record l { management = m; own = own; units = [] }; told = record nothing { orders = orders } }
 
 module _ (c : Config) (l : Line) (s : IsSound c l) where
+  none_was_due : IsOfSide true l.management l.own → replicate (length l.management.to_check) false ≡ l.management.to_check
+  none_was_due own = still-unused l.management own.1
+
   at_network : IsOfSide false l.management l.own → of_network c tei_down (without_units l) ≡ given_up l
   at_network own = grind (arith, down_gives_up)
 
   at_terminal_side : IsOfSide true l.management l.own → of_terminal c terminal_down (without_units l) ≡ given_up l
-  at_terminal_side own = grind (arith, terminal_given_up)
+  at_terminal_side own = grind (arith, terminal_given_up, none_was_due)
 
   pub down-is : of_aim c at_no_link l ≡ given_up l
   down-is = go (is_terminal c) s.own

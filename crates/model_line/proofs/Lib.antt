@@ -4,6 +4,7 @@ pub mod Ranges
 pub mod Numbers
 pub mod SoundParts
 pub mod LinksSound
+pub mod Checks
 pub mod Obeyed
 pub mod Managed
 pub mod AimsSound

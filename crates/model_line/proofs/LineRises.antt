@@ -19,7 +19,7 @@ module _ (c : Config) (ranged : IsInRange c) (l : Line) where
   abbrev CostsAsFrame : Aim → Type 0
   CostsAsFrame aim = price aim ≤ brought c + max c.k c.k16 * one (rejects_aimed l aim)
 
-  brings_each : cond (is_terminal c) (max 1 c.terminals) 1 ≤ brought c + max c.k c.k16 * 0
+  brings_each : cond (is_terminal c) (max 1 c.terminals) 2 ≤ brought c + max c.k c.k16 * 0
   brings_each = grind arith
 
   heard_costs : (e : StreamEvent) → CostsAsFrame (aim_of_heard c l e)

@@ -1,5 +1,5 @@
 -- A line is sound as it begins, and each event keeps it so.
-use Rattle.model_line.proofs.Vocabulary.{None, Bool, true, false, cond, ◌<◌, ◌%◌, refl, unwrap_or, IsOfSide, is_terminal, length-replicate, get_or-replicate, All-nil, arith, fresh, sound-empty, Config, Event, Line, link_count, fresh_line, after, taken, line_of, option_map_or, IsInRange, IsSound, IsUnitData, aim_of}
+use Rattle.model_line.proofs.Vocabulary.{None, Bool, ap, sym, replicate, true, false, cond, ◌<◌, ◌%◌, refl, unwrap_or, IsOfSide, is_terminal, length-replicate, get_or-replicate, All-nil, arith, fresh, sound-empty, Config, Event, Line, link_count, fresh_line, after, taken, line_of, option_map_or, IsInRange, IsSound, IsUnitData, aim_of}
 use Rattle.model_line.proofs.AimsSound.{aim_sound}
 use Rattle.std.proofs.Math.Nat.{mod-lt}
 use Rattle.lapd_terminal.proofs.SoundWords.{sound_fresh as terminal_fresh}
@@ -20,7 +20,8 @@ after_sound c ranged e l s =
 
 pub fresh_sound : (c : Config) → IsInRange c → IsSound c (fresh_line c)
 fresh_sound c ranged = record {
-  management = sound-empty c.terminals;
+  management = sound-empty c.reading c.terminals;
+  reading = refl;
   own = begins (is_terminal c);
   places = length-replicate c.terminals None;
   count = length-replicate (link_count c) fresh;
@@ -35,5 +36,5 @@ fresh_sound c ranged = record {
     seed_low false = omega arith
 
     begins : (b : Bool) → IsOfSide b (fresh_line c).management (fresh_line c).own
-    begins true = (terminal_fresh c.terminals (seed_of c) (ranges_of c ranged).terminals.most (seed_low (is_terminal c)), record { remembered = refl; check = refl; waiting = refl })
+    begins true = (terminal_fresh c.terminals (seed_of c) (ranges_of c ranged).terminals.most (seed_low (is_terminal c)), record { remembered = refl; check = refl; to_check = ap (λ n. replicate n false) (sym (length-replicate c.terminals None)); waiting = refl })
     begins false = (refl, refl)

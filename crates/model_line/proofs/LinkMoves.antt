@@ -1,6 +1,7 @@
 -- What holds of a link that begins, and is kept by each event of a link, holds of all links of a line.
-use Rattle.model_line.proofs.Vocabulary.{arith, ◌≡◌, ℕ, zero, suc, ◌<◌, false, List, [], ◌∷◌, get_or, set, Option, Some, refl, sym, subst, ◌⊎◌, inl, inr, IfSome, option_map_or, unwrap_or, All-head, All-tail, Link, Given, Terms, Change, Config, hears, request, next, LineTold, Aim, of_change, of_aim, Line, UnitData, service_at, place_at, tei_at, link_at, terms, link_count, aim_of_heard}
-use Rattle.model_line.proofs.Vocabulary.{aim_of_expiry, Taken, with_unit, with_given_frame, link_taken, first_taken, taken, line_of, aim_of_request, IsInRange, IsSoundAt, option_map, All, fresh, Event, expiry, after, unless_refused, at_management, at_terminal, at_no_link, Management, Own, refusal, IsSound, link_offer, LinkEvent, link_given, link_after}
+use Rattle.model_line.proofs.Vocabulary.{arith, ◌≡◌, ℕ, zero, suc, ◌<◌, false, List, [], ◌∷◌, get_or, set, Option, Some, refl, sym, subst, ◌⊎◌, inl, inr, IfSome, option_map_or, unwrap_or, All-head, All-tail, Link, Given, Terms, Change, Config, hears, request, next, LineTold, Aim, of_change, of_aim, Line, UnitData, service_at, place_at, tei_at, link_at, link_in, link_number, terms, link_count}
+use Rattle.model_line.proofs.Vocabulary.{aim_of_heard}
+use Rattle.model_line.proofs.Vocabulary.{aim_of_expiry, Taken, with_unit, with_given_frame, link_taken, first_taken, taken, line_of, aim_of_request, IsInRange, IsSoundAt, option_map, All, fresh, Event, expiry, after, unless_refused, at_none, at_link, at_management, at_terminal, at_units, at_no_link, Management, Own, refusal, IsSound, link_offer, LinkEvent, link_given, link_after}
 use Rattle.model_line.proofs.AimsSound.{IsProper}
 use Rattle.model_line.proofs.Downs.{by-down}
 use Rattle.model_line.proofs.Managed.{by-managed, by-own-event}
@@ -74,7 +75,13 @@ module _ (P : Link → Type 0) (begins : P fresh) (keeps : (t : Terms) (e : Link
     aimed (at_management e) proper = by-managed c l s (λ o out. P (link_at number out.line)) e proper (λ o r m own step. changed o r (record l { management = m; own = own }) h)
     aimed (at_terminal e) proper = by-own-event c l s (λ o out. P (link_at number out.line)) e proper (λ o r m own step. changed o r (record l { management = m; own = own }) h)
     aimed at_no_link proper = by-down c l s (λ out. P (link_at number out.line)) (h number)
-    aimed aim proper = grind (arith, set_holds, terms_in_range, sound_in)
+    aimed (at_link service tei place e) at =
+        let t = terms c service tei in
+        let x = link_in l service place in
+        set_holds l.links (link_number place service) number (link_after t e x) h
+        (keeps t e x (terms_in_range c ranged service tei (s.management.table.range place tei at)) (sound_in c ranged l s service tei place at) (h (link_number place service)))
+    aimed (at_none what) proper = h number
+    aimed (at_units unit) proper = h number
 
     took : (t : Taken) → IsOne c l t → P (link_at number t.line)
     took t (inl x) = subst (λ (u : Taken). P (link_at number u.line)) (sym x.is) (h number)

@@ -38,7 +38,7 @@ module _ (c : Config) (ranged : IsInRange c) where
   pub with_link_sound : (l : Line) (number : ℕ) (x : Link) → IsSound c l → number < link_count c
       → IsSoundAt c number x (get_or l.management.places (place_at number) None) → IsSound c (with_link number x l)
   with_link_sound l number x s few here =
-      with_links c l s l.management l.own (set l.links number x) l.turn s.management s.own s.places (length-set l.links number x ∙ s.count) s.turn
+      with_links c l s l.management l.own (set l.links number x) l.turn s.management s.reading s.own s.places (length-set l.links number x ∙ s.count) s.turn
       (with_one l.links l.management.places number x (omega (arith, s.count, few)) here s.links)
 
   -- an event of a link

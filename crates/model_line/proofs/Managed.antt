@@ -1,8 +1,10 @@
 -- What every step of TEI management is, of whatever side: the walk over both tables is made once here.
-use Rattle.model_line.proofs.Vocabulary.{◌≡◌, ℕ, ◌+◌, ◌≤◌, Bool, true, false, cond, is_some, List, [], length, max, Option, Some, None, IfSome, option_map, refl, sym, subst, ap, ◌∙◌, arith, none-some, Service, Order, T201, T202, LinkTimer, obeyed, Follows, Moves, Change, Management, Cause, Unserved, IsSoundTable, told_brief, t201_follows, expired_t201_follows}
-use Rattle.model_line.proofs.Vocabulary.{Config, Line, LineTold, Own, Effect, nothing, is_terminal, terminal_in, terminal_with, of_change, of_management, of_network, of_terminal, of_terminal_if, at_a_terminal, change_at_terminal, change_if, change_of, with_terminal, note_of, told_of_management, told_of_terminal, order_of, unserved_cause, IsSound, IsOfSide, IsUnused, TeiEvent, tei_told, tei_after}
+use Rattle.model_line.proofs.Vocabulary.{◌≡◌, ℕ, ◌+◌, ◌≤◌, Bool, true, false, cond, is_some, List, length, max, Option, Some, None, IfSome, option_map, refl, sym, subst, ap, ◌∙◌, arith, none-some, length-set, replicate, Places, Gained, Left, Reading, Service, Order, T201, T202, LinkTimer, obeyed, Follows, Moves, most_heard, Change, Management, tei_may_send, Cause, Unserved, IsSoundTable}
+use Rattle.model_line.proofs.Vocabulary.{told_brief, t201_follows, expired_t201_follows}
+use Rattle.model_line.proofs.Vocabulary.{Config, Line, LineTold, Own, Effect, nothing, is_terminal, terminal_in, of_change, of_management, of_network, of_terminal, of_terminal_if, at_a_terminal, change_at_terminal, change_if, change_of, with_terminal, note_of, told_of_management, told_of_terminal, order_of, unserved_cause, IsSound, IsOfSide, IsUnused, TeiEvent, tei_told, tei_after}
 use Rattle.model_line.proofs.Vocabulary.{Terminal, TerminalEvent, TerminalTold, T202Order, terminal_told, terminal_after, terminal_course}
 use Rattle.std.specs.Prelude.{option_to_list}
+use Rattle.lapd_frame.specs.Readings.{by_reading}
 use Rattle.lapd_tei.specs.Laws as tei_laws
 use Rattle.lapd_tei.specs.Sound as tei
 use Rattle.lapd_tei.proofs.LawLemmas as tei_lemmas
@@ -19,6 +21,7 @@ use Rattle.lapd_terminal.proofs.Served.{leads}
 use Rattle.lapd_terminal.proofs.Told.{t202_follows, expired_t202_follows, unserved_changes_nothing}
 use Rattle.model_line.specs.Event.{dropped}
 use Rattle.model_line.specs.Runs.{ArePlaced}
+use Rattle.model_line.proofs.Checks.{unused-due, unused-read}
 use Rattle.model_line.proofs.Obeyed.{timer_of}
 
 -- A step: how the table changes, what is told, and what is left of TEI management. T201 and T202 run at the caller's as is
@@ -26,11 +29,12 @@ use Rattle.model_line.proofs.Obeyed.{timer_of}
 pub record Step (c : Config) (l : Line) (t201 t202 : Bool) (more : ℕ) (change : Option Change) (told : LineTold) (m : Management) (own : Own) : Type 0 where
   pub moves : Moves l.management.places change m.places
   pub sound : tei.IsSound m
+  pub reading : m.reading ≡ c.reading
   pub owned : IsOfSide (is_terminal c) m own
   pub contents : told.contents ≡ None
   pub few_notes : length told.notes ≤ 1
   pub few_orders : length told.orders ≤ 1
-  pub rises : length m.waiting + length own.waiting ≤ length l.management.waiting + length l.own.waiting + more
+  pub rises : tei_may_send m + length own.waiting ≤ tei_may_send l.management + length l.own.waiting + more
   pub check : obeyed T201 t201 told.orders ≡ is_some m.check
   pub procedure : obeyed T202 t202 told.orders ≡ is_some own.procedure
   pub links : (k : LinkTimer) (service : Service) (tei : ℕ) (b : Bool) → obeyed (timer_of k service tei) b told.orders ≡ b
@@ -39,7 +43,7 @@ pub record Step (c : Config) (l : Line) (t201 t202 : Bool) (more : ℕ) (change 
 
 -- So many messages more wait at most after an event of TEI management.
 abbrev pub more_of : Config → TeiEvent → ℕ
-more_of c (teis.message octets) = cond (is_terminal c) (max 1 c.terminals) 1
+more_of c (teis.message octets) = cond (is_terminal c) (max 1 c.terminals) 2
 more_of c other = 1
 
 -- An event for which only a terminal has a row. (An expiry of T202 has none if it does not run.)
@@ -96,6 +100,16 @@ one_at_most f (Some x) = omega arith
 not_served : (b : Bool) (cause : Cause) → unserved_cause b ≡ Some cause → (b ≡ true) × (Unserved ≡ cause)
 not_served b cause e = grind (arith, none-some)
 
+-- By either reading no more wait than these.
+read_most : (r : Reading) (e : TeiEvent) → by_reading r 1 (most_heard e) ≤ most_heard e
+read_most r e = grind arith
+
+-- A change leaves as many places.
+as_many : (old : Places) (change : Option Change) (new : Places) → Moves old change new → length new ≡ length old
+as_many old None new same = ap length same
+as_many old (Some (Gained tei place)) new joined = ap length joined.is_there ∙ length-set old place (Some tei)
+as_many old (Some (Left tei place)) new left = ap length left.is_free ∙ length-set old place None
+
 -- What the network's side has beside its table is sound while it is unused.
 sound_unused : (m : Management) → IsSoundTable m.places → IsUnused m → tei.IsSound m
 sound_unused m table unused =
@@ -103,6 +117,8 @@ sound_unused m table unused =
       table = table;
       memory = subst (tei.IsSoundMemory m.places) (sym unused.remembered) (memory-empty m.places);
       checked = subst (λ o. IfSome o (tei.IsSoundCheck m.places)) (sym unused.check) tt;
+      due = unused-due m unused;
+      read = unused-read m.reading m unused;
       queue = subst tei.IsSoundQueue (sym unused.waiting) queue-empty;
     }
 
@@ -112,6 +128,7 @@ module _ (c : Config) (l : Line) (s : IsSound c l) where
   idle t201 t202 more check procedure = record {
     moves = refl;
     sound = s.management;
+    reading = s.reading;
     owned = s.own;
     contents = refl;
     few_notes = omega arith;
@@ -136,7 +153,7 @@ module _ (c : Config) (l : Line) (s : IsSound c l) where
       (ap told_of_management same.1 ∙ ap dropped is.1, ap (λ t. t.change) same.1, same.0, refl)
 
   network_step : is_terminal c ≡ false → (e : TeiEvent) → tei_laws.IsInRange e → (t201 : Bool) → Follows t201 (tei_told e l.management).orders (is_some (tei_after e l.management).check)
-      → (more : ℕ) → 1 ≤ more
+      → (more : ℕ) → most_heard e ≤ more
       → Step c l t201 (is_some l.own.procedure) more (tei_told e l.management).change (told_of_management (tei_told e l.management)) (tei_after e l.management) l.own
   network_step net e range t201 follows more least =
       let after = is_some (tei_after e l.management).check in
@@ -144,11 +161,12 @@ module _ (c : Config) (l : Line) (s : IsSound c l) where
       record {
         moves = tei_lemmas.changes_are_told e l.management range s.management;
         sound = tei_lemmas.sound-after e l.management range s.management;
+        reading = tei_lemmas.reading_stays e l.management ∙ s.reading;
         owned = subst (λ b. IsOfSide b (tei_after e l.management) l.own) (sym net) (at_network net);
         contents = refl;
         few_notes = (told_brief e l.management).notes;
         few_orders = (told_brief e l.management).orders;
-        rises = omega (arith, tei_lemmas.one_more_waits e l.management, least);
+        rises = omega (arith, tei_lemmas.few_more_wait e l.management, read_most l.management.reading e, least);
         check = obeyed-201 t201 after orders follows;
         procedure = spared-202 t201 after (is_some l.own.procedure) orders follows;
         links = spared-201 t201 after orders follows;
@@ -186,11 +204,12 @@ module _ (c : Config) (l : Line) (s : IsSound c l) where
   terminal_step is e range t201 t202 check follows more enough =
       let both = at_terminal_line is in
       let led = leads e t range both.0 in
-      let unused : IsUnused (management_after e) = record { remembered = both.1.remembered; check = both.1.check; waiting = both.1.waiting } in
+      let unused : IsUnused (management_after e) = record { remembered = both.1.remembered; check = both.1.check; to_check = both.1.to_check ∙ ap (λ n. replicate n false) (sym (as_many l.management.places (terminal_told e t).change (terminal_after e t).places led.moves)); waiting = both.1.waiting } in
       let order = (terminal_told e t).order in
       record {
         moves = led.moves;
         sound = sound_unused (management_after e) led.sound.table unused;
+        reading = s.reading;
         owned = subst (λ b. IsOfSide b (management_after e) (own_after e)) (sym is) (led.sound, unused);
         contents = refl;
         few_notes = one_at_most note_of (terminal_told e t).news;
@@ -224,7 +243,7 @@ module _ (c : Config) (l : Line) (s : IsSound c l) where
 
     -- a terminal has as many places as the configuration says
     in_range : (e : TeiEvent) → is_terminal c ≡ true → tei_laws.IsInRange e → IfSome (at_a_terminal e) (λ own. terminal_laws.IsInRange own × (terminal_laws.more_most own t ≤ more_of c e))
-    in_range (teis.message octets) is range = (tt, subst (λ b. max 1 (length l.management.places) ≤ cond b (max 1 c.terminals) 1) (sym is) (omega (arith, s.places)))
+    in_range (teis.message octets) is range = (tt, subst (λ b. max 1 (length l.management.places) ≤ cond b (max 1 c.terminals) 2) (sym is) (omega (arith, s.places)))
     in_range teis.expiry is range = tt
     in_range (teis.assign tei) is range = (range, omega arith)
     in_range (teis.remove tei) is range = (tt, omega arith)
@@ -232,14 +251,14 @@ module _ (c : Config) (l : Line) (s : IsSound c l) where
     in_range (teis.disown tei) is range = tt
     in_range teis.down is range = (tt, omega arith)
 
-    one_at_least : (e : TeiEvent) → is_terminal c ≡ false → 1 ≤ more_of c e
-    one_at_least (teis.message octets) net = subst (λ b. 1 ≤ cond b (max 1 c.terminals) 1) (sym net) (omega arith)
-    one_at_least teis.expiry net = omega arith
-    one_at_least (teis.assign tei) net = omega arith
-    one_at_least (teis.remove tei) net = omega arith
-    one_at_least (teis.check tei) net = omega arith
-    one_at_least (teis.disown tei) net = omega arith
-    one_at_least teis.down net = omega arith
+    most_at_least : (e : TeiEvent) → is_terminal c ≡ false → most_heard e ≤ more_of c e
+    most_at_least (teis.message octets) net = subst (λ b. 2 ≤ cond b (max 1 c.terminals) 2) (sym net) (omega arith)
+    most_at_least teis.expiry net = omega arith
+    most_at_least (teis.assign tei) net = omega arith
+    most_at_least (teis.remove tei) net = omega arith
+    most_at_least (teis.check tei) net = omega arith
+    most_at_least (teis.disown tei) net = omega arith
+    most_at_least teis.down net = omega arith
 
     by-side : (e : TeiEvent) (t201 : Bool) → tei_laws.IsInRange e → Follows t201 (tei_told e l.management).orders (is_some (tei_after e l.management).check)
         → (is_terminal c ≡ true → t201 ≡ is_some l.management.check) → Of t201 (is_some l.own.procedure) (more_of c e) → P (change_of c e l) (of_management c e l)
@@ -249,7 +268,7 @@ module _ (c : Config) (l : Line) (s : IsSound c l) where
         go true is = by-own (at_a_terminal e) t201 (more_of c e) is (in_range e is range) (check is) h
         go false net =
             h (tei_told e l.management).change (told_of_management (tei_told e l.management)) (tei_after e l.management) l.own
-            (network_step net e range t201 follows (more_of c e) (one_at_least e net))
+            (network_step net e range t201 follows (more_of c e) (most_at_least e net))
 
     pub by-managed : (e : TeiEvent) → tei_laws.IsInRange e → Of (is_some l.management.check) (is_some l.own.procedure) (more_of c e) → P (change_of c e l) (of_management c e l)
     by-managed e range h = by-side e (is_some l.management.check) range (t201_follows e l.management) (λ is. refl) h

@@ -18,7 +18,7 @@ gives t l g e = grind (arith, is_some)
 
 module _ (c : Config) (ranged : IsInRange c) (l : Line) (s : IsSound c l) where
   message_falls : (octets : List ℕ) (m : Management) (own : Own) → GoesOut c l octets m own → TakesOne c l (without_message l octets m own)
-  message_falls octets m own out = (omega (arith, out.fewer), omega (arith, out.fewer))
+  message_falls octets m own out = (omega (arith, out.fewer, out.due), omega (arith, out.fewer, out.due))
 
   unit_falls : (u : UnitData) (us : List UnitData) → l.units ≡ u ∷ us → TakesOne c l (with_unit c l u)
   unit_falls u us e = grind arith

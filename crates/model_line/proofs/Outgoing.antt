@@ -1,7 +1,8 @@
 -- A message of TEI management that goes out, of whatever side.
-use Rattle.model_line.proofs.Vocabulary.{◌≡◌, ℕ, ◌+◌, Bool, true, false, cond, List, [], ◌∷◌, length, drop, slice_get, Option, Some, None, option_map, IfSome, refl, sym, subst, ap, ◌∙◌, arith, length-drop, slice_get_cases, sound-after_offer, Management, Message, frame_of, Config, Line, Own, is_terminal, terminal_in, Taken, with_message, with_own_message, IsOfSide, IsSound, IsUnused, OwnMessage}
+use Rattle.model_line.proofs.Vocabulary.{◌≡◌, ℕ, ◌+◌, Bool, true, false, cond, List, [], length, drop, slice_get, Option, Some, None, option_map, IfSome, refl, sym, subst, arith, sound-after_offer, Management, Message, frame_of, Config, Line, Own, is_terminal, terminal_in, Taken, with_message, with_own_message, IsOfSide, IsSound, OwnMessage}
 use Rattle.model_line.proofs.Vocabulary.{own_frame_of}
 use Rattle.lapd_tei.specs.Events as teis
+use Rattle.lapd_tei.specs.Machine.{checks_due}
 use Rattle.lapd_tei.specs.Sound as tei
 use Rattle.lapd_terminal.specs.Events as terminals
 use Rattle.lapd_terminal.proofs.SoundWords.{sound_rest}
@@ -11,11 +12,13 @@ use Rattle.lapd_frame.specs.declared.addresses.Side.{Side}
 -- Its octets, and what is left: one message fewer, and all else as it was.
 pub record GoesOut (c : Config) (l : Line) (octets : List ℕ) (m : Management) (own : Own) : Type 0 where
   pub sound : tei.IsSound m
+  pub reading : m.reading ≡ c.reading
   pub owned : IsOfSide (is_terminal c) m own
   pub places : m.places ≡ l.management.places
   pub check : m.check ≡ l.management.check
   pub procedure : own.procedure ≡ l.own.procedure
   pub fewer : length m.waiting + length own.waiting + 1 ≡ length l.management.waiting + length l.own.waiting
+  pub due : checks_due m ≡ checks_due l.management
   pub size : length octets ≡ 8
 
 abbrev pub without_message : Line → List ℕ → Management → Own → Taken
@@ -38,11 +41,13 @@ module _ (c : Config) (l : Line) (s : IsSound c l) (P : Taken → Type 0)
       message (frame_of c.side one) (teis.after_offer l.management) l.own
       (record {
         sound = sound-after_offer l.management s.management;
+        reading = s.reading;
         owned = subst (λ b. IsOfSide b (teis.after_offer l.management) l.own) (sym net) (subst (λ b. IsOfSide b l.management l.own) net s.own);
         places = refl;
         check = refl;
         procedure = refl;
         fewer = omega (arith, one_less l.management.waiting one first);
+        due = refl;
         size = network_size c.side one;
       })
 
@@ -54,11 +59,13 @@ module _ (c : Config) (l : Line) (s : IsSound c l) (P : Taken → Type 0)
       message (own_frame_of one) l.management own
       (record {
         sound = s.management;
+        reading = s.reading;
         owned = subst (λ b. IsOfSide b l.management own) (sym is) (sound_rest (terminal_in l) both.0, both.1);
         places = refl;
         check = refl;
         procedure = refl;
         fewer = omega (arith, one_less l.own.waiting one first);
+        due = refl;
         size = own_size one;
       })
 

@@ -1,9 +1,11 @@
 -- What holds of each aim that events can have holds of the aim of every event.
 use Rattle.model_line.proofs.Vocabulary.{arith, ◌≡◌, ℕ, ◌<◌, Bool, true, false, ◌&&◌, not, List, length, Option, Some, None, is_some, Result, Ok, Err, cond, ltb-false, leb-false, Cause, Unserved, Address, ReadFault, BadExtension, Undefined, WrongSize, Short, Refusal, Service, Timer, Parts, reading, LinkTimer, place_of-is, IsAt, Config, Event, hears, expiry, request, next, nothing, Line, UnitData}
-use Rattle.model_line.proofs.Vocabulary.{place_in, takes_slot, Request, Aim, at_none, at_link, at_management, at_terminal, at_units, at_no_link, drop_for, to_service, addressed, message_of, aim_of_reading, unless_at_link, heard_side, aim_of_heard, group_told, IsToGroup, at_timer, aim_of_expiry, at_requested, at_deactivated, aim_of_request, carries_contents, refusal, unless_refused, IsUnitData}
+use Rattle.model_line.proofs.Vocabulary.{place_in, takes_slot, Request, Aim, at_none, at_link, at_management, at_terminal, at_units, at_no_link, drop_for, to_service, addressed, message_of, aim_of_reading, unless_at_link, aim_of_unnumbered, heard_side, aim_of_heard, group_told, IsToGroup, at_timer, aim_of_expiry, at_requested, at_deactivated, aim_of_request, carries_contents, refusal}
+use Rattle.model_line.proofs.Vocabulary.{unless_refused, IsUnitData}
 use Rattle.model_line.proofs.Vocabulary.{LinkReceived}
 use Rattle.model_line.proofs.Vocabulary.{LinkRequest, link_expired, link_received, link_requested, LinkEvent, link_undefined, link_wrong_size, link_cleared, link_frame, LinkData, TeiEvent, tei_message, tei_expiry, TerminalEvent, terminal_expiry, StreamEvent, stream_frame, dropped, overlong, aim_of}
 use Rattle.lapd_frame.specs.declared.overlong.Long.{Long}
+use Rattle.lapd_frame.specs.Overlong.{is_unit}
 use Rattle.lapd_frame.specs.Senders.{long_reading}
 use Rattle.lapd_tei.specs.Laws as tei_laws
 use Rattle.model_line.specs.Heard.{aim_of_long}
@@ -49,14 +51,17 @@ module _ (c : Config) (l : Line) (P : Aim → Type 0) (none : (cause : Cause) �
     (to_its_link : (service : Service) (tei place : ℕ) (what : LinkReceived) → place_in l tei ≡ Some place → P (at_link service tei place (link_received what)))
     (to_management : (info : List ℕ) → P (at_management (tei_message info)))
     (to_group : (parts : Parts) (service : Service) → IsToGroup c parts service → P (at_none (group_told service parts.info))) where
-  long_aims : (r : Result Long ReadFault) → P (aim_of_long l r)
-  long_aims r = grind (arith, addressed_aims, unless_aims)
+  unnumbered_aims : (unit : Bool) (aim : Aim) → P aim → P (aim_of_unnumbered c.reading unit aim)
+  unnumbered_aims unit aim p = grind (arith, unless_aims)
+
+  long_aims : (unit : Bool) (r : Result Long ReadFault) → P (aim_of_long c.reading unit l r)
+  long_aims unit r = grind (arith, addressed_aims, unless_aims, unnumbered_aims)
 
   pub heard_aims : (e : StreamEvent) → P (aim_of_heard c l e)
   heard_aims (stream_frame octets) =
       reading_aims c l P none (λ what. ℕ) (λ service tei place what w at. to_its_link service tei place what at) to_management to_group
       (reading (heard_side c) octets) (any_frame (reading (heard_side c) octets))
-  heard_aims (overlong head) = long_aims (long_reading (heard_side c) head)
+  heard_aims (overlong head) = long_aims (is_unit head) (long_reading (heard_side c) head)
   heard_aims (dropped cause) = none _
 
 -- Of an expiry.

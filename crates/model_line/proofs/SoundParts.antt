@@ -9,10 +9,10 @@ module _ (c : Config) (l : Line) (s : IsSound c l) where
   with_units units all few = grind arith
 
   -- other TEI management, and other links
-  pub with_links : (m : Management) (own : Own) (all : List Link) (turn : ℕ) → tei.IsSound m → IsOfSide (is_terminal c) m own → length m.places ≡ c.terminals → length all ≡ link_count c → turn ≤ link_count c
+  pub with_links : (m : Management) (own : Own) (all : List Link) (turn : ℕ) → tei.IsSound m → m.reading ≡ c.reading → IsOfSide (is_terminal c) m own → length m.places ≡ c.terminals → length all ≡ link_count c → turn ≤ link_count c
       → ((n : ℕ) → n < link_count c → IsSoundAt c n (get_or all n fresh) (get_or m.places (place_at n) None))
       → IsSound c (record l { management = m; own = own; links = all; turn = turn })
-  with_links m own all turn management owned places count within links = grind arith
+  with_links m own all turn management reading owned places count within links = grind arith
 
   -- What holds of a link that begins, and of each that is sound, holds of each link of the line.
   pub any_link : (n : ℕ) → n < link_count c → (P : Terms → Link → Type 0) → P (terms c (service_at n) 0) fresh

@@ -4,10 +4,12 @@ use Rattle.model_line.proofs.Vocabulary.{total_length, unit_length, octets_by_li
 use Rattle.model_line.proofs.Vocabulary.{rises_held}
 use Rattle.lapd_frame.specs.Grammar.{spelling}
 use Rattle.model_link.specs.Link.{frame_of}
+use Rattle.lapd_tei.proofs.LawLemmas.{held-few}
 use Rattle.lapd_tei.specs.Machine.{held}
 use Rattle.lapd_terminal.specs.Machine as terminals
 use Rattle.lapd_terminal.proofs.SoundWords.{room}
 use Rattle.model_line.specs.Stored.{held_most, octets_of}
+use Rattle.model_line.proofs.Checks.{nothing-held, unused-none}
 use Rattle.model_line.proofs.Numbers.{sum_bounded}
 use Rattle.model_line.proofs.SoundParts.{any_link}
 
@@ -21,13 +23,13 @@ link_few c l s n few =
     any_link c l s n few (λ t x. rises_held t x ≤ 4 * c.control) (omega arith)
     (λ tei at sound. ring_few (terms c (service_at n) tei) c.control (link_at n l).waiting sound.frames sound.ring)
 
--- of messages that wait, and of what is remembered
+-- of messages that wait, of what is remembered, and of checks that are due
 pub managed_few : (c : Config) (l : Line) → IsSound c l → held l.management + terminals.held (terminal_in l) ≤ held_most c
 managed_few c l s = go (is_terminal c) s.own
   where
     go : (b : Bool) → IsOfSide b l.management l.own → held l.management + terminals.held (terminal_in l) ≤ cond b (8 * (c.terminals + 1)) (32 + 12)
-    go true own = omega (arith, ap length own.1.waiting, ap length own.1.remembered, room (terminal_in l) own.0, s.places)
-    go false own = omega (arith, ap length own.1, s.management.queue.few, s.management.memory.few)
+    go true own = omega (arith, ap length own.1.waiting, ap length own.1.remembered, nothing-held l.management (unused-none l.management own.1), room (terminal_in l) own.0, s.places)
+    go false own = omega (arith, ap length own.1, held-few l.management s.management)
 
 pub held_few : (c : Config) (l : Line) → IsSound c l → held_in c l ≤ 8 * c.control * c.terminals + held_most c
 held_few c l s =

@@ -1,5 +1,6 @@
 -- Sums over the parts of a line, and by how much an event of a part raises them.
-use Rattle.model_line.proofs.Vocabulary.{◌≡◌, ℕ, zero, suc, ◌+◌, ◌≤◌, ◌<◌, Bool, true, false, cond, List, [], ◌∷◌, length, get_or, set, Option, Some, None, refl, ap, ◌∙◌, arith, length-append, length-set, sum_by, range_with_len, cases_lt, get_or-set_same, get_or-set_other, get_or-replicate, get_or_past, length-replicate, sum_by-cons, Service, Call, Packet, Link, fresh, Moves, Management, IsAt}
+use Rattle.model_line.proofs.Vocabulary.{◌≡◌, ℕ, zero, suc, ◌+◌, ◌≤◌, ◌<◌, Bool, true, false, cond, List, [], ◌∷◌, length, get_or, set, Option, Some, None, refl, ap, ◌∙◌, arith, length-append, length-set, sum_by, range_with_len, cases_lt, get_or-set_same, get_or-set_other, get_or-replicate, get_or_past, length-replicate, sum_by-cons, Service, Call, Packet, Link, fresh, Moves, Management}
+use Rattle.model_line.proofs.Vocabulary.{tei_may_send, IsAt}
 use Rattle.model_line.proofs.Vocabulary.{Change, Gained, Left, at-within, Config}
 use Rattle.model_line.proofs.Vocabulary.{LineTold, Line, Own, fresh_line, link_number, link_count, service_at, link_in, terms, Aim, at_none, at_link, at_management, at_terminal, at_units, at_no_link, without_units, of_link, of_change, of_management, of_terminal, of_aim, IsInRange, IsSound, IsUnitData, All-nil, sum_of_links, LinkEvent, link_after, TeiEvent, TerminalEvent, tei_down}
 use Rattle.model_link.specs.Sound as link_sounds
@@ -39,9 +40,9 @@ module _ (c : Config) (f : Service → Link → ℕ) where
       let head : at_number (fresh_line c).links a ≡ 0 = ap (f (service_at a)) (grind (arith, get_or-replicate, get_or_past, length-replicate, cases_lt)) ∙ none (service_at a) in
       omega (arith, head, all_begin none (a + 1) n, sum_by-cons (at_number (fresh_line c).links) a (range_with_len (a + 1) n))
 
--- The messages of TEI management that wait.
+-- The messages of TEI management that wait or will.
 abbrev pub messages : Line → ℕ
-messages l = length l.management.waiting + length l.own.waiting
+messages l = tei_may_send l.management + length l.own.waiting
 
 -- The number of a link rises by a price of the event. (Messages count, or do not.)
 pub record Rise (c : Config) (f : Service → Link → ℕ) (price : Service → ℕ → LinkEvent → Link → ℕ) : Type 0 where
@@ -81,13 +82,13 @@ module _ {c : Config} {f : Service → Link → ℕ} {price : Service → ℕ �
   messages_rise before more after few = elim counted as (λ b. cond b after 0 ≤ cond b before 0 + cond b more 0) [ true ↦ few | false ↦ omega arith ]
 
   change_rises : (l : Line) (more : ℕ) (m : Management) (own : Own) (change : Option Change) (told : LineTold) → IsSound c l
-      → length m.waiting + length own.waiting ≤ messages l + more → Moves l.management.places change m.places
+      → tei_may_send m + length own.waiting ≤ messages l + more → Moves l.management.places change m.places
       → total (of_change c change told (record l { management = m; own = own })).line ≤ total l + if_counted more
-  change_rises l more m own None told s few moves = omega (arith, messages_rise (messages l) more (length m.waiting + length own.waiting) few)
+  change_rises l more m own None told s few moves = omega (arith, messages_rise (messages l) more (tei_may_send m + length own.waiting) few)
   change_rises l more m own (Some (Gained tei place)) told s few joined =
-      omega (arith, messages_rise (messages l) more (length m.waiting + length own.waiting) few, both_begin c f h.begins l.links place s.count (omega (arith, joined.within, s.places)))
+      omega (arith, messages_rise (messages l) more (tei_may_send m + length own.waiting) few, both_begin c f h.begins l.links place s.count (omega (arith, joined.within, s.places)))
   change_rises l more m own (Some (Left tei place)) told s few left =
-      omega (arith, messages_rise (messages l) more (length m.waiting + length own.waiting) few, both_begin c f h.begins l.links place s.count (omega (arith, left.within, s.places)))
+      omega (arith, messages_rise (messages l) more (tei_may_send m + length own.waiting) few, both_begin c f h.begins l.links place s.count (omega (arith, left.within, s.places)))
 
   management_rises : (l : Line) → IsSound c l → (e : TeiEvent) → tei_laws.IsInRange e → total (of_management c e l).line ≤ total l + if_counted (more_of c e)
   management_rises l s e range =

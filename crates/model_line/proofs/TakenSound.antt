@@ -21,7 +21,7 @@ module _ (c : Config) (ranged : IsInRange c) (l : Line) (s : IsSound c l) where
   message_sound octets m own out =
       record {
         line =
-            with_links c l s m own l.links l.turn out.sound out.owned (ap length out.places ∙ s.places) s.count s.turn
+            with_links c l s m own l.links l.turn out.sound out.reading out.owned (ap length out.places ∙ s.places) s.count s.turn
             (λ n few. subst (λ places. IsSoundAt c n (link_at n l) (get_or places (place_at n) None)) (sym out.places) (s.links n few));
         size = omega (arith, out.size, (ranges_of c ranged).n201.least);
       }
@@ -39,7 +39,7 @@ module _ (c : Config) (ranged : IsInRange c) (l : Line) (s : IsSound c l) where
       let short : length (taking.frame_of c t g) ≤ t.n201 + 4 = subst (λ o. IfSome o (λ g. length (taking.frame_of c t g) ≤ t.n201 + 4)) e (given_short c t (link_at n l) sound) in
       record {
         line =
-            with_links c l s l.management l.own (set l.links n x) (n + 1) s.management s.own s.places (length-set l.links n x ∙ s.count) (omega (arith, few))
+            with_links c l s l.management l.own (set l.links n x) (n + 1) s.management s.reading s.own s.places (length-set l.links n x ∙ s.count) (omega (arith, few))
             (with_one c ranged l.links l.management.places n x (omega (arith, s.count, few)) here s.links);
         size = omega (arith, short);
       }

@@ -1,5 +1,6 @@
 -- The words with which the proofs of this crate speak, from where they are defined.
-pub use Rattle.std.proofs.Common.{Bool, Err, IfSome, IsSome, List, None, Ok, Option, Result, Some, [], ap, arith, cond, drop, eq-eqb, eqb-true, false, get_or, inl, inr, is_some, length, length-append, length-drop, length-set, max, nat_le, nat_lt, not, option_map, refl, replicate, set, slice_get, slice_index, subst, suc, sym, take, true, true≢false, zero, ℕ, ⊎_elim, ◌%◌, ◌&&◌, ◌*◌, ◌++◌, ◌+◌, ◌<◌}
+pub use Rattle.std.proofs.Common.{Bool, Err, IfSome, IsSome, List, None, Ok, Option, Result, Some, [], ap, arith, cond, drop, eq-eqb, eqb-true, false, filter, get_or, inl, inr, is_some, length, length-append, length-drop, length-set, map, max, nat_le, nat_lt, not, option_map, refl, replicate, set, slice_get, slice_index, subst, suc, sym, take, true, true≢false, zero, ℕ, ⊎_elim, ◌%◌, ◌&&◌, ◌*◌}
+pub use Rattle.std.proofs.Common.{◌++◌, ◌+◌, ◌<◌}
 pub use Rattle.std.proofs.Common.{◌==◌, ◌||◌, ◌∙◌, ◌∷◌, ◌≡◌, ◌≢◌, ◌≤◌, ◌⊎◌}
 pub use Rattle.std.proofs.lemmas.Bool.{and_parts, cases_eq, cases_lt, le-leb, leb-false, leb-true, ltb-false, ne_eqb}
 pub use Rattle.std.proofs.lemmas.List.{get_or-replicate, get_or-set_other, get_or-set_same, get_or_past, length-replicate, set-get_or}
@@ -22,6 +23,8 @@ pub use Rattle.lapd_frame.specs.declared.controls.Control.{Control}
 pub use Rattle.lapd_frame.specs.declared.faults.ReadFault.{ReadFault}
 pub use Rattle.lapd_frame.specs.declared.faults.ReadFault.TheVariants.{BadExtension, Short, Undefined, WrongSize}
 pub use Rattle.lapd_frame.specs.declared.notes.Note.{Note}
+pub use Rattle.lapd_frame.specs.declared.readings.Reading.{Reading}
+pub use Rattle.lapd_frame.specs.declared.readings.Reading.TheVariants.{AnnexB, Profile}
 pub use Rattle.lapd_frame.specs.declared.refusals.Refusal.{Refusal}
 pub use Rattle.lapd_frame.specs.declared.senders.Sender.{Sender}
 pub use Rattle.lapd_frame.specs.declared.services.Service.{Service}
@@ -36,9 +39,9 @@ pub use Rattle.lapd_tei.proofs.GivenUp.{down_gives_up}
 pub use Rattle.lapd_tei.proofs.LawLemmas.{sound-after_offer, sound-empty}
 pub use Rattle.lapd_tei.proofs.Tables.{at-off, at-within, place_of-is}
 unfoldable pub use Rattle.lapd_tei.specs.Events.{course as tei_course, refusal as tei_refusal}
-pub use Rattle.lapd_tei.specs.Events.{Event as TeiEvent, after as tei_after, down as tei_down, expiry as tei_expiry, message as tei_message, told as tei_told}
-pub use Rattle.lapd_tei.specs.Laws.{Follows, Moves, stop_of}
-pub use Rattle.lapd_tei.specs.Machine.{Management}
+pub use Rattle.lapd_tei.specs.Events.{Event as TeiEvent, after as tei_after, after_offer as tei_after_offer, down as tei_down, expiry as tei_expiry, message as tei_message, told as tei_told}
+pub use Rattle.lapd_tei.specs.Laws.{Follows, Moves, most_heard, stop_of}
+pub use Rattle.lapd_tei.specs.Machine.{Management, may_send as tei_may_send}
 pub use Rattle.lapd_tei.specs.Messages.{frame_of}
 pub use Rattle.lapd_tei.specs.Rows.{expire_check}
 pub use Rattle.lapd_tei.specs.Sound.{IsAt, IsSoundTable}
@@ -67,7 +70,7 @@ pub use Rattle.model_line.specs.Laws.{FallsByNext, IsRejectHeard, Rises, cause_i
 pub use Rattle.model_line.specs.Line.{Line, Own, UnitData, is_terminal, terminal_in, terminal_with, with_terminal, fresh_line, link_at, link_count, link_in, link_number, place_at, place_in, service_at, tei_at, terms, terms_at, window, with_link}
 pub use Rattle.model_line.specs.Machine.{unless_refused, unless_refused_told, aim_of}
 unfoldable pub use Rattle.model_line.specs.Machine.{after, answer, takes_slot}
-pub use Rattle.model_line.specs.Heard.{addressed, aim_of_heard, aim_of_reading, drop_for, heard_side, message_of, to_service, unless_at_link}
+pub use Rattle.model_line.specs.Heard.{addressed, aim_of_heard, aim_of_reading, aim_of_unnumbered, drop_for, heard_side, message_of, to_service, unless_at_link}
 pub use Rattle.model_line.specs.Taken.{first_taken, line_of, link_taken, next_of, own_side, round, Taken, taken, with_given_frame, with_message, with_own_message, with_unit}
 pub use Rattle.model_line.specs.Refusal.{Row, bad_tei, bad_tei_or_group, first_that_holds, no_link, no_link_nor_group, pool_full, queue_full, refusal, too_long, unit_queue_full, wrong_state}
 pub use Rattle.model_line.specs.Request.{Data, Down, Request, Unit}

@@ -17,7 +17,8 @@ use Rattle.model_line.specs.Machine.{aim_of}
 abbrev pub one : Bool → ℕ
 one b = if b then 1 else 0
 
--- What may be sent without anything else happening: management messages, unit data, and what each link may send.
+-- What may be sent without anything else happening: management messages, with those of checks that are due, unit data, and what
+-- each link may send.
 abbrev pub may_send_at_link : Config → Line → ℕ → ℕ
 may_send_at_link c l number = links.may_send (terms_at c number l) (link_at number l)
 

@@ -1,5 +1,5 @@
 -- What a line hears.
-use Rattle.std.specs.Prelude.{ℕ, ◌==◌, List, Option, Some, None, Result, Ok, Err, if◌then◌else◌}
+use Rattle.std.specs.Prelude.{ℕ, ◌==◌, Bool, List, Option, Some, None, Result, Ok, Err, if◌then◌else◌}
 use Rattle.model_bits.specs.Stream as stream
 use Rattle.model_bits.specs.declared.heard.Cause.{Cause}
 use Rattle.model_bits.specs.declared.heard.Cause.TheVariants.{Extension, Sapi, Tei, Unserved}
@@ -13,6 +13,9 @@ use Rattle.lapd_frame.specs.declared.overlong.Long.TheVariants as long
 use Rattle.lapd_frame.specs.declared.senders.Sender.{Sender}
 use Rattle.lapd_frame.specs.declared.services.Service.{Service}
 use Rattle.lapd_frame.specs.Grammar.{Parts, other_side}
+use Rattle.lapd_frame.specs.Overlong.{is_unit}
+use Rattle.lapd_frame.specs.Readings.{by_reading}
+use Rattle.lapd_frame.specs.declared.readings.Reading.{Reading}
 use Rattle.lapd_frame.specs.Senders.{reading, long_reading}
 use Rattle.lapd_frame.specs.Services.{service_of}
 use Rattle.model_link.specs.Events as link
@@ -60,18 +63,23 @@ aim_of_reading c l (Err (Undefined address)) = addressed l address link.undefine
 aim_of_reading c l (Err (WrongSize address)) = addressed l address link.wrong_size (drop_for Unserved)
 aim_of_reading c l (Err Short) = drop_for Unserved
 
--- The same for a frame that is longer than the receiver has room for. No link serves such a UI or XID (profile).
+-- The same for a frame that is longer than the receiver has room for. No link serves such an XID, nor such a UI in the profile;
+-- by annex B the UI is a frame over N201 to its link (clause 5.8.5).
 abbrev pub unless_at_link : Aim → Aim
 unless_at_link (at_link service tei place event) = drop_for Unserved
 unless_at_link other = other
 
-abbrev pub aim_of_long : Line → Result Long ReadFault → Aim
-aim_of_long l (Ok (long.Information address)) = addressed l address link.overlong (drop_for Unserved)
-aim_of_long l (Ok (long.Unnumbered address)) = unless_at_link (addressed l address link.overlong (drop_for Unserved))
-aim_of_long l (Err BadExtension) = drop_for Extension
-aim_of_long l (Err (Undefined address)) = addressed l address link.undefined (drop_for Unserved)
-aim_of_long l (Err (WrongSize address)) = addressed l address link.wrong_size (drop_for Unserved)
-aim_of_long l (Err Short) = drop_for Unserved
+abbrev pub aim_of_unnumbered : Reading → Bool → Aim → Aim
+aim_of_unnumbered reading unit aim = if unit then by_reading reading (unless_at_link aim) aim else unless_at_link aim
+
+-- The bit says whether the frame is UI.
+abbrev pub aim_of_long : Reading → Bool → Line → Result Long ReadFault → Aim
+aim_of_long r unit l (Ok (long.Information address)) = addressed l address link.overlong (drop_for Unserved)
+aim_of_long r unit l (Ok (long.Unnumbered address)) = aim_of_unnumbered r unit (addressed l address link.overlong (drop_for Unserved))
+aim_of_long r unit l (Err BadExtension) = drop_for Extension
+aim_of_long r unit l (Err (Undefined address)) = addressed l address link.undefined (drop_for Unserved)
+aim_of_long r unit l (Err (WrongSize address)) = addressed l address link.wrong_size (drop_for Unserved)
+aim_of_long r unit l (Err Short) = drop_for Unserved
 
 -- What is heard is the other side's (clause 3.3.2); on the line the second service has the SAPI of the configuration. The
 -- causes for which no frame was heard come before those of an address.
@@ -80,5 +88,5 @@ heard_side c = record { side = other_side c.side; sapi = c.sapi }
 
 abbrev pub aim_of_heard : Config → Line → stream.Event → Aim
 aim_of_heard c l (stream.frame octets) = aim_of_reading c l (reading (heard_side c) octets)
-aim_of_heard c l (stream.overlong head) = aim_of_long l (long_reading (heard_side c) head)
+aim_of_heard c l (stream.overlong head) = aim_of_long c.reading (is_unit head) l (long_reading (heard_side c) head)
 aim_of_heard c l (stream.dropped cause) = drop_for cause

@@ -68,7 +68,7 @@ seed_of c = if is_terminal c then unwrap_or c.seed 0 % 65536 else 0
 -- As a line begins.
 abbrev pub fresh_line : Config → Line
 fresh_line c = record {
-  management = empty c.terminals;
+  management = empty c.reading c.terminals;
   own = record { number = seed_of c; procedure = None; waiting = [] };
   links = replicate (link_count c) fresh;
   units = [];
@@ -89,6 +89,7 @@ terms c service tei = record {
   n200 = c.n200;
   queue = c.queue;
   control = c.control;
+  reading = c.reading;
 }
 
 -- How often a command goes at most until it is answered: once, and N200 times again (clause 5.9.2).

@@ -1,5 +1,5 @@
 -- What holds of every line between two events.
-use Rattle.std.specs.Prelude.{◌≡◌, ℕ, ◌≤◌, ◌<◌, length, All, Bool, true, false, [], Option, Some, None}
+use Rattle.std.specs.Prelude.{◌≡◌, ℕ, ◌≤◌, ◌<◌, length, replicate, All, Bool, true, false, [], Option, Some, None}
 use Rattle.model_link.specs.Link.{Link, fresh}
 use Rattle.model_link.specs.Sound as links
 use Rattle.lapd_tei.specs.Machine.{Management}
@@ -27,6 +27,7 @@ pub record IsUnitData (c : Config) (unit : UnitData) : Type 0 where
 pub record IsUnused (m : Management) : Type 0 where
   pub remembered : m.remembered ≡ []
   pub check : m.check ≡ None
+  pub to_check : m.to_check ≡ replicate (length m.places) false
   pub waiting : m.waiting ≡ []
 
 -- So it is at a terminal, whose own TEI management is sound; at the other sides nothing of a terminal is under way.
@@ -36,6 +37,7 @@ IsOfSide false m own = (own.procedure ≡ None) × (own.waiting ≡ [])
 
 pub record IsSound (c : Config) (l : Line) : Type 0 where
   pub management : tei.IsSound l.management
+  pub reading : l.management.reading ≡ c.reading
   pub own : IsOfSide (is_terminal c) l.management l.own
   pub places : length l.management.places ≡ c.terminals
   pub count : length l.links ≡ link_count c

@@ -1,5 +1,5 @@
--- The octets that a line stores (profile): those of the frames that wait and of assignments that are remembered; and the
--- contents that wait, which stand in slots of the card.
+-- The octets that a line stores (profile): those of the frames that wait and of assignments that are remembered, and one
+-- while any check of a TEI is due; and the contents that wait, which stand in slots of the card.
 use Rattle.std.specs.Prelude.{ℕ, ◌+◌, ◌*◌, length, sum_by, List, if◌then◌else◌}
 use Rattle.std.specs.List.{range_with_len}
 use Rattle.model_link.specs.Link.{queue_of}

@@ -2,6 +2,7 @@
 -- stands here alone.
 use Rattle.std.specs.Prelude.{None}
 use Rattle.lapd_frame.specs.declared.addresses.Side.TheVariants.{Network}
+use Rattle.lapd_frame.specs.declared.readings.Reading.TheVariants.{Profile}
 use Rattle.model_line.specs.declared.config.Config.{Config}
 
 -- The usual one: the network's side of a line on which eight TEIs can be.
@@ -20,6 +21,7 @@ usual = record {
   side = Network;
   sapi = 16;
   seed = None;
+  reading = Profile;
 }
 
 -- The least one: no size and no limit can be less.

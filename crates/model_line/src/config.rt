@@ -8,7 +8,7 @@ ghost use Rattle.model_line.specs.Sound.{IsInRange};
 ghost use Rattle.model_link.specs.Sound as links;
 ghost use Rattle.model_line.specs.Taken.{own_side};
 
-use lapd_frame::{MOST_N201, Sender, Service, Side};
+use lapd_frame::{MOST_N201, Reading, Sender, Service, Side};
 use model_link::Terms;
 use std::fmt;
 
@@ -48,6 +48,8 @@ pub struct Config {
     /// Whether a card of the user's side is a terminal, whose TEIs the network assigns: the first of its reference numbers,
     /// for which a random number is best. None at a trunk's end, and at the network's side.
     pub seed: Option<u16>,
+    /// Which rows of the tables hold where readers of Q.921 differ.
+    pub reading: Reading,
 }
 
 /// A field of [`Config`], in their order.
@@ -94,6 +96,7 @@ impl Config {
         side: Side::Network,
         sapi: 16,
         seed: None,
+        reading: Reading::Profile,
     };
 
     /// The first field that is out of range, in the order of the fields; none if all are in range.
@@ -172,6 +175,7 @@ impl Config {
             n200: self.n200 as u8,
             queue: self.queue as u8,
             control: self.control as u8,
+            reading: self.reading,
         }
     }
 

@@ -1,5 +1,6 @@
 -- What an event does to a link that stays in states 7 and 8, for the end that it faces.
-use Rattle.model_link.proofs.Vocabulary.{◌≡◌, ℕ, ◌≤◌, Bool, true, false, cond, IsTrue, List, [], ◌∷◌, ◌++◌, Option, None, Some, refl, sym, subst, append_assoc, append-nil, true≢false, arith, ltb-false, Seq, seq, named, Control, ReceiveReady, ReceiveNotReady, Reject, ErrorCode, State, Established, ControlFrame, Terms, Link, is_multiple_frame, Course, Step, ◌then◌, TimerRecovery, acknowledge}
+use Rattle.model_link.proofs.Vocabulary.{◌≡◌, ℕ, ◌≤◌, Bool, true, false, cond, IsTrue, List, [], ◌∷◌, ◌++◌, Option, None, Some, refl, sym, subst, append_assoc, append-nil, true≢false, arith, ltb-false, Seq, seq, named, Control, ReceiveReady, ReceiveNotReady, Reject, ErrorCode, State, Established, LinkTimer, ControlFrame, Terms, Link, is_multiple_frame, Course, Step, ◌then◌, TimerRecovery}
+use Rattle.model_link.proofs.Vocabulary.{acknowledge}
 use Rattle.model_link.proofs.Vocabulary.{answer, by_number, command, enquire, error, has_room, pending_is, re_establish, rr_or_rnr, reject, report_receiver_status, response, send, clear_busy_in_7_8, failed, set_busy_in_7_8, acknowledged_by_information_in_7, acknowledged_by_rnr_in_7, acknowledged_in_7, frame_in_7, is_all_sent, is_beyond_acknowledged, timer_in_7, frame_in_8, t200_in_8, frame_in}
 use Rattle.model_link.proofs.Leads.{Leads, keeping_then, depending_leads, bit_leads, tested_leads, Passed, from_more}
 use Rattle.model_link.proofs.SoundRows.{named-within}
@@ -94,8 +95,8 @@ pub ruleset words = (keeping_then, depending_leads, bit_leads, enquire_stays, an
 pub ruleset rows = (words, stays_up, failed_up)
 
 module _ (t : Terms) (l : Link) where
-  pub timer_7_up : {S : Number} → Leads (Stays l S l.a l.r) (timer_in_7 t) (Up l l.a l.r)
-  timer_7_up = search rows depth 12 fits 4000
+  pub timer_7_up : {S : Number} (timer : LinkTimer) → Leads (Stays l S l.a l.r) (timer_in_7 t timer) (Up l l.a l.r)
+  timer_7_up timer = search rows depth 12 fits 4000
 
   pub t200_8_up : {S : Number} → Leads (Stays l S l.a l.r) (t200_in_8 t) (Up l l.a l.r)
   t200_8_up = search rows depth 12 fits 4000

@@ -1,11 +1,11 @@
 -- What the row of a frame does, said once: a claim that every word of the tables leads on is led on by every row.
 use Rattle.model_link.proofs.Vocabulary.{◌≡◌, ℕ, ◌≤◌, Bool, true, false, IsTrue, List, Option, Some, None, inr, refl, sym, true≢false, length-take, arith, Seq, seq, named, leb-true, Control, Information, ReceiveReady, ReceiveNotReady, Reject, Sabme, Disc, Ui, Ua, Dm, Frmr, Xid, ErrorCode, State, TeiAssigned, AwaitingEstablishment, AwaitingRelease, Established, TimerRecovery, LinkTimer, T200, T203}
-use Rattle.model_link.proofs.Vocabulary.{ControlFrame, Terms, has_outstanding, is_asked, is_peer_busy, is_own_busy, is_multiple_frame, Course, Step, ◌then◌, nothing, depending_on, frame_in_4, frame_in_5, frame_in_6, acknowledged_in_8, particulars_in_8, frame_in, response}
+use Rattle.model_link.proofs.Vocabulary.{ControlFrame, Terms, has_outstanding, is_asked, is_peer_busy, is_own_busy, is_multiple_frame, Course, Step, ◌then◌, nothing, depending_on, establish_in_4, frame_in_4, frame_in_5, frame_in_6, acknowledged_in_8, particulars_in_8, frame_in, response}
 use Rattle.std.specs.Prelude.{◌&&◌}
 use Rattle.model_link.specs.Words
 use Rattle.model_link.specs.MultipleFrame
 use Rattle.model_link.specs.Established
-use Rattle.model_link.proofs.Leads.{Leads, then_leads, depending_leads, bit_leads, tested_leads, Passed, from_more, to_less}
+use Rattle.model_link.proofs.Leads.{Leads, then_leads, depending_leads, bit_leads, tested_leads, read_leads, Passed, from_more, to_less}
 use Rattle.model_link.proofs.Waits.{Waits, ua_waits, sabme_waits, ready_waits, may_wait}
 use Rattle.model_link.proofs.Kept.{Purse, no_more, another, two, Fits}
 use Rattle.model_link.proofs.Careful.{Claim, At, anything, idle, Names, names, paid, starts, Careful}
@@ -185,8 +185,18 @@ module _ {t : Terms} {Units Anew Taken Window Queued Offered : Type 0} {In : Sta
   pub unserved : {X : Claim} → Leads (At X S) Words.leave_unserved E
   unserved = record { leads = λ c h. k.unserved c h.holds }
 
-  unit_data : {X : Claim} → Units → (octets : List ℕ) → Leads (At X S) (Words.unit_data t octets) E
-  unit_data may octets = bit_leads _ unserved (record { leads = λ c h. k.unit may octets c h.holds })
+  pub malformed : {X : Claim} (e : ErrorCode) → Leads (At X S) (Words.malformed t e) E
+  malformed e = read_leads t unserved (begun_by (ends (error e)))
+
+  unexpected : {X : Claim} (octets : List ℕ) → Leads (At X S) (Words.unexpected t octets) E
+  unexpected octets = bit_leads _ (malformed ErrorCode.O) unserved
+
+  unit_data : {X : Claim} {f : Step} → Units → (octets : List ℕ) → Leads (At X S) f E → Leads (At X S) (Words.unit_data t f octets) E
+  unit_data may octets long = bit_leads _ long (record { leads = λ c h. k.unit may octets c h.holds })
+
+  -- layer 3 asks for an establishment, or by annex B the other side does
+  pub establish : {p q : Purse} → Leads (At (idle In) (P (another p) q)) (establish_in_4 t) E
+  establish = flags ▹ send (sabme_waits t true) ▹ repeats 0 ▹ start T200 ▹ enter_5 {X = idle In} true (λ a s n state x on. x)
 
   -- state 4
   row_in_4 : (octets : List ℕ) (control : Control) → Fits Units Anew (Unit {0}) control → Leads (At (idle In) S) (frame_in_4 t octets control) E
@@ -195,8 +205,10 @@ module _ {t : Terms} {Units Anew Taken Window Queued Offered : Type 0} {In : Sta
   row_in_4 octets (Disc p) may = begun_by (ends (send (may_wait t (response (Dm p)) refl refl (omega arith) refl)))
   row_in_4 octets (Ua true) may = begun_by (ends (error ErrorCode.C))
   row_in_4 octets (Ua false) may = begun_by (ends (error ErrorCode.D))
-  row_in_4 octets (Ui p) may = unit_data may octets
+  row_in_4 octets (Dm false) may = read_leads t unserved (begun_by establish)
+  row_in_4 octets (Ui p) may = unit_data may octets (malformed ErrorCode.O)
   row_in_4 octets (Xid pf) may = begun_by (ends xid)
+  row_in_4 octets (Information ns nr p) may = unexpected octets
   row_in_4 octets other may = unserved
 
   -- state 5
@@ -208,8 +220,9 @@ module _ {t : Terms} {Units Anew Taken Window Queued Offered : Type 0} {In : Sta
   row_in_5 octets (Ua false) may = begun_by (ends (error ErrorCode.D))
   row_in_5 octets (Dm true) may = begun_by (discard ▹ release_indication ▹ no_timer ▹ enter_4)
   row_in_5 octets (Dm false) may = unserved
-  row_in_5 octets (Ui p) may = unit_data may octets
+  row_in_5 octets (Ui p) may = unit_data may octets (malformed ErrorCode.O)
   row_in_5 octets (Xid pf) may = begun_by (ends xid)
+  row_in_5 octets (Information ns nr p) may = unexpected octets
   row_in_5 octets other may = unserved
 
   -- state 6
@@ -220,8 +233,9 @@ module _ {t : Terms} {Units Anew Taken Window Queued Offered : Type 0} {In : Sta
   row_in_6 octets (Ua false) may = begun_by (ends (error ErrorCode.D))
   row_in_6 octets (Dm true) may = begun_by (release_confirm ▹ no_timer ▹ enter_4)
   row_in_6 octets (Dm false) may = unserved
-  row_in_6 octets (Ui p) may = unit_data may octets
+  row_in_6 octets (Ui p) may = unit_data may octets (malformed ErrorCode.O)
   row_in_6 octets (Xid pf) may = begun_by (ends xid)
+  row_in_6 octets (Information ns nr p) may = unexpected octets
   row_in_6 octets other may = unserved
 
   -- states 7 and 8, by what only one of the two does
@@ -252,7 +266,7 @@ module _ {t : Terms} {Units Anew Taken Window Queued Offered : Type 0} {In : Sta
   row_in_7_8 here own told information rr rnr rej dm up b octets (Dm true) may = knowing (λ a s n state x. tt) dm
   row_in_7_8 here own told information rr rnr rej dm up b octets (Dm false) may = begun_by (failed ErrorCode.E)
   row_in_7_8 here own told information rr rnr rej dm up b octets (Frmr f) may = begun_by (failed ErrorCode.K)
-  row_in_7_8 here own told information rr rnr rej dm up b octets (Ui p) may = unit_data may octets
+  row_in_7_8 here own told information rr rnr rej dm up b octets (Ui p) may = unit_data may octets (read_leads t unserved (begun_by (failed ErrorCode.O)))
   row_in_7_8 here own told information rr rnr rej dm up b octets (Xid pf) may = begun_by (ends xid)
 
   -- what a valid N(R) does in state 7, and in state 8

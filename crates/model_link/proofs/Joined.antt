@@ -47,7 +47,7 @@ module _ (t : Terms) (l : Link) where
   -- timers
   expired-goes : (here : State) → IsTrue (is_multiple_frame here) → (timer : LinkTimer) → IsUpIn (expired_in here timer t (begun l))
       → Goes l (expired_in here timer t (begun l)).link
-  expired-goes Established before timer up = by-up _ ((timer_7_up t l {S = still l.s}).leads (begun l) (at-first t l)) up
+  expired-goes Established before timer up = by-up _ ((timer_7_up t l {S = still l.s} timer).leads (begun l) (at-first t l)) up
   expired-goes here before timer up = grind (arith, by-up, t200_8_up, still, at-first, stays)
 
   timer-goes : IsTrue (is_multiple_frame l.state) → (timer : LinkTimer) → IsUpIn (course t (expired timer) l) → Goes l (after t (expired timer) l)

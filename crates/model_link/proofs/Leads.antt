@@ -1,5 +1,5 @@
 -- Where a step leads: from what held before it to what holds after it.
-use Rattle.model_link.proofs.Vocabulary.{arith, ◌≡◌, Bool, true, false, cond, Link, Course, Step, ◌then◌, nothing, depending_on, by_bit, ℕ, Seq, Terms, by_number, error, re_establish, ErrorCode}
+use Rattle.model_link.proofs.Vocabulary.{arith, ◌≡◌, Bool, true, false, cond, Link, Course, Step, ◌then◌, nothing, depending_on, by_bit, ℕ, Seq, Terms, by_number, read_as, error, re_establish, ErrorCode}
 
 pub record Leads (P : Course → Type 0) (f : Step) (Q : Course → Type 0) : Type 0 where
   pub leads : (c : Course) → P c → Q (f c)
@@ -28,6 +28,10 @@ depending_leads {P} {Q} {f} {g} test x y = grind (arith, both_ways)
 
 pub bit_leads : {P Q : Course → Type 0} {f g : Step} (b : Bool) → Leads P f Q → Leads P g Q → Leads P (by_bit b f g) Q
 bit_leads {P} {Q} {f} {g} b x y = record { leads = λ c h. both_ways Q b (f c) (g c) (x.leads c h) (y.leads c h) }
+
+-- either reading
+pub read_leads : {P Q : Course → Type 0} {f g : Step} (t : Terms) → Leads P f Q → Leads P g Q → Leads P (read_as t f g) Q
+read_leads {P} {Q} {f} {g} t x y = grind arith
 
 -- either branch, with what the test tells
 pub record Passed (P : Course → Type 0) (test : Link → Bool) (b : Bool) (c : Course) : Type 0 where

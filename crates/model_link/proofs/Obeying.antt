@@ -1,7 +1,7 @@
 -- What obeying orders comes to.
 use Rattle.model_link.proofs.Vocabulary.{arith, ◌≡◌, Bool, true, false, List, [], ◌∷◌, Option, eq-eqb, cond, not, ◌&&◌, inl, State, LinkTimer, T200, T203, Terms, Link, begun, Order, Timer, runs, timer_at, orders_for, is_same, obeyed, IsTimed, IsTimedIn, StaysInStep, ComesInStep, Event, expired, course, expired_in, told}
 use Rattle.model_link.proofs.Leads.{depending_leads}
-use Rattle.model_link.proofs.InStep.{comes-step}
+use Rattle.model_link.proofs.InStep.{Comes, comes-step}
 
 -- What obeying an event's orders comes to: orders for one timer, before or after those for the other.
 module _ (own other : Timer) (r : Bool) (same : is_same own own ≡ true) (differs : is_same other own ≡ false) where
@@ -23,11 +23,14 @@ comes-to : (t : Terms) (before started after : Option LinkTimer) (timer : LinkTi
     → obeyed (timer_at t timer) b (orders_for t before started after) ≡ runs timer after
 comes-to t before started after timer b z = grind (arith, itself, right, stopped)
 
+by-orders : (t : Terms) (before started after : Option LinkTimer) (timer : LinkTimer) → Comes before after started
+    → obeyed (timer_at t timer) (runs timer before) (orders_for t before started after) ≡ runs timer after
+by-orders t before started after timer h = grind (arith, comes-to)
+
 pub stays-in-step : (t : Terms) (e : Event) (l : Link) (timer : LinkTimer) → StaysInStep t e l timer
 stays-in-step t e l timer =
     let c = course t e l in
-    let h = comes-step l.running t e (begun l) (record { from = λ other e. inl e }) in
-    grind (arith, comes-to)
+    by-orders t l.running c.started c.link.running timer (comes-step l.running t e (begun l) (record { from = λ other e. inl e }))
 
 pub leaves-others : (t : Terms) (e : Event) (l : Link) (timer : Timer) (running : Bool) → is_same (timer_at t T200) timer ≡ false → is_same (timer_at t T203) timer ≡ false
     → obeyed timer running (told t e l).orders ≡ running

@@ -6,8 +6,8 @@ use Rattle.model_link.specs.Machine
 use Rattle.model_link.proofs.Leads.{Leads, depending_leads, tested_leads, Passed, from_more}
 use Rattle.model_link.proofs.Waits.{sabme_waits, may_wait}
 use Rattle.model_link.proofs.Kept.{Purse, no_more, two, Fits, FitsEvent, Kept, any_event}
-use Rattle.model_link.proofs.Careful.{Claim, At, anything, idle, paid, QueuesFor, Queues, Careful, plainly, any_contents}
-use Rattle.model_link.proofs.FrameRows.{one, ◌▹◌, error, release_indication, release_confirm, send, settled, flags, repeats, repeated, start, no_timer, discard, ready, untold, ends, stays, enter_4, enter_5, enter_6, enter_8, knowing, begun_by, unserved, failed, frame_by}
+use Rattle.model_link.proofs.Careful.{Claim, At, anything, paid, QueuesFor, Queues, Careful, plainly, any_contents}
+use Rattle.model_link.proofs.FrameRows.{one, ◌▹◌, error, release_indication, release_confirm, send, settled, repeats, repeated, start, no_timer, discard, ready, untold, ends, stays, enter_4, enter_6, enter_8, knowing, begun_by, malformed, establish, failed, frame_by}
 
 -- what is not refused is served
 served : (b : Bool) (o : Option Refusal) (w : Refusal) → cond b o (Some w) ≡ None → b ≡ true
@@ -17,7 +17,7 @@ module _ {t : Terms} {Units Anew Taken Window Queued Offered : Type 0} {In : Sta
   pub malformed_by : {X : Claim} (here : State) (e : ErrorCode) → Leads (At X S) (Machine.malformed_in here t e) E
   malformed_by Established e = begun_by k (failed k e)
   malformed_by TimerRecovery e = begun_by k (failed k e)
-  malformed_by other e = unserved k
+  malformed_by other e = malformed k e
 
   pub expired_by : (here : State) (timer : LinkTimer) → Leads (At (paid In Window here) (P one two)) (Machine.expired_in here timer t) E
   expired_by TeiAssigned timer = stays k
@@ -29,7 +29,7 @@ module _ {t : Terms} {Units Anew Taken Window Queued Offered : Type 0} {In : Sta
       depending_leads (may_repeat t) (ends k (send k (may_wait t (command (Disc true)) refl refl (omega arith) refl) ▹ repeated k ▹ start k T200))
       (knowing k (λ a s n state x. inr (AwaitingRelease, x.0, refl)) (error k ErrorCode.H ▹ release_confirm k ▹ no_timer k ▹ enter_4 k))
   expired_by AwaitingRelease T203 = stays k
-  expired_by Established timer = repeats k 0 ▹ ready k true ▹ start k T200 ▹ enter_8 k
+  expired_by Established timer = repeats k _ ▹ ready k true ▹ start k T200 ▹ enter_8 k
   expired_by TimerRecovery T200 = depending_leads (may_repeat t) (ends k (ready k true ▹ repeated k ▹ start k T200)) (failed k ErrorCode.I)
   expired_by TimerRecovery T203 = stays k
 
@@ -55,7 +55,7 @@ module _ {t : Terms} {Units Anew Taken Window Queued Offered : Type 0} {In : Sta
   pub granted_by : (request : Request) (full : Bool) → QueuesFor Queued request → (c : Course) → P one two c
       → refusal t c.link full request ≡ None → E (granted t request c)
   granted_by Establish full may c h e =
-      (flags k ▹ send k (sabme_waits t true) ▹ repeats k 0 ▹ start k T200 ▹ enter_5 k {X = idle In} true (λ a s n state x on. x)).leads c
+      (establish k).leads c
       (record { known = inr (c.link.state, k.is_in c.link.state, (grind arith)); holds = h })
   granted_by Release full may c h e = (release_by c.link.state).leads c (record { known = tt; holds = h })
   granted_by (Data octets) full may c h e = k.transfer may no_more two octets full c e h

@@ -1,12 +1,12 @@
 -- Each row of the tables tells at most two notes.
-use Rattle.model_link.proofs.Vocabulary.{◌≡◌, ℕ, ◌+◌, ◌≤◌, zero-add, Bool, cond, ◌&&◌, List, [], ◌∷◌, ◌++◌, length, Option, None, is_some, ◌⊎◌, inr, refl, sym, ap, ◌∙◌, arith, length-append, Control, Ui, Note, State, TeiAssigned, LinkTimer, T200, T203, Terms, Link, Course, begun, by_bit}
-use Rattle.model_link.proofs.Vocabulary.{list_any, Timer, Order, Start, Stop, is_data, is_unit, runs, orders_for, starts, Event, cleared, frame, received, deliver_unit, leave_unserved}
+use Rattle.model_link.proofs.Vocabulary.{◌≡◌, ℕ, ◌+◌, ◌≤◌, zero-add, Bool, cond, ◌&&◌, List, [], ◌∷◌, ◌++◌, length, Option, None, is_some, ◌⊎◌, inr, refl, sym, ap, ◌∙◌, arith, length-append, Control, Ui, ErrorCode, Note, State, TeiAssigned, AwaitingEstablishment, AwaitingRelease, Established, TimerRecovery, LinkTimer, T200, T203, Terms, Link, Course, begun, Step, by_bit}
+use Rattle.model_link.proofs.Vocabulary.{list_any, Timer, Order, Start, Stop, is_data, is_unit, runs, orders_for, starts, Event, cleared, frame, received, nat_lt, deliver_unit, failed, long_unit_in_7_8, leave_unserved, malformed, read_as}
 use Rattle.model_link.specs.Machine
 use Rattle.model_link.proofs.Leads.{Leads}
 use Rattle.model_link.proofs.Telling.{Purse, no_more, another, how_many, Telling, HasTold, ToldWithin, untold, note-told, words}
 use Rattle.model_link.proofs.Kept.{two, Fits, FitsEvent}
-use Rattle.model_link.proofs.Careful.{Careful, plainly}
-use Rattle.model_link.proofs.Rows.{frame_row, event_row}
+use Rattle.model_link.proofs.Careful.{anything, Careful, plainly}
+use Rattle.model_link.proofs.Rows.{malformed_by, frame_row, event_row}
 
 -- any frame but a UI
 abbrev IsNoUnit : Control → Type 0
@@ -40,12 +40,25 @@ module _ (t : Terms) where
       → (length ns ≤ 2) × (list_any is_data ns ≡ is_some d) × ((d ≡ None) ⊎ (u ≡ None)) × (list_any is_unit ns ≡ is_some u)
   from-told h = (h.count, h.data_told, inr h.no_unit, h.no_note ∙ sym (ap is_some h.no_unit))
 
-  units : (b : Bool) (octets : List ℕ) (l : Link) → TellsOf (by_bit b leave_unserved (deliver_unit t octets) (begun l))
+  units : (b : Bool) (long : Step) (octets : List ℕ) (l : Link) → TellsOf (long (begun l)) → TellsOf (by_bit b long (deliver_unit t octets) (begun l))
   unfolding TellsOf
-  units b octets l = grind arith
+  units b long octets l h = grind arith
+
+  -- UI that is too long
+  too-long : (here : State) (l : Link) → TellsOf (Machine.malformed_in here t ErrorCode.O (begun l))
+  unfolding TellsOf how_many
+  too-long here l = from-told ((malformed_by told {X = anything} here ErrorCode.O).leads (begun l) (record { known = tt; holds = begins two 2 (omega arith) l }))
+
+  unserved-or : (f : Step) (l : Link) → TellsOf (f (begun l)) → TellsOf (read_as t leave_unserved f (begun l))
+  unfolding TellsOf
+  unserved-or f l h = grind arith
 
   unit-tells : (here : State) (b : Bool) (octets : List ℕ) (p : Bool) (l : Link) → TellsOf (Machine.frame_in here t b octets (Ui p) (begun l))
-  unit-tells here b octets p l = grind (arith, units)
+  unit-tells Established b octets p l = units (nat_lt t.n201 (length octets)) (long_unit_in_7_8 t) octets l (unserved-or (failed t ErrorCode.O) l (too-long Established l))
+  unit-tells TimerRecovery b octets p l = units (nat_lt t.n201 (length octets)) (long_unit_in_7_8 t) octets l (unserved-or (failed t ErrorCode.O) l (too-long TimerRecovery l))
+  unit-tells TeiAssigned b octets p l = units (nat_lt t.n201 (length octets)) (malformed t ErrorCode.O) octets l (too-long TeiAssigned l)
+  unit-tells AwaitingEstablishment b octets p l = units (nat_lt t.n201 (length octets)) (malformed t ErrorCode.O) octets l (too-long AwaitingEstablishment l)
+  unit-tells AwaitingRelease b octets p l = units (nat_lt t.n201 (length octets)) (malformed t ErrorCode.O) octets l (too-long AwaitingRelease l)
 
   tells : (e : Event) → FitsEvent ⊥ (Unit {0}) (Unit {0}) e → (l : Link) → TellsOf (Machine.course t e l)
   unfolding TellsOf how_many

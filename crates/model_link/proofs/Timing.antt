@@ -1,7 +1,7 @@
 -- A link that awaits something has its timer: every row keeps that.
-use Rattle.model_link.proofs.Vocabulary.{◌≡◌, ℕ, ◌≤◌, Bool, true, Option, Some, None, ◌⊎◌, inl, inr, refl, arith, Seq, named, ErrorCode, State, TeiAssigned, AwaitingEstablishment, AwaitingRelease, Established, TimerRecovery, LinkTimer, T200, T203, Terms, Course, Step, ◌then◌, eqb-true, acknowledge, asked_is, by_number, discard, enter, error, establish_indication, no_timer, re_establish}
-use Rattle.model_link.proofs.Vocabulary.{send_again_from, start, zero_numbers, failed, acknowledged_by_information_in_7, acknowledged_in_7, is_all_sent, acknowledged_in_8, recovered}
-use Rattle.model_link.proofs.Leads.{Leads, keeping_then, nothing_leads, depending_leads, bit_leads, tested_leads, Passed, from_more, to_less, leaves}
+use Rattle.model_link.proofs.Vocabulary.{◌≡◌, ℕ, ◌≤◌, Bool, Option, Some, None, ◌⊎◌, inl, inr, refl, arith, Seq, named, ErrorCode, State, TeiAssigned, AwaitingEstablishment, AwaitingRelease, Established, TimerRecovery, LinkTimer, T200, T203, Terms, Course, Step, ◌then◌, eqb-true, acknowledge, asked_is, by_number, discard, enter, error, establish_indication, no_timer, re_establish}
+use Rattle.model_link.proofs.Vocabulary.{send_again_from, start, zero_numbers, failed, acknowledged_by_information_in_7, acknowledged_in_7, acknowledged_in_8}
+use Rattle.model_link.proofs.Leads.{Leads, keeping_then, nothing_leads, depending_leads, bit_leads, read_leads, tested_leads, Passed, from_more, to_less, leaves}
 use Rattle.model_link.proofs.SoundRows.{named-within}
 
 -- the same as `IsTimedIn`, of what it speaks of
@@ -119,7 +119,7 @@ by-number here t nr f x c h o e = grind (arith, named-within)
 pub number_timed : {here : State} (t : Terms) (nr : Seq) (f : ℕ → Step) → ((m : ℕ) → Leads (Named here m) (f m) Ends) → Leads (At here) (by_number t nr f) Ends
 number_timed {here} t nr f x = record { leads = λ c h. by-number here t nr f x c h (named c.link.a c.link.s nr) refl }
 
-pub ruleset words = (leaves, keeping_then, nothing_leads, depending_leads, bit_leads, discard_timed, restart_5, restart_6, restart_7, restart_8)
+pub ruleset words = (leaves, keeping_then, nothing_leads, depending_leads, bit_leads, read_leads, discard_timed, restart_5, restart_6, restart_7, restart_8)
 
 pub ruleset ends = (words, at_ends, enters_4, enters_5, asks_for_5, enters_6, enters_8, zero_enters_7, zero_told_enters_7, failed_timed)
 

@@ -31,7 +31,7 @@ pub use Rattle.model_link.specs.Events.{ClearBusy, Data, Establish, Event, Recei
 pub use Rattle.model_link.specs.Link.{Link, frame_of, fresh, has_outstanding, is_asked, is_multiple_frame, is_own_busy, is_peer_busy, queue_of}
 pub use Rattle.model_link.specs.Machine.{after, course, expired_in, frame_in, frame_step, given, given_of, is_running, malformed_in, step, told, told_of_clearing}
 unfoldable pub use Rattle.model_link.specs.Machine.{after_all}
-pub use Rattle.model_link.specs.MultipleFrame.{clear_busy_in_7_8, contents_in_7_8, data_in_7_8, failed, information_in_7_8, is_next, set_busy_in_7_8}
+pub use Rattle.model_link.specs.MultipleFrame.{clear_busy_in_7_8, contents_in_7_8, data_in_7_8, failed, information_in_7_8, is_next, long_unit_in_7_8, set_busy_in_7_8}
 pub use Rattle.model_link.specs.Notes.{is_data, is_unit}
 pub use Rattle.model_link.specs.Numbered.{History, IsNumbered, Numbered, nothing_yet, with_event}
 unfoldable pub use Rattle.model_link.specs.Numbered.{with_all}
@@ -39,12 +39,13 @@ pub use Rattle.model_link.specs.Rises.{grows, is_valid_reject, may_send, price, 
 unfoldable pub use Rattle.model_link.specs.Rises.{price_of_all, sent_in_all}
 pub use Rattle.model_link.specs.Sound.{IsGiven, IsInRange, IsSound, IsWaitingFrame, is_information}
 pub use Rattle.model_link.specs.Steps.{Course, Sent, Step, begun, by_bit, changed, depending_on, nothing, ◌then◌}
-pub use Rattle.model_link.specs.TeiAssigned.{frame_in_4}
+pub use Rattle.model_link.specs.TeiAssigned.{establish_in_4, frame_in_4}
 pub use Rattle.model_link.specs.Told.{orders_for, runs, timer_at}
 unfoldable pub use Rattle.model_link.specs.Told.{starts}
 pub use Rattle.model_link.specs.TwoEnds.{Step as EndStep, Agree, Begins, StepAt, Endpoint, Ends, IsUp, acting, requests, at_far, at_near, doing, expires, frame_given, without_first, with_first_of, with_link, with_sent}
 unfoldable pub use Rattle.model_link.specs.TwoEnds.{StayUp, doing_all}
-pub use Rattle.model_link.specs.Words.{acknowledge, answer, asked_is, begin_anew, by_number, clear_flags, command, count_received, deliver, deliver_unit, discard, enquire, enter, error, establish_indication, has_room, leave_unserved, no_timer, own_busy_is, pending_is, re_establish, reject, rejecting_is, report_receiver_status, response, rr_or_rnr, send, send_again_from, start, with_own_busy}
+pub use Rattle.model_link.specs.Words.{acknowledge, answer, asked_is, begin_anew, by_number, clear_flags, command, count_received, deliver, deliver_unit, discard, enquire, enter, error, establish_indication, has_room, leave_unserved, malformed, no_timer, own_busy_is, pending_is, re_establish, read_as, reject, rejecting_is, report_receiver_status, response, rr_or_rnr, send, send_again_from, start}
+pub use Rattle.model_link.specs.Words.{with_own_busy}
 pub use Rattle.model_link.specs.Words.{zero_numbers}
 pub use Rattle.model_link.specs.declared.frames.ControlFrame.{ControlFrame}
 pub use Rattle.model_link.specs.declared.states.State.{State}

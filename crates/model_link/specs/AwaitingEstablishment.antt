@@ -1,14 +1,14 @@
 -- State 5, awaiting establishment: SABME was sent.
 use Rattle.std.specs.Prelude.{ℕ, true, false, List}
 use Rattle.lapd_frame.specs.declared.controls.Control.{Control}
-use Rattle.lapd_frame.specs.declared.controls.Control.TheVariants.{Sabme, Disc, Ui, Ua, Dm, Xid}
+use Rattle.lapd_frame.specs.declared.controls.Control.TheVariants.{Information, Sabme, Disc, Ui, Ua, Dm, Xid}
 use Rattle.lapd_frame.specs.declared.notes.ErrorCode.TheVariants as code
 use Rattle.model_link.specs.declared.states.State.TheVariants.{TeiAssigned, Established}
 use Rattle.model_link.specs.declared.timers.LinkTimer.TheVariants.{T200, T203}
 use Rattle.model_link.specs.declared.terms.Terms.{Terms}
 use Rattle.model_link.specs.Link.{is_asked, has_outstanding, may_repeat}
 use Rattle.model_link.specs.Steps.{Step, ◌then◌, nothing, depending_on}
-use Rattle.model_link.specs.Words.{error, establish_indication, establish_confirm, release_indication, leave_unserved, unit_data, xid, zero_numbers, discard, repeated, start, no_timer, enter, send, command, response}
+use Rattle.model_link.specs.Words.{error, establish_indication, establish_confirm, release_indication, leave_unserved, malformed, unexpected, unit_data, xid, zero_numbers, discard, repeated, start, no_timer, enter, send, command, response}
 
 abbrev pub frame_in_5 : Terms → List ℕ → Control → Step
 -- clause 5.5.5.1
@@ -23,16 +23,14 @@ frame_in_5 t octets (Ua true) =
 frame_in_5 t octets (Ua false) = error t code.D
 -- clause 5.5.1.2
 frame_in_5 t octets (Dm true) = discard then release_indication t then no_timer then enter TeiAssigned
--- clause 5.2.3
-frame_in_5 t octets (Ui p) = unit_data t octets
+-- clause 5.2.3; over N201 clause 5.8.5
+frame_in_5 t octets (Ui p) = unit_data t (malformed t code.O) octets
 -- XID (profile)
 frame_in_5 t octets (Xid pf) = xid t
+-- clause 5.8.5
+frame_in_5 t octets (Information ns nr p) = unexpected t octets
 -- clauses 5.5.1.2 and 5.5.2; DM with F=0 is among them
 frame_in_5 t octets other = leave_unserved
-
--- Frames of wrong size, undefined ones and overlong I-frames (profile).
-abbrev pub malformed_in_5 : Step
-malformed_in_5 = leave_unserved
 
 -- T200 expires (clause 5.5.1.3).
 abbrev pub t200_in_5 : Terms → Step

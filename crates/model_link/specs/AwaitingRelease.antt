@@ -1,14 +1,14 @@
 -- State 6, awaiting release: DISC was sent.
 use Rattle.std.specs.Prelude.{ℕ, true, false, List}
 use Rattle.lapd_frame.specs.declared.controls.Control.{Control}
-use Rattle.lapd_frame.specs.declared.controls.Control.TheVariants.{Sabme, Disc, Ui, Ua, Dm, Xid}
+use Rattle.lapd_frame.specs.declared.controls.Control.TheVariants.{Information, Sabme, Disc, Ui, Ua, Dm, Xid}
 use Rattle.lapd_frame.specs.declared.notes.ErrorCode.TheVariants as code
 use Rattle.model_link.specs.declared.states.State.TheVariants.{TeiAssigned}
 use Rattle.model_link.specs.declared.timers.LinkTimer.TheVariants.{T200}
 use Rattle.model_link.specs.declared.terms.Terms.{Terms}
 use Rattle.model_link.specs.Link.{may_repeat}
 use Rattle.model_link.specs.Steps.{Step, ◌then◌, depending_on}
-use Rattle.model_link.specs.Words.{error, release_confirm, leave_unserved, unit_data, xid, repeated, start, no_timer, enter, send, command, response}
+use Rattle.model_link.specs.Words.{error, release_confirm, leave_unserved, malformed, unexpected, unit_data, xid, repeated, start, no_timer, enter, send, command, response}
 
 abbrev pub frame_in_6 : Terms → List ℕ → Control → Step
 -- clause 5.5.5.2
@@ -20,16 +20,14 @@ frame_in_6 t octets (Ua true) = release_confirm t then no_timer then enter TeiAs
 frame_in_6 t octets (Dm true) = release_confirm t then no_timer then enter TeiAssigned
 -- clause 5.8.7
 frame_in_6 t octets (Ua false) = error t code.D
--- clause 5.2.3
-frame_in_6 t octets (Ui p) = unit_data t octets
+-- clause 5.2.3; over N201 clause 5.8.5
+frame_in_6 t octets (Ui p) = unit_data t (malformed t code.O) octets
 -- XID (profile)
 frame_in_6 t octets (Xid pf) = xid t
+-- clause 5.8.5
+frame_in_6 t octets (Information ns nr p) = unexpected t octets
 -- clause 5.5.3.2; DM with F=0 is among them
 frame_in_6 t octets other = leave_unserved
-
--- Frames of wrong size, undefined ones and overlong I-frames (profile).
-abbrev pub malformed_in_6 : Step
-malformed_in_6 = leave_unserved
 
 -- T200 expires (clause 5.5.3.3).
 abbrev pub t200_in_6 : Terms → Step

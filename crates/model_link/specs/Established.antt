@@ -1,8 +1,11 @@
 -- State 7, multiple frame established.
-use Rattle.std.specs.Prelude.{ℕ, Bool, ◌==◌, nat_lt, List}
+use Rattle.std.specs.Prelude.{ℕ, min, Bool, ◌==◌, nat_lt, List}
 use Rattle.lapd_frame.specs.declared.controls.Control.{Control}
 use Rattle.lapd_frame.specs.declared.notes.ErrorCode.TheVariants as code
 use Rattle.model_link.specs.declared.states.State.TheVariants.{TimerRecovery}
+use Rattle.lapd_frame.specs.declared.readings.Reading.{Reading}
+use Rattle.lapd_frame.specs.declared.readings.Reading.TheVariants.{Profile, AnnexB}
+use Rattle.model_link.specs.declared.timers.LinkTimer.{LinkTimer}
 use Rattle.model_link.specs.declared.timers.LinkTimer.TheVariants.{T200, T203}
 use Rattle.model_link.specs.declared.terms.Terms.{Terms}
 use Rattle.model_link.specs.Link.{Link, is_peer_busy}
@@ -60,6 +63,13 @@ particulars_in_7 t = record {
 abbrev pub frame_in_7 : Terms → Bool → List ℕ → Control → Step
 frame_in_7 t is_command octets control = frame_in_7_8 (particulars_in_7 t) t is_command octets control
 
+-- RC once the enquiry is sent: 0 (profile; after T203 in both readings). By annex B it is 1 after T200, or 0 if N200 is 0, so
+-- that N200 enquiries go in all, at least one (clause 5.6.7).
+abbrev pub first_repeats : Reading → ℕ → LinkTimer → ℕ
+first_repeats Profile n200 timer = 0
+first_repeats AnnexB n200 T200 = min 1 n200
+first_repeats AnnexB n200 T203 = 0
+
 -- T200 or T203 expires (clauses 5.6.7 and 5.10.3).
-abbrev pub timer_in_7 : Terms → Step
-timer_in_7 t = repeats_are 0 then enquire t then start T200 then enter TimerRecovery
+abbrev pub timer_in_7 : Terms → LinkTimer → Step
+timer_in_7 t timer = repeats_are (first_repeats t.reading t.n200 timer) then enquire t then start T200 then enter TimerRecovery

@@ -11,7 +11,7 @@ pub data Received : Type 0 where
   undefined : Received
   -- a frame of wrong size
   wrong_size : Received
-  -- an I-frame that was too long to keep
+  -- an I-frame that was too long to keep, or UI (which reaches a link by annex B's reading alone)
   overlong : Received
 
 -- What layer 3 asks for: DL-ESTABLISH, DL-RELEASE and DL-DATA request (clauses 4.1.1.1 to 4.1.1.3), and that own

@@ -12,10 +12,10 @@ use Rattle.model_link.specs.Link.{Link}
 use Rattle.model_link.specs.Events.{Received, frame, undefined, wrong_size, overlong, Event, received, expired, requested, offer, cleared}
 use Rattle.model_link.specs.Told.{LinkTold, Given, runs, orders_for}
 use Rattle.model_link.specs.Steps.{Sent, Course, begun, Step, ◌then◌, nothing, depending_on}
-use Rattle.model_link.specs.Words.{release_indication, release_confirm, begin_anew}
-use Rattle.model_link.specs.TeiAssigned.{frame_in_4, malformed_in_4}
-use Rattle.model_link.specs.AwaitingEstablishment.{frame_in_5, malformed_in_5, t200_in_5}
-use Rattle.model_link.specs.AwaitingRelease.{frame_in_6, malformed_in_6, t200_in_6}
+use Rattle.model_link.specs.Words.{malformed, release_indication, release_confirm, begin_anew}
+use Rattle.model_link.specs.TeiAssigned.{frame_in_4}
+use Rattle.model_link.specs.AwaitingEstablishment.{frame_in_5, t200_in_5}
+use Rattle.model_link.specs.AwaitingRelease.{frame_in_6, t200_in_6}
 use Rattle.model_link.specs.MultipleFrame.{failed}
 use Rattle.model_link.specs.Established.{frame_in_7, timer_in_7}
 use Rattle.model_link.specs.TimerRecovery.{frame_in_8, t200_in_8}
@@ -37,9 +37,9 @@ frame_step t is_command octets control c = frame_in c.link.state t is_command oc
 
 -- Frames that the grammar doesn't have, or that were too long to keep (clause 5.8.5).
 abbrev pub malformed_in : State → Terms → ErrorCode → Step
-malformed_in TeiAssigned t e = malformed_in_4
-malformed_in AwaitingEstablishment t e = malformed_in_5
-malformed_in AwaitingRelease t e = malformed_in_6
+malformed_in TeiAssigned t e = malformed t e
+malformed_in AwaitingEstablishment t e = malformed t e
+malformed_in AwaitingRelease t e = malformed t e
 malformed_in Established t e = failed t e
 malformed_in TimerRecovery t e = failed t e
 
@@ -58,7 +58,7 @@ expired_in AwaitingEstablishment T200 t = t200_in_5 t
 expired_in AwaitingEstablishment T203 t = nothing
 expired_in AwaitingRelease T200 t = t200_in_6 t
 expired_in AwaitingRelease T203 t = nothing
-expired_in Established timer t = timer_in_7 t
+expired_in Established timer t = timer_in_7 t timer
 expired_in TimerRecovery T200 t = t200_in_8 t
 expired_in TimerRecovery T203 t = nothing
 

@@ -12,7 +12,7 @@ use Rattle.model_link.specs.declared.timers.LinkTimer.TheVariants.{T200, T203}
 use Rattle.model_link.specs.declared.terms.Terms.{Terms}
 use Rattle.model_link.specs.Link.{Link, has_outstanding, is_own_busy, is_rejecting}
 use Rattle.model_link.specs.Steps.{Step, ◌then◌, nothing, depending_on, by_bit, changed}
-use Rattle.model_link.specs.Words.{error, deliver, establish_indication, release_indication, unit_data, xid, peer_busy_is, clear_flags, pending_is, rejecting_is, own_busy_is, repeats_are, zero_numbers, discard, count_received, start, no_timer, enter, send, command, response, answer, report_receiver_status, reject, re_establish, by_number}
+use Rattle.model_link.specs.Words.{error, deliver, establish_indication, release_indication, leave_unserved, read_as, unit_data, xid, peer_busy_is, clear_flags, pending_is, rejecting_is, own_busy_is, repeats_are, zero_numbers, discard, count_received, start, no_timer, enter, send, command, response, answer, report_receiver_status, reject, re_establish, by_number}
 
 -- Requests of layer 3.
 
@@ -55,10 +55,14 @@ abbrev pub ua_in_7_8 : Terms → Bool → Step
 ua_in_7_8 t f = by_bit f (error t code.C) (error t code.D)
 
 -- An error that is told, and after which the link is established again: DM with F=0 (E), in state 8 DM with F=1 (B) and
--- no answer to the last enquiry (I), FRMR (K), an undefined frame (L), one of wrong size (N), an I-frame over N201 (O)
+-- no answer to the last enquiry (I), FRMR (K), an undefined frame (L), one of wrong size (N), one over N201 (O)
 -- (clauses 5.6.7, 5.7.1, 5.8.5, 5.8.6 and 5.8.7, appendix II). An invalid N(R) (J) stands in `by_number`.
 abbrev pub failed : Terms → ErrorCode → Step
 failed t e = error t e then re_establish t
+
+-- UI over N201: not served (profile); by annex B as an I-frame over N201 (clauses 3.6.11 and 5.8.5)
+abbrev pub long_unit_in_7_8 : Terms → Step
+long_unit_in_7_8 t = read_as t leave_unserved (failed t code.O)
 
 -- I-frames.
 
@@ -139,6 +143,6 @@ frame_in_7_8 own t is_command octets (Dm false) = failed t code.E
 -- clause 5.8.6
 frame_in_7_8 own t is_command octets (Frmr f) = failed t code.K
 -- clause 5.2.3
-frame_in_7_8 own t is_command octets (Ui p) = unit_data t octets
+frame_in_7_8 own t is_command octets (Ui p) = unit_data t (long_unit_in_7_8 t) octets
 -- XID (profile)
 frame_in_7_8 own t is_command octets (Xid pf) = xid t

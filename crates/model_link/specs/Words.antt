@@ -6,6 +6,7 @@ use Rattle.lapd_seq.specs.Circle.{named}
 use Rattle.lapd_frame.specs.declared.controls.Control.{Control}
 use Rattle.lapd_frame.specs.declared.controls.Control.TheVariants.{ReceiveReady, ReceiveNotReady, Reject, Sabme}
 use Rattle.lapd_frame.specs.declared.notes.Note.{Note}
+use Rattle.lapd_frame.specs.Readings.{by_reading}
 use Rattle.lapd_frame.specs.declared.notes.Note.TheVariants as notes
 use Rattle.lapd_frame.specs.declared.notes.ErrorCode.{ErrorCode}
 use Rattle.lapd_frame.specs.declared.notes.ErrorCode.TheVariants as code
@@ -47,9 +48,22 @@ deliver_unit t contents c = record c { notes = c.notes ++ notes.Unit t.service t
 abbrev pub leave_unserved : Step
 leave_unserved c = record c { unserved = true }
 
--- UI in any state: at most N201 octets are told (clause 5.2.3); more of them are not served (profile).
-abbrev pub unit_data : Terms → List ℕ → Step
-unit_data t octets = by_bit (nat_lt t.n201 (length octets)) leave_unserved (deliver_unit t octets)
+-- What differs by the reading of the tables: the first step in the profile, the second by annex B.
+abbrev pub read_as : Terms → Step → Step → Step
+read_as t profile annex_b c = by_reading t.reading (profile c) (annex_b c)
+
+-- An undefined frame, one of wrong size and one over N201 in states 4, 5 and 6: not served; by annex B an error is told, and
+-- nothing else changes (clause 5.8.5).
+abbrev pub malformed : Terms → ErrorCode → Step
+malformed t e = read_as t leave_unserved (error t e)
+
+-- An I-frame in states 4, 5 and 6 is not served; one over N201 is malformed.
+abbrev pub unexpected : Terms → List ℕ → Step
+unexpected t octets = by_bit (nat_lt t.n201 (length octets)) (malformed t code.O) leave_unserved
+
+-- UI in any state: at most N201 octets are told (clause 5.2.3). What more of them do is the state's.
+abbrev pub unit_data : Terms → Step → List ℕ → Step
+unit_data t too_long octets = by_bit (nat_lt t.n201 (length octets)) too_long (deliver_unit t octets)
 
 -- XID in any state: it is told, and not answered (profile).
 abbrev pub xid : Terms → Step

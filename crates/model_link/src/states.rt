@@ -25,7 +25,7 @@ ghost use Rattle.model_link.specs.Link.{state_number};
 ///
 /// What is marked (7 and 8) goes from both. No answer comes if T200 expires after N200 repeats. An error is a DM with
 /// F=0, an FRMR, an N(R) that is not valid, and a malformed frame; in state 8 also a DM with F=1 and an enquiry without
-/// answer. If its TEI leaves the line, a link comes to 4 from every state.
+/// answer. If its TEI leaves the line, a link comes to 4 from every state. By annex B a DM with F=0 leads from 4 to 5, too.
 #[derive(Clone, Copy, PartialEq, Eq, Debug)]
 pub enum State {
     /// State 4: the link is down.

@@ -1,6 +1,6 @@
 //! The parameters of a link.
 
-use lapd_frame::Service;
+use lapd_frame::{Reading, Service};
 
 /// What a link is told when it is opened, and how much it can keep (Q.921 clause 5.9).
 #[derive(Clone, Copy, PartialEq, Eq, Debug)]
@@ -20,4 +20,6 @@ pub struct Terms {
     /// Control frames that wait at most: 2 to 16 (profile). One that finds them all waiting is
     /// lost, like a frame that is lost on the line.
     pub control: u8,
+    /// Which rows hold where readers of the standard differ.
+    pub reading: Reading,
 }

@@ -6,6 +6,7 @@ pub mod WorkedNumbers
 pub mod WorkedFrames
 pub mod WorkedClock
 pub mod WorkedTeis
+pub mod WorkedTeisByAnnexB
 pub mod WorkedCounters
 pub mod Outbox
 pub mod Places

@@ -1,6 +1,7 @@
--- Worked values: each holds by computing.
+-- Worked values, of the profile: each holds by computing.
 use Rattle.std.specs.Prelude.{◌≡◌, ℕ, Bool, true, List, [], ◌∷◌, Option, Some, None, map, refl}
 use Rattle.lapd_frame.specs.declared.addresses.Side.TheVariants.{Network}
+use Rattle.lapd_frame.specs.declared.readings.Reading.TheVariants.{Profile}
 use Rattle.lapd_frame.specs.declared.notes.Note.TheVariants.{Assigned, Removed, Doubled}
 use Rattle.lapd_frame.specs.declared.refusals.Refusal.TheVariants.{NoLink, TeiTaken, TableFull, CheckRunning, ControlFull}
 use Rattle.lapd_frame.specs.declared.timers.Order.TheVariants.{Start, Stop}
@@ -11,41 +12,41 @@ use Rattle.lapd_tei.specs.Machine.{Management, empty, may_send, held, TeiTold, n
 use Rattle.lapd_tei.specs.Events.{Event, message, expiry, assign, remove, check, disown, refusal, course, after, told, offered, after_offer}
 
 -- a line with room for eight TEIs, after events from its start; each message is pulled at once
-abbrev pulled : Event → Management → Management
+abbrev pub pulled : Event → Management → Management
 pulled e m = after_offer (after e m)
 
-abbrev after_all : List Event → Management → Management
+abbrev pub after_all : List Event → Management → Management
 after_all [] m = m
 after_all (e ∷ es) m = after_all es (pulled e m)
 
 abbrev line : List Event → Management
-line events = after_all events (empty 8)
+line events = after_all events (empty Profile 8)
 
 -- the terminals' messages: a request for any TEI with an Ri, a check response, a verify
-abbrev asks : ℕ → ℕ → Event
+abbrev pub asks : ℕ → ℕ → Event
 asks high low = message (0x0F ∷ high ∷ low ∷ 0x01 ∷ 0xFF ∷ [])
 
-abbrev answers : ℕ → ℕ → ℕ → Event
+abbrev pub answers : ℕ → ℕ → ℕ → Event
 answers high low last = message (0x0F ∷ high ∷ low ∷ 0x05 ∷ last ∷ [])
 
-abbrev verifies : ℕ → Event
+abbrev pub verifies : ℕ → Event
 verifies last = message (0x0F ∷ 0x12 ∷ 0x34 ∷ 0x07 ∷ last ∷ [])
 
 -- the network's, as a pull gives them
-abbrev assigned : ℕ → ℕ → ℕ → Option (List ℕ)
+abbrev pub assigned : ℕ → ℕ → ℕ → Option (List ℕ)
 assigned high low last = Some (0xFE ∷ 0xFF ∷ 0x03 ∷ 0x0F ∷ high ∷ low ∷ 0x02 ∷ last ∷ [])
 
 abbrev denied : ℕ → ℕ → Option (List ℕ)
 denied high low = Some (0xFE ∷ 0xFF ∷ 0x03 ∷ 0x0F ∷ high ∷ low ∷ 0x03 ∷ 0xFF ∷ [])
 
-abbrev asked : ℕ → Option (List ℕ)
+abbrev pub asked : ℕ → Option (List ℕ)
 asked last = Some (0xFE ∷ 0xFF ∷ 0x03 ∷ 0x0F ∷ 0x00 ∷ 0x00 ∷ 0x04 ∷ last ∷ [])
 
-abbrev taken : ℕ → Option (List ℕ)
+abbrev pub taken : ℕ → Option (List ℕ)
 taken last = Some (0xFE ∷ 0xFF ∷ 0x03 ∷ 0x0F ∷ 0x00 ∷ 0x00 ∷ 0x06 ∷ last ∷ [])
 
 -- what an event brings to a line: what is told of it, and what the next pull gives
-abbrev brought : Event → Management → TeiTold × Option (List ℕ)
+abbrev pub brought : Event → Management → TeiTold × Option (List ℕ)
 brought e m = (told e m, offered Network (after e m))
 
 -- A request for a TEI on a line without one: TEI 64 is assigned, at place 0.
@@ -98,7 +99,7 @@ unfolding course refusal
 lower = refl
 
 -- What is held: eight octets for a message that waits, three for an assignment that is remembered.
-held-while-it-waits : held (after (asks 0x12 0x34) (empty 8)) ≡ 11
+held-while-it-waits : held (after (asks 0x12 0x34) (empty Profile 8)) ≡ 11
 unfolding course refusal
 held-while-it-waits = refl
 
@@ -178,7 +179,7 @@ second-response : brought (answers 0x9A 0xBC 0x81) (line (assign 64 ∷ check 64
 unfolding course refusal
 second-response = refl
 
-gone : after (answers 0x9A 0xBC 0x81) (line (assign 64 ∷ check 64 ∷ answers 0x56 0x78 0x81 ∷ [])) ≡ record (empty 8) { waiting = IdentityRemove 64 ∷ [] }
+gone : after (answers 0x9A 0xBC 0x81) (line (assign 64 ∷ check 64 ∷ answers 0x56 0x78 0x81 ∷ [])) ≡ record (empty Profile 8) { waiting = IdentityRemove 64 ∷ [] }
 unfolding course refusal
 gone = refl
 
@@ -202,7 +203,7 @@ unpulled [] m = m
 unpulled (e ∷ es) m = unpulled es (after e m)
 
 abbrev full : Management
-full = unpulled (map (asks 0x22) (1 ∷ 2 ∷ 3 ∷ 4 ∷ [])) (pulled (assign 0) (empty 1))
+full = unpulled (map (asks 0x22) (1 ∷ 2 ∷ 3 ∷ 4 ∷ [])) (pulled (assign 0) (empty Profile 1))
 
 abbrev lost_one : TeiTold
 lost_one = record nothing { lost = 1 }
@@ -221,7 +222,7 @@ nothing-changed = refl
 
 -- So does one with a remembered Ri; the messages of a check are lost, and the check goes on all the same.
 abbrev full-of-one : Management
-full-of-one = unpulled (map (asks 0x12) (0x34 ∷ 0x34 ∷ 0x34 ∷ 0x34 ∷ [])) (empty 8)
+full-of-one = unpulled (map (asks 0x12) (0x34 ∷ 0x34 ∷ 0x34 ∷ 0x34 ∷ [])) (empty Profile 8)
 
 remembered-lost : told (asks 0x12 0x34) full-of-one ≡ lost_one
 unfolding course refusal
@@ -248,7 +249,7 @@ no-expiry = refl
 abbrev full-while-checked : Management
 full-while-checked = after (verifies 0x81) full-of-one
 
-assign-refused : map (refusal (assign 64)) (one ∷ pulled (assign 64) (empty 1) ∷ pulled (assign 65) (empty 1) ∷ line [] ∷ []) ≡ Some TeiTaken ∷ Some TeiTaken ∷ Some TableFull ∷ None ∷ []
+assign-refused : map (refusal (assign 64)) (one ∷ pulled (assign 64) (empty Profile 1) ∷ pulled (assign 65) (empty Profile 1) ∷ line [] ∷ []) ≡ Some TeiTaken ∷ Some TeiTaken ∷ Some TableFull ∷ None ∷ []
 unfolding course refusal
 assign-refused = refl
 

@@ -134,7 +134,7 @@ pub fn recovery() -> &'static [Case] {
     &RECOVERY
 }
 
-static RECOVERY: [Case; 4] = [
+static RECOVERY: [Case; 5] = [
     Case {
         name: "8, nothing outstanding",
         events: &[SABME, T203],
@@ -148,6 +148,11 @@ static RECOVERY: [Case; 4] = [
     Case {
         name: "8, reject exception",
         events: &[SABME, REJECT, T203],
+        held: &[],
+    },
+    Case {
+        name: "8, T200 for the third time",
+        events: &[SABME, DATA, T200, T200, T200],
         held: &[],
     },
     Case {

@@ -8,7 +8,7 @@ use crate::events::{Case, Event, Led, lead};
 use crate::shelved_link::ShelvedLink;
 use crate::text::Text;
 use crate::words;
-use lapd_frame::Control;
+use lapd_frame::{Control, Reading};
 use lapd_link::Offer;
 use std::alloc::Global;
 
@@ -17,6 +17,9 @@ const HEAD: &str = "# What a card does, printed by itself
 For a reader who has the standard's state tables at hand. `tool_tables` prints this page: it plays each event on the
 proved `Link` and `Teis`, by their public calls, and tells what they answer. A test compares. A link is the same on both
 sides of a line; the tables of TEI management are of the network's side. docs/MACHINE.md has the rules in words.
+
+Readers of the standard differ in some rows. Where the two readings of docs/MACHINE.md do, an event has two rows: the
+profile's, and that of annex B.
 
 ## Links
 
@@ -91,26 +94,27 @@ fn titles(page: &mut Text, alloc: Global, cases: &[Case]) {
 
 fn rows(page: &mut Text, last: &mut Text, alloc: Global, cases: &[Case], events: &[(&str, Event)]) {
     for (name, event) in events {
-        let row = row(alloc, cases, *event);
-        page.row(last, name, row);
+        let profile = row(alloc, cases, *event, Reading::Profile);
+        let annex_b = row(alloc, cases, *event, Reading::AnnexB);
+        page.row_of_both(last, name, profile, annex_b);
     }
 }
 
-fn row(alloc: Global, cases: &[Case], event: Event) -> Text {
+fn row(alloc: Global, cases: &[Case], event: Event, reading: Reading) -> Text {
     let mut row = Text::new(alloc);
     let mut left = Text::new(alloc);
     row.say("|");
     for case in cases {
-        let cell = cell(alloc, *case, event);
+        let cell = cell(alloc, *case, event, reading);
         row.cell(&mut left, cell);
     }
     row
 }
 
 /// What one event leads to in one state.
-fn cell(alloc: Global, case: Case, event: Event) -> Text {
+fn cell(alloc: Global, case: Case, event: Event, reading: Reading) -> Text {
     let mut cell = Text::new(alloc);
-    match ShelvedLink::start(alloc) {
+    match ShelvedLink::start(alloc, reading) {
         Ok(mut shelved) => {
             let led = lead(&mut shelved, case, event);
             tell(&mut cell, &led, event.polled());

@@ -2,7 +2,7 @@
 
 ghost use Rattle.std.specs.Prelude.{IfOk};
 
-use lapd_frame::{Address, Control, Frame, Refusal, Service};
+use lapd_frame::{Address, Control, Frame, Reading, Refusal, Service};
 use lapd_link::{BareReport, Link, LinkRequest, LinkTimer, Offer, Received, StartFault};
 use lapd_store::SlabShelf;
 use model_link::Terms;
@@ -24,15 +24,15 @@ impl ShelvedLink {
     ghost use Rattle.tool_tables.specs.Works.{Works};
 
     /// A link that was opened, with a window and a queue of two contents of at most 8 octets, over as many slots, where two
-    /// control frames may wait.
-    pub fn start(alloc: Global) -> Result<ShelvedLink, StartFault>
+    /// control frames may wait. It reads the tables so.
+    pub fn start(alloc: Global, reading: Reading) -> Result<ShelvedLink, StartFault>
         ensures { IfOk result Works }
     {
         let mut link = Link::start(alloc, ROOM as u8, ROOM as u8)?;
         let Ok(shelf) = SlabShelf::start(alloc, ROOM, 8) else {
             return Err(StartFault::OutOfMemory);
         };
-        link.open(Terms {
+        link.with_terms(Terms {
             service: Service::Call,
             tei: 64,
             k: ROOM as u8,
@@ -40,6 +40,7 @@ impl ShelvedLink {
             n200: 3,
             queue: ROOM as u8,
             control: ROOM as u8,
+            reading,
         });
         Ok(ShelvedLink { link, shelf })
     }

@@ -4,17 +4,18 @@ ghost use Rattle.std.specs.Prelude.{◌≤◌};
 
 use crate::text::Text;
 use crate::words;
-use lapd_frame::{Refusal, Side};
+use lapd_frame::{Reading, Refusal, Side};
 use lapd_tei::{Change, TeiOutcome, Teis};
 use std::alloc::Global;
 
 const HEAD: &str = "
 ## TEI management
 
-A line with room for two TEIs. A cell has, in this order: the message that is sent, or how many found no room and are
-lost; what layer management is told; what is ordered of T201; and which TEI comes to the line (+) or leaves it (-). Ri is
-the reference number of a request; that of TEI 64 is 1, that of TEI 65 is 2. A check has two periods of T201. What waited
-has been sent, except four messages where a column says that they wait.
+A line with room for two TEIs. A cell has, in this order: the messages that are sent, or how many found no room and are
+lost; `unserved` where a message is not served, or why a request is refused; what layer management is told; what is
+ordered of T201; and which TEI comes to the line (+) or leaves it (-). Ri is the reference number of a request; that of
+TEI 64 is 1, that of TEI 65 is 2. A check has two periods of T201. What waited has been sent, except where a column says
+that it waits.
 ";
 
 /// What happens to TEI management.
@@ -22,6 +23,8 @@ has been sent, except four messages where a column says that they wait.
 enum Event {
     /// A message of a terminal: the last octet of its Ri, its type, and its Ai.
     Message(u8, u8, u8),
+    /// A check response of TEI 64 and TEI 65.
+    Responses,
     /// T201 expires.
     Expire,
     /// Layer management asks for these, of TEI 64 or 65.
@@ -73,11 +76,15 @@ const RESPONSE: Event = Event::Message(0, 5, 64);
 
 const CHECK: Event = Event::Check(false);
 
+const VERIFY: Event = Event::Message(0, 7, 65);
+
+const DISOWN: Event = Event::Disown(Named::Unknown);
+
 fn cases() -> &'static [Case] {
     &CASES
 }
 
-static CASES: [Case; 8] = [
+static CASES: [Case; 11] = [
     Case {
         name: "no TEI",
         events: &[],
@@ -114,9 +121,24 @@ static CASES: [Case; 8] = [
         held: &[],
     },
     Case {
+        name: "64 and 65, 64 checked",
+        events: &[FIRST, SECOND, CHECK],
+        held: &[],
+    },
+    Case {
+        name: "64 and 65, second period, 65 verified",
+        events: &[FIRST, SECOND, CHECK, Event::Expire, VERIFY],
+        held: &[],
+    },
+    Case {
+        name: "64, whose message waits",
+        events: &[],
+        held: &[FIRST],
+    },
+    Case {
         name: "64, four messages wait",
         events: &[FIRST],
-        held: &[FIRST, FIRST, FIRST, FIRST],
+        held: &[DISOWN, DISOWN, DISOWN, DISOWN],
     },
 ];
 
@@ -124,15 +146,17 @@ fn events() -> &'static [(&'static str, Event)] {
     &EVENTS
 }
 
-static EVENTS: [(&str, Event); 19] = [
+static EVENTS: [(&str, Event); 21] = [
     ("identity request, Ri 1", FIRST),
     ("identity request, Ri 2", SECOND),
     ("identity request, Ri 3", Event::Message(3, 1, 127)),
     ("identity request, Ai 64", Event::Message(4, 1, 64)),
+    ("identity request, Ai 5", Event::Message(4, 1, 5)),
     ("identity verify, Ai 64", Event::Message(0, 7, 64)),
-    ("identity verify, Ai 65", Event::Message(0, 7, 65)),
+    ("identity verify, Ai 65", VERIFY),
     ("check response, Ai 64", RESPONSE),
     ("check response, Ai 65", Event::Message(0, 5, 65)),
+    ("check response, Ai 65 and 64", Event::Responses),
     ("message of another type", Event::Message(0, 9, 64)),
     ("T201 expires", Event::Expire),
     ("assign 64", Event::Assign(false)),
@@ -141,7 +165,7 @@ static EVENTS: [(&str, Event); 19] = [
     ("check 64", CHECK),
     ("check 65", Event::Check(true)),
     ("disown 64", Event::Disown(Named::First)),
-    ("disown 66", Event::Disown(Named::Unknown)),
+    ("disown 66", DISOWN),
     ("disown 127", Event::Disown(Named::All)),
     ("the line is down", Event::Down),
 ];
@@ -152,8 +176,9 @@ pub fn print(page: &mut Text, alloc: Global) {
     titles(page, alloc);
     let mut last = Text::new(alloc);
     for (name, event) in events() {
-        let row = row(alloc, *event);
-        page.row(&mut last, name, row);
+        let profile = row(alloc, *event, Reading::Profile);
+        let annex_b = row(alloc, *event, Reading::AnnexB);
+        page.row_of_both(&mut last, name, profile, annex_b);
     }
     page.append(&last);
     page.say("\n");
@@ -169,21 +194,21 @@ fn titles(page: &mut Text, alloc: Global) {
     page.append(&rule);
 }
 
-fn row(alloc: Global, event: Event) -> Text {
+fn row(alloc: Global, event: Event, reading: Reading) -> Text {
     let mut row = Text::new(alloc);
     let mut left = Text::new(alloc);
     row.say("|");
     for case in cases() {
-        let cell = cell(alloc, *case, event);
+        let cell = cell(alloc, *case, event, reading);
         row.cell(&mut left, cell);
     }
     row
 }
 
 /// What one event leads to in one state.
-fn cell(alloc: Global, case: Case, event: Event) -> Text {
+fn cell(alloc: Global, case: Case, event: Event, reading: Reading) -> Text {
     let mut cell = Text::new(alloc);
-    match Teis::start(alloc, 2) {
+    match Teis::start_as(alloc, 2, reading) {
         Ok(mut teis) => lead(&mut cell, &mut teis, case, event),
         Err(_) => cell.spoil(),
     }
@@ -196,12 +221,15 @@ fn lead(cell: &mut Text, teis: &mut Teis, case: Case, event: Event) {
     let answer = play(teis, event);
     skip(teis, case.held.len());
     match answer {
-        Ok(outcome) => tell(cell, &outcome, teis.offer(Side::Network)),
+        Ok(outcome) => {
+            let first = teis.offer(Side::Network);
+            tell(cell, &outcome, [first, teis.offer(Side::Network)]);
+        }
         Err(refusal) => cell.item(words::refusal_name(refusal)),
     }
 }
 
-/// Plays events, and after each sends what waits.
+/// Plays events, and after each sends what waits: one message, as no more wait after any of these.
 fn prepare(teis: &mut Teis, events: &[Event]) {
     for event in events {
         let _ = play(teis, *event);
@@ -233,6 +261,7 @@ fn play(teis: &mut Teis, event: Event) -> Result<TeiOutcome, Refusal> {
         Event::Message(ri, kind, ai) => {
             Ok(teis.message(&[0x0F, 0, ri, kind, 2 * (ai % 128) + 1]))
         }
+        Event::Responses => Ok(teis.message(&[0x0F, 0, 0, 5, 2 * 65, 2 * 64 + 1])),
         Event::Expire => Ok(teis.expire_t201()),
         Event::Assign(next) => teis.assign(tei_of(next)),
         Event::Remove(next) => teis.remove(tei_of(next)),
@@ -242,9 +271,10 @@ fn play(teis: &mut Teis, event: Event) -> Result<TeiOutcome, Refusal> {
     }
 }
 
-fn tell(cell: &mut Text, outcome: &TeiOutcome, sent: Option<[u8; 8]>) {
-    if let Some(frame) = sent {
-        message(cell, frame);
+/// What is told, after the messages that are sent: no event of the table lets more than two go.
+fn tell(cell: &mut Text, outcome: &TeiOutcome, sent: [Option<[u8; 8]>; 2]) {
+    for frame in sent.iter().flatten() {
+        message(cell, *frame);
     }
     words::told(
         cell,
@@ -267,7 +297,7 @@ fn changed(cell: &mut Text, change: Change) {
     cell.number(tei);
 }
 
-/// A message that is sent: its type, its Ri or its Ai.
+/// A message that is sent: its type, its Ri or its Ai; of a denial both, except Ai 127.
 fn message(cell: &mut Text, frame: [u8; 8]) {
     let [_, _, _, _, _, ri, kind, last] = frame;
     cell.item(message_name(kind));
@@ -275,7 +305,7 @@ fn message(cell: &mut Text, frame: [u8; 8]) {
         cell.say(" Ri ");
         cell.number(ri);
     }
-    if kind != 3 {
+    if kind != 3 || last != 255 {
         cell.say(" Ai ");
         cell.number(last / 2);
     }

@@ -91,6 +91,18 @@ impl Text {
         self.say(name);
     }
 
+    /// The same of an event whose row may differ by the reading of the tables: then it has two rows.
+    pub fn row_of_both(&mut self, above: &mut Text, name: &str, profile: Text, annex_b: Text) {
+        if profile.text.as_str() == annex_b.text.as_str() {
+            self.row(above, name, profile);
+            return;
+        }
+        self.row(above, name, profile);
+        self.say(" (profile)");
+        self.row(above, name, annex_b);
+        self.say(" (annex B)");
+    }
+
     /// Adds another text.
     pub fn append(&mut self, other: &Text) {
         self.say(other.text.as_str());

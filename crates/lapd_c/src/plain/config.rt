@@ -1,10 +1,10 @@
 //! The configuration of a card.
 
 ghost use Rattle.std.specs.Prelude.{◌≡◌, ◌<◌, None, Ok, Err, IfSome, IfOk, IfErr};
-ghost use Rattle.lapd_c.specs.{first_fault, config_in, side_in, seed_in, sapi_in, config_fault};
+ghost use Rattle.lapd_c.specs.{first_fault, config_in, side_in, seed_in, sapi_in, reading_in, config_fault};
 
-use crate::plain::statuses::{BAD_SIDE, field_status};
-use lapd_frame::Side;
+use crate::plain::statuses::{BAD_READING, BAD_SIDE, field_status};
+use lapd_frame::{Reading, Side};
 use model_line::Config;
 
 /// How large a card is, and the limits of its lines and links: [`Config`] in C.
@@ -37,6 +37,8 @@ pub struct PlainConfig {
     pub seed: u16,
     /// The SAPI of the second service: 1 to 62; 0 is 16.
     pub sapi: u16,
+    /// Which rows of the tables hold where readers of Q.921 differ: 0 the profile's, 1 annex B's.
+    pub reading: u16,
 }
 
 /// The side of a number: 0 the network's, otherwise the user's.
@@ -58,6 +60,17 @@ pub fn sapi_in(sapi: u16) -> u16
     ensures { result ≡ sapi_in sapi }
 {
     if sapi == 0 { 16 } else { sapi }
+}
+
+/// The reading of a number: 0 the profile, otherwise annex B.
+fn reading_in(reading: u16) -> Reading
+    ensures { result ≡ reading_in reading }
+{
+    if reading == 0 {
+        Reading::Profile
+    } else {
+        Reading::AnnexB
+    }
 }
 
 impl PlainConfig {
@@ -86,10 +99,12 @@ impl PlainConfig {
             side: side_in(self.side),
             sapi: sapi_in(self.sapi),
             seed: seed_in(self.side, self.seed),
+            reading: reading_in(self.reading),
         };
         match config.fault() {
             Some(field) => Err(field_status(field)),
             None if self.side > 2 => Err(BAD_SIDE),
+            None if self.reading > 1 => Err(BAD_READING),
             None => Ok(config),
         }
     }

@@ -51,6 +51,8 @@ pub const NO_FRAME: u32 = 28;
 pub const BAD_SIDE: u32 = 43;
 /// The SAPI of the second service is out of range.
 pub const BAD_SAPI: u32 = 44;
+/// A reading of the tables that is neither 0 nor 1: of a start whose configuration has all else in range.
+pub const BAD_READING: u32 = 45;
 
 /// The status of a request that was refused: 1 to 10, or 29.
 pub fn refusal_status(why: Refusal) -> u32

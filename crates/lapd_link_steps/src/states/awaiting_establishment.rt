@@ -34,7 +34,7 @@ impl Entity {
             Control::Ua { pf: false } => told.error(terms, ErrorCode::D),
             Control::Ui { .. } => told.unit_data(terms, octets),
             Control::Xid { .. } => told.note(Note::Xid(terms.service, terms.tei)),
-            Control::Information { .. } => told.leave_unserved(),
+            Control::Information { .. } => told.unexpected(terms, octets),
             Control::ReceiveReady { .. } => told.leave_unserved(),
             Control::ReceiveNotReady { .. } => told.leave_unserved(),
             Control::Reject { .. } => told.leave_unserved(),
@@ -84,7 +84,7 @@ impl Entity {
         ensures tells { Tells 2 1 told.old told.new }
         ensures does { (info : List ℕ) → Does terms.now info (row.t200_in_5 terms.now) self.old told.old self.new told.new }
     {
-        if self.repeats < terms.n200 {
+        if self.may_repeat(terms) {
             self.command(terms, told, Control::Sabme { pf: true });
             self.repeats += 1;
             self.start_timer(told, LinkTimer::T200);

@@ -1,6 +1,6 @@
 //! State 7, multiple frame established.
 
-ghost use Rattle.std.specs.Prelude.{ℕ, Bool, List};
+ghost use Rattle.std.specs.Prelude.{◌≡◌, ℕ, Bool, List};
 ghost use Rattle.lapd_link_steps.specs.{IsValid, va_of, vs_of, Terms, Entity, DoesBy, HasRoom, Tells, effect_of};
 ghost use Rattle.model_link.specs.Established as row;
 ghost use Rattle.lapd_link_steps.specs.Does.{Does};
@@ -8,7 +8,7 @@ ghost use Rattle.lapd_link_steps.specs.Does.{Does};
 use crate::entity::Entity;
 use crate::report::BareReport;
 use crate::states::multiple_frame::Bearer;
-use lapd_frame::ErrorCode;
+use lapd_frame::{ErrorCode, Reading};
 use lapd_seq::Seq;
 use model_link::{LinkTimer, State, Terms};
 
@@ -56,15 +56,25 @@ impl Entity {
         self.start_timer(told, LinkTimer::T200);
     }
 
-    pub(crate) fn timer_in_7(&mut self, terms: &Terms, told: &mut BareReport)
+    pub(crate) fn timer_in_7(&mut self, terms: &Terms, told: &mut BareReport, timer: LinkTimer)
         requires { HasRoom 0 1 told.old }
         ensures tells { Tells 0 1 told.old told.new }
-        ensures does { (info : List ℕ) → Does terms.now info (row.timer_in_7 terms.now) self.old told.old self.new told.new }
+        ensures does { (info : List ℕ) → Does terms.now info (row.timer_in_7 terms.now timer) self.old told.old self.new told.new }
     {
-        self.repeats = 0;
+        self.repeats = first_repeats(terms, timer);
         self.enquire(terms, told);
         self.start_timer(told, LinkTimer::T200);
         self.state = State::TimerRecovery;
+    }
+}
+
+// RC once the enquiry is sent that the expiry of this timer asks for.
+fn first_repeats(terms: &Terms, timer: LinkTimer) -> u8
+    ensures { result ≡ row.first_repeats terms.now.reading terms.now.n200 timer }
+{
+    match (terms.reading, timer) {
+        (Reading::AnnexB, LinkTimer::T200) => terms.n200.min(1),
+        (Reading::AnnexB, LinkTimer::T203) | (Reading::Profile, _) => 0,
     }
 }
 

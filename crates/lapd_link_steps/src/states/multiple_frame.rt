@@ -3,11 +3,12 @@
 ghost use Rattle.std.specs.Prelude.{◌≡◌, ℕ, List, length};
 ghost use Rattle.lapd_link_steps.specs.{by_number, HasRoom, Tells, particulars, effect_of, supervisory, renewed};
 ghost use Rattle.model_link.specs.MultipleFrame as row;
+ghost use Rattle.model_link.specs.Words as word;
 ghost use Rattle.lapd_link_steps.specs.Does.{Does};
 
 use crate::entity::Entity;
 use crate::report::BareReport;
-use lapd_frame::{Control, ErrorCode, Note};
+use lapd_frame::{Control, ErrorCode, Note, Reading};
 use lapd_seq::Seq;
 use model_link::{LinkTimer, State, Terms};
 
@@ -65,7 +66,7 @@ impl Entity {
             Control::Dm { pf: true } => self.dm_in_7_8(terms, told, recovering),
             Control::Dm { pf: false } => self.failed(terms, told, ErrorCode::E),
             Control::Frmr { .. } => self.failed(terms, told, ErrorCode::K),
-            Control::Ui { .. } => told.unit_data(terms, octets),
+            Control::Ui { .. } => self.unit_in_7_8(terms, told, octets),
             Control::Xid { .. } => told.note(Note::Xid(terms.service, terms.tei)),
         }
     }
@@ -117,6 +118,31 @@ impl Entity {
             return self.acknowledged_in_8(told, nr, by, is_final);
         }
         self.acknowledged_in_7(told, nr, by);
+    }
+
+    // UI: unit data, if it is not too long.
+    #[cold]
+    fn unit_in_7_8(&mut self, terms: &Terms, told: &mut BareReport, octets: usize)
+        requires { HasRoom 1 1 told.old }
+        ensures tells { Tells 1 1 told.old told.new }
+        ensures does { (info : List ℕ) → length info ≡ octets →
+            Does terms.now info (word.unit_data terms.now (row.long_unit_in_7_8 terms.now) info) self.old told.old self.new told.new }
+    {
+        if usize::from(terms.n201) < octets {
+            return self.long_unit_in_7_8(terms, told);
+        }
+        told.deliver_unit(terms);
+    }
+
+    fn long_unit_in_7_8(&mut self, terms: &Terms, told: &mut BareReport)
+        requires { HasRoom 1 1 told.old }
+        ensures tells { Tells 1 1 told.old told.new }
+        ensures does { (info : List ℕ) → Does terms.now info (row.long_unit_in_7_8 terms.now) self.old told.old self.new told.new }
+    {
+        match terms.reading {
+            Reading::Profile => told.leave_unserved(),
+            Reading::AnnexB => self.failed(terms, told, ErrorCode::O),
+        }
     }
 
     // DM with F=1.

@@ -1,13 +1,13 @@
 //! State 4, TEI assigned: the link is down.
 
-ghost use Rattle.std.specs.Prelude.{◌≡◌, ℕ, List, length};
-ghost use Rattle.lapd_frame.specs.declared.controls.Control.TheVariants.{Sabme};
+ghost use Rattle.std.specs.Prelude.{◌≡◌, ℕ, List, false, length};
+ghost use Rattle.lapd_frame.specs.declared.controls.Control.TheVariants.{Sabme, Dm};
 ghost use Rattle.model_link.specs.TeiAssigned as row;
 ghost use Rattle.lapd_link_steps.specs.Does.{Does, HasRoom, Tells};
 
 use crate::entity::Entity;
 use crate::report::BareReport;
-use lapd_frame::{Control, ErrorCode, Note};
+use lapd_frame::{Control, ErrorCode, Note, Reading};
 use model_link::{LinkTimer, State, Terms};
 
 impl Entity {
@@ -30,9 +30,15 @@ impl Entity {
             Control::Disc { pf } => self.response(terms, told, Control::Dm { pf }),
             Control::Ua { pf: true } => told.error(terms, ErrorCode::C),
             Control::Ua { pf: false } => told.error(terms, ErrorCode::D),
+            Control::Dm { pf: false } => self.dm_in_4(terms, told),
+            Control::Dm { pf: true } => told.leave_unserved(),
             Control::Ui { .. } => told.unit_data(terms, octets),
             Control::Xid { .. } => told.note(Note::Xid(terms.service, terms.tei)),
-            _ => told.leave_unserved(),
+            Control::Information { .. } => told.unexpected(terms, octets),
+            Control::ReceiveReady { .. } => told.leave_unserved(),
+            Control::ReceiveNotReady { .. } => told.leave_unserved(),
+            Control::Reject { .. } => told.leave_unserved(),
+            Control::Frmr { .. } => told.leave_unserved(),
         }
     }
 
@@ -48,6 +54,18 @@ impl Entity {
         self.start_timer(told, LinkTimer::T203);
         told.note(Note::EstablishIndication(terms.service, terms.tei));
         self.state = State::Established;
+    }
+
+    // By annex B, DM with F=0 asks for an establishment.
+    fn dm_in_4(&mut self, terms: &Terms, told: &mut BareReport)
+        requires { HasRoom 0 1 told.old }
+        ensures tells { Tells 0 1 told.old told.new }
+        ensures does { (info : List ℕ) → Does terms.now info (row.frame_in_4 terms.now info (Dm false)) self.old told.old self.new told.new }
+    {
+        match terms.reading {
+            Reading::Profile => told.leave_unserved(),
+            Reading::AnnexB => self.establish_in_4(terms, told),
+        }
     }
 
     /// Layer 3 asks for the establishment, in state 4.

@@ -83,7 +83,7 @@ impl Entity {
         ensures tells { Tells 1 1 told.old told.new }
         ensures does { (info : List ℕ) → Does terms.now info (row.t200_in_8 terms.now) self.old told.old self.new told.new }
     {
-        if self.repeats < terms.n200 {
+        if self.may_repeat(terms) {
             self.enquire(terms, told);
             self.repeats += 1;
             return self.start_timer(told, LinkTimer::T200);

@@ -9,8 +9,8 @@ ghost use Rattle.laws_line.specs.card.Laws.{OneEvent, OthersAreLeft, CausesTold}
 /// granted. Others are an event of TEI management: a message of it, the expiry of T201, or at a terminal of T202, and a
 /// request of management that is granted. Then the links of a TEI that comes or leaves are as ones that begin, and the others stay. Noted is
 /// what TEI management notes, and what the links of a TEI that leaves tell as they end. Unit data whose request was
-/// granted waits, whole, after what waits. If the line is down, no unit data, no message of TEI management, no check and
-/// no procedure of a terminal are left, and all that is told is that T201 stops, or T202. A call for the next frame leaves its line, and answers, as the
+/// granted waits, whole, after what waits. If the line is down, no unit data, no message of TEI management, no check that
+/// runs or is due and no procedure of a terminal are left, and all that is told is that T201 stops, or T202. A call for the next frame leaves its line, and answers, as the
 /// machine of the line does. Whatever else comes changes nothing, and nothing is told (clauses 2.2 to 2.7, 3.6.1,
 /// 5.2.2, 5.3, 5.8.5, annex B and the profile).
 pub fn one_event()

@@ -1,6 +1,7 @@
 -- In state 7 T200 runs only where something is awaited: each row, and each event.
 use Rattle.laws_link.proofs.Vocabulary.{◌≡◌, ◌≢◌, ◌⊎◌, ℕ, ◌+◌, ◌≤◌, ◌&&◌, nat_lt, Bool, true, false, List, Option, None, Some, refl, sym, ap, ◌∙◌, arith, true≢false, eq-eqb, ltb-false, Seq, Control, Information, ReceiveReady, ReceiveNotReady, Reject, ErrorCode, Refusal, State, TeiAssigned, AwaitingEstablishment, AwaitingRelease, Established, TimerRecovery, LinkTimer, T200, T203, ControlFrame}
-use Rattle.laws_link.proofs.Vocabulary.{Terms, Link, frame, Request, Event, received, Course, Step, begun, ◌then◌, nothing, runs, frame_in_4, frame_in_5, frame_in_6, Leads, then_leads, bit_leads, named-within, both_ways, answer, by_number, peer_busy_is, answered, contents_in_7_8, failed, is_final, acknowledged_by_information_in_7, acknowledged_in_7, frame_in_7, unsolicited, acknowledged_in_8}
+use Rattle.laws_link.proofs.Vocabulary.{Terms, Link, frame, Request, Event, received, Course, Step, begun, ◌then◌, nothing, runs, frame_in_4, frame_in_5, frame_in_6, Leads, then_leads, bit_leads, read_leads, named-within, both_ways, answer, by_number, peer_busy_is, answered, contents_in_7_8, failed, is_final, acknowledged_by_information_in_7, acknowledged_in_7, frame_in_7, unsolicited}
+use Rattle.laws_link.proofs.Vocabulary.{acknowledged_in_8}
 use Rattle.laws_link.proofs.Vocabulary.{frame_in_8, granted, release_in, is_established, offer_among, course, expired_in, frame_in, malformed_in}
 use Rattle.laws_link.proofs.OfTwo.Heeding.{words}
 
@@ -56,13 +57,13 @@ module _ (t : Terms) where
   failed-ends e = record { leads = λ c h. record { holds = elsewhere AwaitingEstablishment refl _ _ _ _ } }
 
   in-4 : (octets : List ℕ) (control : Control) → Leads Awaiting (frame_in_4 t octets control) Awaiting
-  in-4 octets control = grind (arith, t203-runs, bit_leads)
+  in-4 octets control = grind (arith, t203-runs, bit_leads, read_leads, elsewhere)
 
   in-5 : (octets : List ℕ) (control : Control) → Leads Awaiting (frame_in_5 t octets control) Awaiting
-  in-5 octets control = grind (arith, t203-runs, bit_leads, elsewhere)
+  in-5 octets control = grind (arith, t203-runs, bit_leads, read_leads, elsewhere)
 
   in-6 : (octets : List ℕ) (control : Control) → Leads Awaiting (frame_in_6 t octets control) Awaiting
-  in-6 octets control = grind (arith, elsewhere, bit_leads)
+  in-6 octets control = grind (arith, elsewhere, bit_leads, read_leads)
 
   in-7 : (b : Bool) (octets : List ℕ) (control : Control) → Leads Awaiting (frame_in_7 t b octets control) Awaiting
   in-7 b octets (Information ns nr p) =
@@ -73,7 +74,7 @@ module _ (t : Terms) where
       (number {P = Any} t nr acknowledged_in_7 (λ n c h from. acknowledged-7 n c from))))
   in-7 b octets (ReceiveNotReady nr pf) = grind (arith, then_leads, bit_leads, number)
   in-7 b octets (Reject nr pf) = grind (arith, any-then, number, t203-runs)
-  in-7 b octets control = grind (arith, t203-runs, elsewhere, failed-ends, bit_leads)
+  in-7 b octets control = grind (arith, t203-runs, elsewhere, failed-ends, bit_leads, read_leads)
 
   -- state 8: it stays, or T203 is started, or the terminal is busy
   at-8 : {f : Step} → Leads (At TimerRecovery) f (At TimerRecovery) → Leads (At TimerRecovery) f Awaiting
@@ -90,7 +91,7 @@ module _ (t : Terms) where
 
   in-8 : (b : Bool) (octets : List ℕ) (control : Control) → Leads (At TimerRecovery) (frame_in_8 t b octets control) Awaiting
   in-8 b octets control =
-      grind (arith, bit_leads, failed-ends, then_leads, words, number, stays-elsewhere, recovers, answered-busy-at, t203-runs)
+      grind (arith, bit_leads, read_leads, failed-ends, then_leads, words, number, stays-elsewhere, recovers, answered-busy-at, t203-runs)
 
 -- Each event.
 module _ (t : Terms) (l : Link) (h : Awaits l.state l.running l.peer_busy l.a l.s) (ordered : l.a ≤ l.s) where

@@ -1,6 +1,6 @@
 -- Where T200 runs while the terminal is taken for busy: each word, and each row.
 use Rattle.laws_link.proofs.Vocabulary.{arith, ◌≡◌, ℕ, Bool, true, false, cond, IsTrue, List, Option, Some, refl, sym, subst, Seq, Control, Sabme, Disc, Ui, Ua, Dm, Frmr, Xid, Note, State, TeiAssigned, AwaitingEstablishment, AwaitingRelease, Established, TimerRecovery, LinkTimer, T200, T203, Terms, Course, Step, ◌then◌, frame_in_5, Leads, keeping_then, nothing_leads}
-use Rattle.laws_link.proofs.Vocabulary.{depending_leads, bit_leads, to_less, HeedsIn, leaves, number_leads, acknowledge, by_number, clear_flags, enter, no_timer, note, peer_busy_is, re_establish, start, acknowledged_by_information_in_7, acknowledged_by_rej_in_7, acknowledged_by_rnr_in_7, acknowledged_in_7, frame_in_7, acknowledged_in_8, frame_in_8}
+use Rattle.laws_link.proofs.Vocabulary.{depending_leads, bit_leads, read_leads, to_less, HeedsIn, leaves, number_leads, acknowledge, by_number, clear_flags, enter, no_timer, note, peer_busy_is, re_establish, start, acknowledged_by_information_in_7, acknowledged_by_rej_in_7, acknowledged_by_rnr_in_7, acknowledged_in_7, frame_in_7, acknowledged_in_8, frame_in_8}
 
 -- A claim on the state, on whether the terminal is taken for busy, and on the timer that runs.
 abbrev pub Claim : Type 1
@@ -12,7 +12,7 @@ pub record Holds (P : Claim) (state : State) (busy : Bool) (running : Option Lin
 abbrev pub On : Claim → Course → Type 0
 On P c = Holds P c.link.state c.link.peer_busy c.link.running
 
-pub ruleset words = (leaves, keeping_then, nothing_leads, depending_leads, bit_leads)
+pub ruleset words = (leaves, keeping_then, nothing_leads, depending_leads, bit_leads, read_leads)
 
 -- The claims: the end; a state; a state in which the terminal is not taken for busy; any state in which it is not; a
 -- state in which T200 runs; T200 runs; state 7 as it is between events.

@@ -1,5 +1,5 @@
 -- What an offer gives, and what is left behind it.
-use Rattle.laws_link.proofs.Vocabulary.{◌≡◌, ◌+◌, Bool, cond, List, [], ◌∷◌, ◌++◌, length, None, ap, arith, ControlFrame, Terms, Link, Course, begun, offer, after, given, given_of, HasNothingToSend, after_offers, GoesWhole, offer_among, offer_step}
+use Rattle.laws_link.proofs.Vocabulary.{◌≡◌, Bool, cond, List, [], ◌∷◌, ◌++◌, length, None, ap, arith, ControlFrame, Terms, Link, Course, begun, offer, after, given, given_of, HasNothingToSend, after_offers, GoesWhole, offer_among, offer_step}
 
 gives-one : (b : Bool) (u v : Course) → (u.sent ≡ None → ⊥) → (v.sent ≡ None → ⊥) → (cond b u v).sent ≡ None → ⊥
 gives-one b u v x y e = grind arith

@@ -94,12 +94,18 @@ module _ (c : Config) (service : Service) (tei place : ℕ) (ranged : IsInRange 
     its-sound : LinkIsSound (terms c service tei) h.its
     its-sound = link-sound service tei place (as_endpoint [] s) (bare c service tei place ranged h.its) own
 
+    -- What is told as a timer expires.
+    pub expired-told : (timer : Timer) (its : LinkTimer) → ((l : Line) → aim_of_expiry timer l ≡ at_timer service tei its (place_in l tei))
+        → (circuit.happens (port.expiry timer) s).told ≡ s.told ++ said_by (links.course (terms c service tei) (link.expired its) h.its)
+    expired-told timer its aims =
+        ap (λ (x : wire.Endpoint). x.told) (expired-reply timer s []) ∙ expires-said service tei place (as_endpoint [] s) (bare c service tei place ranged h.its) own timer its aims
+
     -- What is lost is told.
     pub lost-expired : (timer : Timer) (its : LinkTimer) → ((l : Line) → aim_of_expiry timer l ≡ at_timer service tei its (place_in l tei))
         → lost (circuit.happens (port.expiry timer) s) ≡ lost s + (links.told (terms c service tei) (link.expired its) h.its).lost
     lost-expired timer its aims =
         lost-with s (circuit.happens (port.expiry timer) s) (links.course (terms c service tei) (link.expired its) h.its)
-        (ap (λ (x : wire.Endpoint). x.told) (expired-reply timer s []) ∙ expires-said service tei place (as_endpoint [] s) (bare c service tei place ranged h.its) own timer its aims)
+        (expired-told timer its aims)
 
     pub lost-asked : (r : Request) (asked : link.Request) (aims : (l : Line) → aim_of_request r l ≡ at_requested service tei asked (place_in l tei)) (octets : AreOctets (contents_given r)) (e : LinkEvent)
         → (ends-asked c service tei place ranged s h r asked aims octets).event ≡ Some e → lost (circuit.happens (port.request r) s) ≡ lost s + (links.told (terms c service tei) (link.requested asked false) h.its).lost

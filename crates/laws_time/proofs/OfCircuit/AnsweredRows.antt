@@ -3,6 +3,7 @@ use Rattle.std.proofs.Common.{arith, ◌≡◌, ◌≤◌, ℕ, zero, suc, ◌&&
 use Rattle.std.proofs.lemmas.Bool.{true≢false, ne_eqb}
 use Rattle.lapd_frame.specs.declared.controls.Control.{Control}
 use Rattle.lapd_frame.specs.declared.controls.Control.TheVariants.{ReceiveReady, ReceiveNotReady, Sabme, Disc, Ua, Dm}
+use Rattle.lapd_frame.specs.declared.readings.Reading.{Reading}
 use Rattle.lapd_frame.specs.Grammar.{Parts}
 use Rattle.model_link.specs.declared.frames.ControlFrame.{ControlFrame}
 use Rattle.model_link.specs.declared.states.State.{State}
@@ -63,11 +64,11 @@ IsOwnEvent e = ((r : Request) × (e ≡ requested r false)) ⊎ ((timer : LinkTi
 down-is : (state : State) → state_number state ≡ 5 → is_multiple_frame state ≡ false
 down-is state is = grind arith
 
-framed-8 : (state : State) (command : Bool) (control : Control) → state_number (by_frame state command control) ≡ 8 → state_number state ≡ 8
-framed-8 state command control is = grind arith
+framed-8 : (r : Reading) (state : State) (command : Bool) (control : Control) → state_number (by_frame r state command control) ≡ 8 → state_number state ≡ 8
+framed-8 r state command control is = grind arith
 
-framed-6 : (state : State) (command : Bool) (control : Control) → state_number (by_frame state command control) ≡ 6 → state_number state ≡ 6
-framed-6 state command control is = grind arith
+framed-6 : (r : Reading) (state : State) (command : Bool) (control : Control) → state_number (by_frame r state command control) ≡ 6 → state_number state ≡ 6
+framed-6 r state command control is = grind arith
 
 not-five : (n : ℕ) → (n ≡ 8) ⊎ (n ≡ 6) → n ≡ 5 → ⊥
 not-five n (inl is) same = omega (arith, is, same)
@@ -118,15 +119,15 @@ module _ (t : Terms) where
   offer-stays l = leads offer l
 
   -- No frame leads to state 8, nor to state 6.
-  module _ (n : ℕ) (other : n ≡ 5 → ⊥) (framed : (state : State) (command : Bool) (control : Control) → state_number (by_frame state command control) ≡ n → state_number state ≡ n) where
+  module _ (n : ℕ) (other : n ≡ 5 → ⊥) (framed : (state : State) (command : Bool) (control : Control) → state_number (by_frame t.reading state command control) ≡ n → state_number state ≡ n) where
     received-stays : (r : Received) (l : Link) → state_number (state_after t (received r) l) ≡ n → state_number l.state ≡ n
     received-stays r l is = go (is_multiple_frame l.state && is_faulty r l) is
       where
-        by : (r : Received) → state_number (by_received l.state r) ≡ n → state_number l.state ≡ n
+        by : (r : Received) → state_number (by_received t.reading l.state r) ≡ n → state_number l.state ≡ n
         by (frame f) is = framed l.state f.address.command f.control is
         by else is = is
 
-        go : (b : Bool) → state_number (cond b AwaitingEstablishment (by_received l.state r)) ≡ n → state_number l.state ≡ n
+        go : (b : Bool) → state_number (cond b AwaitingEstablishment (by_received t.reading l.state r)) ≡ n → state_number l.state ≡ n
         go true is = absurd (other (sym is))
         go false is = by r is
 
@@ -193,7 +194,7 @@ module _ (t : Terms) where
       )
 
   -- It moves no link to state 7 or 8.
-  kept-up : (state : State) (command : Bool) (control : Control) → enquires command control ≡ true → is_multiple_frame (by_frame state command control) ≡ true → is_multiple_frame state ≡ true
+  kept-up : (state : State) (command : Bool) (control : Control) → enquires command control ≡ true → is_multiple_frame (by_frame t.reading state command control) ≡ true → is_multiple_frame state ≡ true
   kept-up state command control is up = grind arith
 
   was-up : (f : Parts) (l : Link) → enquires f.address.command f.control ≡ true → is_multiple_frame (after t (received (frame f)) l).state ≡ true → is_multiple_frame l.state ≡ true
@@ -202,7 +203,7 @@ module _ (t : Terms) where
       go (is_multiple_frame l.state && is_faulty (frame f) l)
       (ap is_multiple_frame (ap (λ b. state_after t (received (cond b overlong (frame f))) l) (sym x.0) ∙ sym (leads (received (frame f)) l)) ∙ up)
     where
-      go : (b : Bool) → is_multiple_frame (cond b AwaitingEstablishment (by_frame l.state f.address.command f.control)) ≡ true → is_multiple_frame l.state ≡ true
+      go : (b : Bool) → is_multiple_frame (cond b AwaitingEstablishment (by_frame t.reading l.state f.address.command f.control)) ≡ true → is_multiple_frame l.state ≡ true
       go true up = absurd (true≢false (sym up))
       go false up = kept-up l.state f.address.command f.control is up
 
@@ -213,7 +214,7 @@ module _ (t : Terms) where
   not-long : (command : Bool) (control : Control) (info : List ℕ) → replies command control ≡ true → is_overlong t control info ≡ false
   not-long command control info is = grind arith
 
-  moved-on : (state : State) (command : Bool) (control : Control) → replies command control ≡ true → state_number (by_frame state command control) ≡ 8 → ⊥
+  moved-on : (state : State) (command : Bool) (control : Control) → replies command control ≡ true → state_number (by_frame t.reading state command control) ≡ 8 → ⊥
   moved-on state command control is number = grind arith
 
   reply-leaves : (f : Parts) (l : Link) → replies f.address.command f.control ≡ true → state_number (after t (received (frame f)) l).state ≡ 8 → ⊥
@@ -221,7 +222,7 @@ module _ (t : Terms) where
       go (is_multiple_frame l.state && is_faulty (frame f) l)
       (ap state_number (ap (λ b. state_after t (received (cond b overlong (frame f))) l) (sym (not-long f.address.command f.control f.info is)) ∙ sym (leads (received (frame f)) l)) ∙ number)
     where
-      go : (b : Bool) → state_number (cond b AwaitingEstablishment (by_frame l.state f.address.command f.control)) ≡ 8 → ⊥
+      go : (b : Bool) → state_number (cond b AwaitingEstablishment (by_frame t.reading l.state f.address.command f.control)) ≡ 8 → ⊥
       go true number = cc number
       go false number = moved-on l.state f.address.command f.control is number
 
@@ -229,10 +230,10 @@ module _ (t : Terms) where
   short-agreement : (command : Bool) (control : Control) (info : List ℕ) → agrees command control ≡ true → is_overlong t control info ≡ false
   short-agreement command control info is = grind arith
 
-  ends-6 : (state : State) (command : Bool) (control : Control) → agrees command control ≡ true → state_number (by_frame state command control) ≡ 6 → ⊥
+  ends-6 : (state : State) (command : Bool) (control : Control) → agrees command control ≡ true → state_number (by_frame t.reading state command control) ≡ 6 → ⊥
   ends-6 state command control is number = grind arith
 
-  ends-5 : (state : State) (command : Bool) (control : Control) → agrees command control ≡ true → is_multiple_frame state ≡ false → state_number (by_frame state command control) ≡ 5 → ⊥
+  ends-5 : (state : State) (command : Bool) (control : Control) → agrees command control ≡ true → is_multiple_frame state ≡ false → state_number (by_frame t.reading state command control) ≡ 5 → ⊥
   ends-5 state command control is down number = grind arith
 
   agreement-6 : (f : Parts) (l : Link) → agrees f.address.command f.control ≡ true → state_number (after t (received (frame f)) l).state ≡ 6 → ⊥
@@ -240,14 +241,14 @@ module _ (t : Terms) where
       go (is_multiple_frame l.state && is_faulty (frame f) l)
       (ap state_number (ap (λ b. state_after t (received (cond b overlong (frame f))) l) (sym (short-agreement f.address.command f.control f.info is)) ∙ sym (leads (received (frame f)) l)) ∙ number)
     where
-      go : (b : Bool) → state_number (cond b AwaitingEstablishment (by_frame l.state f.address.command f.control)) ≡ 6 → ⊥
+      go : (b : Bool) → state_number (cond b AwaitingEstablishment (by_frame t.reading l.state f.address.command f.control)) ≡ 6 → ⊥
       go true number = cc number
       go false number = ends-6 l.state f.address.command f.control is number
 
   agreement-5 : (f : Parts) (l : Link) → agrees f.address.command f.control ≡ true → is_multiple_frame l.state ≡ false → state_number (after t (received (frame f)) l).state ≡ 5 → ⊥
   agreement-5 f l is down number =
       ends-5 l.state f.address.command f.control is down
-      (ap (λ b. state_number (cond (b && is_faulty (frame f) l) AwaitingEstablishment (by_frame l.state f.address.command f.control))) (sym down)
+      (ap (λ b. state_number (cond (b && is_faulty (frame f) l) AwaitingEstablishment (by_frame t.reading l.state f.address.command f.control))) (sym down)
       ∙ ap state_number (ap (λ b. state_after t (received (cond b overlong (frame f))) l) (sym (short-agreement f.address.command f.control f.info is)) ∙ sym (leads (received (frame f)) l)) ∙ number)
 
   -- What layer 3 asks and what expires leads no link to state 7 or 8, except from there.
@@ -293,7 +294,7 @@ enquiry = record {
   answered = λ t f l is up. answer-put t f l is (was-up t f l is (up refl));
   late = 0;
   few = omega arith;
-  by_frame = λ t f l is. inl (heard-stays t 8 (not-five 8 (inl refl)) framed-8 f l is);
+  by_frame = λ t f l is. inl (heard-stays t 8 (not-five 8 (inl refl)) (framed-8 t.reading) f l is);
   leaves = λ t f l is still number. reply-leaves t f l is number;
 }
 
@@ -331,6 +332,6 @@ release = record {
   answered = λ t f l is up. agreed-put t f l (disc-answered t f.address.command f.control f.info l is);
   late = 0;
   few = omega arith;
-  by_frame = λ t f l is. inl (heard-stays t 6 (not-five 6 (inr refl)) framed-6 f l is);
+  by_frame = λ t f l is. inl (heard-stays t 6 (not-five 6 (inr refl)) (framed-6 t.reading) f l is);
   leaves = λ t f l is still number. agreement-6 t f l is number;
 }

@@ -22,6 +22,11 @@ use Rattle.model_link.specs.Events as link
 use Rattle.model_link.specs.Events.{Event as LinkEvent, received, frame, expired}
 use Rattle.model_link.specs.Link.{Link, state_number, is_multiple_frame, may_repeat, fresh as fresh_link}
 use Rattle.model_link.specs.Machine as links
+use Rattle.model_link.specs.Steps.{Course}
+use Rattle.lapd_frame.specs.declared.notes.Note.{Note}
+use Rattle.model_line.specs.Event.{LineTold}
+use Rattle.std.specs.Prelude.{flat_map}
+use Rattle.std.proofs.lemmas.List.Concat.{flat_map-append}
 use Rattle.model_link.specs.Machine.{after, told}
 use Rattle.model_link.specs.Told.{runs as link_runs}
 use Rattle.model_line.specs.Event as line
@@ -40,7 +45,11 @@ use Rattle.model_card.specs.ports.Event.{at as octet_at}
 use Rattle.model_card.specs.ports.Port as port
 use Rattle.model_card.specs.ports.Port.{Port}
 use Rattle.model_timed.specs.Clock.{Clock, due, without_first}
-use Rattle.laws_link.specs.States.{as_heard, by_expiry, by_request, by_frame, moves}
+use Rattle.laws_link.specs.States.{as_heard, by_expiry, by_request, moves}
+use Rattle.laws_link.specs.Telling.{told_expired}
+use Rattle.laws_link.proofs.Follows.{event-follows}
+use Rattle.laws_wire.specs.Losing.{for_layer_3}
+use Rattle.laws_wire.proofs.Speaking.{said_by}
 use Rattle.laws_link.specs.Waiting.{answers, command_in}
 use Rattle.laws_trace.specs.FramesAreRead.{contents_given}
 use Rattle.laws_trace.specs.Managing.{is_on}
@@ -53,7 +62,7 @@ use Rattle.laws_time.proofs.Links.{on-where, stays-on, view-then}
 use Rattle.laws_time.proofs.OctetsMean.{meant_at}
 use Rattle.laws_time.proofs.Sending.{t200-is}
 use Rattle.laws_time.proofs.OfCircuit.Acts.{own-same}
-use Rattle.laws_time.proofs.OfCircuit.AnsweredEnds.{lost, lost-more, lost-expired, its-same, DueAt, due-same, due-moved, frame-put, text-low}
+use Rattle.laws_time.proofs.OfCircuit.AnsweredEnds.{lost, lost-more, lost-expired, expired-told, its-same, DueAt, due-same, due-moved, frame-put, text-low}
 use Rattle.laws_time.proofs.OfCircuit.AnsweredRows.{Puts, establishes, leads, sabme-in}
 use Rattle.laws_time.proofs.OfCircuit.Ends.{first-of, rest-of, stands-without}
 use Rattle.laws_time.proofs.OfCircuit.Moments.{is_own_t200, is_waiting, awaits-in, counts-on, not-anew, runs-on}
@@ -84,19 +93,32 @@ expiry-closed Established timer true again (inr e) = cc e
 expiry-closed TimerRecovery timer true again (inl e) = cc e
 expiry-closed TimerRecovery timer true again (inr e) = cc e
 
--- No frame leads from state 4 to 5.
-pub heard-five : (s : State) (f : Parts) (b : Bool) → Rings s → state_number (cond (is_multiple_frame s && b) AwaitingEstablishment (by_frame s f.address.command f.control)) ≡ 5 → state_number s ≡ 5
-heard-five AwaitingEstablishment f b r is = refl
-heard-five TeiAssigned f b r is = absurd (not-five f.address.command f.control is)
-  where
-    not-five : (command : Bool) (control : Control) → state_number (by_frame TeiAssigned command control) ≡ 5 → ⊥
-    not-five command control is = grind arith
-heard-five AwaitingRelease f b (inl e) is = cc e
-heard-five AwaitingRelease f b (inr e) is = cc e
-heard-five Established f b (inl e) is = cc e
-heard-five Established f b (inr e) is = cc e
-heard-five TimerRecovery f b (inl e) is = cc e
-heard-five TimerRecovery f b (inr e) is = cc e
+-- Nothing was told layer 3: so it was at any time before.
+abbrev pub IsUntold : List LineTold → Type 0
+IsUntold ts = flat_map for_layer_3 ts ≡ []
+
+none-of-both : (xs ys : List LineTold) → xs ++ ys ≡ [] → (xs ≡ []) × (ys ≡ [])
+none-of-both [] ys e = (refl, e)
+none-of-both (x ∷ xs) ys e = absurd (cc e)
+
+pub untold-parts : (ts us : List LineTold) → IsUntold (ts ++ us) → IsUntold ts × IsUntold us
+untold-parts ts us none = none-of-both (flat_map for_layer_3 ts) (flat_map for_layer_3 us) (sym (flat_map-append for_layer_3 ts us) ∙ none)
+
+-- An end that gives up is told so.
+said-some : (c : Course) (n : Note) (ns : List Note) → c.notes ≡ n ∷ ns → IsUntold (said_by c) → ⊥
+said-some c n ns is none = grind arith
+
+in-5 : (s : State) → state_number s ≡ 5 → s ≡ AwaitingEstablishment
+in-5 s is = grind arith
+
+in-4 : (s : State) → state_number s ≡ 4 → s ≡ TeiAssigned
+in-4 s is = grind arith
+
+given-up : (t : Terms) (its : LinkTimer) (l : Link) → state_number l.state ≡ 5 → state_number (after t (expired its) l).state ≡ 4 → IsUntold (said_by (links.course t (expired its) l)) → ⊥
+given-up t its l five four none =
+    let to = (after t (expired its) l).state in
+    said-some (links.course t (expired its) l) _ _
+    ((event-follows t (expired its) l).leaves.tells ∙ ap (λ s. told_expired s t to) (in-5 l.state five) ∙ ap (λ s. told_expired AwaitingEstablishment t s) (in-4 to four)) none
 
 -- SABME is put again as T200 expires there.
 pub sabme-again : (t : Terms) (l : Link) → state_number (after t (expired T200) l).state ≡ 5 → link_runs T200 l.running ≡ true → Puts t establishes (expired T200) l
@@ -160,6 +182,7 @@ module _ (c : Config) (service : Service) (tei : ℕ) (ranged : IsInRange c) (le
     pub record Kept (a : TimedEndpoint) (h : Ends c service tei 0 ranged a.at) : Type 0 where
       pub low_lost : base ≤ lost a.at
       pub rings : Rings h.its.state
+      pub said : state_number h.its.state ≡ 4 → IsUntold a.at.told → ⊥
       pub due : lost a.at ≤ base → state_number h.its.state ≡ 5 → IsDue a h
 
     pub kept-same : (a : TimedEndpoint) (h k : Ends c service tei 0 ranged a.at) → Kept a h → Kept a k
@@ -168,6 +191,7 @@ module _ (c : Config) (service : Service) (tei : ℕ) (ranged : IsInRange c) (le
         record {
           low_lost = x.low_lost;
           rings = subst (λ (l : Link). Rings l.state) same x.rings;
+          said = λ four. x.said (ap (λ (l : Link). state_number l.state) same ∙ four);
           due = λ few five. go (x.due few (ap (λ (l : Link). state_number l.state) same ∙ five));
         }
       where
@@ -199,6 +223,7 @@ module _ (c : Config) (service : Service) (tei : ℕ) (ranged : IsInRange c) (le
             record {
               low_lost = omega (arith, more, low_is);
               rings = subst Rings (sym same-state) x.rings;
+              said = λ four none. x.said (ap state_number (sym same-state) ∙ four) (untold-parts a.at.told _ none).0;
               due = λ few five.
                   let was = ap state_number (sym same-state) ∙ five in
                   go was five (x.due (omega (arith, more, few)) was);
@@ -263,12 +288,29 @@ module _ (c : Config) (service : Service) (tei : ℕ) (ranged : IsInRange c) (le
             subst (λ s. Rings s × (state_number s ≡ 5 → state_number h.but.ends.its.state ≡ 5)) (sym its-state)
             (expiry-closed h.but.ends.its.state its (link_runs its h.but.ends.its.running) (may_repeat (terms c service tei) h.but.ends.its) x.rings)
 
+        -- what it is told, if it gives up
+        fell-told : (circuit.happens (port.expiry timer) a.at).told ≡ a.at.told ++ said_by (links.course (terms c service tei) (link.expired its) h.but.ends.its)
+        fell-told = expired-told c service tei 0 ranged a.at h.but.ends timer its aims
+
+        fell-said : state_number fell_mv.ends.its.state ≡ 4 → IsUntold (circuit.happens (port.expiry timer) a.at).told → ⊥
+        fell-said four none = go x.rings
+          where
+            parts : IsUntold a.at.told × IsUntold (said_by (links.course (terms c service tei) (link.expired its) h.but.ends.its))
+            parts = untold-parts a.at.told (said_by (links.course (terms c service tei) (link.expired its) h.but.ends.its)) (subst IsUntold fell-told none)
+
+            then_four : state_number (links.after (terms c service tei) (link.expired its) h.but.ends.its).state ≡ 4
+            then_four = ap (λ (l : Link). state_number l.state) (sym (fell_mv.link_is ∙ ap (λ v. option_map_or (λ e. links.after (terms c service tei) e h.but.ends.its) v h.but.ends.its) its-event)) ∙ four
+
+            go : Rings h.but.ends.its.state → ⊥
+            go (inl five) = given-up (terms c service tei) its h.but.ends.its five then_four parts.1
+            go (inr was) = x.said was parts.0
+
         expired-kept : ((lost (circuit.happens (port.expiry timer) a.at) ≤ base) → state_number h.but.ends.its.state ≡ 5 → state_number fell_mv.ends.its.state ≡ 5 → IsDue (happens (port.expiry timer) gone) fell_mv.ends)
             → Then (port.expiry timer) (record a { clock = without_first a.clock })
         expired-kept on =
             let more = lost-more (port.expiry timer) a.at in let low_is = x.low_lost in (
               fell_mv.ends,
-              record { low_lost = omega (arith, more, low_is); rings = closed.0; due = λ few five. on few (closed.1 five) five },
+              record { low_lost = omega (arith, more, low_is); rings = closed.0; said = fell-said; due = λ few five. on few (closed.1 five) five },
             )
 
       t200-kept : Then (port.expiry (timers.T200 service tei)) (record a { clock = without_first a.clock })

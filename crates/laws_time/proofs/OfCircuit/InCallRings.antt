@@ -29,7 +29,7 @@ use Rattle.laws_time.proofs.OfCircuit.AnsweredEnds.{lost-more, due-pull}
 use Rattle.laws_time.proofs.OfCircuit.AnsweredRows.{establishes, offer-stays}
 use Rattle.laws_time.proofs.OfCircuit.Beats.{Counts, at-moment, comes-on}
 use Rattle.laws_time.proofs.OfCircuit.Ends.{Rests, at_time}
-use Rattle.laws_time.proofs.OfCircuit.InCallDue.{Rings, Kept, kept-same, Then, IsDue, runs_at, on-runs, asked-kept, falls-kept}
+use Rattle.laws_time.proofs.OfCircuit.InCallDue.{Rings, untold-parts, Kept, kept-same, Then, IsDue, runs_at, on-runs, asked-kept, falls-kept}
 use Rattle.laws_time.proofs.OfCircuit.Open.{half}
 use Rattle.laws_time.proofs.OfCircuit.Standing.{Ends, Pulled}
 use Rattle.laws_time.proofs.OfCircuit.Under.{EndOk}
@@ -108,7 +108,7 @@ module _ (c : Config) (service : Service) (tei : ℕ) (ranged : IsInRange c) (le
           let soon_now : IsSoonAt t = omega (arith, given, soon) in
           let first = all-asked c service tei 0 ranged lengths rate S M rs t ok soon_now of_link in
           let none = comes-on service tei transit lengths rate c ranged moment n S M rs a h rests now_low high counts soon of_link 0 in
-          let at_first : KeptAt t ok.but.ends = kept-same c service tei ranged lengths rate low most way heard m base t h.but.ends ok.but.ends (record { low_lost = x.low_lost; rings = x.rings; due = x.due }) in
+          let at_first : KeptAt t ok.but.ends = kept-same c service tei ranged lengths rate low most way heard m base t h.but.ends ok.but.ends (record { low_lost = x.low_lost; rings = x.rings; said = x.said; due = x.due }) in
           falls-all (length u.clock.running) first.S' M u first.ok (soon-then c service tei 0 ranged lengths rate S M t u first soon_now)
           (ap (λ (p : Port). length p.given) first.port ∙ given ∙ here) (asks-kept rs S M t ok soon_now at_first all first.ok.but.ends) k
 
@@ -135,6 +135,7 @@ module _ (c : Config) (service : Service) (tei : ℕ) (ranged : IsInRange c) (le
         record {
           low_lost = omega (arith, more, low_is);
           rings = subst Rings (sym same-state) x.rings;
+          said = λ four none. x.said (ap state_number (sym same-state) ∙ four) (untold-parts a.at.told _ none).0;
           due = λ few_lost five. go (ap state_number (sym same-state) ∙ five) five (x.due (omega (arith, more, few_lost)) (ap state_number (sym same-state) ∙ five));
         }
       where

@@ -51,7 +51,7 @@ use Rattle.laws_time.proofs.OfCircuit.AnsweredRows.{establishment, establishment
 use Rattle.laws_time.proofs.OfCircuit.AnsweredRun.{Ready, Stage, asked_by, ready-then, near-lost, near_mv, near-is, near-state, near-after, z}
 use Rattle.laws_time.proofs.OfCircuit.Beats.{Gone}
 use Rattle.laws_time.proofs.OfCircuit.Ends.{Leads}
-use Rattle.laws_time.proofs.OfCircuit.InCallDue.{Rings, IsDue, runs_at, on-runs, heard-five}
+use Rattle.laws_time.proofs.OfCircuit.InCallDue.{Rings, IsUntold, untold-parts, IsDue, runs_at, on-runs}
 use Rattle.laws_time.proofs.OfCircuit.InCallRings.{KeptAt, comes-kept, pull-kept}
 use Rattle.laws_time.proofs.OfCircuit.LongEnough.{by_now, soon, near-low, near-high, near-gone, in-all}
 use Rattle.laws_time.proofs.OfCircuit.Moments.{awaits-in, is_waiting}
@@ -64,23 +64,10 @@ use Rattle.laws_time.specs.circuit.LongEnough.{Line, IsFit, IsTalk, IsOfLink, Is
 unfoldable use Rattle.laws_time.specs.circuit.LongEnough.{AreClear}
 unfoldable use Rattle.laws_time.proofs.OfCircuit.Answered.{Waits}
 
--- A frame that is heard leads to state 5 from there.
-five-was : (s : State) (f : Bool) → Rings s → state_number (cond (is_multiple_frame s && f) AwaitingEstablishment s) ≡ 5 → state_number s ≡ 5
-five-was AwaitingEstablishment f r is = refl
-five-was TeiAssigned f r is = is
-five-was AwaitingRelease f (inl e) is = e
-five-was AwaitingRelease f (inr e) is = cc e
-five-was Established f (inl e) is = e
-five-was Established f (inr e) is = cc e
-five-was TimerRecovery f (inl e) is = e
-five-was TimerRecovery f (inr e) is = cc e
-
-heard-was : (t : Terms) (f : Parts) (l : Link) → Rings l.state → state_number (link_after t (received (frame f)) l).state ≡ 5 → state_number l.state ≡ 5
-heard-was t f l rings is = go (is_overlong t f.control f.info) (ap state_number (sym (leads t (received (frame f)) l)) ∙ is)
-  where
-    go : (b : Bool) → state_number (state_after t (received (cond b overlong (frame f))) l) ≡ 5 → state_number l.state ≡ 5
-    go true is = five-was l.state (is_faulty overlong l) rings is
-    go false is = heard-five l.state f (is_faulty (frame f) l) rings is
+-- Nothing is told at the near end, beat by beat.
+abbrev pub AreUntold : Line → List Beat → Clocked → Type 0
+AreUntold l [] w = Unit {0}
+AreUntold l (b ∷ bs) w = IsUntold (beat l.rate w b).near.at.told × AreUntold l bs (beat l.rate w b)
 
 -- A timer that runs is not due where none is.
 first-or : (number now : ℕ) (timer : Timer) (e : Expiry) (es : List Expiry) (m : ℕ) → now < e.moment → (moment_of number timer es ≡ Some m → now < m) → (b : Bool) → cond b (Some e.moment) (moment_of number timer es) ≡ Some m → now < m
@@ -143,7 +130,7 @@ module _ (l : Line) (fit : IsFit l) (clean base other_base m : ℕ) where
   module _ (w : Clocked) (soon_clean : clean + 1 ≤ w.beats) (y : ReadyAt w.beats w) (b : Beat) (talk : IsTalk l b) (asked : All (λ r. IsOfLink l.service l.tei r × IsAskedOfLink l.service l.tei r) b.near_asks)
       (is_clean : IsClean b) (near_clear : IsClearAt l.near.n201 b.near_noise (gone l.rate b w).near (gone l.rate b w).far) (far_clear : IsClearAt l.near.n201 b.far_noise (gone l.rate b w).far (gone l.rate b w).near)
       (five : state_number y.pair.near_ok.but.ends.its.state ≡ 5) (five_then : state_at l (beat l.rate w b).near ≡ Some 5) (near_few : lost (beat l.rate w b).near.at ≤ base) (far_few : lost (beat l.rate w b).far.at ≤ other_base)
-      (runs_m : runs_now w.near ≡ Some m) where
+      (runs_m : runs_now w.near ≡ Some m) (untold_then : IsUntold (beat l.rate w b).near.at.told) where
     abbrev start : ℕ
     start = w.beats
 
@@ -157,7 +144,10 @@ module _ (l : Line) (fit : IsFit l) (clean base other_base m : ℕ) where
     p = y.pair
 
     first : KeptNow w.near p.near_ok.but.ends
-    first = record { low_lost = y.near_low; rings = inl five; due = λ few five. inl runs_m }
+    first = record { low_lost = y.near_low; rings = inl five; said = λ four none. never (sym five ∙ four); due = λ few five. inl runs_m }
+      where
+        never : ◌≡◌ {A = ℕ} 5 4 → ⊥
+        never wrong = cc wrong
 
     abbrev come : TimedEndpoint
     come = comes_to (w.beats / l.rate) b.near_asks w.near
@@ -193,18 +183,17 @@ module _ (l : Line) (fit : IsFit l) (clean base other_base m : ℕ) where
     five-now = near-state l fit 5 establishment start clean base other_base soon_clean w y b talk is_clean near_clear far_clear 5 five_then
 
     five-pulled : state_number (near-pulls l fit w p b talk).ends.its.state ≡ 5
-    five-pulled = go hears_mv.event hears_mv.by refl
+    five-pulled = go pulled.rings
       where
-        go : (v : Option LinkEvent) → ((e : LinkEvent) → v ≡ Some e → (f : Parts) × (e ≡ link.received (link.frame f))) → hears_mv.event ≡ v → state_number (near-pulls l fit w p b talk).ends.its.state ≡ 5
-        go None by is =
-            ap (λ (x : Link). state_number x.state)
-            (sym (hears_mv.link_is ∙ ap (λ v. option_map_or (λ e. links.after (terms l.near l.service l.tei) e (near-pulls l fit w p b talk).ends.its) v (near-pulls l fit w p b talk).ends.its) is)) ∙ five-now
-        go (Some e) by is =
-            let f = by e refl in
-            heard-was (terms l.near l.service l.tei) f.0 (near-pulls l fit w p b talk).ends.its pulled.rings
-            (ap (λ e. state_number (links.after (terms l.near l.service l.tei) e (near-pulls l fit w p b talk).ends.its).state) (sym f.1)
-            ∙ ap (λ (x : Link). state_number x.state)
-            (sym (hears_mv.link_is ∙ ap (λ v. option_map_or (λ e. links.after (terms l.near l.service l.tei) e (near-pulls l fit w p b talk).ends.its) v (near-pulls l fit w p b talk).ends.its) is)) ∙ five-now)
+        -- what is told in the beat is told before the octet is heard
+        untold-pulled : IsUntold (gone l.rate b w).near.at.told
+        untold-pulled =
+            (untold-parts (gone l.rate b w).near.at.told _
+            (subst (λ (a : TimedEndpoint). IsUntold a.at.told) (near-is l fit 5 establishment start clean base other_base soon_clean w y b talk is_clean near_clear far_clear) untold_then)).0
+
+        go : Rings (near-pulls l fit w p b talk).ends.its.state → state_number (near-pulls l fit w p b talk).ends.its.state ≡ 5
+        go (inl five) = five
+        go (inr four) = absurd (pulled.said four untold-pulled)
 
     abbrev vn : TimedEndpoint
     vn = (gone l.rate b w).near
@@ -267,11 +256,11 @@ module _ (l : Line) (fit : IsFit l) (clean base other_base m : ℕ) where
   abbrev AskBoth : Beat → Type 0
   AskBoth b = All (λ r. IsOfLink l.service l.tei r × IsAskedOfLink l.service l.tei r) b.near_asks
 
-  pub all-ring : (bs : List Beat) (w : Clocked) → clean + 1 ≤ w.beats → ReadyAt w.beats w → All (IsTalk l) bs → All AskBoth bs → AreClear l bs w → All IsClean bs → Waits l 5 bs w → state_at l w.near ≡ Some 5
+  pub all-ring : (bs : List Beat) (w : Clocked) → clean + 1 ≤ w.beats → ReadyAt w.beats w → All (IsTalk l) bs → All AskBoth bs → AreClear l bs w → All IsClean bs → Waits l 5 bs w → AreUntold l bs w → state_at l w.near ≡ Some 5
       → runs_now w.near ≡ Some m → lost (after l.rate bs w).near.at ≤ base → lost (after l.rate bs w).far.at ≤ other_base → (runs_now (after l.rate bs w).near ≡ Some m) ⊎ Again (after l.rate bs w)
   unfolding AreClear Waits
-  all-ring [] w late y talk asked clear is_clean states five runs_m near_few far_few = inl runs_m
-  all-ring (b ∷ bs) w late y talk asked clear is_clean states five runs_m near_few far_few =
+  all-ring [] w late y talk asked clear is_clean states untold five runs_m near_few far_few = inl runs_m
+  all-ring (b ∷ bs) w late y talk asked clear is_clean states untold five runs_m near_few far_few =
       let t = All-head (IsTalk l) b bs talk in
       let ts = All-tail (IsTalk l) b bs talk in
       let c = All-head IsClean b bs is_clean in
@@ -280,9 +269,9 @@ module _ (l : Line) (fit : IsFit l) (clean base other_base m : ℕ) where
       let ready : ReadyAt w.beats (beat l.rate w b) = ready-then l fit 5 establishment w.beats clean base other_base late w y b t c clear.0 clear.1 in
       let rest = grows-all l fit 5 establishment w.beats clean base other_base late bs u ready ts clear.2 cs in
       let n = rest.near_more in let f = rest.far_more in
-      let one = rings-on w late y b t (All-head AskBoth b bs asked) c clear.0 clear.1 (five-of w y.pair five) states.0 (omega (arith, n, near_few)) (omega (arith, f, far_few)) runs_m in
+      let one = rings-on w late y b t (All-head AskBoth b bs asked) c clear.0 clear.1 (five-of w y.pair five) states.0 (omega (arith, n, near_few)) (omega (arith, f, far_few)) runs_m untold.0 in
       elim one [
-        | inl runs_on ↦ all-ring bs u (omega (arith, late)) (ready-at w.beats u.beats u ready) ts (All-tail AskBoth b bs asked) clear.2 cs states.2 states.0 runs_on near_few far_few
+        | inl runs_on ↦ all-ring bs u (omega (arith, late)) (ready-at w.beats u.beats u ready) ts (All-tail AskBoth b bs asked) clear.2 cs states.2 untold.1 states.0 runs_on near_few far_few
         | inr stage ↦
             inr (record {
               since = w.beats;

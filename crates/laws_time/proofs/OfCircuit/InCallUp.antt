@@ -21,7 +21,8 @@ use Rattle.laws_time.proofs.OfCircuit.ArrivBegan.{reached}
 use Rattle.laws_time.proofs.OfCircuit.ArrivFair.{neither}
 use Rattle.laws_time.proofs.OfCircuit.InCallFair.{BothWalk, walks-all, talk-all, n200-lasts-in-a-call}
 use Rattle.laws_time.proofs.OfCircuit.InCallPhase.{in-call}
-use Rattle.laws_time.proofs.OfCircuit.InCallThrough.{t200-there, all-ring, rings-shortly}
+use Rattle.laws_time.proofs.OfCircuit.InCallThrough.{t200-there, all-ring, rings-shortly, AreUntold}
+use Rattle.laws_time.proofs.OfCircuit.InCallDue.{IsUntold}
 use Rattle.laws_time.proofs.OfCircuit.InTime.{PairNow, near_card, far_card, pair-begins}
 use Rattle.laws_time.proofs.OfCircuit.LongEnough.{all-pairs, pair-then}
 use Rattle.laws_time.specs.circuit.Answered.{IsClean, IsUndisturbed, begun, state_at}
@@ -121,8 +122,10 @@ module _ (l : Line) (before noisy clean : List Beat) (b c : Beat) (nothing : All
 
   -- If it rings in the end, it rang all the time.
   module _ (five : state_at l (after l.rate clean w).near ≡ Some 5) (unheard : heard_of (after l.rate clean w).near.at.told ≡ []) where
-    rang : (done rest : List Beat) → done ++ rest ≡ clean → AreClear l rest (after l.rate done w) → PairNow l h.fit (after l.rate done w) → All (IsTalk l) rest → state_at l (after l.rate done w).near ≡ Some 5
-    rang done rest all clear p talk = go (call-now done rest all)
+    untold : (done rest : List Beat) → done ++ rest ≡ clean → AreClear l rest (after l.rate done w) → PairNow l h.fit (after l.rate done w) → All (IsTalk l) rest → heard_of (after l.rate done w).near.at.told ≡ []
+    untold done rest all clear p talk =
+        front-none (heard_of (after l.rate done w).near.at.told) (heard_of walk.near.more)
+        (sym (flat_map-append for_layer_3 (after l.rate done w).near.at.told walk.near.more) ∙ ap heard_of (sym walk.near.grows) ∙ ap (λ (u : Clocked). heard_of u.near.at.told) last ∙ unheard)
       where
         walk : BothWalk l h.fit (after l.rate done w) (after l.rate rest (after l.rate done w))
         walk = walks-all l h.fit rest (after l.rate done w) p talk clear
@@ -130,15 +133,13 @@ module _ (l : Line) (before noisy clean : List Beat) (b c : Beat) (nothing : All
         last : after l.rate rest (after l.rate done w) ≡ after l.rate clean w
         last = sym (fold-append (beat l.rate) w done rest) ∙ ap (λ bs. after l.rate bs w) all
 
-        none : heard_of (after l.rate done w).near.at.told ≡ []
-        none =
-            front-none (heard_of (after l.rate done w).near.at.told) (heard_of walk.near.more)
-            (sym (flat_map-append for_layer_3 (after l.rate done w).near.at.told walk.near.more) ∙ ap heard_of (sym walk.near.grows) ∙ ap (λ (u : Clocked). heard_of u.near.at.told) last ∙ unheard)
-
+    rang : (done rest : List Beat) → done ++ rest ≡ clean → AreClear l rest (after l.rate done w) → PairNow l h.fit (after l.rate done w) → All (IsTalk l) rest → state_at l (after l.rate done w).near ≡ Some 5
+    rang done rest all clear p talk = go (call-now done rest all)
+      where
         go : ((state_at l (after l.rate done w).near ≡ Some 5) × (heard_of (after l.rate done w).near.at.told ≡ [])) ⊎ ((heard_of (after l.rate done w).near.at.told ≡ [] → ⊥) × CameThrough l (after l.rate done w))
             → state_at l (after l.rate done w).near ≡ Some 5
         go (inl x) = x.0
-        go (inr x) = absurd (x.0 none)
+        go (inr x) = absurd (x.0 (untold done rest all clear p talk))
 
     waits : (done rest : List Beat) → done ++ rest ≡ clean → AreClear l rest (after l.rate done w) → PairNow l h.fit (after l.rate done w) → All (IsTalk l) rest → Waits l 5 rest (after l.rate done w)
     unfolding Waits AreClear
@@ -157,6 +158,23 @@ module _ (l : Line) (before noisy clean : List Beat) (b c : Beat) (nothing : All
           subst (λ (u : Clocked). state_at l u.near ≡ Some 5) then (rang (done ++ d ∷ []) rest more clear_then q_then ts),
           (λ e. absurd (cc e)),
           subst (Waits l 5 rest) then (waits (done ++ d ∷ []) rest more clear_then q_then ts),
+        )
+
+    untold-all : (done rest : List Beat) → done ++ rest ≡ clean → AreClear l rest (after l.rate done w) → PairNow l h.fit (after l.rate done w) → All (IsTalk l) rest
+        → AreUntold l rest (after l.rate done w)
+    unfolding AreClear
+    untold-all done [] all clear p talk = tt
+    untold-all done (d ∷ rest) all clear p talk =
+        let k = h.fit.call in
+        let t = All-head (IsTalk l) d rest talk in
+        let ts = All-tail (IsTalk l) d rest talk in
+        let then : after l.rate (done ++ d ∷ []) w ≡ beat l.rate (after l.rate done w) d = fold-append (beat l.rate) w done (d ∷ []) in
+        let more : (done ++ d ∷ []) ++ rest ≡ clean = append_assoc done (d ∷ []) rest ∙ all in
+        let q = pair-then l h.fit.some k.near.0 k.far.0 k.opposite.0 k.opposite.1 h.fit.t200 (near_card l h.fit) (far_card l h.fit) (after l.rate done w) p d t clear.0 clear.1 in
+        let clear_then = subst (AreClear l rest) (sym then) clear.2 in
+        let q_then = subst (PairNow l h.fit) (sym then) q in (
+          subst (λ (u : Clocked). IsUntold u.near.at.told) then (untold (done ++ d ∷ []) rest more clear_then q_then ts),
+          subst (AreUntold l rest) then (untold-all (done ++ d ∷ []) rest more clear_then q_then ts),
         )
 
     -- So it rang no longer than T200 and an answer's time.
@@ -179,7 +197,7 @@ module _ (l : Line) (before noisy clean : List Beat) (b c : Beat) (nothing : All
         let far_kept : lost (after l.rate clean w).far.at ≡ lost w.far.at = subst (λ (u : Clocked). lost (after l.rate clean u).far.at ≡ lost u.far.at) same h.far_kept in
         let asked_clean = all-asked clean (all-right (AreAsked l) (c ∷ []) clean (all-right (AreAsked l) (b ∷ noisy) (c ∷ clean) asked)) in
         rings-shortly l h.fit v.beats base other_base falls.0 w (after l.rate clean w) (length clean) p (omega arith) falls.2 (beats-then l.rate clean w) rest.ready
-        (all-ring l h.fit v.beats base other_base falls.0 clean w (omega arith) y ts asked_clean parts.1.2 cleans (waits [] clean refl parts.1.2 p ts) in_5 falls.1 (omega (arith, near_kept)) (omega (arith, far_kept)))
+        (all-ring l h.fit v.beats base other_base falls.0 clean w (omega arith) y ts asked_clean parts.1.2 cleans (waits [] clean refl parts.1.2 p ts) (untold-all [] clean refl parts.1.2 p ts) in_5 falls.1 (omega (arith, near_kept)) (omega (arith, far_kept)))
       where
         all-asked : (bs : List Beat) → All (AreAsked l) bs → All (λ (b : Beat). All (λ r. IsOfLink l.service l.tei r × IsAskedOfLink l.service l.tei r) b.near_asks) bs
         all-asked [] all = All-nil (λ (b : Beat). All (λ r. IsOfLink l.service l.tei r × IsAskedOfLink l.service l.tei r) b.near_asks)

@@ -1,22 +1,25 @@
 -- Hand-written answers for `lapd_frame_failed`.
-use Rattle.lapd_c.proofs.Vocabulary.{Frames, sym, ap, ◌∙◌}
-use Rattle.model_bits.specs.Stream as stream
-use Rattle.model_card.specs.Machine.{after}
-use Rattle.model_line.specs.Came.{cause_of}
-use Rattle.model_line.specs.Event.{hears}
-use Rattle.model_line.specs.Laws.{orders_in}
-use Rattle.model_timed.specs.Frames.{orders_at}
+use Rattle.lapd_c.specs.Asked.{if_ok}
+use Rattle.lapd_c.specs.Faults.{fault_in}
 use Rattle.lapd_c.specs.Frames.{fails}
-use Rattle.lapd_c.proofs.Served.{frames_there, if_ok, led_to}
-use Rattle.lapd_c.proofs.Timing.{carried-there, obeys}
+use Rattle.model_bits.specs.Stream.{dropped}
+use Rattle.model_line.specs.Came.{cause_of}
+use Rattle.lapd_c.proofs.Calling.{any_ok, frames_called, never_refused_heard, nothing_refused, ok_of, shown_given, three_ok, wrong_of}
 use Rattle.lapd_c.proofs.frames.lapd_frame_failed.Goals as goal
 
--- its orders are carried out
-pub returns-clause-timed : goal.returns-clause-timed
-returns-clause-timed c = λ m s w. if_ok _ _ c.in-Ok.value (sym c.fault_in.ensures ∙ c.in-Ok.is) (
-    let t = frames_there c.in-Some.ensures.card c.in-Frames.is m s in
-    let e = fails c.args.line c.in-Ok.value in
-    carried-there c.in-Some.ensures.card c.args.line (orders_at e m) m (after e m) c.settle.new.self.timers
-    (obeys (Frames c.failed.new.self) c.args.line _ _ c.settle.new.self.timers c.settle.ensures.timed c.settle.ensures.untimed e m
-    (led_to c.args.line (hears (stream.dropped (cause_of c.in-Ok.value))) m c.failed.new.self w (c.failed.ensures.after.stands m t))
-    (c.orders.ensures ∙ ap orders_in (c.failed.ensures.told m t)) tt))
+pub returns-clause-called : goal.returns-clause-called
+returns-clause-called c = frames_called c.args.line (λ m. if_ok (fails c.args.line) (fault_in c.args.cause)) _ _ _ _ c.frame_failed.ensures.call
+    (λ m s w. wrong_of (fails c.args.line) (fault_in c.args.cause) _ (c.frame_failed.ensures.wrong_cause m s w))
+    (λ m s w. ok_of (fails c.args.line) (fault_in c.args.cause) _
+    (any_ok (fault_in c.args.cause) (λ fault. nothing_refused _ _ (never_refused_heard c.args.line (dropped (cause_of fault)) m))))
+    (λ m s w. ok_of (fails c.args.line) (fault_in c.args.cause) _
+    (three_ok (fault_in c.args.cause) (c.frame_failed.ensures.served m s w) (c.frame_failed.ensures.timed m s w) (c.frame_failed.ensures.counted m s w)
+    (λ fault served timed counted none. record {
+      ok = served.0;
+      stands = served.1;
+      shown = shown_given _ _ _ _ served.2;
+      obeyed = timed;
+      counted = counted;
+      reopened = c.frame_failed.ensures.reopened _ served.1 w served.0;
+      expired = c.frame_failed.ensures.expired served.0;
+    })))

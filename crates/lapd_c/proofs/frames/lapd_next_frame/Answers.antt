@@ -1,50 +1,51 @@
 -- Hand-written answers for `lapd_next_frame`.
-use Rattle.lapd_c.proofs.Vocabulary.{◌≡◌, drop, refl, ap, subst, ◌∙◌, option_map, answer, gave_in, next_in, written, alone, goes, Frames}
-use Rattle.std.proofs.Common.{◌≤◌, length, true}
-use Rattle.model_card.specs.Machine.{after}
-use Rattle.model_line.specs.Event.{next}
-use Rattle.lapd_frame.specs.ShortLists.{listed}
-use Rattle.lapd_c.specs.Reports.{ShowsPull}
-use Rattle.lapd_c.proofs.WholeFrames.{next_is, none_goes, none_counted, given_shown, none_said, orders_of_next}
-use Rattle.std.specs.Prelude.{is_some}
-use Rattle.lapd_c.specs.Kept.{orders_by, orders_seen}
-use Rattle.lapd_c.proofs.Reopening.{still_stands}
-use Rattle.lapd_c.proofs.Served.{frames_there, frames_counted, led_to, orders_there}
-use Rattle.lapd_c.proofs.Timing.{carried-there, obeys}
-use Rattle.model_timed.specs.Frames.{orders_at}
+use Rattle.lapd_c.proofs.Vocabulary.{◌≡◌, ℕ, length, IfSome, subst, sym, ap, alone, with_ports, Machine, goes, next_at}
+use Rattle.std.specs.Prelude.{◌≢◌}
+use Rattle.lapd_c.specs.Asked.{next_with_room}
+use Rattle.lapd_c.specs.Cards.{HandleStands, StandsIn}
+use Rattle.lapd_c.specs.Counted.{counters_at, counters_held}
+use Rattle.lapd_c.specs.Statuses as status
+use Rattle.lapd_c.proofs.Calling.{any_some, at_some, frames_called, never_refused_next, next_served, next_wrong, nothing_refused, octets_held, shown_next}
 use Rattle.lapd_c.proofs.frames.lapd_next_frame.Goals as goal
 
-pub returns-in-Ok-None-clause-stays : goal.returns-in-Ok-None-clause-stays
-returns-in-Ok-None-clause-stays c = λ m s not_served. let t = frames_there c.in-Some.ensures.card c.in-Frames.is m s in
-    none_goes c.args.line m c.next_frame.new.self (next_is c.args.line m c.next_frame.new.out c.in-Ok-None.field-0 (c.in-Ok-None.ensures.gave m t) ∙ ap (option_map (next_in c.next_frame.new.out)) c.in-Ok-None.field-0-is) (c.in-Ok-None.ensures.after.stands m t)
+pub returns-clause-called : goal.returns-clause-called
+returns-clause-called c = let room = length c.args.out.now in
+    frames_called c.args.line (next_with_room c.args.line room) _ _ _ _ c.next_frame.ensures.call
+    (λ m s w. next_wrong c.args.line room m _ (c.next_frame.ensures.wrong_length m s w) (c.next_frame.ensures.none m s w))
+    (λ m s w. next_served c.args.line room m _ (λ fits sent is. nothing_refused _ _ (never_refused_next c.args.line m)))
+    (λ m s w. next_served c.args.line room m _ (λ fits sent is none.
+    let given = at_some _ is (c.next_frame.ensures.given m s w fits) in record {
+      ok = given.0;
+      stands = given.1;
+      shown = shown_next _ _ _ c.args.line m sent is given.3;
+      obeyed = c.next_frame.ensures.timed given.0 m s w;
+      counted = c.next_frame.ensures.counted m s w fits;
+      reopened = c.next_frame.ensures.reopened _ given.1 w given.0;
+      expired = c.next_frame.ensures.expired given.0;
+    }))
 
-pub returns-in-Ok-None-clause-uncounted : goal.returns-in-Ok-None-clause-uncounted
-returns-in-Ok-None-clause-uncounted c = λ m s not_served. let t = frames_there c.in-Some.ensures.card c.in-Frames.is m s in
-    c.in-Ok-None.ensures.after.counted m t
-    ∙ none_counted c.args.line m _ (next_is c.args.line m c.next_frame.new.out c.in-Ok-None.field-0 (c.in-Ok-None.ensures.gave m t) ∙ ap (option_map (next_in c.next_frame.new.out)) c.in-Ok-None.field-0-is)
-    ∙ frames_counted c.in-Some.ensures.card c.in-Frames.is
+-- Nothing changes where no frame is given.
+pub returns-clause-unchanged : goal.returns-clause-unchanged
+returns-clause-unchanged c = λ not_ok. (
+  record {
+    stands = λ m s. stays m s not_ok;
+    counters = λ m s. uncounted m s not_ok;
+    marks = c.next_frame.ensures.unmarked not_ok;
+    timers = c.next_frame.ensures.timers not_ok;
+  },
+  (c.next_frame.ensures.untold not_ok).0,
+  (c.next_frame.ensures.untold not_ok).1,
+  (c.next_frame.ensures.untold not_ok).2,
+)
+  where
+    stays : (m : Machine) → HandleStands c.args.handle.now m → c.next_frame.result ≢ status.ok → HandleStands c.next_frame.new.handle m
+    stays (alone m) s not_ok = c.next_frame.ensures.stays m s not_ok
+    stays (with_ports m) s not_ok = subst (λ held. StandsIn held (with_ports m)) (sym (c.next_frame.ensures.other_card (octets_held _ m s))) s
 
-pub returns-in-Ok-None-clause-given : goal.returns-in-Ok-None-clause-given
-returns-in-Ok-None-clause-given c = λ m s within room. let t = frames_there c.in-Some.ensures.card c.in-Frames.is m s in
-    none_said _ _ (next_is c.args.line m c.next_frame.new.out c.in-Ok-None.field-0 (c.in-Ok-None.ensures.gave m t) ∙ ap (option_map (next_in c.next_frame.new.out)) c.in-Ok-None.field-0-is)
+    uncounted : (m : Machine) → HandleStands c.args.handle.now m → c.next_frame.result ≢ status.ok → counters_at c.next_frame.new.handle ≡ counters_at c.args.handle.now
+    uncounted (alone m) s not_ok = c.next_frame.ensures.uncounted m s not_ok
+    uncounted (with_ports m) s not_ok = ap counters_held (c.next_frame.ensures.other_card (octets_held _ m s))
 
-pub returns-in-Ok-Some-clause-given : goal.returns-in-Ok-Some-clause-given
-returns-in-Ok-Some-clause-given c = λ m s within room. let t = frames_there c.in-Some.ensures.card c.in-Frames.is m s in
-    let stands = c.in-Ok-Some.ensures.after.stands m t in
-    given_shown c.args.line m c.settle_given.new.self.card c.args.out.now c.next_frame.new.out c.in-Ok-Some.next.length 0 c.settle_given.new.report c.in-Ok-Some.next c.has_next-more.result (orders_seen c.args.handle.now)
-    (next_is c.args.line m c.next_frame.new.out c.in-Ok-Some.field-0 (c.in-Ok-Some.ensures.gave m t) ∙ ap (option_map (next_in c.next_frame.new.out)) c.in-Ok-Some.field-0-is)
-    refl (still_stands (alone (after (goes c.args.line) m)) c.settle_given.ensures.card stands) (c.has_next-more.ensures (after (goes c.args.line) m) stands) refl
-    (subst (λ g. written g ≤ length c.next_frame.new.out) c.in-Ok-Some.field-0-is c.in-Ok-Some.ensures.fits)
-    (subst (λ g. drop (written g) c.next_frame.new.out ≡ drop (written g) c.args.out.now) c.in-Ok-Some.field-0-is c.in-Ok-Some.ensures.rest)
-    (orders_there c.in-Some.ensures.card c.settle_given.new.report true c.has_next-more.result _
-    (subst (λ os. ShowsPull c.settle_given.new.report true c.has_next-more.result (orders_by (is_some c.in-Some.value.now.timers) (listed os))) c.order_list.ensures c.settle_given.ensures.shown))
-
--- its orders are carried out
-pub returns-in-Ok-Some-clause-timed : goal.returns-in-Ok-Some-clause-timed
-returns-in-Ok-Some-clause-timed c = λ done m s w.
-    let t = frames_there c.in-Some.ensures.card c.in-Frames.is m s in
-    let e = goes c.args.line in
-    carried-there c.in-Some.ensures.card c.args.line (orders_at e m) m (after e m) c.settle_given.new.self.timers
-    (obeys (Frames c.next_frame.new.self) c.args.line _ _ c.settle_given.new.self.timers c.settle_given.ensures.timed c.settle_given.ensures.untimed e m
-    (led_to c.args.line next m c.next_frame.new.self w (c.in-Ok-Some.ensures.after.stands m t))
-    (ap listed c.order_list.ensures ∙ orders_of_next c.args.line m c.next_frame.new.out c.in-Ok-Some.next (subst (λ g. gave_in c.next_frame.new.out g ≡ answer (goes c.args.line) m) c.in-Ok-Some.field-0-is (c.in-Ok-Some.ensures.gave m t))) tt)
+-- What is given is written.
+pub returns-clause-written : goal.returns-clause-written
+returns-clause-written c = λ m s w fits. any_some (next_at c.args.line m) (c.next_frame.ensures.given m s w fits) (λ sent given. given.2)

@@ -1,43 +1,19 @@
--- Hand-written answers for `lapd_octet`: what an octet has ended is shown whole, and its orders are carried out.
-use Rattle.lapd_c.proofs.Vocabulary.{LineTold, Octets, refl, ap, ◌∙◌, with_ports}
-use Rattle.model_card.specs.ports.Card.{after}
+-- Hand-written answers for `lapd_octet`.
+use Rattle.lapd_c.proofs.Vocabulary.{◌<◌, subst, sym, Config}
+use Rattle.model_card.proofs.OfPorts.Steps.{config_after}
 use Rattle.model_card.specs.ports.Event.{at}
 use Rattle.model_card.specs.ports.Port as port
-use Rattle.model_timed.specs.Octets.{orders_at, orders_in}
-use Rattle.lapd_c.proofs.Reopening.{settled_replied, still_replied, still_stands}
-use Rattle.lapd_c.proofs.Served.{nothing_there, replied_there, shown_reply, octets_there}
-use Rattle.lapd_c.proofs.Timing.{carried-there, obeys-meaning, obeys-nothing}
+use Rattle.lapd_c.proofs.Calling.{octets_called}
 use Rattle.lapd_c.proofs.octets.lapd_octet.Goals as goal
 
-pub returns-in-Some-hear-clause-served : goal.returns-in-Some-hear-clause-served
-returns-in-Some-hear-clause-served c = λ m s w. let t = octets_there c.in-Some.ensures.card c.in-Octets.is m s in (
-  refl,
-  still_stands (with_ports (after (at c.args.line (port.octet c.args.octet)) m)) c.settle.ensures.card (c.hear.ensures.after.stands m t),
-  replied_there c.in-Some.ensures.card c.settle.new.report _ (settled_replied _ c.settle.new.report c.show.new.self _ c.settle.ensures.rest
-      (shown_reply m (at c.args.line (port.octet c.args.octet)) _ c.show.new.self t.reached.config (ap port.told c.contents.ensures ∙ c.in-Some-hear.ensures.told m t) c.show.ensures)),
-)
-
-pub returns-in-Some-hear-clause-timed : goal.returns-in-Some-hear-clause-timed
-returns-in-Some-hear-clause-timed c = λ m s w.
-    let t = octets_there c.in-Some.ensures.card c.in-Octets.is m s in
-    let e = at c.args.line (port.octet c.args.octet) in
-    carried-there c.in-Some.ensures.card c.args.line (orders_at e m) m.card (after e m).card c.settle.new.self.timers
-    (obeys-meaning (Octets c.hear.new.self) c.args.line _ _ c.settle.new.self.timers c.settle.ensures.timed c.settle.ensures.untimed c.settle.ensures.none e m refl w
-    (c.hear.ensures.after.stands m t).frames (c.orders.ensures ∙ ap (λ (told : LineTold). told.orders) c.contents.ensures ∙ ap orders_in (c.in-Some-hear.ensures.told m t)) tt)
-
--- one that ended nothing tells nothing, and orders nothing
-pub returns-in-None-hear-clause-served : goal.returns-in-None-hear-clause-served
-returns-in-None-hear-clause-served c = λ m s w. let t = octets_there c.in-Some.ensures.card c.in-Octets.is m s in (
-  refl,
-  still_stands (with_ports (after (at c.args.line (port.octet c.args.octet)) m)) c.tell_reopened.ensures.card (c.hear.ensures.after.stands m t),
-  nothing_there c.args.handle.now.slot.card c.tell_reopened.new.report _ (c.in-None-hear.ensures.told m t)
-      (still_replied c.tell_reopened.new.report c.show_nothing.new.self (port.told _) c.tell_reopened.ensures.rest c.show_nothing.ensures.told),
-)
-
-pub returns-in-None-hear-clause-timed : goal.returns-in-None-hear-clause-timed
-returns-in-None-hear-clause-timed c = λ m s w.
-    let t = octets_there c.in-Some.ensures.card c.in-Octets.is m s in
-    let e = at c.args.line (port.octet c.args.octet) in
-    carried-there c.in-Some.ensures.card c.args.line (orders_at e m) m.card (after e m).card c.tell_reopened.new.self.timers
-    (obeys-nothing (Octets c.hear.new.self) c.args.line _ c.tell_reopened.new.self.timers c.tell_reopened.ensures.timers e m refl w
-    (c.hear.ensures.after.stands m t).frames (ap orders_in (c.in-None-hear.ensures.told m t)) tt)
+pub returns-clause-called : goal.returns-clause-called
+returns-clause-called c = octets_called (at c.args.line (port.octet c.args.octet)) _ _ _ _ c.take_octet.ensures.call
+    (λ m s w. let served = c.take_octet.ensures.served m s w in record {
+      ok = served.0;
+      stands = served.1;
+      shown = served.2;
+      obeyed = c.take_octet.ensures.timed m s w;
+      counted = c.take_octet.ensures.counted m s w;
+      reopened = c.take_octet.ensures.reopened _ served.1 (subst (λ (d : Config). c.args.line < d.lines) (sym (config_after m (at c.args.line (port.octet c.args.octet)))) w) served.0;
+      expired = c.take_octet.ensures.expired served.0;
+    })

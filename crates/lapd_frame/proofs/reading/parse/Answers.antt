@@ -1,5 +1,5 @@
 -- Hand-written answers for `parse`.
-use Rattle.lapd_frame.proofs.Vocabulary.{◌≡◌, slice_index, Some, ap, sym, ◌∙◌, arith, unwrap_or, control_of}
+use Rattle.lapd_frame.proofs.Vocabulary.{◌≡◌, slice_index, Some, ap, sym, ◌∙◌, arith, control_of}
 use Rattle.lapd_frame.proofs.ControlField.{allowed-found}
 use Rattle.lapd_frame.proofs.Spelling.{are-octets, start-within}
 use Rattle.lapd_frame.proofs.reading.parse.Goals as goal

@@ -1,10 +1,10 @@
 -- Hand-written answers for `words_of`.
 use Rattle.lapd_script.proofs.Vocabulary.{ℕ, ◌≤◌, ◌++◌, List, [], ◌∷◌, length, Bor, arith, ap, sym, ◌∙◌, All-push, words_of, texts}
-use Rattle.lapd_script.proofs.WordLemmas.{texts_push, texts_last, texts_full, texts_all, sixteen, fewer}
+use Rattle.lapd_script.proofs.WordLemmas.{texts_push, texts_last, texts_full, texts_all, seventeen, fewer}
 use Rattle.lapd_script.proofs.words.words_of.Goals as goal
 
 pub returns-then-is_full-clause-words : goal.returns-then-is_full-clause-words
-returns-then-is_full-clause-words c = texts_full c.loop-word.words.items _ _ c.loop-word.invariant.words (sixteen _ c.if-is_full.ensures.value)
+returns-then-is_full-clause-words c = texts_full c.loop-word.words.items _ _ c.loop-word.invariant.words (seventeen _ c.if-is_full.ensures.value)
 
 pub loop-word-preserved : goal.loop-word-preserved
 loop-word-preserved c = record {
@@ -19,7 +19,7 @@ loop-word-preserved c = record {
 }
 
 pub returns-then-is_full-2-clause-words : goal.returns-then-is_full-2-clause-words
-returns-then-is_full-2-clause-words c = texts_full c.loop-word.words.items _ _ c.loop-word.invariant.words (sixteen _ c.if-is_full-2.ensures.value)
+returns-then-is_full-2-clause-words c = texts_full c.loop-word.words.items _ _ c.loop-word.invariant.words (seventeen _ c.if-is_full-2.ensures.value)
 
 pub returns-clause-words : goal.returns-clause-words
 returns-clause-words c = rw c.push-2.ensures.items

@@ -1,5 +1,5 @@
 -- Hand-written answers for `LinkLayer::serve_any`.
-use Rattle.lapd_line.proofs.Vocabulary.{management_of, Ok, drop, sym, ap, ◌∙◌, parts_of, message_of, at_side}
+use Rattle.lapd_line.proofs.Vocabulary.{places_of, Ok, drop, sym, ap, ◌∙◌, parts_of, message_of, at_side}
 use Rattle.model_link.specs.Events as link
 use Rattle.lapd_line.proofs.AddressSteps.{aimed, read_as, serves_none, message_sided, managed_sapi}
 use Rattle.lapd_line.proofs.link_layer.LinkLayer.serve_any.Goals as goal
@@ -8,7 +8,7 @@ pub returns-in-Management : goal.returns-in-Management
 returns-in-Management g c =
     read_as c.args.octets.now c.heard_side.result (Ok (parts_of c.in-Ok.frame)) c.heard_side.ensures c.in-Ok.ensures.reading
     (λ others m st. ap (at_side c.args.self.now.config (parts_of c.in-Ok.frame)) (aimed c.args.self.now (g.S.Shelf.store c.args.shelf.now) others m c.in-Ok.frame.address (link.frame (parts_of c.in-Ok.frame)) (message_of c.in-Ok.frame.control c.in-Ok.frame.info.now) _ c.in-Management.ensures.is st)
-    ∙ message_sided c.args.self.now.config (parts_of c.in-Ok.frame) (managed_sapi (management_of c.args.self.now.teis) c.in-Ok.frame.address c.in-Management.ensures.is))
+    ∙ message_sided c.args.self.now.config (parts_of c.in-Ok.frame) (managed_sapi (places_of c.args.self.now.teis) c.in-Ok.frame.address c.in-Management.ensures.is))
     (c.message.ensures c.args.octets.now)
 
 pub returns-in-Link : goal.returns-in-Link

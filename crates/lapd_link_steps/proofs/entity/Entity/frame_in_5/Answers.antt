@@ -9,3 +9,6 @@ returns-in-Ua-true-clause-does c = λ info len. with_known (row.frame_in_5 c.arg
 
 pub returns-in-Ui-clause-does : goal.returns-in-Ui-clause-does
 returns-in-Ui-clause-does c = λ info len. with_known (row.frame_in_5 c.args.terms.now info) c.args.control _ c.in-Ui.is (c.unit_data.ensures.does info _ len)
+
+pub returns-in-Information-clause-does : goal.returns-in-Information-clause-does
+returns-in-Information-clause-does c = λ info len. with_known (row.frame_in_5 c.args.terms.now info) c.args.control _ c.in-Information.is (c.unexpected.ensures.does info _ len)

@@ -49,3 +49,6 @@ returns-in-Ua-true-clause-does c = λ info len. with_known (row.frame_in_7_8 (pa
 
 pub returns-in-Ua-false-clause-does : goal.returns-in-Ua-false-clause-does
 returns-in-Ua-false-clause-does c = λ info len. with_known (row.frame_in_7_8 (particulars c.args.recovering c.args.terms.now) c.args.terms.now c.args.command info) c.args.control (Ua false) (c.in-Ua-false.is ∙ ap Ua c.in-Ua-false.pf-test) (c.error-in-Ua-false.ensures.does _ info _)
+
+pub returns-in-Ui-clause-does : goal.returns-in-Ui-clause-does
+returns-in-Ui-clause-does c = λ info len. with_known (row.frame_in_7_8 (particulars c.args.recovering c.args.terms.now) c.args.terms.now c.args.command info) c.args.control _ c.in-Ui.is (c.unit_in_7_8.ensures.does info len)

@@ -1,8 +1,9 @@
 -- Hand-written answers for `Teis::doubled`.
-use Rattle.lapd_tei.proofs.Vocabulary.{None, IdentityRemove, management_of}
-use Rattle.lapd_tei.proofs.SoundWords.{sound_sent, on_low}
+use Rattle.lapd_tei.proofs.Vocabulary.{IdentityRemove, management_of}
+use Rattle.lapd_tei.proofs.SoundWords.{sound_said, on_low, checked_now}
 use Rattle.lapd_tei.proofs.teis.Teis.doubled.Goals as goal
 
 pub invariant_of-self : goal.invariant_of-self
 invariant_of-self c =
-    sound_sent (management_of c.self.inside) (IdentityRemove c.args.tei) None _ c.self.invariant (on_low _ _ c.args.tei c.self.view_is c.self.invariant c.requires) tt c.send-lost.ensures.waits
+    let on = checked_now _ _ c.args.tei c.self.view_is c.self.invariant c.requires in
+    sound_said (management_of c.self.inside) (IdentityRemove c.args.tei) _ c.self.invariant (on_low _ _ c.args.tei c.self.view_is c.self.invariant on) c.send-lost.ensures.waits

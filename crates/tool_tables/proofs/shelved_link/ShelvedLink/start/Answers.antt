@@ -6,16 +6,16 @@ use Rattle.model_link.specs.Link.{fresh}
 use Rattle.lapd_link.specs.Stands.{LinkStands}
 use Rattle.tool_tables.proofs.shelved_link.ShelvedLink.start.Goals as goal
 
-pub open-requires-clause-down : goal.open-requires-clause-down
-open-requires-clause-down c =
+pub with_terms-requires-clause-down : goal.with_terms-requires-clause-down
+with_terms-requires-clause-down c =
     (empty_store 2 8, [], fresh, c.in_ok-link.ensures.fresh (empty_store 2 8) [] (omega arith) (Holds-empty 2 8), refl)
 
 pub returns : goal.returns
 returns c =
     let shelf : c.in-Ok.shelf ≡ empty_store 2 8 = c.in-Ok.ensures in (
       fresh,
-      subst (λ (s : Store). LinkStands c.open.new.self s [] fresh) (sym shelf)
-          (c.open.ensures.fresh (empty_store 2 8) [] fresh (omega arith)
+      subst (λ (s : Store). LinkStands c.with_terms.new.self s [] fresh) (sym shelf)
+          (c.with_terms.ensures.fresh (empty_store 2 8) [] fresh (omega arith)
           (c.in_ok-link.ensures.fresh (empty_store 2 8) [] (omega arith) (Holds-empty 2 8))),
       ap (λ (s : Store). s.slots) shelf,
     )

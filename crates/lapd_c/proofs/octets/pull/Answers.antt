@@ -1,0 +1,30 @@
+-- Hand-written answers for `pull`: what it orders is carried out.
+use Rattle.lapd_c.proofs.Vocabulary.{Octets, false, refl, ap, subst, ◌∙◌, with_ports, ShowsReply}
+use Rattle.model_card.specs.ports.Card.{after}
+use Rattle.model_card.specs.ports.Event.{at}
+use Rattle.model_card.specs.ports.Port as port
+use Rattle.model_timed.specs.Octets.{orders_at, orders_in}
+use Rattle.lapd_c.specs.Answers.{octet_of}
+use Rattle.lapd_c.specs.Reports.{ShowsPull}
+use Rattle.lapd_c.proofs.Reopening.{settled_replied, still_stands}
+use Rattle.lapd_c.proofs.Served.{replied_there, octets_there}
+use Rattle.lapd_c.proofs.Timing.{carried-there, obeys-meaning}
+use Rattle.lapd_c.proofs.octets.pull.Goals as goal
+
+pub returns-clause-served : goal.returns-clause-served
+returns-clause-served c = λ m s w. let t = octets_there c.in-Some.ensures.card c.in-Octets.is m s in (
+  refl,
+  still_stands (with_ports (after (at c.args.line port.pull) m)) c.settle.ensures.card (c.pull-pulled.ensures.after.stands m t),
+  ap octet_of (c.pull-pulled.ensures.told m t),
+  replied_there c.in-Some.ensures.card c.settle.new.report _ (settled_replied _ c.settle.new.report c.show_pull.new.self _ c.settle.ensures.rest
+      (subst (ShowsReply c.show_pull.new.self) (c.pull-pulled.ensures.told m t)
+      (subst (λ os. ShowsPull c.show_pull.new.self c.pull-pulled.result.begun false os) c.orders.ensures c.show_pull.ensures))),
+)
+
+pub returns-clause-timed : goal.returns-clause-timed
+returns-clause-timed c = λ m s w.
+    let t = octets_there c.in-Some.ensures.card c.in-Octets.is m s in
+    let e = at c.args.line port.pull in
+    carried-there c.in-Some.ensures.card c.args.line (orders_at e m) m.card (after e m).card c.settle.new.self.timers
+    (obeys-meaning (Octets c.pull-pulled.new.self) c.args.line _ _ c.settle.new.self.timers c.settle.ensures.timed c.settle.ensures.untimed c.settle.ensures.none e m refl w
+    (c.pull-pulled.ensures.after.stands m t).frames (c.orders-2.ensures ∙ ap orders_in (c.pull-pulled.ensures.told m t)) tt)

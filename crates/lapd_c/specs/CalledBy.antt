@@ -1,0 +1,102 @@
+-- What a call of a card comes to: it is one event of the machine, or it changes nothing.
+use Rattle.std.specs.Prelude.{◌≡◌, ℕ, Bool, true, false, List, Option, Some, None, IfSome, Result, IfOk, IfErr}
+use Rattle.lapd_count.specs.declared.counters.Counters.{Counters}
+use Rattle.lapd_frame.specs.declared.refusals.Refusal.{Refusal}
+use Rattle.lapd_card.specs.Kinds as kinds
+use Rattle.lapd_card.specs.Kinds.{Machine, with_ports, alone, card_in}
+use Rattle.lapd_card.specs.Waiting.{has_next}
+use Rattle.model_card.specs.Event as frames
+use Rattle.model_card.specs.ports.Event as octets
+use Rattle.model_card.specs.ports.Card as octet_card
+use Rattle.model_card.specs.ports.Port as port
+use Rattle.model_line.specs.Event as line
+use Rattle.lapd_c.specs.declared.card.CardHandle.{CardHandle}
+use Rattle.lapd_c.specs.declared.plain.reports.PlainReport.{PlainReport}
+use Rattle.lapd_c.specs.Answers.{ShowsAnswer, ShowsReply}
+use Rattle.lapd_c.specs.Cards.{card_of, marks_at, IsHandle, HandleStands}
+use Rattle.lapd_c.specs.Counted.{Counts, CountsMeaning, counters_at}
+use Rattle.lapd_c.specs.Kept.{Obeys, ObeysMeaning, is_timed, orders_by, reply_seen_by, seen_by, timers_of}
+use Rattle.lapd_c.specs.Reopened.{TellsReopened}
+use Rattle.lapd_c.specs.Reports.{ShowsPull}
+use Rattle.lapd_c.specs.Statuses as status
+use Rattle.lapd_c.specs.Statuses.{refusal_status}
+use Rattle.lapd_c.specs.Timers.{no_timer}
+
+-- An event at a line of the card of frames, or at one of a card of octets.
+pub data Happening : Type 0 where
+  inside : frames.Event → Happening
+  at_port : octets.Event → Happening
+
+abbrev pub line_of : Happening → ℕ
+line_of (inside e) = e.line
+line_of (at_port e) = e.line
+
+-- The machine after it, and why the machine refuses it, if it does.
+abbrev pub after : Happening → Machine → Machine
+after (inside e) m = kinds.after e m
+after (at_port e) (with_ports m) = with_ports (octet_card.after e m)
+after (at_port e) (alone m) = alone m
+
+abbrev pub why_in : line.Answer → Option Refusal
+why_in (line.told t) = None
+why_in (line.refused why) = Some why
+why_in (line.gave next) = None
+
+abbrev pub why_refused : Happening → Machine → Option Refusal
+why_refused (inside e) m = why_in (kinds.answer e m)
+why_refused (at_port e) m = None
+
+-- The report shows the machine's answer: of a card that keeps its own timers without orders. The next frame is written beside
+-- it; the report tells its orders, and whether another frame waits after it.
+abbrev pub ShowsGiven : Bool → PlainReport → Bool → line.Answer → Type 0
+ShowsGiven timed r more (line.gave None) = ⊥
+ShowsGiven timed r more (line.gave (Some next)) = ShowsPull r true more (orders_by timed next.orders)
+ShowsGiven timed r more answer = ShowsAnswer r (seen_by timed answer)
+
+abbrev pub Shown : Bool → Happening → Machine → PlainReport → Type 0
+Shown timed (inside e) m r = ShowsGiven timed r (has_next e.line (card_in (kinds.after e m))) (kinds.answer e m)
+Shown timed (at_port e) (with_ports m) r = ShowsReply r (reply_seen_by timed (octet_card.answer e m))
+Shown timed (at_port e) (alone m) r = ⊥
+
+-- A card that keeps its own timers has carried out the answer's orders; and what the event shows is counted.
+abbrev pub Obeyed : Happening → Machine → CardHandle → CardHandle → Type 0
+Obeyed (inside e) m old new = Obeys e (card_in m) old new
+Obeyed (at_port e) (with_ports m) old new = ObeysMeaning e m old new
+Obeyed (at_port e) (alone m) old new = ⊥
+
+abbrev pub IsCounted : Happening → Machine → List Counters → List Counters → Type 0
+IsCounted (inside e) m old new = Counts e (card_in m) old new
+IsCounted (at_port e) (with_ports m) old new = CountsMeaning e m old new
+IsCounted (at_port e) (alone m) old new = ⊥
+
+-- The card is the machine after the event, and the report tells what that answered; it names, too, a link that has room again.
+pub record Served (e : Happening) (m : Machine) (old new : CardHandle) (result : ℕ) (r : PlainReport) : Type 0 where
+  pub ok : result ≡ status.ok
+  pub stands : HandleStands new (after e m)
+  pub shown : Shown (is_timed old) e m r
+  pub obeyed : Obeyed e m old new
+  pub counted : IsCounted e m (counters_at old) (counters_at new)
+  pub reopened : TellsReopened (line_of e) (card_in (after e m)) (marks_at old) (marks_at new) r
+  pub expired : r.expired ≡ no_timer
+
+-- A call of a line. What it asks of a machine that stands for the card is an event, or the status that says what is wrong, by
+-- whether the card keeps its own timers.
+pub record Called (asked : Bool → Machine → Result Happening ℕ) (old new : CardHandle) (result : ℕ) (r : PlainReport) : Type 0 where
+  pub handle : IsHandle new
+  pub timed : is_timed new ≡ is_timed old
+  -- If there is no card, if something is wrong, or if the machine refuses the event, the status says so. (That nothing has
+  -- changed then, each call says itself.)
+  pub no_card : card_of old ≡ None → result ≡ status.no_card
+  pub wrong : (m : Machine) → HandleStands old m → IfErr (asked (is_timed old) m) (λ wrong. result ≡ wrong)
+  pub refused : (m : Machine) → HandleStands old m
+      → IfOk (asked (is_timed old) m) (λ e. IfSome (why_refused e m) (λ why. result ≡ refusal_status why))
+  -- Else the event happens.
+  pub served : (m : Machine) → HandleStands old m
+      → IfOk (asked (is_timed old) m) (λ e. why_refused e m ≡ None → Served e m old new result r)
+
+-- The card stands for the same machine, and has counted nothing; the same links wait for room, and its timers are as they were.
+pub record Unchanged (old new : CardHandle) : Type 0 where
+  pub stands : (m : Machine) → HandleStands old m → HandleStands new m
+  pub counters : (m : Machine) → HandleStands old m → counters_at new ≡ counters_at old
+  pub marks : marks_at new ≡ marks_at old
+  pub timers : timers_of new ≡ timers_of old

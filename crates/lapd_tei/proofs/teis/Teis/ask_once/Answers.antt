@@ -1,0 +1,8 @@
+-- Hand-written answers for `Teis::ask_once`.
+use Rattle.lapd_tei.proofs.Vocabulary.{IdentityCheckRequest, management_of}
+use Rattle.lapd_tei.proofs.SoundWords.{sound_said, on_low}
+use Rattle.lapd_tei.proofs.teis.Teis.ask_once.Goals as goal
+
+pub invariant_of-self : goal.invariant_of-self
+invariant_of-self c =
+    sound_said (management_of c.self.inside) (IdentityCheckRequest c.args.tei) _ c.self.invariant (on_low _ _ c.args.tei c.self.view_is c.self.invariant c.requires) c.send-lost.ensures.waits

@@ -25,6 +25,10 @@ const SIDES = [
   ["user", "the user's: a trunk's end"],
   [TERMINAL, "the user's: a terminal"],
 ];
+const READINGS = [
+  ["", "the profile's"],
+  ["annex-b", "annex B's"],
+];
 export const USUAL = "card 1 8 7 8 4 4 64 260 3";
 
 /** The card line of a script: its number and words; null where its first line is none. */
@@ -72,6 +76,8 @@ export class Card {
     this.field("seed", "a terminal's first reference number: 0 to 65535 (clause 5.3.2)", this.seed);
     NUMBERS.forEach(([name, least, most, words], at) => this.field(name, `${words}: ${least} to ${most}`, this.numbers[at]));
     this.field("SAPI", "the SAPI of packet links: 1 to 62; where it is left out, it is 16", this.sapi);
+    this.reading = choice("rows", READINGS);
+    this.field("rows", "which rows of the tables hold where readers of the standard differ", this.reading);
     form.addEventListener("change", () => onChanged(this.text()));
     form.addEventListener("submit", (event) => event.preventDefault());
   }
@@ -89,7 +95,7 @@ export class Card {
     if (!this.numbers.at(-1).value) numbers.pop();
     const side = this.side.value === TERMINAL ? `user ${this.seed.value || "0"}` : this.side.value;
     const sapi = this.sapi.value ? `sapi ${this.sapi.value}` : "";
-    return [this.kind.value, ...numbers, side, sapi].filter((it) => it !== "").join(" ");
+    return [this.kind.value, ...numbers, side, sapi, this.reading.value].filter((it) => it !== "").join(" ");
   }
 
   /** Shows the card line of a script. */
@@ -97,6 +103,7 @@ export class Card {
     this.form.classList.toggle("is-none", !found);
     const words = found ? [...found.words] : USUAL.split(" ");
     this.kind.value = words[0];
+    this.reading.value = words.at(-1) === "annex-b" ? words.pop() : "";
     const sapi = words.at(-2) === "sapi" ? words.splice(-2)[1] : "";
     if (document.activeElement !== this.sapi) this.sapi.value = /^[0-9]+$/.test(sapi) ? String(Number(sapi)) : "";
     const seed = words.at(-2) === "user" && /^[0-9]+$/.test(words.at(-1)) ? words.splice(-1)[0] : "";

@@ -9,8 +9,9 @@ export class Editor {
     this.gutter = gutter;
     this.bands = bands;
     this.marks = { fault: null, here: null, end: null };
+    this.height = 0; // of the text as it was drawn last
     text.addEventListener("scroll", () => this.draw());
-    new ResizeObserver(() => this.draw()).observe(text);
+    new ResizeObserver(() => this.resized()).observe(text);
   }
 
   get value() {
@@ -53,6 +54,18 @@ export class Editor {
     if (top < scrollTop || top + 2 * LINE_HEIGHT > scrollTop + clientHeight) {
       this.text.scrollTo(0, Math.max(0, top - clientHeight / 3));
     }
+    this.draw();
+  }
+
+  /** The line that is being written stays in view as the verdict below takes more room. */
+  resized() {
+    if (document.activeElement === this.text) {
+      const bottom = this.line() * LINE_HEIGHT;
+      const { scrollTop, clientHeight } = this.text;
+      const isCovered = bottom > scrollTop + clientHeight && bottom <= scrollTop + this.height;
+      if (isCovered) this.text.scrollTo(this.text.scrollLeft, bottom - clientHeight);
+    }
+    this.height = this.text.clientHeight;
     this.draw();
   }
 

@@ -9,7 +9,7 @@ import { MOST_OCTETS, fragmentOf, save, scriptIn } from "./links.mjs";
 
 const PATIENCE = 120; // milliseconds from a key to a play
 const NARROW = "(max-width: 760px)"; // as page.css has it
-const LOW = "(max-height: 500px)"; // as page.css has it
+const LOW = "(max-height: 640px)"; // as page.css has it
 
 const byId = (id) => document.getElementById(id);
 const data = JSON.parse(byId("data").textContent);
@@ -95,6 +95,7 @@ class Page {
   }
 
   put(script) {
+    this.shown.leaveHelp();
     this.upTo = null;
     this.editor.marks.here = null;
     this.editor.value = script;
@@ -104,6 +105,7 @@ class Page {
 
   edited() {
     byId("menu").value = "";
+    this.shown.leaveHelp();
     this.editor.draw();
     clearTimeout(this.waiting);
     document.body.dataset.state = "playing";
@@ -179,6 +181,7 @@ class Page {
   }
 
   playTo(line) {
+    this.shown.leaveHelp();
     this.upTo = line;
     if (line !== null) this.editor.show(line, false);
     this.play();

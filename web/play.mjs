@@ -53,6 +53,7 @@ class Cutter {
     this.clock = 0;
     this.isForFrames = false;
     this.isUser = false; // the card is the user's side
+    this.isTerminal = false; // and a terminal
     this.step = SECOND; // what the lengths of all timers are multiples of
     this.moments = new Set(); // those of lines of the script, but for whole steps
     this.sides = new Map();
@@ -74,6 +75,7 @@ class Cutter {
     this.moments.add(this.clock % this.step);
     this.isForFrames ||= line.word() === "frames";
     this.isUser ||= line.isOfUser();
+    this.isTerminal ||= line.isOfTerminal();
     const brings = line.brings();
     if (brings === null) return [this.piece(line, line.text, new Uint8Array(), failed(line))];
     if (this.isForFrames) return [this.piece(line, line.text, brings.octets, [whole(brings.octets)])];
@@ -205,5 +207,7 @@ export function play(program, script, progress = () => {}) {
     const { line, at: clock } = piece;
     return { line, at: clock, ...traffic(cutter, piece, answer), answer, isOfNetwork: isSent !== cutter.isUser };
   });
-  return { ...ended, clock: cutter.clock, isUser: cutter.isUser || Boolean(faulty?.isOfUser()), steps };
+  const isUser = cutter.isUser || Boolean(faulty?.isOfUser());
+  const isTerminal = cutter.isTerminal || Boolean(faulty?.isOfTerminal());
+  return { ...ended, clock: cutter.clock, isUser, isTerminal, steps };
 }

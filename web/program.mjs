@@ -1,4 +1,4 @@
-// The proved program, as a module of WebAssembly: `lapd_page_play` of crates/lapd_page.
+// The program that is made from the proved one, as a module of WebAssembly: `lapd_page_play` of crates/lapd_page.
 
 const DONE = 0;
 const FAULTY = 1;

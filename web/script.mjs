@@ -4,6 +4,7 @@
 const LONGEST_LINE = 4096;
 const LONGEST_WAIT = 3600000;
 const LINE_FEED = 10;
+export const USUAL_SAPI = "16"; // of packet links
 const OCTETS = /^(rx|in) ([0-9]+) (-|(?:[0-9A-Fa-f]{2})*)$/;
 const WAIT = /^wait ([0-9]+)$/;
 const TIMERS = /^timers 0*([1-9][0-9]*) 0*([1-9][0-9]*) 0*([1-9][0-9]*)(?: 0*([1-9][0-9]*))?$/;
@@ -62,8 +63,24 @@ export class Line {
 
   /** Whether it is a card line whose card is the user's side. */
   isOfUser() {
+    return this.isCard() && this.words().includes("user");
+  }
+
+  /** Whether it is one whose card is a terminal: the seed stands after `user`. */
+  isOfTerminal() {
     const words = this.words();
-    return ["card", "frames"].includes(words[0]) && words.slice(-4).includes("user");
+    return this.isOfUser() && /^[0-9]+$/.test(words[words.indexOf("user") + 1] ?? "");
+  }
+
+  /** The SAPI of packet links that a card line has. */
+  sapi() {
+    const words = this.words();
+    const found = this.isCard() && words.includes("sapi") ? words[words.indexOf("sapi") + 1] : "";
+    return /^[0-9]+$/.test(found ?? "") ? found.replace(/^0+(?=.)/, "") : USUAL_SAPI;
+  }
+
+  isCard() {
+    return ["card", "frames"].includes(this.word());
   }
 
   /** Of `wait` the milliseconds; else null. */

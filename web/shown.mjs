@@ -2,7 +2,7 @@
 
 import { Rows, element } from "./lists.mjs";
 import { headDrawn, rowDrawer } from "./ladder.mjs";
-import { NETWORK_SIDE, USER_SIDE } from "./story.mjs";
+import { NETWORK_SIDE, TERMINAL_SIDE, USER_SIDE } from "./story.mjs";
 import { save } from "./links.mjs";
 
 const SHOW_AFTER = 250; // milliseconds before a play that goes on is told of
@@ -25,6 +25,11 @@ export class Shown {
       this.byId(`tab-${it}`).setAttribute("aria-selected", String(it === name));
       this.byId(`tab-${it}`).tabIndex = it === name ? 0 : -1;
     }
+  }
+
+  /** Help makes room for the ladder, once there is something new to see. */
+  leaveHelp() {
+    if (!this.byId("help").hidden) this.open("ladder");
   }
 
   pressed({ key, target }) {
@@ -74,9 +79,10 @@ export class Shown {
     this.ladder = element("div", "ladders");
   }
 
-  addLadder({ ladder, isUser, capture }, name) {
+  addLadder({ ladder, isUser, isTerminal, capture }, name) {
     this.renew();
-    const names = isUser ? USER_SIDE : NETWORK_SIDE;
+    const user = isTerminal ? TERMINAL_SIDE : USER_SIDE;
+    const names = isUser ? user : NETWORK_SIDE;
     const button = element("button", "", "Capture for Wireshark");
     button.type = "button";
     button.addEventListener("click", () => save(`${name}-line-${ladder}.pcap`, capture, "application/vnd.tcpdump.pcap"));

@@ -3,6 +3,7 @@
 
 import { isDrop } from "./bits.mjs";
 import { digits, headOf, meaningOf, read } from "./frames.mjs";
+import { USUAL_SAPI } from "./script.mjs";
 
 // How a row is drawn: the arrow between two of the three, or words beside the card.
 export const IN = "in"; // between the other side and the card
@@ -16,9 +17,10 @@ export const COMMENT = "comment";
 export const PAUSE = "pause";
 export const FAULT = "fault";
 export const FROM_THE_LEFT = [IN, CUT, REST, UP];
-// The three, from left to right, where the card is the network's side, and where it is the user's.
+// The three, from left to right, if the card is the network's side, a trunk's end, or a terminal.
 export const NETWORK_SIDE = ["terminal", "exchange", "layer 3"];
 export const USER_SIDE = ["exchange", "user", "layer 3"];
+export const TERMINAL_SIDE = ["exchange", "terminal", "layer 3"];
 
 const FLAG_OCTET = 0x7e;
 const ONES_OCTET = 0xff;
@@ -61,8 +63,8 @@ function ofRest(step) {
 }
 
 /** What a line of a transcript tells, after the number of its line; nothing of what a line takes. */
-function ofAnswer(step, said) {
-  const row = (kind, head, more) => [rowOf(step.line.number, step.at, kind, head, more)];
+function ofAnswer(step, said, sapi) {
+  const row = (kind, head, more) => [withSapi(rowOf(step.line.number, step.at, kind, head, more), "-16", sapi)];
   const [word, ...words] = said.split(" ");
   if (["tx", "frame", "nothing"].includes(word)) return [];
   if (["dropped", "lost", "counter"].includes(word)) return row(BESIDE, said);
@@ -70,10 +72,19 @@ function ofAnswer(step, said) {
   return row(UP, said);
 }
 
-function ofRequest(step) {
+/** A row about a packet link, whose first word ends so: if its SAPI is another than the usual one, that stands below the arrow
+ * in place of the ending. */
+function withSapi(row, ending, sapi) {
+  const [word, ...rest] = row.head.split(" ");
+  if (sapi === USUAL_SAPI || !word.endsWith(ending)) return row;
+  return { ...row, head: [word.slice(0, -ending.length), ...rest].join(" "), meaning: `sapi ${sapi}` };
+}
+
+function ofRequest(step, sapi) {
   const [word, , tei, contents] = step.line.words();
   const info = contents === undefined ? "" : contents.toUpperCase() || "-";
-  return rowOf(step.line.number, step.at, DOWN, tei === undefined ? word : `${word} ${Number(tei)}`, { info });
+  const row = rowOf(step.line.number, step.at, DOWN, tei === undefined ? word : `${word} ${Number(tei)}`, { info });
+  return withSapi(row, "16", sapi);
 }
 
 /** What ended in the octets of a step. Frames are cut where the card says that it dropped more than the drops. */
@@ -85,8 +96,8 @@ function ofTraffic(step) {
   );
 }
 
-/** What a step shows on a line of the card. */
-function ofStep(step, about) {
+/** What a step shows on a line of the card, whose packet links have this SAPI. */
+function ofStep(step, about, sapi) {
   const rows = [];
   const word = step.line.word();
   if (step.line.about() === about) {
@@ -95,13 +106,13 @@ function ofStep(step, about) {
     } else if (["rx", "in", "failed"].includes(word)) {
       rows.push(...ofTraffic(step), ...(step.heard.length ? [] : ofRest(step)));
     } else if (!["counters", "messages"].includes(word)) {
-      rows.push(ofRequest(step));
+      rows.push(ofRequest(step, sapi));
     }
   }
   for (const said of step.answer) {
     const [line] = said.split(" ", 1);
     if (line === "stored") rows.push(rowOf(step.line.number, step.at, BESIDE, said));
-    else if (line === String(about)) rows.push(...ofAnswer(step, said.slice(line.length + 1)));
+    else if (line === String(about)) rows.push(...ofAnswer(step, said.slice(line.length + 1), sapi));
   }
   return rows;
 }
@@ -161,6 +172,7 @@ function paused(rows, waits) {
 /** The rows of each line of the card of which the script speaks, by the line's number. */
 export function stories(steps) {
   const told = followed(steps);
+  const sapi = told.find((it) => it.step.line.isCard())?.step.line.sapi() ?? USUAL_SAPI;
   const lines = new Set(told.map((it) => it.about).filter((it) => it !== null));
   for (const { step } of told) {
     for (const it of step.answer) if (!it.startsWith("stored")) lines.add(Number(it.split(" ", 1)[0]));
@@ -171,7 +183,7 @@ export function stories(steps) {
   for (const { about, step } of told) {
     const those = about === null ? numbers : [about];
     for (const line of those) {
-      const rows = step.line.isSkipped() ? [ofComment(step)] : ofStep(step, line);
+      const rows = step.line.isSkipped() ? [ofComment(step)] : ofStep(step, line, sapi);
       for (const row of rows) found.get(line).push(row);
     }
   }

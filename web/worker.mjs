@@ -12,10 +12,10 @@ function* told(module, script) {
   let waiting = [];
   const played = play(new Program(module), script, (progress, part) => postMessage({ progress, part }));
   const lines = stories(played.steps);
-  const { status, fault, transcript, isUser, clock } = played;
+  const { status, fault, transcript, isUser, isTerminal, clock } = played;
   for (const [line, rows] of lines) {
     if (fault) rows.push({ line: played.line, at: clock, kind: FAULT, head: fault, info: "", meaning: "", beside: "" });
-    yield { ladder: line, isUser, capture: written(packets(played.steps, line), isUser) };
+    yield { ladder: line, isUser, isTerminal, capture: written(packets(played.steps, line), isUser) };
     for (let at = 0; at < rows.length; at += MANY) yield { more: rows.slice(at, at + MANY) };
   }
   for (const step of played.steps) {

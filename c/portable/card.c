@@ -3,14 +3,14 @@
 /* A machine whose heap has so many octets, on which nothing was started; NULL where there is no memory. */
 static machine *new_machine(u64 heap) {
     u64 octets = HEAP + heap;
-    if (octets > (size_t)-1 - sizeof(machine) - BEHIND || octets > 0xFFFFFFF0)
+    if (octets > (size_t)-1 - sizeof(own) - BEHIND || octets > 0xFFFFFFF0)
         return NULL;
-    rattle_tried tried = rattle_alloc(sizeof(machine) + (size_t)octets + BEHIND, 8);
+    rattle_tried tried = rattle_alloc(sizeof(own) + (size_t)octets + BEHIND, 8);
     if (!tried.there)
         return NULL;
-    machine *instance = tried.at;
-    memset(instance->data, 0, HEAP);
-    instance->octets = (u32)octets;
+    machine *instance = (u8 *)tried.at + sizeof(own);
+    memset(instance, 0, HEAP);
+    OWN(instance)->octets = (u32)octets;
     init_globals(instance);
     init_memories(instance);
     w2c_module_heap(instance, HEAP, octets);
@@ -29,6 +29,7 @@ static u32 fault_of(const lapd_config *config) {
         {config->control, 2, 16, LAPD_BAD_CONTROL},       {config->slots, 1, 8192, LAPD_BAD_SLOTS},
         {config->n201, 8, LAPD_MOST_OCTETS, LAPD_BAD_N201}, {config->n200, 0, 10, LAPD_BAD_N200},
         {config->sapi, 0, 62, LAPD_BAD_SAPI},             {config->side, 0, LAPD_TERMINAL, LAPD_BAD_SIDE},
+        {config->reading, 0, LAPD_ANNEX_B, LAPD_BAD_READING},
     };
     for (size_t i = 0; i < sizeof fields / sizeof *fields; i++)
         if (fields[i].value < fields[i].least || fields[i].value > fields[i].most)
@@ -79,7 +80,7 @@ static uint32_t start(bool *started, void **at, const lapd_config *config, u64 h
         *started = true;
         *at = instance;
     } else {
-        rattle_dealloc(instance);
+        rattle_dealloc(OWN(instance));
     }
     return status;
 }
@@ -130,7 +131,7 @@ static uint32_t finish(bool *started, void **at, uint32_t none, ends *call) {
     if (!*started)
         return none;
     u32 status = call(machine_of(*at), HANDLE);
-    rattle_dealloc(*at);
+    rattle_dealloc(OWN(*at));
     *started = false;
     *at = NULL;
     return status;
@@ -168,14 +169,14 @@ uint32_t lapd_exchange(lapd_card *card, uint32_t line, const uint8_t *in, size_t
     for (;;) {
         size_t from = *steps / 2, run = at_most(in_length - from, RUN), first = *steps % 2, last = first;
         if (run != 0)
-            memcpy(instance->data + IN, in + from, run);
+            memcpy(instance + IN, in + from, run);
         put_size_t(instance, STEPS, &last);
         u32 status = w2c_lapd_exchange(instance, HANDLE, line, IN, run, OUT, run, STEPS, REPORT);
         if (status != LAPD_OK)
             return status;
         get_size_t(instance, STEPS, &last);
         if (run != 0)
-            memcpy(out + from, instance->data + OUT, at_most(last / 2, run));
+            memcpy(out + from, instance + OUT, at_most(last / 2, run));
         *steps = 2 * from + last;
         get_lapd_report(instance, REPORT, report);
         if (lapd_tells(report) || *steps == 2 * in_length)
@@ -187,22 +188,22 @@ uint32_t lapd_exchange(lapd_card *card, uint32_t line, const uint8_t *in, size_t
 uint32_t lapd_frame_text(const uint8_t *octets, size_t length, uint16_t side, char *text, size_t room) {
     enum { MOST_OCTETS = 1029, MOST_TEXT = 2176, OCTETS = OTHER, TEXT = OCTETS + 1040, END = TEXT + MOST_TEXT };
     union {
-        machine own;
-        u8 room[sizeof(machine) + END + BEHIND];
+        own first;
+        u8 room[sizeof(own) + END + BEHIND];
     } of;
-    machine *instance = &of.own;
+    machine *instance = of.room + sizeof(own);
     if (octets == NULL && length == 0)
         octets = &no_octet;
     if (octets == NULL || (text == NULL && room != 0))
         return LAPD_WRONG_POINTER;
-    memset(instance->data, 0, END);
-    instance->octets = END;
+    memset(instance, 0, END);
+    OWN(instance)->octets = END;
     init_globals(instance);
     init_memories(instance);
-    memcpy(instance->data + OCTETS, octets, at_most(length, MOST_OCTETS));
+    memcpy(instance + OCTETS, octets, at_most(length, MOST_OCTETS));
     u32 status = w2c_lapd_frame_text(instance, OCTETS, at_most(length, MOST_OCTETS), side, TEXT, at_most(room, MOST_TEXT));
     for (size_t i = 0; status == LAPD_OK && i < at_most(room, MOST_TEXT); i++) {
-        text[i] = (char)instance->data[TEXT + i];
+        text[i] = (char)instance[TEXT + i];
         if (text[i] == 0)
             break;
     }

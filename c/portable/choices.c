@@ -7,6 +7,7 @@
  * -DLAPD_OWN_MEMORY            they lie in memory of the program's rattle_alloc and rattle_dealloc: lapd_memory.h declares them
  * -DLAPD_MALLOC                malloc also where the compiler says that there is no C library (-ffreestanding)
  * -DLAPD_SYMBOLS               what lapd.h defines inline is exported, too, for languages that read no header of C
+ * -DLAPD_CHECKED               where it would end the program by abort(), it says why before, on standard error
  * -DLAPD_BIG_END_FIRST=0|1     the order of octets, where the compiler does not tell it as GCC and Clang do
  * -DLAPD_UNTESTED              accesses to a card's memory are not tested: the proofs say that each is inside of it, if the
  *                              steps after them are right, and if the stack in it suffices, which is only tested
@@ -24,5 +25,10 @@
 #ifdef LAPD_SYMBOLS
 #define LAPD_INLINE
 #endif
+#ifdef LAPD_CHECKED
 #undef LAPD_CHECKED /* each call looks at its pointers by itself */
+#if !defined(__STDC_HOSTED__) || __STDC_HOSTED__
+#define LAPD_SAYS_WHY /* before it ends the program */
+#endif
+#endif
 #include "lapd.h"

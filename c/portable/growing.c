@@ -1,7 +1,9 @@
+#define OWN(instance) (instance)
+#define MEMORY(instance) (instance)->data
 /* The program's memory grows. So its size is looked up at each access. */
 #define FUNC_PROLOGUE (void)instance
 #define LIMIT (u32)instance->octets
-#define LOAD_DATA(memory, at, octets, count) memcpy(instance->data + (at), octets, count)
+#define LOAD_DATA(memory, at, octets, count) memcpy(MEMORY(instance) + (at), octets, count)
 #define wasm_rt_allocate_memory(memory, least, most) (void)0
 
 enum { PAGE = 65536, MOST_PAGES = 65535 };

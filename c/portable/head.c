@@ -29,7 +29,13 @@ typedef int64_t s64;
 #endif
 
 /* What cannot be, by the proofs, ends the program. */
+#ifdef LAPD_SAYS_WHY
+#include <stdio.h>
+#define WHY "lapd.c: an access outside of a card or a clock. Is a copy of one used that was freed, or were its fields changed?\n"
+#define TRAP() ((void)fputs(WHY, stderr), abort())
+#else
 #define TRAP() abort()
+#endif
 #define UNREACHABLE TRAP()
 #define FUNC_EPILOGUE
 
@@ -45,7 +51,7 @@ enum { BEHIND = AHEAD + WIDEST };
 #define TEST_BLOCK(at, count) (void)0
 #else
 #define TEST(at) do { if (UNLIKELY((at) > most)) TRAP(); } while (0)
-#define TEST_BLOCK(at, count) do { if (UNLIKELY((u64)(at) + (count) > instance->octets)) TRAP(); } while (0)
+#define TEST_BLOCK(at, count) do { if (UNLIKELY((u64)(at) + (count) > OWN(instance)->octets)) TRAP(); } while (0)
 #endif
 
 /* A number of the module's memory, which has the low octet first, as the processor has it, and back. */

@@ -1,7 +1,7 @@
 /* What lies at a place, which is tested. */
 static inline reach *reached(const machine *instance, u32 most, place at) {
     TEST(at);
-    return (reach *)((u8 *)instance->data + at);
+    return (reach *)((u8 *)MEMORY(instance) + at);
 }
 
 DEFINE_LOAD(i32_load, 32, u32, u32)
@@ -26,14 +26,14 @@ DEFINE_STORE(i64_store32, 32, u64)
 
 static inline void memory_fill(machine *instance, u32 at, u32 octet, u32 count) {
     TEST_BLOCK(at, count);
-    memset(instance->data + at, (int)(octet & 0xFF), count);
+    memset(MEMORY(instance) + at, (int)(octet & 0xFF), count);
 }
 
 static inline void memory_copy(machine *instance, machine *same, u32 to, u32 from, u32 count) {
     (void)same;
     TEST_BLOCK(to, count);
     TEST_BLOCK(from, count);
-    memmove(instance->data + to, instance->data + from, count);
+    memmove(MEMORY(instance) + to, MEMORY(instance) + from, count);
 }
 
 /* ---- Instructions of WebAssembly that C has not ------------------------------------------------------------------- */

@@ -11,7 +11,7 @@ import re
 from typing import Dict, FrozenSet, Iterable, List, NamedTuple, Optional, Tuple
 
 from .static_library import NotBuilt
-from .statements import alive, is_once, NAME, next_of, SLOT, Statement, statements, surely_set
+from .statements import alive, NAME, next_of, SLOT, Statement, statements, surely_set
 
 # An access goes less than so far ahead of the place that is tested. One place is as good as another only where none wraps:
 # an access nearer to 0 than this would lie at the far end of the stack (portable.STACK), where none is.
@@ -81,10 +81,9 @@ class Folding:
         self.at_label = {it.text: at for at, it in enumerate(of) if it.kind == "label"}
         self.waiting: Dict[str, Expression] = {}
         self.rows: List[str] = []
-        self.next_of = next_of(of)
         self.times = collections.Counter(it.sets for it in of)
         self.sums: Dict[str, Tuple[str, int]] = {}
-        self.known = surely_set(of, self.next_of, [it for it, times in self.times.items() if times == 1])
+        self.known = surely_set(of, next_of(of), [it for it, times in self.times.items() if times == 1])
 
     # -- What is set ------------------------------------------------------------------------------------------------------
 
@@ -223,10 +222,7 @@ class Folding:
 
     def is_fixed(self, name: str, at: int) -> bool:
         """Whether a variable has, from this statement on, the value that it has here."""
-        if self.times[name] == 0:
-            return name.startswith("w_p")
-        sets = next(one for one, it in enumerate(self.of) if it.sets == name)
-        return self.times[name] == 1 and name in self.known[at] and is_once(self.next_of, sets)
+        return name in self.known[at] if self.times[name] else name.startswith("w_p")
 
     def note_sum(self, name: str, value: Expression, at: int) -> None:
         """Notes a variable that is set once, to another that stays as it is, and a number."""

@@ -1,5 +1,5 @@
-"""What a user takes besides the library and the simulator: examples, tests that a C compiler alone can run, EMBEDDING.md, and
-what CMake has there. Places that they name are those of the folder that is taken, and not the repository's."""
+"""What a user takes besides the library and the simulator: examples, tests that a C compiler alone can run, EMBEDDING.md and
+LAYER3.md, and what CMake has there. Places that they name are those of the folder that is taken, and not the repository's."""
 import os
 import re
 import sys
@@ -16,7 +16,7 @@ from worked import table_of, worked
 FOLDERS = {"examples": "examples/c", "tests": "tests/c/check"}
 FILES = {**{f"tests/{name}{end}": f"tests/c/{name}{end}" for name in ("station", "words", "hdlc") for end in (".c", ".h")},
          "packages.cmake": "c/dist/packages.cmake", "copyright": "c/dist/copyright"}
-PAGE = "EMBEDDING.md"
+PAGES = "EMBEDDING.md", "LAYER3.md"
 # Places in the repository, and in the folder that is taken.
 IN_CODE = (("../../../examples/c/", "../examples/"), ("../../dist", ".."), ("docs/FORMAT.md", "lapdsim.5"))
 IN_PAGE = (("../dist/", ""), ("examples/c/", "examples/"), ("-I dist ", "-I . "), ("PYTHONPATH=dist ", "PYTHONPATH=. "),
@@ -33,9 +33,9 @@ def moved(text: str, places: Tuple[Tuple[str, str], ...]) -> str:
     return text
 
 
-def page(there: Set[str]) -> str:
-    """EMBEDDING.md: a link to what is not there is none."""
-    text = moved(content(f"docs/{PAGE}"), IN_PAGE)
+def page(name: str, there: Set[str]) -> str:
+    """A page of docs/: a link to what is not there is none."""
+    text = moved(content(f"docs/{name}"), IN_PAGE)
     text = re.sub(r"\[([^]]+)\]\(([^)#]+)[^)]*\)", lambda it: it[0] if it[2] in there else it[1], text)
     head, _, rest = text.partition("\n\n")
     return f"{head}\n\n{BEGIN}\n{rest}"
@@ -49,5 +49,6 @@ def files() -> Dict[str, bytes]:
     found = {name: moved(content(path), IN_CODE if name.endswith((".c", ".h")) else ()) for name, path in places.items()}
     found["tests/null.c"] = part()
     found["tests/scripts.txt"] = table_of(worked())
-    found[PAGE] = page({*found, "README", "lapd.h"})
+    there = {*found, *PAGES, "README", "lapd.h"}
+    found.update((it, page(it, there)) for it in PAGES)
     return {name: text.encode() for name, text in found.items()}

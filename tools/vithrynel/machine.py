@@ -1,6 +1,7 @@
 """What wabt's wasm2c makes of a module, as the middle of a file in C99: for the card (portable.py) and for the simulator
 (portable_program.py). A function a step:
 
+    split       wasm-opt gives each value of the module a variable of its own: so folded.py finds what is a sum of another
     machine     wasm2c's output without its own head: the parts are found by what they say
     plain       its text for a machine whose memory is c/portable's; folded.py makes expressions of its lines
     asked_for   the loads and stores of c/portable/memory.c that it calls
@@ -12,7 +13,7 @@ from typing import NamedTuple
 from .crates import ROOT, sum_of
 from .folded import AHEAD, folded
 from .static_library import NotBuilt
-from .wasm import run, versions
+from .wasm import FEATURES, run, versions
 
 # A load or a store goes less than AHEAD ahead of the place that is tested, and takes so many octets at most.
 WIDEST = 8
@@ -39,8 +40,13 @@ def part(text: str, pattern: str, what: str) -> str:
     return found[0]
 
 
+def split(wasm: str, folder: str) -> str:
+    run(["wasm-opt", *(f"--enable-{it}" for it in FEATURES), "--ssa-nomerge", wasm, "-o", "split.wasm"], folder)
+    return f"{folder}/split.wasm"
+
+
 def machine(wasm: str, folder: str) -> Machine:
-    run(["wasm2c", "-n", "machine", wasm, "-o", "machine.c"], folder)
+    run(["wasm2c", "-n", "machine", split(wasm, folder), "-o", "machine.c"], folder)
     with open(f"{folder}/machine.h", encoding="ascii") as file:
         fields = part(file.read(), r"^typedef struct Z_machine_instance_t \{\n(.*?)  wasm_rt_memory_t w2c_memory;\n\}", "an instance")
     with open(f"{folder}/machine.c", encoding="ascii") as file:
@@ -81,8 +87,8 @@ Made by {by} of a module with the sum
 {sum}.
 
 The code is proved, each function of it, in Rattle. Proofs end with the code as the kit's compiler has it. From there on nothing
-is proved, and all is tested: that code is compiled for WebAssembly by the kit's clang, its addresses are lowered by wasm-opt,
-wasm2c writes the module as C, and folded.py of the repository makes statements of its instructions."""
+is proved, and all is tested: that code is compiled for WebAssembly by the kit's clang, wasm-opt lowers its addresses and splits its
+variables, wasm2c writes the module as C, and folded.py of the repository makes statements of its instructions."""
 
 
 def comment(text: str, wasm: str) -> str:

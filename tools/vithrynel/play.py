@@ -44,6 +44,7 @@ class Play:
         self.clock = 0
         self.is_for_frames = False
         self.is_user = False  # the card is the user's side
+        self.is_terminal = False  # and a terminal
         self.step = SECOND  # what the lengths of all timers are multiples of
         self.moments: Set[int] = set()  # those of lines of the script, but for whole steps
         self.sides: Dict[int, Side] = {}
@@ -87,6 +88,7 @@ class Play:
         self.moments.add(self.clock % self.step)
         self.is_for_frames |= line.word() == "frames"
         self.is_user |= line.is_of_user()
+        self.is_terminal |= line.is_of_terminal()
         if brings is None:
             yield line.text, self.clock, b"", failed(line)
         elif self.is_for_frames:

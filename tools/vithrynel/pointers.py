@@ -31,7 +31,7 @@ PART = """\
 """
 HEAD = """\
 
-static const lapd_config config = {2, 2, 1, 1, 2, 8, 2, 8, 8, 1, LAPD_NETWORK, 0, 0};
+static const lapd_config config = {2, 2, 1, 1, 2, 8, 2, 8, 8, 1, LAPD_NETWORK, 0, 0, LAPD_PROFILE};
 
 /* What calls write to; after a wrong call each octet is as it was. */
 static struct {

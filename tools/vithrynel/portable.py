@@ -51,7 +51,7 @@ def moved(kind: str, at: str, ahead: int, value: str, is_put: bool) -> str:
         return f"{'put' if is_put else 'get'}_{kind}(instance, {to}, &{value});"
     width = WIDTH[kind]
     if width == 8:
-        return f"instance->data[{to}] = {value};" if is_put else f"{value} = instance->data[{to}];"
+        return f"instance[{to}] = {value};" if is_put else f"{value} = instance[{to}];"
     assert ahead < AHEAD
     cast = "u32" if width < 64 else "u64"
     return f"{STORES[width]}(AT({at}, {ahead}), ({cast}){value});" if is_put else f"{value} = ({kind}){LOADS[width]}(AT({at}, {ahead}));"
@@ -65,7 +65,7 @@ def field_moved(it: Struct, field: Field, is_put: bool) -> List[str]:
     count = COUNTED.get((it.name, field.name))
     if size == 1:
         much = f"at_most(it->{count}, {field.count})" if count else str(field.count)
-        of = f"it->{field.name}", f"instance->data + at + {field.at}"
+        of = f"it->{field.name}", f"instance + at + {field.at}"
         return [f"memcpy({', '.join(of[::-1] if is_put else of)}, {much});"]
     bound = f"i < {field.count}" + (f" && i < it->{count}" if count else "")
     step = f"(u64){size} * i"
@@ -82,7 +82,7 @@ def blocks_got(it: Struct) -> List[str]:
     def end(to: int) -> None:
         if block:
             at = block[0].at
-            rows.append(f"memcpy((u8 *)it + {at}, instance->data + at + {at}, {to - at});")
+            rows.append(f"memcpy((u8 *)it + {at}, instance + at + {at}, {to - at});")
             rows.extend(f"if (LAPD_BIG_END_FIRST)\n        {row}" for one in block if one.kind == "uint16_t" for row in field_moved(it, one, False))
             block.clear()
 
@@ -177,9 +177,9 @@ class Call:
         at = self.room(most)
         self.words += [at, f"at_most({length}, {most})"]
         if it.is_const:
-            self.before.append(f"copy(instance->data + {at}, {it.name}, at_most({length}, {most}));")
+            self.before.append(f"copy(instance + {at}, {it.name}, at_most({length}, {most}));")
         else:
-            self.last.append(f"copy({it.name}, instance->data + {at}, at_most(*{rest[0].name}, at_most({length}, {most})));")
+            self.last.append(f"copy({it.name}, instance + {at}, at_most(*{rest[0].name}, at_most({length}, {most})));")
 
     def look(self) -> List[str]:
         """Whether a pointer is null; that of no octets may be."""
@@ -239,9 +239,10 @@ def own_octets(made: Machine) -> int:
 
 
 def portable(made: Machine, head: str) -> str:
-    struct = (f"/* A card or a clock: WebAssembly's globals and memory. */\ntypedef struct {{\n{made.fields}u32 octets;\n"
-              "u8 data[];\n} machine;\n")
+    struct = ("/* A card or a clock: its memory. Before it lie WebAssembly's globals, and how many octets it has. */\ntypedef u8 machine;\n"
+              f"typedef struct {{\n{made.fields}u32 octets;\n}} own;\n")
     movers = marshalling()
+    made = made._replace(functions=made.functions.replace("instance->", "OWN(instance)->"))
     loads = asked_for(content("c/portable/memory.c"), made.functions + movers)
     return "\n".join([
         head, content("c/portable/choices.c"), f"enum {{ AHEAD = {AHEAD}, WIDEST = {WIDEST} }};\n", content("c/portable/head.c"), memory(),

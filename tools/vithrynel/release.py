@@ -21,7 +21,7 @@ from .portable import card_of
 from .portable_program import NAME as PROGRAM
 from .portable_program import program_of
 from .static_library import HOST, module
-from .wasm import kit_version, put, versions
+from .wasm import logic, put, versions
 
 # What is copied, from where.
 COPIED = {"lapd.h": "include/lapd.h", "lapd_checked.h": "include/lapd_checked.h", "lapd_memory.h": "include/lapd_memory.h",
@@ -41,8 +41,13 @@ def number() -> str:
     return version() + ", not released yet" * ("No version was released yet" in content("include/lapd.h"))
 
 
+def programs() -> List[str]:
+    """What makes the files, by what each says of itself: the kit, and two programs that are not the kit's."""
+    return [f"Rattle, {logic()}", *versions("wasm-opt", "wasm2c")]
+
+
 def made_by() -> str:
-    return "\n".join(f"    {it}" for it in (kit_version(), *versions("wasm-opt", "wasm2c")))
+    return "\n".join(f"    {it}" for it in programs())
 
 
 def sums() -> str:

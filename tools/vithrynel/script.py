@@ -7,6 +7,7 @@ from .program import Fault
 
 LONGEST_LINE = 4096
 LONGEST_WAIT = 3_600_000
+USUAL_SAPI = "16"  # of packet links
 OCTETS = re.compile(rb"(rx|in) ([0-9]+) (-|(?:[0-9A-Fa-f]{2})*)")
 WAIT = re.compile(rb"wait ([0-9]+)")
 TIMERS = re.compile(rb"timers 0*([1-9][0-9]*) 0*([1-9][0-9]*) 0*([1-9][0-9]*)(?: 0*([1-9][0-9]*))?")
@@ -51,8 +52,22 @@ class Line(NamedTuple):
 
     def is_of_user(self) -> bool:
         """Whether it is a card line whose card is the user's side."""
+        return self.is_card() and "user" in self.words()
+
+    def is_of_terminal(self) -> bool:
+        """Whether it is one whose card is a terminal: the seed stands after `user`."""
         words = self.words()
-        return words[0] in ("card", "frames") and "user" in words[-4:]
+        seed = words[words.index("user") + 1 :] if self.is_of_user() else []
+        return seed != [] and seed[0].isdecimal()
+
+    def sapi(self) -> str:
+        """The SAPI of packet links that a card line has."""
+        words = self.words()
+        after = words[words.index("sapi") + 1 :] if self.is_card() and "sapi" in words else []
+        return str(int(after[0])) if after and after[0].isdecimal() else USUAL_SAPI
+
+    def is_card(self) -> bool:
+        return self.words()[0] in ("card", "frames")
 
     def waits(self) -> Optional[int]:
         """Of `wait` the milliseconds."""

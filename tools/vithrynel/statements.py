@@ -93,19 +93,6 @@ def next_of(of: List[Statement]) -> List[Tuple[int, ...]]:
     return [(*on, *(at_label[to] for to in it.to)) for on, it in zip(goes_on, of)]
 
 
-def is_once(of: List[Tuple[int, ...]], at: int) -> bool:
-    """Whether a statement comes at most once: no way leads from it to itself."""
-    seen, ahead = set(), list(of[at])
-    while ahead:
-        it = ahead.pop()
-        if it == at:
-            return False
-        if it not in seen:
-            seen.add(it)
-            ahead += of[it]
-    return True
-
-
 def surely_set(of: List[Statement], after: List[Tuple[int, ...]], names: Iterable[str]) -> List[FrozenSet[str]]:
     """Of each statement the variables, of these, that each way to it sets."""
     known: List[Optional[FrozenSet[str]]] = [None] * len(of)

@@ -5,7 +5,7 @@ from typing import Dict, Iterable, Iterator, List, NamedTuple, Optional, Tuple
 from .bits import Drop, Frame, Heard
 from .frames import Words, digits, read
 from .play import Step
-from .script import Line
+from .script import USUAL_SAPI, Line
 
 FLAGS, ONES = b"\x7e", b"\xff"
 # how a row is drawn: the arrow between two of the three, or words beside the card
@@ -14,8 +14,9 @@ UP, DOWN, BESIDE = "up", "down", "beside"  # between the card and layer 3
 COMMENT, PAUSE, FAULT = "comment", "pause", "fault"
 NO_SIGN = re.compile("[^\t\x20-\x7e\xa0-\ud7ff\ue000-\ufffd\U00010000-\U0010ffff]")  # what no text should have
 FROM_THE_LEFT = IN, CUT, REST, UP
-# the three, from left to right, where the card is the network's side, and where it is the user's
+# the three, from left to right, if the card is the network's side, a trunk's end, or a terminal
 NETWORK_SIDE, USER_SIDE = ("terminal", "exchange", "layer 3"), ("exchange", "user", "layer 3")
+TERMINAL_SIDE = ("exchange", "terminal", "layer 3")
 
 
 class Row(NamedTuple):
@@ -65,7 +66,7 @@ def of_rest(step: Step) -> Optional[Row]:
     return Row(step.at, REST, "octets that end no frame", digits(octets))
 
 
-def of_answer(at: int, said: str) -> Optional[Row]:
+def of_answer(at: int, said: str, sapi: str) -> Optional[Row]:
     """What a line of a transcript tells, after the number of its line; nothing of what a line takes."""
     word, _, rest = said.partition(" ")
     if word in ("tx", "frame", "nothing"):
@@ -74,14 +75,24 @@ def of_answer(at: int, said: str) -> Optional[Row]:
         return Row(at, BESIDE, said)
     words = rest.split(" ")
     if word.partition("-")[0] in ("data", "unit"):
-        return Row(at, UP, f"{word} {words[0]}", words[1])
-    return Row(at, UP, said)
+        return with_sapi(Row(at, UP, f"{word} {words[0]}", words[1]), "-16", sapi)
+    return with_sapi(Row(at, UP, said), "-16", sapi)
 
 
-def of_request(at: int, line: Line) -> Row:
+def with_sapi(row: Row, ending: str, sapi: str) -> Row:
+    """A row about a packet link, whose first word ends so: if its SAPI is another than the usual one, that stands below the
+    arrow in place of the ending."""
+    word, _, rest = row.head.partition(" ")
+    if sapi == USUAL_SAPI or not word.endswith(ending):
+        return row
+    return row._replace(head=f"{word[: -len(ending)]} {rest}", meaning=f"sapi {sapi}")
+
+
+def of_request(at: int, line: Line, sapi: str) -> Row:
     word, _, *rest = line.words()
     tei, contents = [int(it) for it in rest[:1]], rest[1:]
-    return Row(at, DOWN, " ".join([word, *map(str, tei)]), contents[0].upper() or "-" if contents else "")
+    row = Row(at, DOWN, " ".join([word, *map(str, tei)]), contents[0].upper() or "-" if contents else "")
+    return with_sapi(row, "16", sapi)
 
 
 def of_traffic(step: Step) -> Iterator[Row]:
@@ -93,8 +104,8 @@ def of_traffic(step: Step) -> Iterator[Row]:
         yield of_heard(step, CUT if is_cut else IN, heard)
 
 
-def of_step(step: Step, about: int) -> Iterator[Row]:
-    """What a step shows on a line of the card."""
+def of_step(step: Step, about: int, sapi: str) -> Iterator[Row]:
+    """What a step shows on a line of the card, whose packet links have this SAPI."""
     word = step.line.word()
     if step.line.about() == about:
         if word in ("pull", "next"):
@@ -104,10 +115,10 @@ def of_step(step: Step, about: int) -> Iterator[Row]:
             rest = of_rest(step) if not step.heard else None
             yield from [rest] if rest else []
         elif word not in ("counters", "messages"):
-            yield of_request(step.at, step.line)
+            yield of_request(step.at, step.line, sapi)
     for said in step.answer:
         line, _, told = said.partition(" ")
-        row = Row(step.at, BESIDE, said) if line == "stored" else of_answer(step.at, told) if line == str(about) else None
+        row = Row(step.at, BESIDE, said) if line == "stored" else of_answer(step.at, told, sapi) if line == str(about) else None
         yield from [row] if row else []
 
 
@@ -133,6 +144,7 @@ def of_comment(step: Step) -> Row:
 def stories(steps: Iterable[Step], with_comments: bool = True) -> Dict[int, List[Row]]:
     """The rows of each line of the card of which the script speaks."""
     told = list(followed(steps))
+    sapi = next((it.line.sapi() for _, it in told if it.line.is_card()), USUAL_SAPI)
     lines = {about for about, _ in told if about is not None}
     lines |= {int(it.split(" ")[0]) for _, step in told for it in step.answer if not it.startswith("stored")}
     found: Dict[int, List[Row]] = {it: [] for it in sorted(lines) or [0]}
@@ -141,7 +153,7 @@ def stories(steps: Iterable[Step], with_comments: bool = True) -> Dict[int, List
             if about not in (None, line):
                 continue
             if not step.line.is_skipped():
-                rows += of_step(step, line)
+                rows += of_step(step, line, sapi)
             elif with_comments:
                 rows.append(of_comment(step))
     return {line: paused(joined(rows)) for line, rows in found.items()}

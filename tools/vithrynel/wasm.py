@@ -117,14 +117,10 @@ def put(folder: str, names: List[str], to: str) -> None:
             os.remove(part)
 
 
-def kit_version() -> str:
-    """What the kit says of itself: its name and its logic."""
-    return subprocess.run(["rt", "version"], stdout=subprocess.PIPE, text=True, check=True).stdout.strip()
-
-
 def logic() -> str:
     """The kit by its logic: what two kits that share it prove is the same."""
-    return re.search(r"logic \w+", kit_version())[0]
+    said = subprocess.run(["rt", "version"], stdout=subprocess.PIPE, text=True, check=True).stdout
+    return re.search(r"logic \w+", said)[0]
 
 
 def versions(*programs: str) -> List[str]:

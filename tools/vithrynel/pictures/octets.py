@@ -51,7 +51,7 @@ DROPS = [
 ]
 IN_RATTLE = "Card::octet"
 COMES = [
-    Call("lapd_octet", "lapd_c/src/octets.rt", [
+    Call("lapd_octet, take_octet", "lapd_c/src/octets.rt", [
         back("fills the caller's struct", "show"), back("lends what was delivered", "contents")]),
     Call("Card::hear", "lapd_card/src/card.rt", [
         Note(f"in Rattle {IN_RATTLE} calls it"), back("begun here, filled below", "BareReport")]),
@@ -79,9 +79,9 @@ COMES = [
 ]
 # The way of a frame that a controller brings, as far as it is another, and of the next one.
 FRAMES = [
-    Call("lapd_frame", "lapd_c/src/frames.rt"), Call("FrameCard::frame", "lapd_card/src/frame_card.rt"),
+    Call("lapd_frame, frame", "lapd_c/src/frames.rt"), Call("FrameCard::frame", "lapd_card/src/frame_card.rt"),
     Call("FrameLine::frame", "lapd_line/src/frame_line.rt"),
-    Call("lapd_next_frame", "lapd_c/src/frames.rt"), Call("FrameCard::next_frame", "lapd_card/src/frame_card.rt"),
+    Call("lapd_next_frame, next_frame", "lapd_c/src/frames.rt"), Call("FrameCard::next_frame", "lapd_card/src/frame_card.rt"),
     Call("FrameLine::next_frame", "lapd_line/src/next_frame.rt"),
 ]
 TOLD = [

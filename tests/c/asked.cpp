@@ -12,7 +12,7 @@ namespace {
 using lapd::service;
 using lapd::status;
 
-const lapd_config config = {2, 8, 7, 7, 8, 4, 4, 64, 260, 3, LAPD_NETWORK, 0, 0};
+const lapd_config config = {2, 8, 7, 7, 8, 4, 4, 64, 260, 3, LAPD_NETWORK, 0, 0, LAPD_PROFILE};
 const uint8_t sabme[] = {0x00, 0x81, 0x7F}, ua[] = {0x02, 0x81, 0x73};
 bool is_good = true;
 
@@ -58,6 +58,13 @@ void asks_words() {
     wants(lapd::frame_text(sabme, LAPD_USER, text) == status::ok && std::strcmp(text, "sapi 0 tei 64 command sabme p 1 info -") == 0, "a frame in words");
     wants(lapd::frame_text(sabme, LAPD_USER, lapd::span<char>(text, 10)) == status::wrong_length && text[0] == 's', "words in little room");
     wants(lapd::frame_text({}, LAPD_NETWORK, text) == status::ok && std::strcmp(text, "frame: short") == 0, "no frame in words");
+    const lapd_note packet = {LAPD_ERROR_INDICATION, LAPD_PACKET, 64, 'F'};
+    lapd_config of = config;
+    of.sapi = 62;
+    wants(lapd::note(packet).text(of, text) == status::ok && std::strcmp(text, "error sapi 62") == 0, "a note with its SAPI");
+    wants(lapd::note(packet).text(config, text) == status::ok && std::strcmp(text, "error sapi 16") == 0, "a note with SAPI 16");
+    wants(lapd::note(packet).text(of, lapd::span<char>(text, 13)) == status::wrong_length && text[12] == '6', "a note in little room");
+    wants(lapd::note(packet).raw().error == 'F' && lapd::note(packet).raw().tei == 64, "a note as C has it");
 }
 
 void asks_octets(lapd::card &card, lapd::report &report) {

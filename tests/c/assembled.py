@@ -5,6 +5,7 @@ import shutil
 import sys
 
 from compiled import HERE, ROOT, STRICT, check, compilers, read, run, skip
+from constants import constants
 from instructions import instructions
 from stored import in_parallel
 from targets import FIRST, LONG, TARGETS
@@ -16,6 +17,10 @@ from vithrynel.static_library import HOST, archive, module
 
 ASKED_FOR = {"memcpy", "memmove", "memset", "rattle_alloc", "rattle_dealloc", "rattle_realloc"}
 HEADER = {it.name for it in functions()}
+# Changes of lapd.S, each of which leaves all instructions as they are: a number, a letter, and two ways of a jump.
+CHANGES = {"the length of T203": (r"\t\.long\t10000\n", "\t.long\t10001\n"),
+           "a letter of a text": (r'"identity assigned"', '"identity assignee"'),
+           "where a jump goes": (r"(\t\.long\t\.LBB.*\n)(?!\1)(\t\.long\t\.LBB.*\n)", r"\2\1")}
 # The compilers of the other processor, and the prefix of its programs.
 CROSS = "aarch64-linux-gnu-"
 # What lapd_malloc.c is compiled with, and what first.c says then.
@@ -41,6 +46,7 @@ def assemblers():
 def objects(dist):
     """What each assembler makes of lapd.S, and that another processor is told of lapd.c."""
     in_parallel(lambda it: an_object(dist, *it), assemblers().items())
+    in_parallel(lambda it: changed(dist, *it), CHANGES.items())
     arm = TARGETS["aarch64"].compiler
     for words in (["cc", "-U__x86_64__"], ["cc", "-D__ILP32__"], ["cc", "-U__ELF__"], *[[arm, "-D__ANDROID__"]] * bool(shutil.which(arm))):
         said = run([*words, "-c", f"{dist.files}/lapd.S", "-o", f"{dist.folder}/none.o"])
@@ -57,6 +63,7 @@ def an_object(dist, name, how):
         symbols(name, prefix, path)
     if said.returncode == 0 and is_of(dist, processor):
         same_instructions(name, f"{prefix}objdump", archive("lapd_c", processor), path)
+        same_constants(name, f"{prefix}objdump", archive("lapd_c", processor), path)
 
 
 def symbols(name, prefix, path):
@@ -96,6 +103,30 @@ def same_instructions(name, objdump, proved, path):
     check(f"{name}: the functions of lapd.S", is_same, sorted(wanted.keys() ^ found.keys())[:5])
     others = [it for it in wanted if wanted[it] != found.get(it)]
     check(f"{name}: the instructions of lapd.S", not others and sum(map(len, wanted.values())) > 10000, others[:5])
+
+
+def same_constants(name, objdump, proved, path):
+    """And its data, with what they refer to."""
+    wanted, found = constants(objdump, proved), constants(objdump, path)
+    check(f"{name}: the sections of data of lapd.S", wanted.keys() == found.keys(), sorted(wanted.keys() ^ found.keys())[:5])
+    others = [it for it in wanted if wanted[it] != found.get(it)]
+    check(f"{name}: the data of lapd.S", not others and sum(it.count for it in wanted.values()) > 5000, others[:5])
+    lost = [it for it, of in found.items() if any(to.endswith(" elsewhere") for _, to in of.refers)]
+    check(f"{name}: what the data of lapd.S refer to", not lost, lost[:5])
+
+
+def changed(dist, name, change):
+    """What lapd.S has as data is told from what a change makes of it, by this test."""
+    paths = [f"{dist.folder}/{it}{list(CHANGES).index(name)}" for it in ("as-it-is", "changed")]
+    text = read(f"{dist.files}/lapd.S").decode()
+    for path, own in zip(paths, (text, re.sub(*change, text, count=1))):
+        with open(f"{path}.S", "w", encoding="ascii") as file:
+            file.write(own)
+        said = run(["cc", "-c", f"{path}.S", "-o", f"{path}.o"])
+        check(f"lapd.S with a change of {name} is assembled", said.returncode == 0, said.stderr.decode()[:600])
+    (one, two), (these, those) = ([of("objdump", f"{it}.o") for it in paths] for of in (instructions, constants))
+    check(f"a change of {name} leaves the instructions", one == two, "others")
+    check(f"a change of {name} is told", len([it for it in these if these[it] != those.get(it)]) == 1, "it is not")
 
 
 # ---- Linked --------------------------------------------------------------------------------------------------------------

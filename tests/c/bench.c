@@ -93,7 +93,7 @@ static size_t make_stream(const char *work) {
 }
 
 static bool start(void) {
-    static const lapd_config config = {1, 8, 7, 7, 8, 4, 4, 8, 260, 3, LAPD_NETWORK, 0, 0};
+    static const lapd_config config = {1, 8, 7, 7, 8, 4, 4, 8, 260, 3, LAPD_NETWORK, 0, 0, LAPD_PROFILE};
     static const uint8_t sabme[] = {0x00, 0x81, 0x7F};
     if (lapd_card_start(&card, &config) != LAPD_OK || lapd_clock_start(&timers, &config) != LAPD_OK
         || lapd_assign(&card, 0, 64, &report) != LAPD_OK)

@@ -3,8 +3,8 @@
  * a state of, in order, from each place on; contents of a report go back with the same report, and with another one while the
  * first stays as it is; the room of a link is what it refuses contents by; the frame begun last is the one that goes; what
  * is counted is what came, went and was told; a line goes down, and an exchange starts, as docs/EMBEDDING.md has it; lengths
- * of timers that are out of range change nothing; the usual configurations have the fields that they should; and the version is
- * the header's. For tests alone.
+ * of timers that are out of range change nothing; the usual configurations have the fields that they should; a note tells the
+ * SAPI of a packet link, in room enough; and the version is the header's. For tests alone.
  */
 #include <stdio.h>
 #include <string.h>
@@ -14,7 +14,7 @@
 
 enum { PLACES = 254, LINES = 2 };
 
-static const lapd_config config = {LINES, 8, 7, 7, 8, 4, 4, 8, 260, 3, LAPD_NETWORK, 0, 0};
+static const lapd_config config = {LINES, 8, 7, 7, 8, 4, 4, 8, 260, 3, LAPD_NETWORK, 0, 0, LAPD_PROFILE};
 static const lapd_lengths lengths_of = {.t200 = 1000, .t203 = 10000, .t201 = 1000, .t202 = 2000};
 static lapd_card card;
 static lapd_report report;
@@ -63,9 +63,11 @@ static void look_at(uint32_t line, unsigned links) {
 static void presets(void) {
     static const lapd_config basic = LAPD_BASIC_ACCESS, primary = LAPD_PRIMARY_RATE;
     static const lapd_config bus = {.lines = 1, .terminals = 8, .k = 1, .k16 = 3, .queue = 8, .unit_queue = 4, .control = 4,
-                                    .slots = 132, .n201 = 260, .n200 = 3, .side = LAPD_NETWORK, .seed = 0, .sapi = 0};
+                                    .slots = 132, .n201 = 260, .n200 = 3, .side = LAPD_NETWORK, .seed = 0, .sapi = 0,
+                                    .reading = LAPD_PROFILE};
     static const lapd_config trunk = {.lines = 1, .terminals = 1, .k = 7, .k16 = 7, .queue = 8, .unit_queue = 4, .control = 4,
-                                      .slots = 20, .n201 = 260, .n200 = 3, .side = LAPD_NETWORK, .seed = 0, .sapi = 0};
+                                      .slots = 20, .n201 = 260, .n200 = 3, .side = LAPD_NETWORK, .seed = 0, .sapi = 0,
+                                      .reading = LAPD_PROFILE};
     static const lapd_lengths lengths = LAPD_DEFAULT_LENGTHS;
     wants(memcmp(&basic, &bus, sizeof bus) == 0 && memcmp(&primary, &trunk, sizeof trunk) == 0, "another usual configuration");
     wants(memcmp(&lengths, &lengths_of, sizeof lengths_of) == 0, "other usual lengths");
@@ -402,6 +404,29 @@ static void exchange_starts(void) {
     wants(lapd_card_free(&card) == LAPD_OK && lapd_clock_free(&timers) == LAPD_OK, "the card of frames stays");
 }
 
+/* Each note has its name, and of a packet link its SAPI; with an octet of room too little nothing is written. */
+static void notes_with_sapi(void) {
+    char wanted[40], text[40], was[40];
+    memset(was, '#', sizeof was);
+    for (unsigned kind = 0; kind <= LAPD_REMOVE_ALL + 1; kind++) {
+        for (uint16_t sapi = 0; sapi <= 62; sapi++) {
+            lapd_config of = config;
+            lapd_note call = {(uint8_t)kind, LAPD_CALL, 64, 0}, packet = {(uint8_t)kind, LAPD_PACKET, 64, 0};
+            bool is_of_link = strcmp(lapd_note_text(&call), lapd_note_text(&packet)) != 0;
+            of.sapi = sapi;
+            snprintf(wanted, sizeof wanted, is_of_link ? "%s sapi %u" : "%s", lapd_note_text(&call), sapi == 0 ? 16u : sapi);
+            size_t octets = strlen(wanted) + 1;
+            memcpy(text, was, sizeof text);
+            wants(lapd_note_text_of(&packet, &of, text, octets - 1) == LAPD_WRONG_LENGTH && memcmp(text, was, sizeof text) == 0,
+                  "a note has too little room");
+            wants(lapd_note_text_of(&packet, &of, text, octets) == LAPD_OK && strcmp(text, wanted) == 0 && octets <= 29
+                      && memcmp(text + octets, was, sizeof text - octets) == 0, "another text of a note");
+            wants(lapd_note_text_of(&call, &of, text, sizeof text) == LAPD_OK && strcmp(text, lapd_note_text(&call)) == 0,
+                  "another text of a note of call control");
+        }
+    }
+}
+
 int main(void) {
     static const uint8_t teis[] = {0, 1, 63, 64, 65, 100, 125, 126};
     wants(lapd_version() == LAPD_VERSION, "the library has another version");
@@ -409,6 +434,7 @@ int main(void) {
     wants(lapd_card_start(&card, &config) == LAPD_OK, "no card");
     wrong_calls();
     presets();
+    notes_with_sapi();
     rooms_of_nobody();
     lengths();
     look_at(0, 0);

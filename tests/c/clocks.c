@@ -222,7 +222,7 @@ static int start(world *w, int shorter) {
     for (int i = 0; i < 2; i++) {
         end *e = &w->ends[i];
         uint16_t k = (uint16_t)(1 + below(7)), control = (uint16_t)(2 + below(3));
-        lapd_config config = {1, 1, k, k, (uint16_t)(k + below(4)), 1, control, 16, (uint16_t)n201, (uint16_t)below(6), i == 0 ? LAPD_USER : LAPD_NETWORK, 0, 0};
+        lapd_config config = {1, 1, k, k, (uint16_t)(k + below(4)), 1, control, 16, (uint16_t)n201, (uint16_t)below(6), i == 0 ? LAPD_USER : LAPD_NETWORK, 0, 0, LAPD_PROFILE};
         if (lapd_card_start(&e->card, &config) != LAPD_OK) fails("a start");
         e->network = i == 1;
         e->t200 = e->t203 = e->last_command = e->last_response = e->waits = NEVER;

@@ -243,7 +243,7 @@ def installed(dist):
     wanted = examples | {f"include/{it}" for it in ("lapd.h", "lapd_checked.h", "lapd_memory.h", "lapd.hpp")} | {
         f"lib/{it}" for it in ("liblapd.a", "liblapd-static.a", "liblapd_card.a", "liblapd.so", "liblapd.so.1", "liblapd.so.1.0")} | {
         "lib/pkgconfig/lapd.pc", "lib/pkgconfig/lapd-shared.pc", "share/lapd/lapd.py", "share/lapd/lapd_malloc.c",
-        "share/doc/lapd/EMBEDDING.md", "share/man/man3/lapd.3"}
+        "share/doc/lapd/EMBEDDING.md", "share/doc/lapd/LAYER3.md", "share/man/man3/lapd.3"}
     check("what CMake installs", {it for it in there if not it.startswith("lib/cmake/lapd/")} == wanted, sorted(there ^ wanted))
     check("lapd(3) names no simulator that is not there", b"lapdsim" not in read(f"{to}/share/man/man3/lapd.3"), "it does")
     check("one list of targets", targets_of(f"{to}/lib/cmake/lapd") == targets_of(f"{ROOT}/c/cmake") == {"lapd::lapd", "lapd::shared", "lapd::card"},
@@ -342,7 +342,9 @@ def by_lintian(found):
 # ---- The page ---------------------------------------------------------------------------------------------------------------
 
 def embedding(dist):
-    """EMBEDDING.md names what is there, and its first program runs; lapd.3 names libraries that are there."""
+    """EMBEDDING.md and LAYER3.md name what is there, and the first program runs; lapd.3 names libraries that are there."""
+    named = re.findall(r"\]\(([^)\s#]*)", read(f"{dist.files}/LAYER3.md").decode())
+    check("LAYER3.md names what is there", named and all(os.path.exists(f"{dist.files}/{it}") for it in named), named)
     text = read(f"{dist.files}/EMBEDDING.md").decode()
     links = re.findall(r"\]\(([^)\s#]*)", text)
     missing = [it for it in [*links, *re.findall(r"`((?:examples|dist|tests|tools|docs|include|man)/[\w./-]+)`", text)] if not os.path.exists(f"{dist.files}/{it}")]

@@ -28,15 +28,15 @@ enum { STACK = 9216, FILL = 0xA5 };
 
 static machine *filled(u64 heap) {
     machine *instance = new_machine(heap);
-    memset(instance->data, FILL, STACK / 2);
+    memset(instance, FILL, STACK / 2);
     return instance;
 }
 
 static void end(machine *instance) {
     for (u32 i = 0; i < STACK / 2; i++)
-        if (instance->data[i] != FILL)
+        if (instance[i] != FILL)
             fail("octets of stack", STACK - i, STACK / 2);
-    rattle_dealloc(instance);
+    rattle_dealloc(OWN(instance));
 }
 
 /* ---- Configurations ----------------------------------------------------------------------------------------------- */
@@ -60,7 +60,7 @@ static void compare(const lapd_config *config) {
 
 static void configurations(void) {
     static const uint16_t edges[] = {0, 1, 2, 7, 8, 9, 10, 11, 16, 17, 64, 65, 126, 127, 128, 259, 260, 261, 8192, 8193, 65535};
-    static const lapd_config usual = {4, 8, 7, 3, 8, 4, 4, 64, 260, 3, LAPD_NETWORK, 0, 0};
+    static const lapd_config usual = {4, 8, 7, 3, 8, 4, 4, 64, 260, 3, LAPD_NETWORK, 0, 0, LAPD_PROFILE};
     enum { FIELDS = sizeof(lapd_config) / sizeof(uint16_t), EDGES = sizeof edges / sizeof *edges };
     for (u32 round = 0; round < 20000; round++) {
         uint16_t fields[FIELDS];
@@ -86,7 +86,7 @@ static machine *with_link(const lapd_config *config) {
     put_lapd_config(instance, OTHER, config);
     u32 status = w2c_lapd_card_start_frames(instance, HANDLE, OTHER);
     status |= w2c_lapd_request(instance, HANDLE, 0, LAPD_ASSIGN, LAPD_CALL, 64, OTHER, 0, REPORT);
-    memcpy(instance->data + OTHER, sabme, sizeof sabme);
+    memcpy(instance + OTHER, sabme, sizeof sabme);
     status |= w2c_lapd_frame(instance, HANDLE, 0, OTHER, sizeof sabme, REPORT);
     if (status != LAPD_OK)
         fail("a link", LAPD_OK, status);
@@ -111,13 +111,13 @@ static void are_same(const char *what, machine *one, machine *other, u32 a, u32 
 static void octets(void) {
     static const u8 heads[][4] = {{0x00, 0x81, 0x00, 0x00}, {0x00, 0x81, 0x03, 0x08}, {0x02, 0x81, 0x01, 0x01}, {0xFC, 0xFF, 0x03, 0x0F}};
     for (u32 round = 0; round < 3000; round++) {
-        const lapd_config config = {1, 8, 7, 7, 8, 4, 4, 8, (uint16_t)(round % 2 ? 260 : 8 + below(253)), 3, LAPD_NETWORK, 0, 0};
+        const lapd_config config = {1, 8, 7, 7, 8, 4, 4, 8, (uint16_t)(round % 2 ? 260 : 8 + below(253)), 3, LAPD_NETWORK, 0, 0, LAPD_PROFILE};
         machine *one = with_link(&config), *other = with_link(&config);
-        u32 length = 266 + below(LONGEST - 266), at = (u32)(one->octets - LONGEST);
+        u32 length = 266 + below(LONGEST - 266), at = OWN(one)->octets - LONGEST;
         for (u32 i = 0; i < length; i++)
-            one->data[at + i] = (u8)below(256);
-        memcpy(one->data + at, heads[below(4)], 4);
-        memcpy(other->data + at, one->data + at, length);
+            one[at + i] = (u8)below(256);
+        memcpy(one + at, heads[below(4)], 4);
+        memcpy(other + at, one + at, length);
         u32 cut = LAPD_MOST_FRAME + 1;
         are_same("a frame", one, other, w2c_lapd_frame(one, HANDLE, 0, at, cut, REPORT), w2c_lapd_frame(other, HANDLE, 0, at, length, REPORT));
         u8 request = (u8)(round % 5 ? LAPD_DATA : below(15)), service = (u8)(round % 7 ? LAPD_CALL : below(20));
@@ -134,7 +134,7 @@ static void octets(void) {
 /* ---- A start for octets, which takes the most stack ---------------------------------------------------------------- */
 
 static void start_of_octets(void) {
-    static const lapd_config most = {64, 8, 127, 127, 127, 16, 16, 8192, 260, 10, LAPD_NETWORK, 0, 0};
+    static const lapd_config most = {64, 8, 127, 127, 127, 16, 16, 8192, 260, 10, LAPD_NETWORK, 0, 0, LAPD_PROFILE};
     machine *instance = filled(lapd_card_octets(&most));
     put_lapd_config(instance, OTHER, &most);
     u32 status = w2c_lapd_card_start(instance, HANDLE, OTHER);

@@ -16,13 +16,13 @@
 #endif
 
 static const lapd_config configs[] = {
-    {1, 1, 1, 1, 1, 1, 2, 1, 8, 0, LAPD_NETWORK, 0, 0},
-    {1, 8, 7, 7, 8, 4, 4, 64, 260, 3, LAPD_NETWORK, 0, 0},
-    {4, 4, 7, 3, 16, 8, 8, 300, 128, 3, LAPD_USER, 0, 0},
-    {64, 1, 1, 1, 1, 1, 2, 1, 8, 0, LAPD_TERMINAL, 0, 0},
-    {64, 8, 7, 7, 8, 4, 4, 1024, 260, 3, LAPD_TERMINAL, 0, 0},
-    {64, 8, 7, 7, 8, 4, 4, 1024, 260, 3, LAPD_NETWORK, 0, 0},
-    {64, 1, 1, 1, 1, 1, 2, 1, 8, 0, LAPD_NETWORK, 0, 0},
+    {1, 1, 1, 1, 1, 1, 2, 1, 8, 0, LAPD_NETWORK, 0, 0, LAPD_PROFILE},
+    {1, 8, 7, 7, 8, 4, 4, 64, 260, 3, LAPD_NETWORK, 0, 0, LAPD_PROFILE},
+    {4, 4, 7, 3, 16, 8, 8, 300, 128, 3, LAPD_USER, 0, 0, LAPD_PROFILE},
+    {64, 1, 1, 1, 1, 1, 2, 1, 8, 0, LAPD_TERMINAL, 0, 0, LAPD_PROFILE},
+    {64, 8, 7, 7, 8, 4, 4, 1024, 260, 3, LAPD_TERMINAL, 0, 0, LAPD_PROFILE},
+    {64, 8, 7, 7, 8, 4, 4, 1024, 260, 3, LAPD_NETWORK, 0, 0, LAPD_PROFILE},
+    {64, 1, 1, 1, 1, 1, 2, 1, 8, 0, LAPD_NETWORK, 0, 0, LAPD_PROFILE},
 };
 
 /* So many octets that lie together are free; each is written and read. */

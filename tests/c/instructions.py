@@ -37,14 +37,19 @@ def rows_of(objdump: str, path: str) -> Dict[str, List[Row]]:
     return functions
 
 
+def numbers_of(rows: List[Row]) -> Dict[int, int]:
+    """The number of the instruction at each place of a function; of padding that of what follows it."""
+    numbers, count = {}, 0
+    for row in rows:
+        numbers[row.at] = count
+        count += not PADDING.match(row.text)
+    return numbers
+
+
 def without_padding(rows: List[Row]) -> List[str]:
     """The instructions, with each jump's place by its number."""
-    numbers, own = {}, []
-    for row in rows:
-        numbers[row.at] = len(own)
-        if not PADDING.match(row.text):
-            own.append(row)
-    return [shown(row, numbers) for row in own]
+    numbers = numbers_of(rows)
+    return [shown(row, numbers) for row in rows if not PADDING.match(row.text)]
 
 
 def shown(row: Row, numbers: Dict[int, int]) -> str:

@@ -263,7 +263,7 @@ static void want_state(uint8_t wanted) {
     exit(1);
 }
 
-static const lapd_config config = {1, 8, 7, 7, 8, 4, 4, 64, 260, 3, LAPD_NETWORK, 0, 0};
+static const lapd_config config = {1, 8, 7, 7, 8, 4, 4, 64, 260, 3, LAPD_NETWORK, 0, 0, LAPD_PROFILE};
 
 /* The exchange starts anew, and knows no TEI. */
 static void restart(void) {

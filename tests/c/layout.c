@@ -9,13 +9,14 @@
 #define AT(type, field, place) _Static_assert(offsetof(type, field) == (place), #type "." #field)
 #define OCTETS(type, size) _Static_assert(sizeof(type) == (size), #type)
 
-OCTETS(lapd_config, 26);
+OCTETS(lapd_config, 28);
 AT(lapd_config, k16, 6);
 AT(lapd_config, slots, 14);
 AT(lapd_config, n200, 18);
 AT(lapd_config, side, 20);
 AT(lapd_config, seed, 22);
 AT(lapd_config, sapi, 24);
+AT(lapd_config, reading, 26);
 OCTETS(lapd_note, 4);
 AT(lapd_note, error, 3);
 OCTETS(lapd_timer, 3);

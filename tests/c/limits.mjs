@@ -68,8 +68,8 @@ function library(octets) {
   return { lapd, config, write, handle };
 }
 
-const MOST = [64, 8, 127, 127, 127, 16, 16, 8192, 260, 10, 0, 0, 0];
-const FEW = [1, 8, 7, 7, 8, 4, 4, 64, 260, 3, 0, 0, 0];
+const MOST = [64, 8, 127, 127, 127, 16, 16, 8192, 260, 10, 0, 0, 0, 0];
+const FEW = [1, 8, 7, 7, 8, 4, 4, 64, 260, 3, 0, 0, 0, 0];
 const NO_MEMORY = 22;
 
 function inLittle(octets) {

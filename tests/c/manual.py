@@ -16,6 +16,7 @@ class Row(NamedTuple):
 
 def table_of_calls(page: str) -> List[Row]:
     """The rows of the table; none where anything in it is no row."""
+    page = page.replace("\\:", "")  # a place where a long name may go on in the next line
     table = re.search(r"^\.TS\n.*?^_\n(.*?)^\.TE$", page, re.M | re.S)
     if not table or re.sub(CELLS, "", table[1]):
         return []

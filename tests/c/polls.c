@@ -139,7 +139,7 @@ static bool is_up(keeper by, uint32_t line, unsigned link) {
 
 /* All its links are up: one of each line, or sixteen, each since a moment of its own. */
 static bool start(keeper by) {
-    const lapd_config config = {(uint16_t)lines, 8, 7, 7, 8, 4, 4, 8, 260, 3, LAPD_NETWORK, 0, 0};
+    const lapd_config config = {(uint16_t)lines, 8, 7, 7, 8, 4, 4, 8, 260, 3, LAPD_NETWORK, 0, 0, LAPD_PROFILE};
     bool is_there = by == OWN ? lapd_card_start_frames_timed(&card, &config, &lengths) == LAPD_OK
                               : lapd_card_start_frames(&card, &config) == LAPD_OK && lapd_clock_start(&timers, &config) == LAPD_OK
                                     && lapd_clock_set_lengths(&timers, lengths.t200, lengths.t203, lengths.t201, lengths.t202) == LAPD_OK;

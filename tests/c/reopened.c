@@ -11,7 +11,7 @@
 
 enum { LINES = 2, PLACES = 254, ROUNDS = 200000 };
 
-static const lapd_config config = {LINES, 2, 2, 2, 2, 2, 4, 64, 16, 1, LAPD_NETWORK, 0, 0};
+static const lapd_config config = {LINES, 2, 2, 2, 2, 2, 4, 64, 16, 1, LAPD_NETWORK, 0, 0, LAPD_PROFILE};
 static lapd_card card = LAPD_CARD_NONE;
 static lapd_report report;
 static bool waits[LINES][PLACES];

@@ -27,6 +27,7 @@ NUMBERS: Dict[bytes, Tuple[int, int, int]] = {
                                        b"ready", b"deactivate", b"data", b"unit", b"establish16", b"release16", b"busy16", b"ready16",
                                        b"deactivate16", b"data16", b"unit16")}}
 SIDES = {b"": lapd.Side.NETWORK, b"user": lapd.Side.USER, b"terminal": lapd.Side.TERMINAL}
+READINGS = {b"": lapd.Reading.PROFILE, b"annex-b": lapd.Reading.ANNEX_B}
 WITH_OCTETS = {b"rx", b"in", b"data", b"unit", b"data16", b"unit16"}
 
 
@@ -48,6 +49,7 @@ class Line(NamedTuple):
     numbers: List[int]
     octets: bytes = b""
     last: bytes = b""
+    reading: lapd.Reading = lapd.Reading.PROFILE
 
 
 def number(word: bytes, least: int = 0, most: int = MOST_NUMBER) -> int:
@@ -75,9 +77,11 @@ def read(text: bytes) -> Line:
     """A line of a script, before a card is asked."""
     word, *words = text.split(b" ")
     if word in (b"card", b"frames"):
+        *words, reading = words if words[-1:] == [b"annex-b"] else [*words, b""]
         *words, sapi = [*words[:-2], words[-1]] if words[-2:-1] == [b"sapi"] else [*words, b"16"]
         words, last, seed = side_of(words)
-        return Line(word.decode(), [number(it) for it in [*counted(words, 9, 10), seed, sapi]], last=last)
+        numbers = [number(it) for it in [*counted(words, 9, 10), seed, sapi]]
+        return Line(word.decode(), numbers, last=last, reading=READINGS[reading])
     if word == b"timers":
         return Line("timers", [number(it, 1, MOST_WAIT) for it in counted(words, 3, 4)])
     if word == b"failed":
@@ -118,7 +122,8 @@ class Station:
         *numbers_read, seed, sapi = line.numbers
         numbers = dict(zip(FIELDS, numbers_read))
         config = lapd.Config(**{"k16": numbers["k"], **numbers}, side=SIDES[line.last], seed=seed,
-                             sapi=sapi or MOST_NUMBER)  # 0 would mean 16
+                             sapi=sapi or MOST_NUMBER,  # 0 would mean 16
+                             reading=line.reading)
         try:
             self.card = KINDS[line.word, self.is_timed](config)
         except lapd.Error:
@@ -173,10 +178,9 @@ class Station:
 
     def asked(self, word: str, line: int, tei: int, contents: bytes) -> Iterator[str]:
         request = getattr(self.card, REQUESTS.get(word, word.rstrip("16")))
-        words = [line, tei] + ([contents] if word.startswith(("data", "unit")) else [])
-        words = words[:1] if word == "ask" else words
+        named = {} if word == "ask" else {"tei": tei, **({"contents": contents} if word.startswith(("data", "unit")) else {})}
         try:
-            report = request(*words, service=lapd.Service.PACKET) if word.endswith("16") else request(*words)
+            report = request(line, lapd.Service.PACKET, *named.values()) if word.endswith("16") else request(line, **named)
         except lapd.Refused as fault:
             yield f"{line} refused {fault}"
             return

@@ -27,7 +27,7 @@ static ucontext_t here, there;
 static lapd_card card;
 static lapd_clock timers;
 static lapd_report report;
-static const lapd_config config = {1, 8, 7, 7, 8, 4, 4, 8, 260, 3, LAPD_NETWORK, 0, 0};
+static const lapd_config config = {1, 8, 7, 7, 8, 4, 4, 8, 260, 3, LAPD_NETWORK, 0, 0, LAPD_PROFILE};
 static const lapd_lengths lengths = {1000, 10000, 1000, 2000};
 
 /* What is called, and what it is called with. */

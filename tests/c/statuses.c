@@ -10,7 +10,7 @@
 #include "lapd.h"
 #include "lapd_memory.h"
 
-enum { TURNS = 1000000, MOST_CALLS = 60, MOST_STATUSES = 64, FIELDS = 13 };
+enum { TURNS = 3000000, MOST_CALLS = 60, MOST_STATUSES = 64, FIELDS = 14 };
 
 static struct {
     const char *name;
@@ -73,11 +73,12 @@ static lapd_timer timer(void) {
 }
 
 static lapd_config config(void) {
-    lapd_config it = {2, 2, 1, 1, 1, 1, 2, 2, 8, 1, LAPD_NETWORK, 0, 0};
+    lapd_config it = {2, 2, 1, 1, 1, 1, 2, 2, 8, 1, LAPD_NETWORK, 0, 0, LAPD_PROFILE};
     uint16_t fields[FIELDS];
     memcpy(fields, &it, sizeof fields);
-    fields[FIELDS - 3] = (uint16_t)below(3);
-    fields[FIELDS - 2] = (uint16_t)below(65536);
+    fields[FIELDS - 4] = (uint16_t)below(3);
+    fields[FIELDS - 3] = (uint16_t)below(65536);
+    fields[FIELDS - 1] = (uint16_t)below(2);
     if (below(2))
         fields[below(FIELDS)] = 0xFFFF;
     memcpy(&it, fields, sizeof it);
@@ -177,7 +178,10 @@ static void questions(void) {
     uint64_t moment;
     if (below(40) == 0)
         at = below(1000);
-    switch (below(12)) {
+    const lapd_note note = {(uint8_t)(1 + at % LAPD_REMOVE_ALL), LAPD_PACKET, 64, 0};
+    const lapd_config config = {.sapi = (uint16_t)(at % 63)};
+    switch (below(13)) {
+    case 12: CALL(lapd_note_text_of, &note, &config, text, below(30)); break;
     case 11: CALL(lapd_fall_due, &card, at += below(9), &report); break;
     case 10: CALL(lapd_next_moment, &card, &moment); break;
     case 9: CALL(lapd_frame_text, octets, below(3) ? 3 : below(1030), (uint16_t)below(4), text, below(2) ? sizeof text : 10); break;
@@ -230,12 +234,12 @@ static void clock_calls(void) {
 
 int main(void) {
     for (unsigned i = 0; i < TURNS; i++)
-        switch (below(14)) {
+        switch (below(17)) {
         case 0: case 1: case 2: case 3: line_calls(); break;
         case 4: case 5: case 6: case 7: requests(); break;
         case 8: questions(); break;
         case 9: case 10: clock_calls(); break;
-        case 11: case 12: moments(); break;
+        case 11: case 12: case 13: case 14: case 15: moments(); break;
         default:
             if (below(20) == 0)
                 starts_and_ends();

@@ -5,6 +5,7 @@ import os
 import re
 import shlex
 import shutil
+import signal
 import subprocess
 import sys
 from typing import NamedTuple, Tuple
@@ -174,6 +175,10 @@ def one_file(portable, folder):
             small: b"out of memory\n"}
     for flag, (compiled, said) in zip(ways, in_parallel(lambda it: first_with(portable, it, folder), ways)):
         check(f"first.c with lapd.c {flag}", said == ways[flag], f"{compiled} {said}")
+    for flag, why in (("-DLAPD_OWN_MEMORY", b""), ("-DLAPD_OWN_MEMORY -DLAPD_CHECKED", b"lapd.c: an access outside of a card or a clock.")):
+        said = freed_with(portable, flag, folder)
+        check(f"a freed card with lapd.c {flag}", said.returncode == -signal.SIGABRT and said.stderr.startswith(why)
+              and bool(said.stderr) == bool(why), said)
     two = run(["cc", "-fsyntax-only", "-DLAPD_HEAP_OCTETS=120000", "-DLAPD_OWN_MEMORY", f"{portable.folder}/lapd.c"], timeout=LONG)
     check("two choices of memory are refused", two.returncode != 0 and b"Choose one" in two.stderr, two.stderr.decode()[:600])
     for octets, is_taken in (("31", False), ("32", True), ("(2 * 16)", True)):
@@ -187,6 +192,13 @@ def first_with(portable, flag, folder):
     said = run(["cc", f"-I{portable.folder}", "-o", path, f"{ROOT}/examples/c/first.c", f"{portable.folder}/lapd.c", *flag.split()], timeout=LONG)
     ran = run([path]) if said.returncode == 0 else None
     return said.stderr.decode()[:600], ran and ran.stdout + ran.stderr
+
+
+def freed_with(portable, flag, folder):
+    """What a program says that uses a freed card through a copy."""
+    path = f"{folder}/freed{flag}"
+    said = run(["cc", *flag.split(), f"-I{portable.folder}", "-o", path, f"{HERE}/freed.c", f"{portable.folder}/lapd.c"], timeout=LONG)
+    return run([path]) if said.returncode == 0 else said
 
 
 FIRST = b"0 establish-indication 64\n0 tx 7E008173C4127E\nstored 0 limit 17470\n"

@@ -320,6 +320,11 @@ static void sides(void) {
     of.n200 = one.n200;
     of.sapi = 63;
     terminal_wants(lapd_card_start(&card, &of) == LAPD_BAD_SAPI && !card.started, "the side goes before the SAPI");
+    of.sapi = one.sapi;
+    of.reading = 2;
+    terminal_wants(lapd_card_start(&card, &of) == LAPD_BAD_SIDE && !card.started, "the reading goes before the side");
+    of.side = one.side;
+    terminal_wants(lapd_card_start(&card, &of) == LAPD_BAD_READING && lapd_clock_start(&none, &of) == LAPD_BAD_READING, "a third reading");
     of = one;
     of.seed = 0xFFFF;
     for (of.side = LAPD_NETWORK; of.side <= LAPD_TERMINAL; of.side++) {

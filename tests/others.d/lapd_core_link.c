@@ -1,7 +1,5 @@
 /*
  * lapd_core_link.c: a link of libosmocore's lapd_core.c (link.h), which is written after GSM 04.06. It sets no own busy.
- *
- * A word of the command line that makes a difference alike: `first-enquiry` (RC is 0 after the enquiry that T200 leads to).
  */
 #include "lapd_core.c"
 
@@ -168,11 +166,8 @@ static void asks(int primitive, const uint8_t *octets, size_t length) {
 }
 
 static void expires(void) {
-    bool is_first = at.state == LAPD_STATE_MF_EST;
     at.t200.active = 0;
     lapd_t200_cb(&at);
-    if (is_first && is_alike("first-enquiry"))
-        at.retrans_ctr = 0;
 }
 
 bool stack_meets(happening what, const uint8_t *octets, size_t length) {

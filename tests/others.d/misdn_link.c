@@ -2,9 +2,9 @@
  * misdn_link.c: a link of Linux's mISDN, its layer2.c and fsm.c over the stubs of kernel.h (link.h). A confirmation of each
  * frame comes at once, so that the next may go.
  *
- * Words of the command line that make differences alike: `first-enquiry` (RC is 0 after the enquiry that T200 leads to),
- * `dm-in-4` (no DM with F=0 comes to state 4), `reject-timers` (after REJ in state 7, T200 runs if anything is outstanding,
- * and T203 else), `clear-busy` (the end of own busy is told if it was busy), `final-rnr` (RNR with F=1 acknowledges in state 8).
+ * Words of the command line that make differences alike: `reject-timers` (after REJ in state 7, T200 runs if anything is
+ * outstanding, and T203 else), `clear-busy` (the end of own busy is told if it was busy), `final-rnr` (RNR with F=1 acknowledges
+ * in state 8).
  */
 #include "kernel.h"
 
@@ -154,8 +154,6 @@ static void mend_reject(void) {
 static bool hears(const uint8_t *octets, size_t length) {
     bool is_reject = octets[2] == REJ && at->l2m.state == ST_L2_7 && is_alike("reject-timers");
     bool is_final = octets[2] == RNR && (octets[0] & 2) && length == 4 && (octets[3] & 1) && at->l2m.state == ST_L2_8;
-    if ((octets[2] & 0xEF) == DM && at->l2m.state == ST_L2_4 && !(octets[2] & 0x10) && is_alike("dm-in-4"))
-        return false;
     if (is_final && is_alike("final-rnr") && legalnr(at, octets[3] >> 1))
         setva(at, octets[3] >> 1);
     struct sk_buff *it = mI_alloc_skb(length, GFP_ATOMIC);
@@ -180,11 +178,8 @@ static bool asks(int event, const uint8_t *octets, size_t length) {
 }
 
 static void expires_200(void) {
-    bool is_first = at->l2m.state == ST_L2_7;
     at->t200.tl.is_pending = false;
     mISDN_FsmEvent(&at->l2m, EV_L2_T200I, NULL);
-    if (is_first && is_alike("first-enquiry"))
-        at->rc = 0;
 }
 
 static void expires_203(void) {

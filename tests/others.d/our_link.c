@@ -1,6 +1,6 @@
 /*
- * our_link.c: a link of ours (link.h), at a card of frames of lapd.c, whose queues are so large that nothing finds no room.
- * It begins in state 4 alone.
+ * our_link.c: a link of ours (link.h) by annex B, at a card of frames of lapd.c, whose queues are so large that nothing finds
+ * no room. It begins in state 4 alone.
  */
 #include "link.h"
 
@@ -63,7 +63,8 @@ static void sends_all(void) {
 
 void stack_begin(const column *at) {
     static const lapd_config config = {.lines = 1, .terminals = 1, .k = WINDOW, .k16 = WINDOW, .queue = QUEUE, .unit_queue = 1,
-                                       .control = CONTROL, .slots = QUEUE, .n201 = MOST_OCTETS, .n200 = MOST_REPEATS};
+                                       .control = CONTROL, .slots = QUEUE, .n201 = MOST_OCTETS, .n200 = MOST_REPEATS,
+                                       .reading = LAPD_ANNEX_B};
     if (at->state != 4) {
         fprintf(stderr, "our_link: it begins in state 4 alone\n");
         exit(2);

@@ -1,5 +1,5 @@
 /*
- * our_teis.c: TEI management of ours (teis.h), at a card of frames of lapd.c: the network's side with room for eight TEIs, or
+ * our_teis.c: TEI management of ours (teis.h) by annex B, at a card of frames of lapd.c: the network's side with room for eight TEIs, or
  * a terminal with room for one.
  */
 #include "teis.h"
@@ -43,7 +43,8 @@ static void takes_all(void) {
 
 void stack_begin(bool is_network) {
     lapd_config config = {.lines = 1, .terminals = is_network ? 8 : 1, .k = 1, .k16 = 1, .queue = 1, .unit_queue = 1,
-                          .control = 2, .slots = 1, .n201 = 260, .n200 = 3, .side = is_network ? LAPD_NETWORK : LAPD_TERMINAL};
+                          .control = 2, .slots = 1, .n201 = 260, .n200 = 3, .side = is_network ? LAPD_NETWORK : LAPD_TERMINAL,
+                          .reading = LAPD_ANNEX_B};
     if (card.started)
         want(lapd_card_free(&card), "free");
     want(lapd_card_start_frames(&card, &config), "start");

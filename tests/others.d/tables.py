@@ -24,6 +24,7 @@ COLUMNS = {
     '8, nothing outstanding': '8 0 0 0 0 0 0 0 200',
     '8, one outstanding': '8 0 0 1 0 0 0 0 200',
     '8, reject exception': '8 0 0 0 0 0 0 1 200',
+    '8, T200 for the third time': '8 0 3 1 0 0 0 0 200',
     '8, RC = N200': '8 0 3 0 0 0 0 0 200',
     '8, own busy': '8 0 0 0 0 1 0 0 200',
     '8, peer busy, one unsent': '8 0 0 0 1 0 1 0 200',
@@ -31,6 +32,8 @@ COLUMNS = {
     '8, both busy, one unsent': '8 0 0 0 1 1 1 0 200',
 }
 NO_COUNTERPART = 'two answers wait'
+# What stands after an event whose row differs by the reading.
+PROFILE, ANNEX_B = ' (profile)', ' (annex B)'
 # Requests, of which it counts whether they are refused.
 REQUESTS = {
     'clear busy': 'ready', 'set busy': 'busy', 'data request': 'data 41', 'data request over N201': 'data ' + 9 * '41',
@@ -102,8 +105,13 @@ def outcome_of(cell, column, event):
     return Outcome(tuple(control), tuple(sorted(told)), tuple(contents), timer + star, state, is_refused)
 
 
+def by_annex_b(row):
+    """The events of a row, without those that it has for the profile alone."""
+    return [it.replace(ANNEX_B, '') for it in re.split(r', (?![RA]i )', row) if not it.endswith(PROFILE)]
+
+
 def tables_of(text) -> Iterator[Tuple[str, str, str]]:
-    """Each cell of tables: its column, the events of its row, and what it says."""
+    """Each cell of tables by annex B: its column, its event, and what it says."""
     heads = []
     for line in text.splitlines():
         if not line.startswith('|') or line.startswith('|---'):
@@ -115,8 +123,8 @@ def tables_of(text) -> Iterator[Tuple[str, str, str]]:
         for at, cell in enumerate(cells):
             if cell == '"':
                 cells[at] = cells[at - 1]
-        for head, cell in zip(heads, cells):
-            yield head, first, cell
+        for event in by_annex_b(first):
+            yield from ((head, event, cell) for head, cell in zip(heads, cells))
 
 
 def numbered(event):
@@ -130,11 +138,11 @@ def numbered(event):
 
 
 def link_cells(page) -> Dict[Tuple[str, str], Outcome]:
-    """What ours does: by column and event."""
+    """What ours does by annex B: by column and event."""
     links = page.partition('\n## TEI management')[0].partition('\n### ')[2]
     cells = {}
-    for column, row, cell in tables_of(links):
+    for column, name, cell in tables_of(links):
         if NO_COUNTERPART not in column:
-            for event in [it for name in row.split(', ') for it in numbered(name)]:
+            for event in numbered(name):
                 cells[column, event] = outcome_of(cell, column, event)
     return cells

@@ -79,7 +79,7 @@ NOT_THERE = {('network', 'misdn'): OVER, ('terminal', 'misdn'): NEVER_ASKED + [(
 
 
 # The printed table has room for two TEIs.
-LIMITS = [('64 and 65', 'identity request, Ri 3')]
+LIMITS = [(column, 'identity request, Ri %d' % ri) for column in ('64 and 65', '64 and 65, 64 checked') for ri in (1, 2, 3)]
 
 
 def cells(side):
@@ -124,10 +124,9 @@ def meant(column, cell):
 
 def printed(page):
     """What the printed table of the network's side says, of the cells that are here too."""
-    for column, row, cell in tables_of(page.partition('\n## TEI management')[2]):
-        for event in re.split(r', (?![RA]i )', row):
-            if column in NETWORK and event in NETWORK_EVENTS and (column, event) not in LIMITS:
-                yield (column, event), meant(column, cell)
+    for column, event, cell in tables_of(page.partition('\n## TEI management')[2]):
+        if column in NETWORK and event in NETWORK_EVENTS and (column, event) not in LIMITS:
+            yield (column, event), meant(column, cell)
 
 
 def not_as_printed(page, ours):

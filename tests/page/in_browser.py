@@ -12,7 +12,8 @@ from vithrynel.story import COMMENT
 from wanted import Played
 
 MANY = 40  # scripts that are shown in one go
-AWAY = 2.0  # seconds for which the page may be away at most, on a machine that does nothing else
+# For how many seconds the page may be away at most, on a machine that does nothing else; or for twice as long as a bare field.
+AWAY = 2.0
 # Work of a known length, in the page: where it takes longer than on such a machine, all else does, too.
 PACE = """(() => {
     const begun = performance.now();
@@ -22,8 +23,34 @@ PACE = """(() => {
     return performance.now() - begun + 0 * it;
 })()"""
 QUIET = 0.45  # seconds that it takes there at most, as measured in Chromium (0.38 to 0.44)
+# A page of nothing but a field, which a script fills: the browser's own part of what a long one takes.
+BARE = """{
+    document.body.innerHTML = "<textarea rows=20 cols=80 spellcheck=false></textarea>";
+    window.away = 0;
+    let latest = performance.now();
+    setInterval(() => {
+        const now = performance.now();
+        window.away = Math.max(window.away, now - latest);
+        latest = now;
+        performance.mark("awake");
+    }, 10);
+    window.fill = (script) => new Promise((go) => {
+        const text = document.querySelector("textarea");
+        text.focus();
+        text.value = script;
+        setTimeout(go, 100);
+    });
+}"""
 TRIES = 8  # of which the best counts, since a busy machine also makes tasks longer; none comes after one that is short enough
 LOST = "conversation/frame-lost"  # the script of the menu in which a frame is lost
+
+
+def says_what_plays(page: Page, scripts: List[Played]) -> Iterator[str]:
+    """What plays is made from the proved program, and the page does not say that it is that."""
+    page.open()
+    words = page.browser.value("document.querySelector('header p').textContent")
+    if "made from the proved" not in words.replace("\n", " "):
+        yield words
 
 
 def opens(page: Page, scripts: List[Played]) -> Iterator[str]:
@@ -106,6 +133,42 @@ def explains_faults(page: Page, scripts: List[Played]) -> Iterator[str]:
                 yield f"{it.name}: {got['verdict']}"
     if len(met) < 10:
         yield f"only {sorted(met)} came"
+
+
+def explains_whole(page: Page, scripts: List[Played]) -> Iterator[str]:
+    """The box beside a fault shows all of its explanation, and the line that is being written stays in view."""
+    kinds = {it.fault.partition(": ")[2]: it for it in scripts if it.fault and it.is_text()}
+    box = "(({ scrollHeight, clientHeight }) => [scrollHeight, clientHeight])(document.getElementById('verdict'))"
+    for size in ((1360, 860), (1024, 600), (1024, 768)):
+        page.open(size=size)
+        for kind, it in kinds.items():
+            page.browser.value(f"shown({json.dumps(fragment(it.script))})")
+            whole, shown = page.browser.value(box)
+            if whole > shown:
+                yield f"at {size[0]} x {size[1]} {kind}: {shown} of {whole} pixels are shown"
+    page.type("card 1 8 7 8 4 4 64 260 3\n" + "assign 0 64\n" * 60)
+    page.browser.value("{const text = document.getElementById('text'); text.setSelectionRange(1e6, 1e6); text.scrollTo(0, 1e6);}")
+    page.type("card 1 8 7 8 4 4 64 260 3\n" + "assign 0 64\n" * 60 + "wait 9999999")
+    page.browser.value("new Promise((go) => setTimeout(go, 100))")
+    if page.browser.value("(({ scrollTop, clientHeight }) => scrollTop + clientHeight < 62 * 20)(document.getElementById('text'))"):
+        yield "the line that is being written is out of view"
+
+
+def leaves_help(page: Page, scripts: List[Played]) -> Iterator[str]:
+    """Help makes room for the ladder as a script is chosen, typed or stepped."""
+    acts = {"chosen": lambda: page.choose(LOST), "typed": lambda: page.type("card 1 8 7 8 4 4 64 260 3\n"),
+            "stepped": lambda: page.browser.key("F8", 119), "of an address": lambda: page.browser.value(
+                f"shown({json.dumps(fragment(b'card 1 1 7 8 4 4 64 260 3'))})")}
+    page.open()
+    for name, act in acts.items():
+        page.click("#tab-help")
+        act()
+        if page.browser.value("[document.getElementById('ladder').hidden, document.getElementById('help').hidden]") != [False, True]:
+            yield f"Help stays over the ladder of a script that is {name}"
+    page.click("#tab-transcript")
+    page.choose(LOST)
+    if page.browser.value("document.getElementById('transcript').hidden"):
+        yield "the transcript goes as a script is chosen"
 
 
 def puts_examples(page: Page, scripts: List[Played]) -> Iterator[str]:
@@ -231,6 +294,7 @@ def has_fields(page: Page, scripts: List[Played]) -> Iterator[str]:
         ("side", "terminal", "frames 1 8 3 8 4 4 64 260 3 2 user 0"),
         ("seed", "4660", "frames 1 8 3 8 4 4 64 260 3 2 user 4660"),
         ("SAPI", "62", "frames 1 8 3 8 4 4 64 260 3 2 user 4660 sapi 62"),
+        ("rows", "annex-b", "frames 1 8 3 8 4 4 64 260 3 2 user 4660 sapi 62 annex-b"),
     ]:
         page.browser.value(f"change({json.dumps(name)}, {json.dumps(value)})")
         time.sleep(0.2)
@@ -280,6 +344,17 @@ def away_for(page: Page, name: str, script: str) -> float:
     return min(away, longest) / slower
 
 
+def bare_for(page: Page, script: str) -> float:
+    """For how many seconds a page is away that has nothing but a field into which that script comes, as away_for has it."""
+    page.browser.ask("Page.navigate", url="about:blank")
+    page.browser.value(BARE)
+    page.browser.watch_tasks()
+    page.browser.value(f"fill({json.dumps(script)})", 90)
+    away, longest = page.browser.value("away") / 1000, page.browser.longest_stretch("awake")
+    slower = max(1, page.browser.value(PACE, 90) / 1000 / QUIET)
+    return min(away, longest) / slower
+
+
 def is_awake(page: Page, scripts: List[Played]) -> Iterator[str]:
     """What is long or wild does not take the page away."""
     numbers = random.Random(921)
@@ -296,12 +371,15 @@ def is_awake(page: Page, scripts: List[Played]) -> Iterator[str]:
         "ten thousand waits": "card 1 8 7 8 4 4 64 260 3\nassign 0 64\n" + "establish 0 64\nwait 3600000\nstored\n" * 3334,
     }
     for name, script in cases.items():
-        tries = []
-        while len(tries) < TRIES and min(tries, default=AWAY + 1) > AWAY:
+        tries, most = [], AWAY
+        while len(tries) < TRIES and min(tries, default=most + 1) > most:
             tries.append(away_for(page, name, script))
-        if min(tries) > AWAY:
-            yield f"{name}: it is away for {min(tries):.1f} seconds"
-        if not page.browser.value("isPlayed()"):
+            played = page.browser.value("isPlayed()")
+            if min(tries) > most:
+                most = max(most, 2 * bare_for(page, script))
+        if min(tries) > most:
+            yield f"{name}: it is away for {min(tries):.1f} seconds, where {most:.1f} are allowed"
+        if not played:
             yield f"{name}: it is not played"
 
 
@@ -344,13 +422,15 @@ def fits(page: Page, scripts: List[Played]) -> Iterator[str]:
 
 
 def is_read_when_low(page: Page, scripts: List[Played]) -> Iterator[str]:
-    """On a phone that is held sideways the card's form is closed, and script, verdict, steps and ladder are on the screen."""
+    """On a phone that is held sideways, and in a low window, the card's form is closed, and script, verdict, steps and ladder are
+    on the screen."""
     is_open = "document.getElementById('card').open"
-    for width, height in ((844, 390), (800, 360), (932, 430)):
-        page.open(size=(width, height), is_phone=True)
+    for width, height in ((844, 390), (800, 360), (932, 430), (1024, 600)):
+        page.open(size=(width, height), is_phone=width < 1000)
         if page.browser.value(is_open):
             yield f"at {width} x {height} the form is open"
-        for name, least in (("text", 90), ("verdict", 10), ("steps", 20), ("ladder", 150)):
+        lines = 200 if height == 600 else 90
+        for name, least in (("text", lines), ("verdict", 10), ("steps", 20), ("how-far", 10), ("ladder", 150)):
             box = page.browser.value(f"boxOf('#{name}')")
             if box["height"] < least or box["top"] < 0 or box["bottom"] > height:
                 yield f"at {width} x {height}: {name} is {box}"
@@ -358,6 +438,9 @@ def is_read_when_low(page: Page, scripts: List[Played]) -> Iterator[str]:
         page.browser.value("document.getElementById('steps').scrollIntoView()")
         if page.browser.value("boxOf('#steps')")["bottom"] > height + 1:
             yield f"at {width} x {height} an open form keeps the steps off the screen"
+        page.browser.value("document.getElementById('how-far').scrollIntoView()")
+        if page.browser.value("boxOf('#how-far')")["bottom"] > height + 1:
+            yield f"at {width} x {height} an open form cuts how far it is played"
     page.open(size=(1000, 700))
     if not page.browser.value(is_open):
         yield "the form is closed where there is room"
@@ -402,10 +485,13 @@ def draws_arrows(page: Page, scripts: List[Played]) -> Iterator[str]:
 
 TESTS = {
     "opens": opens,
+    "says what plays": says_what_plays,
     "shows all": shows_all,
     "has a menu": has_menu,
     "marks faults": marks_faults,
     "explains faults": explains_faults,
+    "explains whole": explains_whole,
+    "leaves help": leaves_help,
     "puts examples": puts_examples,
     "loses a frame": loses_a_frame,
     "makes no markup": makes_no_markup,
@@ -423,6 +509,7 @@ TESTS = {
 
 STORED = (1320, 680, False, False)  # of docs/pictures
 VIEWS = {
+    "1024x600": (1024, 600, False, False),
     "forced": (1360, 860, False, False, True),
     "low": (844, 390, False, True),
     "light": (1360, 860, False, False),

@@ -24,7 +24,7 @@ function beginning(program, script, count) {
 const program = new Program(new WebAssembly.Module(readFileSync(wasm)));
 for (const path of JSON.parse(readFileSync(0, "utf8"))) {
   const script = new Uint8Array(readFileSync(path));
-  const { status, fault, transcript, isUser, clock, steps } = play(program, script);
+  const { status, fault, transcript, isUser, isTerminal, clock, steps } = play(program, script);
   const found = [...stories(steps)].map(([line, rows]) => ({
     line,
     rows: inWords(rows),
@@ -35,5 +35,5 @@ for (const path of JSON.parse(readFileSync(0, "utf8"))) {
   const feeds = script.filter((it) => it === 10).length;
   const lasts = [...new Set(Array.from({ length: PARTS }, (_, part) => Math.floor((part * feeds) / PARTS)))];
   const beginnings = lasts.map((count) => beginning(program, script, count));
-  console.log(JSON.stringify({ status, fault, transcript, told, isUser, clock, ladders: found, beginnings }));
+  console.log(JSON.stringify({ status, fault, transcript, told, isUser, isTerminal, clock, ladders: found, beginnings }));
 }

@@ -109,7 +109,8 @@ def differences(it: Played, got: dict) -> Iterator[str]:
     if found != wanted:
         pairs = [(one, two) for left, right in zip(found, wanted) for one, two in zip(left[1], right[1]) if one != two]
         yield f"ladder: {pairs[:1] or (found[:1], wanted[:1])}"[:600]
-    names = ["exchange", "user", "layer 3"] if it.is_user else ["terminal", "exchange", "layer 3"]
+    user = "terminal" if it.is_terminal else "user"
+    names = ["exchange", user, "layer 3"] if it.is_user else ["terminal", "exchange", "layer 3"]
     if any(ladder["names"] != names for ladder in got["ladders"]):
         yield f"names {got['ladders'][0]['names']}"
     if "".join(f"{said}\n" for said in got["said"]) != it.transcript:

@@ -25,7 +25,7 @@ class Played:
         told = stories(steps)
         self.rows = {line: [list(it) for it in rows] for line, rows in told.items()}
         self.captures = {it: base64.b64encode(pcap.written(pcap.packets(steps, it), play.is_user)).decode() for it in told}
-        self.is_user, self.clock = play.is_user, play.clock
+        self.is_user, self.is_terminal, self.clock = play.is_user, play.is_terminal, play.clock
         ran = subprocess.run([program, "run"], input=self.script, capture_output=True, timeout=60)
         self.transcript, self.fault, self.status = ran.stdout.decode(), ran.stderr.decode().strip(), ran.returncode
         self.lines = self.script.count(b"\n") + 1
@@ -40,7 +40,7 @@ class Played:
     def differences(self, got):
         """How what web/ makes of it differs."""
         wanted = {"status": self.status, "fault": self.fault, "transcript": self.transcript, "told": self.transcript,
-                  "isUser": self.is_user, "clock": self.clock}
+                  "isUser": self.is_user, "isTerminal": self.is_terminal, "clock": self.clock}
         for name, it in wanted.items():
             if got[name] != it:
                 yield f"{name}: {str(got[name])[:200]!r}, wanted {str(it)[:200]!r}"

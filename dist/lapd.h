@@ -1,9 +1,12 @@
 /*
  * lapd.h: a line card that ends ISDN D-channels (ITU-T Q.921, modulo 128), for C99 and C++. A program is a loop around one, which
- * reads the time once, after it has waited:
+ * reads the time once, after it has waited (docs/EMBEDDING.md has it whole):
  *
- *     uint64_t until = 0;
  *     for (;;) {
+ *         for (uint32_t line = 0; lapd_next_waiting(&card, line, &line) == LAPD_OK;)
+ *             ... if the controller of this line has room: lapd_next_frame, its report, and the frame; else line++ ...
+ *         uint64_t until = UINT64_MAX;              stays so if no timer runs
+ *         (void)!lapd_next_moment(&card, &until);
  *         ... wait (poll): for a frame, for room in a controller, for somebody who asks, and until the moment `until` at most ...
  *         uint64_t now = ... milliseconds of a clock that is never set back ...
  *         while ((status = lapd_fall_due(&card, now, &report)) == LAPD_OK)
@@ -11,10 +14,6 @@
  *         if (status != LAPD_NO_TIMER)
  *             ... a fault: with LAPD_WRONG_TIME the clock was set back, and no timer falls due ...
  *         ... lapd_frame or lapd_request, for what came, and what its report tells ...
- *         for (uint32_t line = 0; lapd_next_waiting(&card, line, &line) == LAPD_OK; line++)
- *             ... lapd_next_frame, if the controller of this line has room; its report, and the frame ...
- *         if (lapd_next_moment(&card, &until) != LAPD_OK)
- *             until = UINT64_MAX;
  *     }
  *
  * All that a card does it does at the moment that lapd_fall_due was told last. Without that call after the wait, timers begin in
@@ -46,6 +45,9 @@
  * toolchain's if the program is compiled with -DLAPD_CHECKED, by lapd_checked.h. So compile a program that is not finished yet; in
  * C++ all its files or none, as an inline function has one definition. A pointer to octets may be null there if its length is 0.
  * Calls that answer no status, as lapd_tells, lapd_note_text and lapd_card_octets, look at no pointer.
+ *
+ * If a card that was freed is used through a copy, nothing tells it for sure. By lapd.c, an access outside of a card ends the program
+ * with abort(); compiled with -DLAPD_CHECKED, lapd.c says why before, on standard error.
  *
  * What the caller promises, and no call can test:
  *
@@ -184,19 +186,20 @@ enum {
     LAPD_WRONG_CAUSE = 27, /* none of LAPD_ABORT, LAPD_RAGGED, LAPD_SHORT and LAPD_FCS */
     LAPD_NO_FRAME = 28,    /* no frame of the line waits to be sent */
 
-    /* A field of the configuration is out of range: the first, in their order; the side is looked at last, after sapi. */
+    /* A field of the configuration is out of range: the first, in their order; after sapi come the side and the reading. */
     LAPD_BAD_LINES = 33,
     LAPD_BAD_TERMINALS = 34,
     LAPD_BAD_K = 35,
     LAPD_BAD_K16 = 36,
-    LAPD_BAD_QUEUE = 37,
+    LAPD_BAD_QUEUE = 37, /* also if k or k16 is in range, and greater than it */
     LAPD_BAD_UNIT_QUEUE = 38,
     LAPD_BAD_CONTROL = 39,
     LAPD_BAD_SLOTS = 40,
     LAPD_BAD_N201 = 41,
     LAPD_BAD_N200 = 42,
     LAPD_BAD_SIDE = 43, /* of lapd_frame_text, too */
-    LAPD_BAD_SAPI = 44
+    LAPD_BAD_SAPI = 44,
+    LAPD_BAD_READING = 45
 };
 
 /* ---- The configuration of a card -------------------------------------------------------------------------------- */
@@ -218,12 +221,19 @@ typedef struct lapd_config {
                             numbers alone the network tells terminals apart that ask. Each line begins with it, so no two
                             lines of a card may share a bus. Of the other sides it is not read */
     uint16_t sapi;       /* the SAPI of the second service, LAPD_PACKET: 1 to 62; 0 means 16 (clause 3.3.3) */
+    uint16_t reading;    /* which rows hold where readers of the standard differ: LAPD_PROFILE or LAPD_ANNEX_B */
 } lapd_config;
 
 enum {
     LAPD_NETWORK = 0, /* the exchange */
     LAPD_USER = 1,    /* a private exchange (PBX), or a terminal whose TEI the network does not assign */
     LAPD_TERMINAL = 2 /* a terminal, whose TEIs the network assigns, checks and removes (clause 5.3) */
+};
+
+enum {
+    LAPD_PROFILE = 0, /* this project's choice of each row */
+    LAPD_ANNEX_B = 1  /* the rows as others have them, after the diagrams of annex B: for a conformance laboratory, or equipment
+                         of another maker */
 };
 
 /*
@@ -237,8 +247,8 @@ enum {
  *     gateway.slots *= gateway.lines;              phone.side = LAPD_TERMINAL;
  *                                                  phone.seed = ... a random number ...
  */
-#define LAPD_BASIC_ACCESS { 1, 8, 1, 3, 8, 4, 4, 132, 260, 3, LAPD_NETWORK, 0, 0 }
-#define LAPD_PRIMARY_RATE { 1, 1, 7, 7, 8, 4, 4, 20, 260, 3, LAPD_NETWORK, 0, 0 }
+#define LAPD_BASIC_ACCESS { 1, 8, 1, 3, 8, 4, 4, 132, 260, 3, LAPD_NETWORK, 0, 0, LAPD_PROFILE }
+#define LAPD_PRIMARY_RATE { 1, 1, 7, 7, 8, 4, 4, 20, 260, 3, LAPD_NETWORK, 0, 0, LAPD_PROFILE }
 
 /* ---- What is told ----------------------------------------------------------------------------------------------- */
 
@@ -382,7 +392,7 @@ typedef struct lapd_card {
 #define LAPD_CARD_NONE { false, LAPD_NULL }
 
 /* Starts a card of octets, on which no TEI is on any line. Takes memory, as only the starts of a card do.
- * LAPD_SECOND_START, the first bad field (LAPD_BAD_LINES to LAPD_BAD_SAPI) or LAPD_NO_MEMORY: there is no other card than
+ * LAPD_SECOND_START, the first bad field (LAPD_BAD_LINES to LAPD_BAD_READING) or LAPD_NO_MEMORY: there is no other card than
  * before. */
 LAPD_STATUS lapd_card_start(lapd_card *card, const lapd_config *config);
 
@@ -478,10 +488,10 @@ LAPD_STATUS lapd_next_frame(lapd_card *card, uint32_t line, uint8_t *out, size_t
 /*
  * The first line on which a frame waits, from line `from` on: lapd_next_frame gives one there, and none on the lines that
  * are passed over. LAPD_NO_FRAME: none waits from there on, and *line is as it was. It costs the same for 64 lines as for
- * one. A frame of each line whose controller has room:
+ * one. All frames for which controllers have room:
  *
- *     for (uint32_t line = 0; lapd_next_waiting(&card, line, &line) == LAPD_OK; line++)
- *         ... if the controller of this line has room for one: lapd_next_frame ...
+ *     for (uint32_t line = 0; lapd_next_waiting(&card, line, &line) == LAPD_OK;)
+ *         ... if the controller of this line has room for one: lapd_next_frame; else line++ ...
  */
 LAPD_STATUS lapd_next_waiting(lapd_card *card, uint32_t from, uint32_t *line);
 
@@ -1025,7 +1035,7 @@ LAPD_INLINE const char *lapd_status_text(uint32_t status) {
     case LAPD_BAD_TERMINALS: return "terminals is out of range";
     case LAPD_BAD_K: return "k is out of range";
     case LAPD_BAD_K16: return "k16 is out of range";
-    case LAPD_BAD_QUEUE: return "queue is out of range";
+    case LAPD_BAD_QUEUE: return "queue is less than k or k16, or out of range";
     case LAPD_BAD_UNIT_QUEUE: return "unit_queue is out of range";
     case LAPD_BAD_CONTROL: return "control is out of range";
     case LAPD_BAD_SLOTS: return "slots is out of range";
@@ -1033,6 +1043,7 @@ LAPD_INLINE const char *lapd_status_text(uint32_t status) {
     case LAPD_BAD_N200: return "n200 is out of range";
     case LAPD_BAD_SIDE: return "side is out of range";
     case LAPD_BAD_SAPI: return "sapi is out of range";
+    case LAPD_BAD_READING: return "reading is out of range";
     default: return "unknown status";
     }
 }
@@ -1057,6 +1068,39 @@ LAPD_INLINE const char *lapd_note_text(const lapd_note *note) {
     case LAPD_REMOVE_ALL: return "remove-all";
     default: return "unknown note";
     }
+}
+
+/*
+ * The same for a card of this configuration: of a packet link with its SAPI in place of -16. It stands in front of `text`, which
+ * ends with a 0.
+ *
+ *     establish-confirm             of call control
+ *     establish-confirm sapi 62     of a packet link, if the configuration's sapi is 62; if it is 0, sapi 16
+ *
+ * LAPD_WRONG_LENGTH: `room` is too small; 29 are enough. Nothing is written then.
+ */
+LAPD_INLINE_STATUS lapd_note_text_of(const lapd_note *note, const lapd_config *config, char *text, size_t room) {
+    if (note == LAPD_NULL || config == LAPD_NULL || (text == LAPD_NULL && room != 0))
+        return LAPD_WRONG_POINTER;
+    lapd_note plain = *note;
+    plain.service = LAPD_CALL;
+    const char *name = lapd_note_text(&plain), *packet = lapd_note_text(note);
+    static const char digits[] = "0123456789";
+    unsigned sapi = config->sapi == 0 ? 16u : config->sapi % 100u;
+    char ending[] = {' ', 's', 'a', 'p', 'i', ' ', digits[sapi / 10], digits[sapi % 10], '\0'};
+    size_t length = 0, more = 0;
+    while (name[length] != '\0')
+        length++;
+    if (packet[length] != '\0') /* it has an ending for a packet link */
+        more = sapi < 10 ? sizeof ending - 2 : sizeof ending - 1;
+    if (length + more >= room)
+        return LAPD_WRONG_LENGTH;
+    for (size_t i = 0; i < length; i++)
+        text[i] = name[i];
+    for (size_t i = 0; i < more; i++)
+        text[length + i] = ending[i < 6 ? i : i + 8 - more];
+    text[length + more] = '\0';
+    return LAPD_OK;
 }
 
 /* A cause in words: its name in docs/FORMAT.md. */

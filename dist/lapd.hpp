@@ -17,7 +17,8 @@
  *             return fail(lapd::text(is));
  *     }
  *
- * lapd.h says of each call what it does, and what the caller promises. Here a status can't go unseen: the compiler warns.
+ * lapd.h says of each call what it does, and what the caller promises. What is note.note, timer.timer or order.order there is
+ * `kind` here. A status can't go unseen: the compiler warns.
  * A card and a clock are neither copied nor moved, since the handle inside mustn't be.
  */
 #ifndef LAPD_HPP
@@ -138,6 +139,7 @@ enum class [[nodiscard]] status : uint32_t {
     bad_n200 = LAPD_BAD_N200,
     bad_side = LAPD_BAD_SIDE,
     bad_sapi = LAPD_BAD_SAPI,
+    bad_reading = LAPD_BAD_READING,
     // tools/names: end
 };
 
@@ -239,8 +241,16 @@ struct note {
 
     /// Its name in docs/FORMAT.md, with -16 for a packet link.
     const char *text() const {
-        const lapd_note raw = {static_cast<uint8_t>(kind), static_cast<uint8_t>(service), tei, 0};
-        return lapd_note_text(&raw);
+        const lapd_note it = raw();
+        return lapd_note_text(&it);
+    }
+    /// The same with the SAPI of a packet link at a card of this configuration; 29 is room enough.
+    status text(const lapd_config &config, span<char> to) const {
+        const lapd_note it = raw();
+        return static_cast<status>(lapd_note_text_of(&it, &config, at(to), to.size()));
+    }
+    constexpr lapd_note raw() const {
+        return {static_cast<uint8_t>(kind), static_cast<uint8_t>(service), tei, static_cast<uint8_t>(error)};
     }
 
     note_kind kind;

@@ -17,9 +17,10 @@ refused request raises an `Error` with its `Status`, and what an event led to co
 the call can't be handed raises a ValueError. Cards and clocks end with their `with`, or by `close`. A card or a clock is used
 by one thread at a time.
 
-Words stand in another order than in C where a call is about a link: the TEI comes first, and its service last, which is
-Service.CALL where it is left out. So `lapd_data(&card, line, LAPD_PACKET, 64, contents, length, &report)` is
-`card.data(line, 64, contents, Service.PACKET)`.
+Words stand in the order of C. So `lapd_data(&card, line, LAPD_PACKET, 64, contents, length, &report)` is
+`card.data(line, Service.PACKET, 64, contents)`. By name the service may be left out, and is Service.CALL then:
+`card.data(line, tei=64, contents=contents)`. What is `note.note` in C is `note.kind`, and `note.note` too; so it is with a
+timer and an order.
 
 The library is the file that LAPD_LIBRARY names in the environment; else ../../lib/liblapd.so.1 beside this file, as it is
 installed; else liblapd.so.1 in this file's folder; else liblapd.so.1 where the system looks.
@@ -81,6 +82,7 @@ class Status(enum.IntEnum):
     BAD_N200 = 42
     BAD_SIDE = 43
     BAD_SAPI = 44
+    BAD_READING = 45
     # tools/names: end
 
     @classmethod
@@ -97,6 +99,13 @@ class Side(enum.IntEnum):
     NETWORK = 0
     USER = 1
     TERMINAL = 2
+    # tools/names: end
+
+
+class Reading(enum.IntEnum):
+    # tools/names: LAPD_PROFILE
+    PROFILE = 0
+    ANNEX_B = 1
     # tools/names: end
 
 
@@ -211,7 +220,8 @@ class _Config(ctypes.Structure):
     _fields_ = [("lines", ctypes.c_uint16), ("terminals", ctypes.c_uint16), ("k", ctypes.c_uint16),
                 ("k16", ctypes.c_uint16), ("queue", ctypes.c_uint16), ("unit_queue", ctypes.c_uint16),
                 ("control", ctypes.c_uint16), ("slots", ctypes.c_uint16), ("n201", ctypes.c_uint16),
-                ("n200", ctypes.c_uint16), ("side", ctypes.c_uint16), ("seed", ctypes.c_uint16), ("sapi", ctypes.c_uint16)]
+                ("n200", ctypes.c_uint16), ("side", ctypes.c_uint16), ("seed", ctypes.c_uint16), ("sapi", ctypes.c_uint16),
+                ("reading", ctypes.c_uint16)]
     # tools/names: end
 
 
@@ -309,7 +319,8 @@ _TAKES: Dict[str, List[Any]] = {
     "lapd_counters": [_AT, _U32, _AT], "lapd_stored": [_AT, _AT], "lapd_limit": [_AT, _AT], "lapd_lines": [_AT, _AT],
     "lapd_clock_start": [_AT, _AT], "lapd_clock_set_lengths": [_AT, _U32, _U32, _U32, _U32], "lapd_clock_free": [_AT],
     "lapd_clock_apply_report": [_AT, _U32, _AT, _U64], "lapd_clock_due": [_AT, _U64, _AT], "lapd_clock_next": [_AT, _AT],
-    "lapd_status_text": [_U32], "lapd_note_text": [_AT], "lapd_cause_text": [_U8], "lapd_counter_text": [_U32],
+    "lapd_status_text": [_U32], "lapd_note_text": [_AT], "lapd_note_text_of": [_AT, _AT, _AT, _SIZE],
+    "lapd_cause_text": [_U8], "lapd_counter_text": [_U32],
     "lapd_turned": [_U8], "lapd_frame_text": [_AT, _SIZE, ctypes.c_uint16, _AT, _SIZE],
 }
 _ANSWERS: Dict[str, Any] = {**{f"lapd_{it}_text": ctypes.c_char_p for it in ("status", "note", "cause", "counter")},
@@ -421,6 +432,7 @@ class Config:
     side: Side = Side.NETWORK
     seed: int = 0  # of a terminal: its first reference number, 0 to 65535, at random, as of random.randrange(65536)
     sapi: int = 0  # of the second service: 1 to 62; 0 means 16
+    reading: Reading = Reading.PROFILE  # which rows hold where readers of the standard differ
 
     def _raw(self) -> _Config:
         """A number that no field of the C struct holds is told as the largest, which is in no range, except of the seed: there
@@ -443,8 +455,22 @@ class Note(NamedTuple):
     tei: int
     error: str  # of an error indication its letter, else empty
 
+    @property
+    def note(self) -> NoteKind:
+        """Its kind, by its name in C."""
+        return self.kind
+
     def __str__(self) -> str:
-        return _text(library().lapd_note_text(ctypes.byref(_Note(self.kind, self.service, self.tei, 0))))
+        return _text(library().lapd_note_text(ctypes.byref(self._raw())))
+
+    def text(self, config: Config) -> str:
+        """Its name, with the SAPI of a packet link in place of -16, at a card of this configuration."""
+        text = ctypes.create_string_buffer(32)
+        _call("lapd_note_text_of", ctypes.byref(self._raw()), ctypes.byref(config._raw()), text, len(text))
+        return _text(text.value)
+
+    def _raw(self) -> _Note:
+        return _Note(self.kind, self.service, self.tei, 0)
 
 
 class Timer(NamedTuple):
@@ -452,10 +478,20 @@ class Timer(NamedTuple):
     service: Service
     tei: int
 
+    @property
+    def timer(self) -> TimerKind:
+        """Its kind, by its name in C."""
+        return self.kind
+
 
 class Order(NamedTuple):
     kind: OrderKind
     timer: Timer
+
+    @property
+    def order(self) -> OrderKind:
+        """Its kind, by its name in C."""
+        return self.kind
 
 
 class Report(NamedTuple):
@@ -523,6 +559,13 @@ def _report(of: _Report) -> Report:
                   _timer(of.expired) if of.expired.timer else None)
 
 
+def _link(service: Service, tei: Optional[int]) -> Tuple[Service, int]:
+    """The service and the TEI of a link, which stand in this order."""
+    if not isinstance(service, Service) or tei is None:
+        raise TypeError("a link is named by its Service and its TEI, in this order, or by tei=")
+    return service, tei
+
+
 def _octets(of: bytes) -> bytes:
     """All octets of a buffer, whatever its items are; a TypeError where it is no buffer."""
     return memoryview(of).tobytes()
@@ -582,19 +625,19 @@ class AnyCard(_Owner):
         octets = _octets(contents)
         return self._event("lapd_request_with", line, request, service, tei, octets, len(octets))
 
-    def establish(self, line: int, tei: int, service: Service = Service.CALL) -> Report:
-        return self._ask(line, Request.ESTABLISH, service, tei)
+    def establish(self, line: int, service: Service = Service.CALL, tei: Optional[int] = None) -> Report:
+        return self._ask(line, Request.ESTABLISH, *_link(service, tei))
 
-    def release(self, line: int, tei: int, service: Service = Service.CALL) -> Report:
-        return self._ask(line, Request.RELEASE, service, tei)
+    def release(self, line: int, service: Service = Service.CALL, tei: Optional[int] = None) -> Report:
+        return self._ask(line, Request.RELEASE, *_link(service, tei))
 
-    def data(self, line: int, tei: int, contents: bytes, service: Service = Service.CALL) -> Report:
+    def data(self, line: int, service: Service = Service.CALL, tei: Optional[int] = None, contents: bytes = b"") -> Report:
         """Contents for the link, acknowledged."""
-        return self._ask(line, Request.DATA, service, tei, contents)
+        return self._ask(line, Request.DATA, *_link(service, tei), contents)
 
-    def unit(self, line: int, tei: int, contents: bytes, service: Service = Service.CALL) -> Report:
+    def unit(self, line: int, service: Service = Service.CALL, tei: Optional[int] = None, contents: bytes = b"") -> Report:
         """Contents without acknowledgement; GROUP_TEI is all terminals of the line."""
-        return self._ask(line, Request.UNIT, service, tei, contents)
+        return self._ask(line, Request.UNIT, *_link(service, tei), contents)
 
     def assign(self, line: int, tei: int) -> Report:
         return self._ask(line, Request.ASSIGN, Service.CALL, tei)
@@ -617,14 +660,14 @@ class AnyCard(_Owner):
         """A terminal asks the network to check a TEI of its own."""
         return self._ask(line, Request.VERIFY_TEI, Service.CALL, tei)
 
-    def busy(self, line: int, tei: int, service: Service = Service.CALL) -> Report:
-        return self._ask(line, Request.BUSY, service, tei)
+    def busy(self, line: int, service: Service = Service.CALL, tei: Optional[int] = None) -> Report:
+        return self._ask(line, Request.BUSY, *_link(service, tei))
 
-    def ready(self, line: int, tei: int, service: Service = Service.CALL) -> Report:
-        return self._ask(line, Request.READY, service, tei)
+    def ready(self, line: int, service: Service = Service.CALL, tei: Optional[int] = None) -> Report:
+        return self._ask(line, Request.READY, *_link(service, tei))
 
-    def deactivate(self, line: int, tei: int, service: Service = Service.CALL) -> Report:
-        return self._ask(line, Request.DEACTIVATE, service, tei)
+    def deactivate(self, line: int, service: Service = Service.CALL, tei: Optional[int] = None) -> Report:
+        return self._ask(line, Request.DEACTIVATE, *_link(service, tei))
 
     def line_down(self, line: int) -> List[Report]:
         """The line is down: gives up each of its links, and what waits and is of none; answers what that told and ordered."""
@@ -636,9 +679,9 @@ class AnyCard(_Owner):
     def expire(self, line: int, timer: Timer) -> Report:
         return self._event("lapd_expire", line, ctypes.byref(_raw_timer(timer)))
 
-    def state(self, line: int, tei: int, service: Service = Service.CALL) -> State:
+    def state(self, line: int, service: Service = Service.CALL, tei: Optional[int] = None) -> State:
         state = ctypes.c_uint8()
-        _call("lapd_state", self._at, line, service, tei, ctypes.byref(state))
+        _call("lapd_state", self._at, line, *_link(service, tei), ctypes.byref(state))
         return State(state.value)
 
     def links(self, line: int) -> Iterator[Link]:
@@ -647,9 +690,9 @@ class AnyCard(_Owner):
         while _unless(Status.NO_MORE_LINKS, "lapd_next_link", self._at, line, ctypes.byref(place), ctypes.byref(link)):
             yield Link(Service(link.service), link.tei, State(link.state))
 
-    def room(self, line: int, tei: int, service: Service = Service.CALL) -> Room:
+    def room(self, line: int, service: Service = Service.CALL, tei: Optional[int] = None) -> Room:
         room = _Room()
-        _call("lapd_room", self._at, line, service, tei, ctypes.byref(room))
+        _call("lapd_room", self._at, line, *_link(service, tei), ctypes.byref(room))
         return Room(room.pool, room.queue, room.va)
 
     def counters(self, line: int) -> Dict[str, int]:
@@ -758,11 +801,11 @@ class _Timed(AnyCard):
         while _unless(Status.NO_TIMER, "lapd_fall_due", self._at, now, ctypes.byref(self._told)):
             yield _report(self._told)
 
-    def at(self, now: int, call: Callable[..., Report], *words: Any) -> Iterator[Report]:
+    def at(self, now: int, call: Callable[..., Report], *words: Any, **named: Any) -> Iterator[Report]:
         """A call with its moment, as `card.at(now, card.frame, 0, octets)`: what is due by then falls due, and then the call is
         made; each tells what it led to. So nobody forgets to tell the time. Take all of them, as of fall_due."""
         yield from self.fall_due(now)
-        yield call(*words)
+        yield call(*words, **named)
 
     def next_moment(self) -> Optional[int]:
         """The moment of the timer that falls due first; None where none runs."""

@@ -43,14 +43,14 @@ struct gateway {
     void (*on_report)(gateway *own, const lapd_report *report);
     lapd_card card;
     uint64_t now; /* the latest moment that it was told */
-    trace *log;   /* where all that happens is told in words, or NULL; its side is that of the configuration */
+    trace *log;   /* where all that happens is told in words, or NULL; its side and sapi are those of the configuration */
     bool is_told; /* on_report is being called */
 };
 
 #define GATEWAY_NONE { NULL, LAPD_CARD_NONE, 0, NULL, false }
 
 /* Starts the card, at moment 0. LAPD_SECOND_START, the first bad field of the configuration (LAPD_BAD_LINES to
- * LAPD_BAD_SAPI), LAPD_WRONG_TIME of a length, or LAPD_NO_MEMORY: none that was not there before is there. */
+ * LAPD_BAD_READING), LAPD_WRONG_TIME of a length, or LAPD_NO_MEMORY: none that was not there before is there. */
 LAPD_STATUS gateway_start(gateway *own, const lapd_config *config, const lapd_lengths *lengths);
 
 /* Tells all terminals of a line to give up the TEIs that they still use, twice, since one message may be lost. It is called

@@ -46,12 +46,23 @@ void trace_heads(trace *log, uint64_t milliseconds, lapd_card *card, const lapd_
     log->heard[line] = heard;
 }
 
+/* What stands behind a word about a packet link: -16, or another SAPI. Of call control nothing does. */
+static const char *ending_of(const trace *log, uint8_t service, char *room) {
+    if (service != LAPD_PACKET)
+        return "";
+    if (log->sapi == 0 || log->sapi == 16)
+        return "-16";
+    sprintf(room, " sapi %u", log->sapi % 100u);
+    return room;
+}
+
 /* What became of a timer, which is named as in an order of lapdsim, by its link. */
 static void trace_timer(const trace *log, const char *what, const lapd_timer *timer) {
     static const char *const names[] = {"none", "t200", "t203", "t201", "t202"};
+    char room[10];
     fprintf(log->to, "%s %s", what, names[timer->timer % 5]);
     if (timer->timer == LAPD_T200 || timer->timer == LAPD_T203)
-        fprintf(log->to, "%s %u", timer->service == LAPD_PACKET ? "-16" : "", timer->tei);
+        fprintf(log->to, "%s %u", ending_of(log, timer->service, room), timer->tei);
     fputc('\n', log->to);
 }
 
@@ -61,7 +72,13 @@ void trace_expiry(trace *log, uint64_t milliseconds, const lapd_report *report) 
 }
 
 static void trace_note(const trace *log, const lapd_note *note, const lapd_report *report) {
-    fprintf(log->to, "%s %u", lapd_note_text(note), note->tei);
+    char room[32];
+    lapd_config config = LAPD_BASIC_ACCESS;
+    const char *text = lapd_note_text(note);
+    config.sapi = log->sapi;
+    if (log->sapi != 0 && log->sapi != 16 && lapd_note_text_of(note, &config, room, sizeof room) == LAPD_OK)
+        text = room;
+    fprintf(log->to, "%s %u", text, note->tei);
     if (note->error != 0)
         fprintf(log->to, " %c", note->error);
     if (note->note == LAPD_DATA_INDICATION || note->note == LAPD_UNIT_INDICATION)
@@ -81,8 +98,10 @@ static void trace_state(trace *log, uint64_t milliseconds, uint32_t line, unsign
     uint8_t before = log->states[line][place];
     if (before == state)
         return;
+    char room[10];
+    uint8_t service = place % 2 == 0 ? LAPD_CALL : LAPD_PACKET;
     begin(log, milliseconds, line, " ");
-    fprintf(log->to, "state%s %u: %u (%s) to %u (%s)\n", place % 2 == 0 ? "" : "-16", place / 2, before,
+    fprintf(log->to, "state%s %u: %u (%s) to %u (%s)\n", ending_of(log, service, room), place / 2, before,
             state_text(before), state, state_text(state));
     log->states[line][place] = state;
 }

@@ -26,10 +26,10 @@
 enum { TRACE_PLACES = 254 };
 
 /* A log, with the states of links that it told last, and how many frames were heard until then; begins as zeros but for where it
- * goes, and the side of the card. */
+ * goes, the side of the card, and the SAPI of packet links, if it is another than 16. */
 typedef struct {
     FILE *to;
-    uint16_t side;
+    uint16_t side, sapi;
     uint8_t states[LAPD_MOST_LINES][TRACE_PLACES];
     uint64_t heard[LAPD_MOST_LINES];
 } trace;

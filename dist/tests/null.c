@@ -5,7 +5,7 @@
 #include "check.h"
 #include "lapd.h"
 
-static const lapd_config config = {2, 2, 1, 1, 2, 8, 2, 8, 8, 1, LAPD_NETWORK, 0, 0};
+static const lapd_config config = {2, 2, 1, 1, 2, 8, 2, 8, 8, 1, LAPD_NETWORK, 0, 0, LAPD_PROFILE};
 
 /* What calls write to; after a wrong call each octet is as it was. */
 static struct {
@@ -18,6 +18,7 @@ static struct {
     lapd_head at_lapd_head;
     lapd_lengths at_lapd_lengths;
     lapd_link at_lapd_link;
+    lapd_note at_lapd_note;
     lapd_order at_lapd_order;
     lapd_report at_lapd_report;
     lapd_timer at_lapd_timer;
@@ -430,6 +431,15 @@ void check_null(void) {
     fresh();
     wants(lapd_line_down(&card, 0, &own.at_uint8_t, NULL) == LAPD_WRONG_POINTER && memcmp(&own, &was, sizeof own) == 0,
           "lapd_line_down with null for report");
+    fresh();
+    wants(lapd_note_text_of(NULL, &own.at_lapd_config, &own.at_char, 1) == LAPD_WRONG_POINTER && memcmp(&own, &was, sizeof own) == 0,
+          "lapd_note_text_of with null for note");
+    fresh();
+    wants(lapd_note_text_of(&own.at_lapd_note, NULL, &own.at_char, 1) == LAPD_WRONG_POINTER && memcmp(&own, &was, sizeof own) == 0,
+          "lapd_note_text_of with null for config");
+    fresh();
+    wants(lapd_note_text_of(&own.at_lapd_note, &own.at_lapd_config, NULL, 1) == LAPD_WRONG_POINTER && memcmp(&own, &was, sizeof own) == 0,
+          "lapd_note_text_of with null for text");
     wants(sum(&card) == before, "a wrong call has changed the card");
     fresh();
     wants(lapd_exchange(&card, 0, NULL, 0, &own.at_uint8_t, 0, &own.at_size_t, &own.at_lapd_report) == lapd_exchange(&card, 0, &own.at_uint8_t, 0, &own.at_uint8_t, 0, &own.at_size_t, &own.at_lapd_report),
@@ -476,5 +486,8 @@ void check_null(void) {
     fresh();
     wants(lapd_unit(&card, 0, 0, 64, NULL, 0, &own.at_lapd_report) == lapd_unit(&card, 0, 0, 64, &own.at_uint8_t, 0, &own.at_lapd_report),
           "lapd_unit with null for no octets of contents");
+    fresh();
+    wants(lapd_note_text_of(&own.at_lapd_note, &own.at_lapd_config, NULL, 0) == lapd_note_text_of(&own.at_lapd_note, &own.at_lapd_config, &own.at_char, 0),
+          "lapd_note_text_of with null for no octets of text");
     wants(lapd_card_free(&card) == LAPD_OK && lapd_clock_free(&clock) == LAPD_OK, "no end");
 }

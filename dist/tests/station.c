@@ -62,7 +62,8 @@ static fault start(station *b, const command *c) {
                           .control = (uint16_t)n[5], .slots = (uint16_t)n[6], .n201 = (uint16_t)n[7],
                           .n200 = (uint16_t)n[8], .side = c->terminal ? LAPD_TERMINAL : c->user ? LAPD_USER : LAPD_NETWORK,
                           .seed = (uint16_t)(c->terminal ? c->seed : 0),
-                          .sapi = (uint16_t)(c->sapi != 0 ? c->sapi : UINT16_MAX)}; /* 0 would mean 16 */
+                          .sapi = (uint16_t)(c->sapi != 0 ? c->sapi : UINT16_MAX), /* 0 would mean 16 */
+                          .reading = c->annex_b ? LAPD_ANNEX_B : LAPD_PROFILE};
     b->for_frames = c->for_frames;
     uint32_t status = start_card(b, &config);
     if (status >= LAPD_BAD_LINES)

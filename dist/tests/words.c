@@ -118,10 +118,12 @@ static size_t user_among(const word *words, size_t count) {
 }
 
 /* Nine numbers, or ten; the tenth is the window of packet links, which else is that of call control. The word user may stand
- * after them, of a terminal with its seed, and then sapi with a number. */
+ * after them, of a terminal with its seed, and then sapi with a number. Last may stand annex-b. */
 static fault read_card(const word *words, size_t count, bool for_frames, command *read) {
     read->verb = CARD;
     read->for_frames = for_frames;
+    read->annex_b = count >= 1 && count < MOST_WORDS && is_word(words[count - 1], "annex-b");
+    count -= read->annex_b;
     bool has_sapi = count >= 2 && count < MOST_WORDS && is_word(words[count - 2], "sapi");
     count -= has_sapi ? 2 : 0;
     const word *sapi = &words[count + 1];

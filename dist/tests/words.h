@@ -10,7 +10,7 @@
 extern "C" {
 #endif
 
-enum { MOST_LINE = 4096, MOST_WORDS = 16 };
+enum { MOST_LINE = 4096, MOST_WORDS = 17 };
 
 /* What a line can be faulty in, in the order in which it is told. */
 typedef enum {
@@ -45,6 +45,7 @@ typedef struct {
     bool terminal;            /* of a CARD: it is a terminal, whose seed follows */
     uint32_t seed;
     uint32_t sapi;            /* of a CARD: the SAPI of the second service */
+    bool annex_b;             /* of a CARD: the tables are read by annex B */
     uint32_t numbers[10];     /* of a card its ten; else the line, then what follows it */
     uint8_t octets[MOST_LINE / 2];
     size_t length;

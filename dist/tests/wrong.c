@@ -137,6 +137,7 @@ static void wrong_card(void) {
 
 static void wrong_words(void) {
     const lapd_timer no_timer = {5, LAPD_CALL, 64}, of_no_service = {LAPD_T200, 1, 64}, of_no_tei = {LAPD_T203, LAPD_CALL, 127};
+    const lapd_note of_packet = {LAPD_ESTABLISH_CONFIRM, LAPD_PACKET, 64, 0};
     ANSWERS(LAPD_WRONG_TIMER, lapd_expire(&card, 0, &no_timer, &own.report));
     ANSWERS(LAPD_WRONG_SERVICE, lapd_expire(&card, 0, &of_no_service, &own.report));
     ANSWERS(LAPD_WRONG_TEI, lapd_expire(&card, 0, &of_no_tei, &own.report));
@@ -160,6 +161,7 @@ static void wrong_words(void) {
     ANSWERS(LAPD_WRONG_LENGTH, lapd_frame_text(octets, 1029, LAPD_USER, own.text, sizeof own.text));
     ANSWERS(LAPD_WRONG_LENGTH, lapd_frame_text(octets, 3, LAPD_USER, own.text, 4));
     ANSWERS(LAPD_BAD_SIDE, lapd_frame_text(octets, 3, 3, own.text, sizeof own.text));
+    ANSWERS(LAPD_WRONG_LENGTH, lapd_note_text_of(&of_packet, &of_card, own.text, 25));
 }
 
 /* Requests that are refused. Of the card TEI 64 is on line 0, and on line 1 as many as it has; the terminal asks for a TEI. */
@@ -215,12 +217,12 @@ static lapd_config with(unsigned at, unsigned value) {
 
 /* No card and no clock begins with a field out of range, by one too little and by one too much. */
 static void bad_fields(void) {
-    enum { FIELDS = 13, AT_SEED = 11 };
+    enum { FIELDS = 14, AT_SEED = 11 };
     static const uint32_t bad[FIELDS] = {LAPD_BAD_LINES, LAPD_BAD_TERMINALS, LAPD_BAD_K, LAPD_BAD_K16, LAPD_BAD_QUEUE,
                                          LAPD_BAD_UNIT_QUEUE, LAPD_BAD_CONTROL, LAPD_BAD_SLOTS, LAPD_BAD_N201, LAPD_BAD_N200,
-                                         LAPD_BAD_SIDE, 0, LAPD_BAD_SAPI};
-    static const uint16_t least[FIELDS] = {1, 1, 1, 1, 1, 1, 2, 1, 8, 0, 0, 0, 0};
-    static const uint16_t most[FIELDS] = {64, 8, 127, 127, 127, 16, 16, 8192, 260, 10, 2, 65535, 62};
+                                         LAPD_BAD_SIDE, 0, LAPD_BAD_SAPI, LAPD_BAD_READING};
+    static const uint16_t least[FIELDS] = {1, 1, 1, 1, 1, 1, 2, 1, 8, 0, 0, 0, 0, 0};
+    static const uint16_t most[FIELDS] = {64, 8, 127, 127, 127, 16, 16, 8192, 260, 10, 2, 65535, 62, 1};
     for (unsigned at = 0; at < FIELDS; at++) {
         const lapd_config too_much = with(at, most[at] + 1u), too_little = with(at, least[at] - 1u);
         if (at != AT_SEED)

@@ -1,5 +1,6 @@
 -- Lemmas.
 pub mod Lists
+pub mod NewlyMade
 pub mod NetworkSteps
 pub mod Frames
 pub mod TerminalSteps

@@ -14,7 +14,7 @@ use Rattle.laws_teis.specs.Assignments.{Terminal, CanMeet, IsIn}
 use Rattle.laws_teis.specs.TwoTerminals.{is_older}
 use Rattle.laws_teis.proofs.Frames.{AreNone}
 use Rattle.laws_teis.proofs.Lists.{in-left, in-right, in-either, in-filter, in-filtered, any-left, any-right, any-either, or-left-so, or-right-so, is-there, held-or-over, older-kept, older-new}
-use Rattle.laws_teis.proofs.NetworkSteps.{Table, Queue, AreMade, assigned, dropped-front}
+use Rattle.laws_teis.proofs.NewlyMade.{Table, Queue, AreMade, assigned, dropped-front}
 use Rattle.laws_teis.proofs.Waiting.{Known, known, removal, IsCovered, AreCovered, covered-so, covered-both, none-covered, texts, texts-both, removals-are, made-covered, Holds}
 
 not-true : (b : Bool) → not b ≡ true → b ≡ false

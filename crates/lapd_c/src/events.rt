@@ -25,6 +25,10 @@ pub extern "C" fn lapd_expire(
 ) -> u32
     requires { IsHandle handle.old }
     ensures called { Called (expire_asked line timer.now) handle.old handle.new result report.new }
+    ensures call { IsUntimedCall line handle.old handle.new result }
+    ensures kind { kind_in handle.new ≡ kind_in handle.old }
+    ensures reopened { IsReopened line handle.old handle.new result report.new }
+    ensures expired { result ≡ status.ok → report.new.expired ≡ no_timer }
     ensures unchanged { result ≢ status.ok → (card_of handle.new ≡ card_of handle.old) × (report.new ≡ report.old) }
 {
     expire(handle, line, timer, report)
@@ -73,6 +77,10 @@ pub extern "C" fn lapd_request(
 ) -> u32
     requires { IsHandle handle.old }
     ensures called { Called (request_asked line request service tei contents.now) handle.old handle.new result report.new }
+    ensures call { IsCallAt line handle.old handle.new result }
+    ensures kind { kind_in handle.new ≡ kind_in handle.old }
+    ensures reopened { IsReopened line handle.old handle.new result report.new }
+    ensures expired { result ≡ status.ok → report.new.expired ≡ no_timer }
     ensures unchanged { result ≢ status.ok → (served_card handle.new ≡ served_card handle.old) × (timers_of handle.new ≡ timers_of handle.old) × (report.new ≡ report.old) }
     ensures waits { result ≢ status.ok
         → WaitsFor (refused_place result request service tei) line (marks_at handle.old) (marks_at handle.new) }

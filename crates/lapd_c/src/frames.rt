@@ -28,6 +28,9 @@ pub extern "C" fn lapd_frame(
 ) -> u32
     requires { IsHandle handle.old }
     ensures called { Called (frame_asked line octets.now) handle.old handle.new result report.new }
+    ensures call { IsFramesCall line handle.old handle.new result }
+    ensures reopened { IsReopened line handle.old handle.new result report.new }
+    ensures expired { result ≡ status.ok → report.new.expired ≡ no_timer }
     ensures unchanged { result ≢ status.ok → (card_of handle.new ≡ card_of handle.old) × (report.new ≡ report.old) }
 {
     frame(handle, line, octets, report)
@@ -88,6 +91,9 @@ pub extern "C" fn lapd_frame_failed(
 ) -> u32
     requires { IsHandle handle.old }
     ensures called { Called (failed_asked line cause) handle.old handle.new result report.new }
+    ensures call { IsFramesCall line handle.old handle.new result }
+    ensures reopened { IsReopened line handle.old handle.new result report.new }
+    ensures expired { result ≡ status.ok → report.new.expired ≡ no_timer }
     ensures unchanged { result ≢ status.ok → (card_of handle.new ≡ card_of handle.old) × (report.new ≡ report.old) }
 {
     frame_failed(handle, line, cause, report)
@@ -130,6 +136,10 @@ pub extern "C" fn lapd_next_frame(
 ) -> u32
     requires { IsHandle handle.old }
     ensures called { Called (next_frame_asked line (length out.old)) handle.old handle.new result report.new }
+    ensures call { IsFramesCall line handle.old handle.new result }
+    ensures reopened { IsReopened line handle.old handle.new result report.new }
+    ensures expired { result ≡ status.ok → report.new.expired ≡ no_timer }
+    ensures other_card { kind_in handle.old ≡ Some kinds.Octets → card_of handle.new ≡ card_of handle.old }
     ensures unchanged { result ≢ status.ok → Unchanged handle.old handle.new × (out.new ≡ out.old) × (count.new ≡ count.old) × (report.new ≡ report.old) }
     ensures written { FramesWithLine line handle.old (λ m. m.config.n201 + 4 ≤ length out.old
         → IfSome (next_at line m) (λ next. IsGiven next out.old out.new count.new)) }

@@ -22,6 +22,9 @@ pub extern "C" fn lapd_octet(
 ) -> u32
     requires { IsHandle handle.old }
     ensures called { Called (octet_asked line octet) handle.old handle.new result report.new }
+    ensures call { IsOctetsCall line handle.old handle.new result }
+    ensures reopened { IsReopened line handle.old handle.new result report.new }
+    ensures expired { result ≡ status.ok → report.new.expired ≡ no_timer }
     ensures unchanged { result ≢ status.ok → (card_of handle.new ≡ card_of handle.old) × (report.new ≡ report.old) }
 {
     take_octet(handle, line, octet, report)
@@ -66,6 +69,9 @@ pub extern "C" fn lapd_pull(
 ) -> u32
     requires { IsHandle handle.old }
     ensures called { Called (pull_asked line) handle.old handle.new result report.new }
+    ensures call { IsOctetsCall line handle.old handle.new result }
+    ensures reopened { IsReopened line handle.old handle.new result report.new }
+    ensures expired { result ≡ status.ok → report.new.expired ≡ no_timer }
     ensures unchanged { result ≢ status.ok → (card_of handle.new ≡ card_of handle.old) × (octet.new ≡ octet.old) × (report.new ≡ report.old) }
     ensures written { OctetsWithLine line handle.old (λ m. octet.new ≡ octet_of (answer (at line port.pull) m)) }
 {

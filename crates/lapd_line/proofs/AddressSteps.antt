@@ -66,16 +66,16 @@ pub unnumbered_unserved : (reading : Reading) (unit : Bool) (aim : Aim) → reac
 unnumbered_unserved reading unit aim is = grind arith
 
 -- a frame of layer 2 management
-pub message_of_ui : (c : Config) (parts : Parts) → is_ui parts.control ≡ true → serves_messages c parts.address ≡ true → message_at c parts ≡ at_management (teis.message parts.info)
+pub message_of_ui : (c : Config) (parts : Parts) → is_ui parts.control ≡ true → serves_messages c parts ≡ true → message_at c parts ≡ at_management (teis.message parts.info)
 message_of_ui c parts is ours =
-    ap (λ b. cond b (cond (serves_messages c parts.address) (at_management (teis.message parts.info)) (drop_for Unserved)) (drop_for Unserved)) is
+    ap (λ b. cond b (cond (serves_messages c parts) (at_management (teis.message parts.info)) (drop_for Unserved)) (drop_for Unserved)) is
     ∙ ap (λ b. cond b (at_management (teis.message parts.info)) (drop_for Unserved)) ours
 
 -- and one that is not served
 pub no_ui : (c : Config) (parts : Parts) → is_ui parts.control ≡ false → message_at c parts ≡ drop_for Unserved
-no_ui c parts is = ap (λ b. cond b (cond (serves_messages c parts.address) (at_management (teis.message parts.info)) (drop_for Unserved)) (drop_for Unserved)) is
+no_ui c parts is = ap (λ b. cond b (cond (serves_messages c parts) (at_management (teis.message parts.info)) (drop_for Unserved)) (drop_for Unserved)) is
 
-pub not_ours : (c : Config) (parts : Parts) → serves_messages c parts.address ≡ false → message_at c parts ≡ drop_for Unserved
+pub not_ours : (c : Config) (parts : Parts) → serves_messages c parts ≡ false → message_at c parts ≡ drop_for Unserved
 not_ours c parts other =
     ap (λ b. cond (is_ui parts.control) (cond b (at_management (teis.message parts.info)) (drop_for Unserved)) (drop_for Unserved)) other ∙ either (is_ui parts.control)
   where
@@ -98,19 +98,26 @@ module _ (c : Config) (parts : Parts) where
   no_group : (side : Side) (told : LineTold) → service_of parts.address.sapi ≡ None → told_at c side parts told ≡ told
   no_group side told none = grind arith
 
-  managed_as : (side : Side) → c.side ≡ side → managed_at c parts side (teis.message parts.info) ≡ cond (serves_messages c parts.address) (at_management (teis.message parts.info)) (drop_for Unserved)
+  managed_as : (side : Side) → c.side ≡ side → managed_at c parts side (teis.message parts.info)
+      ≡ cond (is_network c.side || (is_terminal c && parts.address.command)) (at_management (teis.message parts.info)) (drop_for Unserved)
   managed_as Network is = ap (λ s. cond (is_network s || (is_terminal c && parts.address.command)) (at_management (teis.message parts.info)) (drop_for Unserved)) (sym is)
   managed_as User is = ap (λ s. cond (is_network s || (is_terminal c && parts.address.command)) (at_management (teis.message parts.info)) (drop_for Unserved)) (sym is)
 
+  -- and none is too long
+  sized : (b : Bool) → cond b (managed_at c parts c.side (teis.message parts.info)) (drop_for Unserved)
+      ≡ cond (b && (is_network c.side || (is_terminal c && parts.address.command))) (at_management (teis.message parts.info)) (drop_for Unserved)
+  sized true = managed_as c.side refl
+  sized false = refl
+
   sided : (b : Bool) → service_of parts.address.sapi ≡ None → at_side c parts (cond b (at_management (teis.message parts.info)) (drop_for Unserved))
-      ≡ cond b (managed_at c parts c.side (teis.message parts.info)) (drop_for Unserved)
+      ≡ cond b (cond (nat_le (length parts.info) c.n201) (managed_at c parts c.side (teis.message parts.info)) (drop_for Unserved)) (drop_for Unserved)
   sided true none = refl
   sided false none = ap at_none (no_group c.side (dropped Unserved) none)
 
   pub message_sided : service_of parts.address.sapi ≡ None → at_side c parts (message_of parts.control parts.info) ≡ message_at c parts
   message_sided none =
       ap (at_side c parts) (ui_rows c Call parts.control parts.info (dropped Unserved)).0 ∙ sided (is_ui parts.control) none
-      ∙ ap (λ x. cond (is_ui parts.control) x (drop_for Unserved)) (managed_as c.side refl)
+      ∙ ap (λ x. cond (is_ui parts.control) x (drop_for Unserved)) (sized (nat_le (length parts.info) c.n201))
 
 -- What is told of a frame for nobody, by the service whose unit data it brings.
 abbrev pub told_by_service : Option Service → List ℕ → LineTold → LineTold

@@ -39,13 +39,14 @@ abbrev pub is_ui : Control → Bool
 is_ui (control.Ui p) = true
 is_ui other = false
 
--- A frame of layer 2 management: UI alone is served, at the network's side, and at a terminal, which serves commands alone.
-abbrev pub serves_messages : Config → Address → Bool
-serves_messages c address = is_network c.side || (is_terminal c && address.command)
+-- A frame of layer 2 management: UI of at most N201 octets alone is served, at the network's side, and at a terminal, which serves
+-- commands alone.
+abbrev pub serves_messages : Config → Parts → Bool
+serves_messages c parts = nat_le (length parts.info) c.n201 && (is_network c.side || (is_terminal c && parts.address.command))
 
 abbrev pub message_at : Config → Parts → Aim
 message_at c parts =
-    if is_ui parts.control then (if serves_messages c parts.address then at_management (teis.message parts.info) else drop_for Unserved)
+    if is_ui parts.control then (if serves_messages c parts then at_management (teis.message parts.info) else drop_for Unserved)
     else drop_for Unserved
 
 -- Of the frames for nobody a side may serve this one: on the user's, a UI to the group of at most N201 octets,

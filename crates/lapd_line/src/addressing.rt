@@ -271,25 +271,28 @@ impl LinkLayer {
         }
     }
 
-    /// A frame of layer 2 management. UI alone is served.
+    /// A frame of layer 2 management. UI of at most N201 octets alone is served.
     #[cold]
     fn message<S: Shelf>(&mut self, frame: Frame<'_>, report: &mut BareReport, shelf: &mut S)
         requires stands { Standing self.old (S.store shelf.old) }
         requires clear { IsClear report.old }
         ensures { (octets : List ℕ) → Serves (always (message_at self.old.config (parts_of frame.entry))) octets self.old (S.store shelf.old) self.new (S.store shelf.new) report.new }
     {
-        if !is_ui(frame.control) || !self.serves_messages(frame.address) {
+        if !is_ui(frame.control) || !self.serves_messages(frame) {
             return tell_drop(report, Cause::Unserved);
         }
         let told = self.teis.message(frame.info);
         self.change(told, report, shelf);
     }
 
-    /// Whether messages of TEI management that have this address are served.
-    fn serves_messages(&self, address: Address) -> bool
-        ensures { result ≡ serves_messages self.now.config address }
+    /// Whether the information of this frame is served as a message of TEI management, by its address and its size.
+    fn serves_messages(&self, frame: Frame<'_>) -> bool
+        ensures { result ≡ serves_messages self.now.config (parts_of frame.entry) }
     {
-        is_network(self.config.side) || (self.config.is_terminal() && address.command)
+        if frame.info.len() > usize::from(self.config.n201) {
+            return false;
+        }
+        is_network(self.config.side) || (self.config.is_terminal() && frame.address.command)
     }
 
     /// For whom a frame is.

@@ -1,8 +1,8 @@
 -- What is heard is to TEI management: nothing, or what a UI to the group brings.
 use Rattle.laws_line.proofs.Vocabulary.{arith, ◌≡◌, ℕ, Bool, List, Option, Result, Ok, refl, Cause, Address, Network, Control, ReadFault, Long, Service, Parts, reading, Config, Aim, at_none, at_link, at_management, Line, drop_for, to_service, addressed, message_of, aim_of_reading, unless_at_link, aim_of_long, aim_of_unnumbered, Reading, heard_side, aim_of_heard, group_told, IsToGroup}
-use Rattle.laws_line.proofs.Vocabulary.{ServesMessages, eqb-true, cond, true}
+use Rattle.laws_line.proofs.Vocabulary.{ServesMessages, eqb-true, leb-true, cond, true, length, nat_le, ◌≤◌}
 use Rattle.laws_line.proofs.Vocabulary.{false, inl, inr, User, Side, is_terminal, at_side, dropped, at_terminal, at_units, at_no_link, Unserved, TeiEvent, ◌&&◌, side_aims}
-use Rattle.laws_line.proofs.Vocabulary.{link_received, LinkReceived, stream_frame, StreamEvent, message}
+use Rattle.laws_line.proofs.Vocabulary.{link_received, LinkReceived, link_frame, stream_frame, StreamEvent, message}
 use Rattle.model_line.specs.Sides.{managed_at}
 
 -- What holds of an aim where it is served: of one at TEI management, on a side that serves such a message.
@@ -15,14 +15,20 @@ WhereServed c parts P (at_units unit) = P (at_units unit)
 WhereServed c parts P at_no_link = P at_no_link
 
 module _ (c : Config) (parts : Parts) (P : Aim → Type 0) (none : (cause : Cause) → P (drop_for cause)) where
-  managed : (event : TeiEvent) → (ServesMessages c parts → P (at_management event)) → (side : Side) → c.side ≡ side → P (managed_at c parts side event)
-  managed event p Network is = p (inl is)
-  managed event p User is = by-both (is_terminal c) parts.address.command refl refl
+  managed : (event : TeiEvent) → (ServesMessages c parts → P (at_management event)) → length parts.info ≤ c.n201 → (side : Side) → c.side ≡ side → P (managed_at c parts side event)
+  managed event p size Network is = p (inl is, size)
+  managed event p size User is = by-both (is_terminal c) parts.address.command refl refl
     where
       by-both : (b command : Bool) → is_terminal c ≡ b → parts.address.command ≡ command → P (cond (b && command) (at_management event) (at_none (dropped Unserved)))
-      by-both true true one other = p (inr (one, other))
+      by-both true true one other = p (inr (one, other), size)
       by-both true false one other = none Unserved
       by-both false command one other = none Unserved
+
+  -- and none is too long
+  sized : (event : TeiEvent) → (ServesMessages c parts → P (at_management event)) → (b : Bool) → nat_le (length parts.info) c.n201 ≡ b
+      → P (cond b (managed_at c parts c.side event) (at_none (dropped Unserved)))
+  sized event p true is = managed event p (leb-true (length parts.info) c.n201 is) c.side refl
+  sized event p false is = none Unserved
 
 -- So it holds of what a frame is on the side of the card, if it holds of what is not served and of the group's unit data.
 module _ (c : Config) (parts : Parts) (P : Aim → Type 0) (none : (cause : Cause) → P (drop_for cause))
@@ -30,7 +36,7 @@ module _ (c : Config) (parts : Parts) (P : Aim → Type 0) (none : (cause : Caus
   side_where : (aim : Aim) → WhereServed c parts P aim → P (at_side c parts aim)
   side_where (at_none told) p = side_aims c parts P (none Unserved) to_group (at_none told) p
   side_where (at_link service tei place event) p = p
-  side_where (at_management event) p = managed c parts P none event p c.side refl
+  side_where (at_management event) p = sized c parts P none event p (nat_le (length parts.info) c.n201) refl
   side_where (at_terminal event) p = p
   side_where (at_units unit) p = p
   side_where at_no_link p = p
@@ -71,10 +77,18 @@ module _ (c : Config) (l : Line) (e : StreamEvent) (P : Aim → Type 0) (none : 
 
   module _ (octets : List ℕ) (by : e ≡ stream_frame octets) (parts : Parts) (read : reading (heard_side c) octets ≡ Ok parts) (sapi : parts.address.sapi ≡ 63) (group : parts.address.tei ≡ 127) where
     by-control : (k : Control) → parts.control ≡ k → WhereServed c parts P (message_of k parts.info)
+    by-control (Control.Ui poll) is = λ serves.
+        to_management parts
+        (record { serves = serves; octets = octets; by = by; read = read; sapi = sapi; group = group; poll = poll; control = is })
     by-control k is = grind arith
 
   by-reading : (octets : List ℕ) → e ≡ stream_frame octets → (r : Result Parts ReadFault) → reading (heard_side c) octets ≡ r → P (aim_of_reading c l r)
-  by-reading octets by r read = grind (arith, side_where, to, by-control, to-links)
+  by-reading octets by (Ok parts) read =
+      side_where c parts P none (λ service to. to_the_group parts octets by read service to)
+      (addressed l parts.address (link_frame parts) (message_of parts.control parts.info))
+      (to parts parts.address (link_frame parts) (message_of parts.control parts.info)
+      (λ sapi group. by-control octets by parts read sapi group parts.control refl))
+  by-reading octets by r read = grind (arith, to-links)
 
   by-event : (x : StreamEvent) → e ≡ x → P (aim_of_heard c l x)
   by-event x by = grind (arith, by-reading, too-long)

@@ -10,7 +10,8 @@ use Rattle.lapd_terminal.specs.Events as terminals
 use Rattle.lapd_terminal.specs.Laws as terminal_laws
 use Rattle.lapd_terminal.specs.Words.{Course}
 use Rattle.lapd_terminal.proofs.Served.{leads}
-use Rattle.laws_line.proofs.Vocabulary.{Bool, cond, ◌&&◌, ◌∙◌, Ok, Unserved, User, Network, Side, Control, Parts, reading, heard_side, addressed, message_of, aim_of_reading, at_side, link_frame, stream_frame, dropped, at_none, at_terminal, at_a_terminal, of_network, of_terminal as effect_of_terminal, of_terminal_if, told_of_terminal, Effect, LineTold, Own, Management, is_terminal, terminal_in}
+use Rattle.laws_line.proofs.Vocabulary.{Bool, cond, le-leb, ◌&&◌, ◌∙◌, Ok, Unserved, User, Network, Side, Control, Parts, reading, heard_side, addressed, message_of, aim_of_reading, at_side, link_frame, stream_frame, dropped, at_none, at_terminal, at_a_terminal, of_network, of_terminal as effect_of_terminal, of_terminal_if, told_of_terminal, Effect, LineTold, Own, Management, is_terminal}
+use Rattle.laws_line.proofs.Vocabulary.{terminal_in}
 use Rattle.laws_line.proofs.Vocabulary.{with_terminal, IsOfSide, ServesMessages, IsOfTerminal, IsManagedThere, line_of_terminal as of_terminal, T202, AskTei, VerifyTei}
 use Rattle.model_line.specs.Sides.{managed_at}
 use Rattle.model_line.proofs.Managed.{idle_course}
@@ -116,13 +117,18 @@ both : (a b : Bool) → a ≡ true → b ≡ true → (a && b) ≡ true
 both a b x y = grind arith
 
 module _ (c : Config) (l : Line) (parts : Parts) where
-  serves-it : ServesMessages c parts → (me : teis.Event) → managed_at c parts c.side me ≡ at_management me
-  serves-it (inl net) me = ap (λ side. managed_at c parts side me) net
-  serves-it (inr x) me = go c.side
+  by-its-side : (c.side ≡ Network) ⊎ ((is_terminal c ≡ true) × (parts.address.command ≡ true)) → (me : teis.Event) → managed_at c parts c.side me ≡ at_management me
+  by-its-side (inl net) me = ap (λ side. managed_at c parts side me) net
+  by-its-side (inr x) me = go c.side
     where
       go : (side : Side) → managed_at c parts side me ≡ at_management me
       go Network = refl
       go User = ap (λ b. cond b (at_management me) (at_none (dropped Unserved))) (both (is_terminal c) parts.address.command x.0 x.1)
+
+  serves-it : ServesMessages c parts → (me : teis.Event) → at_side c parts (at_management me) ≡ at_management me
+  serves-it x me =
+      ap (λ b. cond b (managed_at c parts c.side me) (at_none (dropped Unserved))) (le-leb (length parts.info) c.n201 x.1)
+      ∙ by-its-side x.0 me
 
   its-aim : (m : Aim) → parts.address.sapi ≡ 63 → parts.address.tei ≡ 127 → addressed l parts.address (link_frame parts) m ≡ m
   its-aim m sapi group = grind arith

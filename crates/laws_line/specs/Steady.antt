@@ -1,5 +1,5 @@
 -- What an event of a line is to one of its links, and to TEI management.
-use Rattle.std.specs.Prelude.{◌≡◌, ◌⊎◌, ℕ, Bool, true, false, List, Ok, Some}
+use Rattle.std.specs.Prelude.{◌≡◌, ◌⊎◌, ℕ, ◌≤◌, Bool, true, false, List, length, Ok, Some}
 use Rattle.model_bits.specs.Stream as stream
 use Rattle.lapd_frame.specs.declared.addresses.Address.{Address}
 use Rattle.lapd_frame.specs.declared.addresses.Side.TheVariants.{Network}
@@ -69,9 +69,10 @@ abbrev pub IsOf : Config → Event → Answer → Service → ℕ → link.Event
 IsOf c e answer service tei link.cleared = IsDeactivated e answer service tei
 IsOf c e answer service tei other = IsBy c e answer service tei other
 
--- The network's side serves messages of TEI management; a terminal does, if they are commands.
+-- The network's side serves messages of TEI management; a terminal does, if they are commands. None is over N201 octets (Q.921
+-- clause 5.9.3).
 abbrev pub ServesMessages : Config → Parts → Type 0
-ServesMessages c parts = (c.side ≡ Network) ⊎ ((is_terminal c ≡ true) × (parts.address.command ≡ true))
+ServesMessages c parts = ((c.side ≡ Network) ⊎ ((is_terminal c ≡ true) × (parts.address.command ≡ true))) × (length parts.info ≤ c.n201)
 
 -- There a UI to the group with SAPI 63 is heard, with this information (Q.921 clauses 3.3.3, 3.3.4 and 5.3.6).
 pub record BringsMessage (c : Config) (e : Event) (info : List ℕ) : Type 0 where

@@ -1,9 +1,9 @@
 -- What the terminal reads of a frame that the network's line sends.
-use Rattle.std.specs.Prelude.{◌≡◌, ℕ, ◌+◌, ◌*◌, ◌/◌, ◌%◌, ◌==◌, ◌&&◌, Bool, true, false, cond, List, [], ◌∷◌, filter, Option, Some, None, Result, Ok, Err, nat_le, nat_lt, length, take, ⊤, refl}
+use Rattle.std.specs.Prelude.{◌≡◌, ℕ, ◌+◌, ◌*◌, ◌/◌, ◌%◌, ◌==◌, ◌&&◌, Bool, true, false, cond, List, [], ◌∷◌, filter, Option, Some, None, Result, Ok, Err, ◌≤◌, nat_le, nat_lt, length, take, ⊤, refl}
 use Rattle.std.specs.Option.{option_map_or}
 use Rattle.std.specs.Result.{result_ok}
 use Rattle.std.proofs.Common.{subst, sym, ap, ◌∙◌, arith, true≢false, eq-eqb, eqb-true}
-use Rattle.std.proofs.lemmas.Bool.{ne_eqb, and_parts}
+use Rattle.std.proofs.lemmas.Bool.{ne_eqb, and_parts, le-leb}
 use Rattle.lapd_frame.specs.Faults.{is_short}
 use Rattle.model_bits.specs.declared.heard.Cause.TheVariants.{Short}
 use Rattle.model_bits.specs.Stream.{frame, overlong, dropped}
@@ -65,7 +65,7 @@ module _ (b : Bus) (can : CanMeet b) where
 
   -- A frame that begins is one of management, or is read as none.
   none-of : (r : Result Parts ReadFault) → option_map_or (λ (f : Parts). f.address.sapi == 63) (result_ok (named b.network.sapi r)) false ≡ false
-      → option_map_or (λ (f : Parts). cond (is_message f && f.address.command) f.info []) (result_ok (named b.terminal.sapi r)) [] ≡ []
+      → option_map_or (λ (f : Parts). cond (is_message b.terminal f && f.address.command) f.info []) (result_ok (named b.terminal.sapi r)) [] ≡ []
   none-of (Err fault) off = refl
   none-of (Ok f) off = grind (arith, (both-other b.network.sapi b.terminal.sapi f.address.sapi off))
 
@@ -73,17 +73,17 @@ module _ (b : Bus) (can : CanMeet b) where
   its-reading octets = side_reading b.network.side octets
 
   read-off : (octets : List ℕ) → reads (own_side b.network) (λ (f : Parts). f.address.sapi == 63) octets ≡ false
-      → option_map_or (λ (f : Parts). cond (is_message f && f.address.command) f.info []) (result_ok (reading (heard_side b.terminal) octets)) [] ≡ []
+      → option_map_or (λ (f : Parts). cond (is_message b.terminal f && f.address.command) f.info []) (result_ok (reading (heard_side b.terminal) octets)) [] ≡ []
   unfolding reading
   read-off octets off =
-      subst (λ side. option_map_or (λ (f : Parts). cond (is_message f && f.address.command) f.info []) (result_ok (named b.terminal.sapi (side_reading side octets))) [] ≡ [])
+      subst (λ side. option_map_or (λ (f : Parts). cond (is_message b.terminal f && f.address.command) f.info []) (result_ok (named b.terminal.sapi (side_reading side octets))) [] ≡ [])
       (sym same-side) (none-of (side_reading b.network.side octets) off)
 
   pub no-message : (octets : List ℕ) → reads (own_side b.network) (λ (f : Parts). f.address.sapi == 63) octets ≡ false → message_in b.terminal octets ≡ []
   no-message octets off = go (is_short octets) (nat_lt (b.terminal.n201 + 4) (length octets))
     where
       go : (s l : Bool)
-          → option_map_or (λ (f : Parts). cond (is_message f && f.address.command) f.info []) (frame_of b.terminal (cond s (dropped Short) (cond l (overlong (take 4 octets)) (frame octets)))) [] ≡ []
+          → option_map_or (λ (f : Parts). cond (is_message b.terminal f && f.address.command) f.info []) (frame_of b.terminal (cond s (dropped Short) (cond l (overlong (take 4 octets)) (frame octets)))) [] ≡ []
       go true l = refl
       go false true = refl
       go false false = read-off octets off
@@ -104,10 +104,12 @@ module _ (b : Bus) (can : CanMeet b) where
   five : (octets : List ℕ) → length octets ≡ 5 → message_in b.terminal (message_text b.network octets) ≡ octets
   five octets size =
       let long = (ranges_of b.terminal can.terminal).n201 in
+      let fits : length octets ≤ b.terminal.n201 = omega (arith, long, size) in
       let carried = carries (heard_side b.terminal) b.terminal.n201 (parts octets) (record { sapi = omega arith; tei = omega arith; kind = refl; size = refl }) (omega (arith, long, size)) in
       ap (message_in b.terminal) (text-is octets)
-      ∙ ap (λ e. option_map_or (λ (f : Parts). cond (is_message f && f.address.command) f.info []) (frame_of b.terminal e) []) carried.whole
-      ∙ ap (λ r. option_map_or (λ (f : Parts). cond (is_message f && f.address.command) f.info []) (result_ok r) []) carried.read
+      ∙ ap (λ e. option_map_or (λ (f : Parts). cond (is_message b.terminal f && f.address.command) f.info []) (frame_of b.terminal e) []) carried.whole
+      ∙ ap (λ r. option_map_or (λ (f : Parts). cond (is_message b.terminal f && f.address.command) f.info []) (result_ok r) []) carried.read
+      ∙ ap (λ x. cond (x && true) octets []) (le-leb (length octets) b.terminal.n201 fits)
 
   pub message-read : (m : Message) → message_in b.terminal (text_of m) ≡ octets_of m
   message-read (IdentityAssigned ri tei) = five _ refl

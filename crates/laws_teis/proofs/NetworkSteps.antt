@@ -288,7 +288,7 @@ module _ (w : Managed) (there : (r : Remembered) → IsIn r w.held → is_on r.t
 
   frame-so : (c : Config) (o : Option Parts) → Changes w (option_map_or (by_frame c w) o w)
   frame-so c None = nothing
-  frame-so c (Some f) = either (manages c.side && is_message f) _ _ (message-so c f.info) nothing
+  frame-so c (Some f) = either (manages c.side && is_message c f) _ _ (message-so c f.info) nothing
 
   gone-so : (r : Reading) (tei : ℕ) → Changes w (record (by_reading r (leaves tei w) (removes tei w)) { notes = Removed tei ∷ [] })
   gone-so Profile tei = noted (leaves tei w) (Removed tei ∷ []) (left-so tei w (adds-none w w refl refl refl refl))

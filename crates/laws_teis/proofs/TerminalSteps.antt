@@ -178,9 +178,9 @@ module _ (t : OfTerminal) (quiet : t.notes ≡ []) where
   pub frame-is : (c : Config) (octets : List ℕ) → by_event c (hears (came c.n201 octets)) t ≡ by_message (message_in c octets) t
   frame-is c octets = go (frame_of c (came c.n201 octets))
     where
-      go : (o : Option Parts) → option_and_then (by_frame t) o ≡ by_message (option_map_or (λ (f : Parts). cond (is_message f && f.address.command) f.info []) o []) t
+      go : (o : Option Parts) → option_and_then (by_frame c t) o ≡ by_message (option_map_or (λ (f : Parts). cond (is_message c f && f.address.command) f.info []) o []) t
       go None = refl
-      go (Some f) = each (is_message f && f.address.command)
+      go (Some f) = each (is_message c f && f.address.command)
         where
           each : (x : Bool) → cond x (by_message f.info t) None ≡ by_message (cond x f.info []) t
           each true = refl

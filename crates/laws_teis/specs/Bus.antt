@@ -78,7 +78,7 @@ network_of b p = network_after b.network b.number p.at_network
 
 -- The message of TEI management, if a frame comes to the terminal as one; and whether it removes a TEI (clauses 5.3.4 and 5.3.6).
 abbrev pub message_in : Config → List ℕ → List ℕ
-message_in c octets = option_map_or (λ (f : Parts). if is_message f && f.address.command then f.info else []) (frame_of c (came c.n201 octets)) []
+message_in c octets = option_map_or (λ (f : Parts). if is_message c f && f.address.command then f.info else []) (frame_of c (came c.n201 octets)) []
 
 abbrev pub is_removal : ℕ → List ℕ → Bool
 is_removal tei (entity ∷ high ∷ low ∷ type ∷ last ∷ []) = entity == 0x0F && type == 6 && last == 2 * tei + 1

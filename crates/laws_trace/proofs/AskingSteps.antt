@@ -144,9 +144,9 @@ module _ (t : OfTerminal) (quiet : t.notes ≡ []) where
   message (a ∷ b ∷ d ∷ e ∷ []) = nothing
   message (a ∷ b ∷ d ∷ e ∷ f ∷ g ∷ more) = nothing
 
-  frame : (f : Option Parts) → Goes o (then_ (option_and_then (by_frame t) f))
-  frame None = nothing
-  frame (Some f) = either (is_message f && f.address.command) _ _ (message f.info) nothing
+  frame : (c : Config) (f : Option Parts) → Goes o (then_ (option_and_then (by_frame c t) f))
+  frame c None = nothing
+  frame c (Some f) = either (is_message c f && f.address.command) _ _ (message f.info) nothing
 
   pub expires : (p : Option Procedure) → t.procedure ≡ p → Expires (asking_of p) (ran_out p t)
   expires None is = (none-told, ap asking_of is)
@@ -192,7 +192,7 @@ module _ (t : OfTerminal) (quiet : t.notes ≡ []) where
 
   -- Any event except that of T202.
   pub happens : (c : Config) (e : Event) → is_t202 e ≡ false → breaks_by t e ≡ false → Goes o (then_ (by_event c e t))
-  happens c (hears e) other stays = frame (frame_of c e)
+  happens c (hears e) other stays = frame c (frame_of c e)
   happens c (expiry T202) other stays = absurd (true≢false other)
   happens c (expiry T201) other stays = nothing
   happens c (expiry (T200 service tei)) other stays = nothing

@@ -148,7 +148,7 @@ module _ (c : Config) (l : Line) (w : Managed) (states : Service → ℕ → ℕ
     is_told = is_some (service_of f.address.sapi) && is_unit_taken c f.address.tei w f
 
     abbrev its_message : Bool
-    its_message = (is_ui f.control && (manages c.side || (is_terminal c && f.address.command))) && serves_information c w f.info
+    its_message = (is_ui f.control && nat_le (length f.info) c.n201 && (manages c.side || (is_terminal c && f.address.command))) && serves_information c w f.info
 
     -- where the frame is of no unit data for the group
     module _ (alone : is_for_group c f ≡ false) where
@@ -165,8 +165,14 @@ module _ (c : Config) (l : Line) (w : Managed) (states : Service → ℕ → ℕ
       by-side Network info = served info
       by-side User info = by-user (is_terminal c && f.address.command) info
 
+      -- and none is too long
+      by-size : (b : Bool) (info : List ℕ) → named c l (cond b (managed_at c f c.side (tei_message info)) (at_none (dropped Unserved)))
+          ≡ unless ((b && (manages c.side || (is_terminal c && f.address.command))) && serves_information c w info)
+      by-size true info = by-side c.side info
+      by-size false info = refl
+
       message-so : named c l (at_side c f (message_of f.control f.info)) ≡ unless its_message
-      message-so = grind (arith, by-side, drops-so)
+      message-so = grind (arith, by-size, drops-so)
 
       frames : named c l (aim_of_reading c l (Ok f)) ≡ by_address w states (served_by c (frame f)) its_message f.address
       frames =
@@ -251,7 +257,7 @@ module _ (c : Config) (l : Line) (s : IsSoundLine c l) (w : Managed) (states : S
       go true for =
           let to = group-to c f for (service_of f.address.sapi) refl in
           ap cause_in (group-read c l f octets to.0 s is to.1).answer_is
-          ∙ sym (ap (λ b. cond b None (by_address w states (serves c (is_too_long c f) f.control) ((is_ui f.control && (manages c.side || (is_terminal c && f.address.command))) && serves_information c w f.info) f.address)) (group-told c f w for))
+          ∙ sym (ap (λ b. cond b None (by_address w states (serves c (is_too_long c f) f.control) ((is_ui f.control && nat_le (length f.info) c.n201 && (manages c.side || (is_terminal c && f.address.command))) && serves_information c w f.info) f.address)) (group-told c f w for))
       go false alone = ap (λ r. named c l (aim_of_reading c l r)) is ∙ frames c l w states agree served f alone ∙ by-due c l w states agree served f alone
 
   cause-is : (e : line_event.Event) → cause_after e ≡ cause_due c w states e

@@ -1,5 +1,5 @@
 -- Why what is heard is dropped: the causes that answers name.
-use Rattle.std.specs.Prelude.{◌≡◌, ℕ, ◌==◌, ◌&&◌, ◌||◌, Bool, true, false, List, Option, Some, None, is_some, IfSome, Result, Ok, Err, if◌then◌else◌}
+use Rattle.std.specs.Prelude.{◌≡◌, ℕ, ◌==◌, ◌&&◌, ◌||◌, nat_le, Bool, true, false, List, length, Option, Some, None, is_some, IfSome, Result, Ok, Err, if◌then◌else◌}
 use Rattle.std.specs.Option.{option_map_or}
 use Rattle.model_bits.specs.Stream as stream
 use Rattle.model_bits.specs.declared.heard.Cause.{Cause}
@@ -60,8 +60,8 @@ by_address w states served is_message a =
     else option_map_or (λ service. if is_on a.tei w then unless (served (states service a.tei)) else Some Tei) (service_of a.sapi) (Some Sapi)
 
 -- One that the grammar does not have is served in states 7 and 8, and by annex B in each (clauses 2.9, 3.3.1 and 5.8.5). So is an
--- I-frame that was too long to keep; such a UI by annex B alone, and such an XID is not (profile). Messages of TEI management come in UI frames, and at a terminal in commands. A
--- trunk's end serves none (clause 5.3.6 and profile).
+-- I-frame that was too long to keep; such a UI by annex B alone, and such an XID is not (profile). Messages of TEI management come in UI frames of at most N201 octets, and at
+-- a terminal in commands. A trunk's end serves none (clauses 5.3.6 and 5.9.3, and profile).
 abbrev pub by_fault : (Address → Option Cause) → ReadFault → Option Cause
 by_fault malformed BadExtension = Some Extension
 by_fault malformed (Undefined a) = malformed a
@@ -71,7 +71,7 @@ by_fault malformed Short = Some Unserved
 abbrev pub by_frame : Config → Managed → (Service → ℕ → ℕ) → Result Parts ReadFault → Option Cause
 by_frame c w states (Ok f) =
     if is_some (service_of f.address.sapi) && is_unit_taken c f.address.tei w f then None
-    else by_address w states (serves c (is_too_long c f) f.control) ((is_ui f.control && (manages c.side || (is_terminal c && f.address.command))) && serves_information c w f.info) f.address
+    else by_address w states (serves c (is_too_long c f) f.control) ((is_ui f.control && nat_le (length f.info) c.n201 && (manages c.side || (is_terminal c && f.address.command))) && serves_information c w f.info) f.address
 by_frame c w states (Err fault) = by_fault (by_address w states (minds c) false) fault
 
 abbrev pub by_long : Config → Bool → Managed → (Service → ℕ → ℕ) → Result Long ReadFault → Option Cause

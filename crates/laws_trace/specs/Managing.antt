@@ -166,7 +166,7 @@ ran_out c w check =
     option_map_or (λ before. if before || check.answered then over w else record (by_reading c.reading (leaves check.tei w) (removes check.tei w)) { notes = Removed check.tei ∷ [] })
     check.before (checks check.tei (Some check.answered) w)
 
--- What a terminal says, in the information of a UI frame to the group, with SAPI 63: in octets 0F, Ri with its high octet
+-- What a terminal says, in the information of a UI frame to the group, with SAPI 63 (`is_message`): in octets 0F, Ri with its high octet
 -- first, the type, and Ai with 1 as its extension bit (clause 5.3.6, its figure and table 8). It asks for a TEI; it answers that
 -- it has one; or it asks for a check of one. None is a message that is not served.
 abbrev pub by_message : Config → Managed → List ℕ → Option Managed
@@ -185,7 +185,7 @@ manages Network = true
 manages User = false
 
 abbrev pub by_frame : Config → Managed → Parts → Managed
-by_frame c w f = if manages c.side && is_message f then unwrap_or (by_message c w f.info) w else w
+by_frame c w f = if manages c.side && is_message c f then unwrap_or (by_message c w f.info) w else w
 
 -- What management asks for, and whether it is granted (clauses 4.1.1.5, 5.3.3 and 5.3.4). A trunk's end neither removes a TEI, nor
 -- checks one, nor disowns one (profile), and only a terminal asks for one or has it verified. A TEI that is disowned is not on the

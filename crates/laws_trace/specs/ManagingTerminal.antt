@@ -1,6 +1,6 @@
 -- What an observer of a terminal's line knows of its TEIs, by the procedures of Q.921 clause 5.3, and what is due by them: by
 -- what the network says, what management asks for, and T202.
-use Rattle.std.specs.Prelude.{ℕ, ◌==◌, ◌&&◌, not, nat_lt, nat_le, Bool, true, false, List, [], ◌∷◌, ◌++◌, ◌+◌, ◌*◌, ◌/◌, ◌%◌, map, replicate, take, drop, filter, fold, Option, Some, None, is_some, if◌then◌else◌}
+use Rattle.std.specs.Prelude.{ℕ, ◌==◌, ◌&&◌, not, nat_lt, nat_le, Bool, true, false, List, [], ◌∷◌, ◌++◌, ◌+◌, ◌*◌, ◌/◌, ◌%◌, length, map, replicate, take, drop, filter, fold, Option, Some, None, is_some, if◌then◌else◌}
 use Rattle.std.specs.List.{list_any, filter_map}
 use Rattle.std.specs.Option.{option_and_then, option_map_or, unwrap_or}
 use Rattle.lapd_frame.specs.declared.notes.Note.{Note}
@@ -151,12 +151,12 @@ by_message (entity ∷ high ∷ low ∷ type ∷ last ∷ []) t =
     else None
 by_message other t = None
 
--- It says so in UI commands to the group, with SAPI 63.
-abbrev pub is_message : Parts → Bool
-is_message f = (f.address.sapi == 63 && f.address.tei == 127) && is_ui f.control
+-- It says so in UI commands to the group, with SAPI 63, of at most N201 octets (clause 5.9.3).
+abbrev pub is_message : Config → Parts → Bool
+is_message c f = ((f.address.sapi == 63 && f.address.tei == 127) && is_ui f.control) && nat_le (length f.info) c.n201
 
-abbrev pub by_frame : OfTerminal → Parts → Option OfTerminal
-by_frame t f = if is_message f && f.address.command then by_message f.info t else None
+abbrev pub by_frame : Config → OfTerminal → Parts → Option OfTerminal
+by_frame c t f = if is_message c f && f.address.command then by_message f.info t else None
 
 -- T202 runs out (clauses 5.3.2.1 and 5.3.5). A TEI is asked for three times (N202, clause 5.9.4; constant by profile), and verified
 -- twice; and then it is not assigned, or it leaves.
@@ -182,7 +182,7 @@ by_request other t = None
 
 -- What is due by an event of the line, and known after it. None is an event at which nothing is due, and all stays.
 abbrev pub by_event : Config → Event → OfTerminal → Option OfTerminal
-by_event c (hears e) t = option_and_then (by_frame t) (frame_of c e)
+by_event c (hears e) t = option_and_then (by_frame c t) (frame_of c e)
 by_event c (expiry T202) t = Some (ran_out t.procedure t)
 by_event c (request r) t = by_request r t
 by_event c next t = Some (record t { owed = drop 1 t.owed; begins = take 1 t.owed })

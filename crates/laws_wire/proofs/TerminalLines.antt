@@ -3,6 +3,7 @@ use Rattle.laws_wire.proofs.Vocabulary.{◌≡◌, ℕ, ◌+◌, ◌*◌, ◌%�
 use Rattle.laws_wire.proofs.Vocabulary.{link_count, link_number}
 use Rattle.laws_wire.proofs.Vocabulary.{Effect, of_aim, of_change, told_of_management, hears, next, request, told, gave, nothing, came, Call, Packet, line_after, line_answer, tei_course, tei_refusal, given, terms_at, with_given_frame, first_taken, taken, next_of, ranges_of, of_heard, aim_of_reading}
 use Rattle.std.specs.List.{find}
+use Rattle.std.proofs.lemmas.Bool.{le-leb}
 use Rattle.std.specs.Prelude.{◌/◌, drop}
 use Rattle.model_bits.specs.Stream.{frame}
 use Rattle.lapd_frame.specs.declared.addresses.Side.TheVariants.{User, Network}
@@ -220,12 +221,16 @@ module _ (reading : Reading) (ri n : ℕ) (some : 1 ≤ n) where
 
 -- ---- a message comes to a line
 
-module _ (c : Config) (l : Line) (ri type action : ℕ) (octets : List ℕ) (whole : came c.n201 octets ≡ frame octets) (read : reading (heard_side c) octets ≡ Ok (parts ri type action)) where
+module _ (c : Config) (l : Line) (long : 8 ≤ c.n201) (ri type action : ℕ) (octets : List ℕ) (whole : came c.n201 octets ≡ frame octets)
+    (read : reading (heard_side c) octets ≡ Ok (parts ri type action)) where
   abbrev its_event : teis.Event
   its_event = teis.message (messages.information ri type action)
 
   comes-to : managed_at c (parts ri type action) c.side its_event ≡ at_management its_event → of_heard c (came c.n201 octets) l ≡ of_management c its_event l
-  comes-to managed = ap (λ e. of_heard c e l) whole ∙ ap (λ r. of_aim c (aim_of_reading c l r) l) read ∙ ap (λ aim. of_aim c aim l) managed
+  comes-to managed =
+      ap (λ e. of_heard c e l) whole ∙ ap (λ r. of_aim c (aim_of_reading c l r) l) read
+      ∙ ap (λ b. of_aim c (cond b (managed_at c (parts ri type action) c.side its_event) (at_none (dropped Unserved))) l) (le-leb 5 c.n201 (omega (arith, long)))
+      ∙ ap (λ aim. of_aim c aim l) managed
 
   to-network : c.side ≡ Network → of_heard c (came c.n201 octets) l ≡ of_network c its_event l
   to-network side =
@@ -239,13 +244,13 @@ module _ (c : Config) (l : Line) (ri type action : ℕ) (octets : List ℕ) (who
       ∙ ap (λ b. cond b (of_terminal_if c (at_a_terminal its_event) l) (of_network c its_event l)) own
 
 -- the request comes to the network's side
-module _ (d : Config) (side : d.side ≡ Network) (some : 1 ≤ d.terminals) (ri : ℕ) (octets : List ℕ) (whole : came d.n201 octets ≡ frame octets)
+module _ (d : Config) (side : d.side ≡ Network) (long : 8 ≤ d.n201) (some : 1 ≤ d.terminals) (ri : ℕ) (octets : List ℕ) (whole : came d.n201 octets ≡ frame octets)
     (read : reading (heard_side d) octets ≡ Ok (requested ri)) where
   abbrev served_effect : tei_words.Course → Effect
   served_effect x = of_change d x.told.change (told_of_management x.told) (record (fresh_line d) { management = x.now })
 
   request-served : of_heard d (came d.n201 octets) (fresh_line d) ≡ record { line = assigning ri d; told = record nothing { notes = notes.Assigned 64 ∷ [] } }
-  request-served = to-network d (fresh_line d) ri 1 127 octets whole read side ∙ ap served_effect (served d.reading ri d.terminals some)
+  request-served = to-network d (fresh_line d) long ri 1 127 octets whole read side ∙ ap served_effect (served d.reading ri d.terminals some)
 
   pub assigns-after : line_after d (hears (came d.n201 octets)) (fresh_line d) ≡ assigning ri d
   unfolding line_after
@@ -256,12 +261,12 @@ module _ (d : Config) (side : d.side ≡ Network) (some : 1 ≤ d.terminals) (ri
   assigns-answer = ap (λ (f : Effect). told f.told) request-served
 
 -- and the answer to the terminal
-module _ (c : Config) (own : is_terminal c ≡ true) (some : 1 ≤ c.terminals) (octets : List ℕ) (whole : came c.n201 octets ≡ frame octets)
+module _ (c : Config) (own : is_terminal c ≡ true) (long : 8 ≤ c.n201) (some : 1 ≤ c.terminals) (octets : List ℕ) (whole : came c.n201 octets ≡ frame octets)
     (read : reading (heard_side c) octets ≡ Ok (answered (seed_of c))) where
   answer-taken : of_heard c (came c.n201 octets) (waits c)
       ≡ record { line = has_it c; told = record nothing { notes = notes.Assigned 64 ∷ []; orders = orders.Stop T202 ∷ [] } }
   answer-taken =
-      to-terminal c (waits c) (seed_of c) 2 64 octets whole read own
+      to-terminal c (waits c) long (seed_of c) 2 64 octets whole read own
       ∙ ap (λ x. by_course c x (waits c)) (took c.reading (seed_of c) c.terminals some (next_number (seed_of c)))
 
   pub gets-after : line_after c (hears (came c.n201 octets)) (waits c) ≡ has_it c

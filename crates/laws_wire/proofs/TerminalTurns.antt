@@ -298,8 +298,8 @@ module _ (c d : Config) where
         let some = (ranges_of d far-ranged).terminals.least in
         let read = subst (λ k. reading k request_frame ≡ Ok (lines.requested ri)) (sides-turned c d opposite) from-near.read in
         let x = comes d (fresh_line d) [] [] w.far h.far request_frame in
-        let after-is = lines.assigns-after d side some ri request_frame from-near.whole read in
-        let answer-is = lines.assigns-answer d side some ri request_frame from-near.whole read in
+        let after-is = lines.assigns-after d side ((ranges_of d far-ranged).n201.least) some ri request_frame from-near.whole read in
+        let answer-is = lines.assigns-answer d side ((ranges_of d far-ranged).n201.least) some ri request_frame from-near.whole read in
         let far : IsSo d (lines.assigning ri d) [] (note ∷ []) (frame_comes request_frame w.far) = record {
           config = x.config;
           sound = x.sound;
@@ -320,8 +320,8 @@ module _ (c d : Config) where
         let some = (ranges_of c ranged).terminals.least in
         let read = subst (λ k. reading k answer_frame ≡ Ok (lines.answered ri)) opposite from-far.read in
         let x = comes c (lines.waits c) [] [] w.near h.near answer_frame in
-        let after-is = lines.gets-after c own some answer_frame from-far.whole read in
-        let answer-is = lines.gets-answer c own some answer_frame from-far.whole read in
+        let after-is = lines.gets-after c own ((ranges_of c ranged).n201.least) some answer_frame from-far.whole read in
+        let answer-is = lines.gets-answer c own ((ranges_of c ranged).n201.least) some answer_frame from-far.whole read in
         let near : IsSo c (lines.has_it c) [] (note ∷ []) (frame_comes answer_frame w.near) = record {
           config = x.config;
           sound = x.sound;

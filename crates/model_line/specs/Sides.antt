@@ -44,11 +44,11 @@ abbrev pub managed_at : Config → Parts → Side → teis.Event → Aim
 managed_at c parts Network event = at_management event
 managed_at c parts User event = if is_terminal c && parts.address.command then at_management event else at_none (dropped Unserved)
 
--- So what a frame is that is for no link depends on the side.
+-- So what a frame is that is for no link depends on the side. No message of TEI management is over N201 octets (clause 5.9.3).
 abbrev pub at_side : Config → Parts → Aim → Aim
 at_side c parts (at_none told) = at_none (told_at c c.side parts told)
 at_side c parts (at_link service tei place event) = at_link service tei place event
-at_side c parts (at_management event) = managed_at c parts c.side event
+at_side c parts (at_management event) = if nat_le (length parts.info) c.n201 then managed_at c parts c.side event else at_none (dropped Unserved)
 at_side c parts (at_terminal event) = at_terminal event
 at_side c parts (at_units unit) = at_units unit
 at_side c parts at_no_link = at_no_link

@@ -12,7 +12,7 @@ change-requires-clause-changing g c =
 pub returns : goal.returns
 returns g c = λ octets.
     let ui : is_ui c.args.frame.control ≡ true = cc in
-    let ours : serves_messages c.args.self.now.config c.args.frame.address ≡ true = cc in
+    let ours : serves_messages c.args.self.now.config (parts_of c.args.frame) ≡ true = cc in
     serves_as (λ others m st. message_of_ui c.args.self.now.config (parts_of c.args.frame) ui ours)
     (c.change.ensures (at_management (teis.message c.args.frame.info.now)) c.args.self.now.teis octets (c.message-told.ensures.answers c.args.self.now.config))
 

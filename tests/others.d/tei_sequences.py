@@ -50,22 +50,37 @@ def can_be(event, before):
     return event != 'request to verify' or 'no timer; TEI' in before
 
 
-def put_to(stack, events, ours, blocks):
-    """What another is asked: without what a block names for each column, and requests that can't be."""
-    kept, before = [], 'no timer; no TEI'
-    for (event, line), answer in zip(events, ours):
-        named = any(stack in it.cells and '*' in it.at and it.names_event(event) for it in blocks)
-        if not named and can_be(event, before) and (stack != 'libpri' or event != 'request to verify'):
-            kept.append((event, line))
-            before = answer
-    return kept
+def is_known_to(stack, event, blocks):
+    """Whether the stack has this event, and no block names it for each column."""
+    named = any(stack in it.cells and '*' in it.at and it.names_event(event) for it in blocks)
+    return not named and (stack != 'libpri' or event != 'request to verify')
+
+
+def possible(events, ours):
+    """The events without the first request that can't be."""
+    before = 'no timer; no TEI'
+    for at, ((event, _), answer) in enumerate(zip(events, ours)):
+        if not can_be(event, before):
+            return events[:at] + events[at + 1:]
+        before = answer
+    return events
+
+
+def all_possible(program, side, sequences):
+    """The sequences without requests that can't be. What is left out changes what comes after it, so each is played again."""
+    while True:
+        kept = [possible(events, ours) for events, ours in zip(sequences, answers(program, side, sequences))]
+        if kept == sequences:
+            return kept
+        sequences = kept
 
 
 def play(stack, side, ours, theirs, dice, count, blocks):
     """Plays sequences on both; a difference at an event that a block names ends its sequence, and is none."""
     blocks = [it for it in blocks if it.table == side]
-    sequences = [MADE[side](dice) for _ in range(count)]
-    sequences = [put_to(stack, events, answer, blocks) for events, answer in zip(sequences, answers(ours, side, sequences))]
+    made = [MADE[side](dice) for _ in range(count)]
+    known = [[it for it in events if is_known_to(stack, it[0], blocks)] for events in made]
+    sequences = all_possible(ours, side, known)
     events, differing = 0, []
     for asked, one, other in zip(sequences, answers(ours, side, sequences), answers(theirs, side, sequences)):
         at = next((at for at, (left, right) in enumerate(zip(one, other)) if left != right), None)

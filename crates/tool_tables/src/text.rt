@@ -97,10 +97,18 @@ impl Text {
             self.row(above, name, profile);
             return;
         }
-        self.row(above, name, profile);
-        self.say(" (profile)");
-        self.row(above, name, annex_b);
-        self.say(" (annex B)");
+        self.row_of_one(above, name, " (profile)", &profile);
+        self.row_of_one(above, name, " (annex B)", &annex_b);
+    }
+
+    // A row of one reading stands alone: no other event's name may seem to be of that reading, too.
+    fn row_of_one(&mut self, above: &mut Text, name: &str, reading: &str, row: &Text) {
+        self.append(above);
+        above.text.clear();
+        self.say("\n|");
+        self.say(name);
+        self.say(reading);
+        self.append(row);
     }
 
     /// Adds another text.

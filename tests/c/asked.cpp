@@ -107,8 +107,11 @@ void asks_timers(lapd::any_card &card) {
     const lapd::timer expired = report.expired_timer();
     wants(report.expired() && expired.kind == lapd::timer_kind::t200 && expired.service == service::call && expired.tei == 64, "another timer fell due");
     wants(card.fall_due(6000, report) == status::no_timer && card.next_moment(moment) == status::ok && moment == 7000, "T200 again");
+    wants(card.set_lengths({500, 10000, 1000, 2000}) == status::ok && card.set_lengths({0, 1, 1, 1}) == status::wrong_time
+              && card.next_moment(moment) == status::ok && moment == 7000, "T200 that runs keeps its length");
+    wants(card.fall_due(7000, report) == status::ok && card.next_moment(moment) == status::ok && moment == 7500, "another length of T200");
     wants(card.expire(1, lapd::timer({LAPD_T200, LAPD_CALL, 64}), report) == status::wrong_card, "an expiry that is not its own");
-    wants(card.end() == status::ok && card.fall_due(7000, report) == status::no_card && card.next_moment(moment) == status::no_card, "its end");
+    wants(card.end() == status::ok && card.set_lengths({1, 1, 1, 1}) == status::no_card && card.fall_due(7000, report) == status::no_card && card.next_moment(moment) == status::no_card, "its end");
 }
 
 void asks_timed(lapd::card &octets, lapd::frame_card &frames) {
@@ -121,6 +124,7 @@ void asks_timed(lapd::card &octets, lapd::frame_card &frames) {
     asks_timers(octets);
     asks_timers(frames);
     wants(frames.start(config) == status::ok && frames.fall_due(0, report) == status::wrong_card && frames.next_moment(moment) == status::wrong_card, "no timers of its own");
+    wants(frames.set_lengths(lengths) == status::wrong_card, "lengths of no timers of its own");
     wants(frames.end() == status::ok, "an end without timers");
 }
 

@@ -4,7 +4,7 @@
  *
  *     play [--timed] [--exchange] < SCRIPT
  *
- * With --timed the card keeps its own timers, and there is no clock: a script that changes their lengths is none for it.
+ * With --timed the card keeps its own timers, and there is no clock.
  * With --exchange every pull is one of lapd_exchange: lines `rx LINE OCTET` and `pull LINE 1` in turn are handed over as
  * one run, as turn.c makes them; other pulls are exchanges of one octet from their second step.
  * Status 0; 1 for a faulty line or refused memory, told on standard error; 2 for words.

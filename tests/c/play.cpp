@@ -3,7 +3,7 @@
 //
 //     play_cpp [--timed] < SCRIPT
 //
-// With --timed the card keeps its own timers, and there is no clock: a script that changes their lengths is none for it.
+// With --timed the card keeps its own timers, and there is no clock.
 // Status 0; 1 for a faulty line or refused memory, told on standard error; 3 for what can't be.
 #include <array>
 #include <cstdio>
@@ -342,9 +342,9 @@ fault station::obey(const command &line) {
     if (line.verb == WAIT)
         return wait(line.numbers[0]);
     if (line.verb == TIMERS) {
-        const uint32_t *lengths = line.numbers;
-        want_ok(is_timed_ ? status::wrong_card : status::ok, "lengths after the start");
-        const status is = clock_.set_lengths(lengths[0], lengths[1], lengths[2], lengths[3]);
+        const uint32_t *numbers = line.numbers;
+        const lapd_lengths lengths = {numbers[0], numbers[1], numbers[2], numbers[3]};
+        const status is = is_timed_ ? any()->set_lengths(lengths) : clock_.set_lengths(numbers[0], numbers[1], numbers[2], numbers[3]);
         return is == status::ok ? NO_FAULT : BAD_NUMBER;
     }
     if (line.verb == STORED) {

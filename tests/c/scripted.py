@@ -222,7 +222,7 @@ class Station:
         elif line.word == "wait":
             yield from self.waited(line.numbers[0])
         elif line.word == "timers":
-            self.clock.set_lengths(*line.numbers)
+            (self.card if self.is_timed else self.clock).set_lengths(*line.numbers)
         elif line.word == "stored":
             yield f"stored {self.card.stored()} limit {self.card.limit()}"
         elif line.word in (("rx", "pull") if isinstance(self.card, lapd.FrameCard) else ("failed", "next")):

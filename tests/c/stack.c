@@ -82,6 +82,7 @@ static void timed_start(void) { status = lapd_card_start_timed(&card, &config, &
 static void timed_frames_start(void) { status = lapd_card_start_frames_timed(&card, &config, &lengths); }
 static void fall_due(void) { status = lapd_fall_due(&card, LAPD_LATEST - 1, &report); }
 static void find_moment(void) { status = lapd_next_moment(&card, &moment); }
+static void set_lengths(void) { status = lapd_card_set_lengths(&card, &lengths); }
 static void take_frame(void) { status = lapd_frame(&card, 0, octets, length, &report); }
 static void fail_frame(void) { status = lapd_frame_failed(&card, 0, LAPD_FCS, &report); }
 static void give_frame(void) { status = lapd_next_frame(&card, 0, frame, sizeof frame, &length, &report); }
@@ -147,6 +148,7 @@ static void frames(bool is_timed, const uint8_t *const *come, const size_t *octe
     show("lapd_frame_failed", most(0, fail_frame));
     if (is_timed) {
         show("lapd_next_moment", most(0, find_moment));
+        show("lapd_card_set_lengths", most(0, set_lengths));
         show("lapd_fall_due", most(0, fall_due));
     }
     most(0, card_free);

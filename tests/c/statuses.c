@@ -180,7 +180,9 @@ static void questions(void) {
         at = below(1000);
     const lapd_note note = {(uint8_t)(1 + at % LAPD_REMOVE_ALL), LAPD_PACKET, 64, 0};
     const lapd_config config = {.sapi = (uint16_t)(at % 63)};
-    switch (below(13)) {
+    const lapd_lengths lengths = {below(4), 10, 10, 10};
+    switch (below(14)) {
+    case 13: CALL(lapd_card_set_lengths, &card, &lengths); break;
     case 12: CALL(lapd_note_text_of, &note, &config, text, below(30)); break;
     case 11: CALL(lapd_fall_due, &card, at += below(9), &report); break;
     case 10: CALL(lapd_next_moment, &card, &moment); break;

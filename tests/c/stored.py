@@ -17,12 +17,6 @@ def answer(words, script):
     return ran.stdout, ran.stderr, ran.returncode
 
 
-def changes_lengths(script):
-    """Whether a script changes how long timers run; a card that keeps its own has their lengths from its start."""
-    is_good = script.wanted()[2] == 0
-    return is_good and any(it.startswith(b"timers ") for it in script.text.splitlines())
-
-
 class Turned:
     """The stored scripts with a pull after each octet that comes, and what lapdsim says of them."""
 
@@ -51,14 +45,12 @@ def play_all(build, turned):
     if not play:
         return
     own = {name: (it.text, it.wanted()) for name, it in worked().items()}
-    kept = {name: own[name] for name, it in worked().items() if not changes_lengths(it)}
-    check(f"{build.name}: scripts at cards with their own timers", max(100, len(own) - 10) < len(kept) < len(own), len(kept))
-    ways = [("", [play], own), (", at a card with its own timers", [play, "--timed"], kept)]
+    check(f"{build.name}: scripts that change lengths", any(b"\ntimers " in script for script, _ in own.values()), "none does")
+    ways = [("", [play], own), (", at a card with its own timers", [play, "--timed"], own)]
     if not build.is_brief:
-        of_kept = {name: it for name, it in turned.of.items() if name in kept}
         ways += [(", pulled by lapd_exchange", [play, "--exchange"], own),
                  (", in turns by lapd_exchange", [play, "--exchange"], turned.of),
-                 (", in turns at a card with its own timers", [play, "--timed", "--exchange"], of_kept)]
+                 (", in turns at a card with its own timers", [play, "--timed", "--exchange"], turned.of)]
     for way, words, plays in ways:
         good = in_parallel(lambda it: answer(words, plays[it][0]) == plays[it][1], plays)
         for name, is_good in zip(plays, good):

@@ -126,6 +126,14 @@ static void moments(void) {
     wants(status != LAPD_OK || (own == other && own > now), "another moment");
 }
 
+/* Other lengths for timers that are started from now on, at both; mostly good ones. */
+static void lengths_change(void) {
+    const lapd_lengths to = {below(200), 1 + below(2000), 1 + below(300), 1 + below(500)};
+    uint32_t status = lapd_card_set_lengths(&timed, &to);
+    wants(status == (to.t200 == 0 ? LAPD_WRONG_TIME : LAPD_OK), "other lengths");
+    wants(lapd_clock_set_lengths(&timers, to.t200, to.t203, to.t201, to.t202) == status, "other lengths of the clock");
+}
+
 static uint32_t start_timed(lapd_card *card, const lapd_lengths *of) {
     return for_octets ? lapd_card_start_timed(card, &config, of) : lapd_card_start_frames_timed(card, &config, of);
 }
@@ -333,8 +341,11 @@ static void wrong_calls(void) {
     wants(lapd_expire(&timed, 0, &timer, &told) == LAPD_WRONG_CARD, "an expiry that is not its own");
     wants(lapd_fall_due(&timed, LAPD_LATEST, &told) == LAPD_WRONG_TIME && lapd_fall_due(&timed, 0, &told) == LAPD_NO_TIMER, "the latest moment");
     wants(lapd_next_moment(&timed, &moment) == LAPD_NO_TIMER && moment == 5 && told.line == 9, "a wrong call has told something");
+    wants(lapd_card_set_lengths(&none, &lengths) == LAPD_NO_CARD && lapd_card_set_lengths(&plain, &lengths) == LAPD_WRONG_CARD,
+          "lengths of no card, or of one without timers");
     for (unsigned i = 0; i < sizeof bad / sizeof *bad; i++)
-        wants(start_timed(&none, &bad[i]) == LAPD_WRONG_TIME && !none.started, "lengths out of range");
+        wants(start_timed(&none, &bad[i]) == LAPD_WRONG_TIME && !none.started && lapd_card_set_lengths(&timed, &bad[i]) == LAPD_WRONG_TIME,
+              "lengths out of range");
     bad_config.lines = 0;
     wants(lapd_card_start_timed(&none, &bad_config, &lengths) == LAPD_BAD_LINES && lapd_card_start_frames_timed(&none, &bad_config, &lengths) == LAPD_BAD_LINES,
           "no lines");
@@ -375,6 +386,8 @@ int main(int words, char **word) {
         case 5: for_octets ? octets_go() : frames_go(); break;
         default: is_asked();
         }
+        if (below(100) == 0)
+            lengths_change();
         moments();
         if (turn % LOOKS_EACH == 0)
             look();

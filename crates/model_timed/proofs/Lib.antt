@@ -1,6 +1,7 @@
--- Lemmas: what orders make of a clock (Orders), that timers are true (True), what
+-- Lemmas: what orders make of a clock (Orders), that timers keep their lengths (Changing) and are true (True), what
 -- an event of octets means to them (OctetsRun), and which run (Running, RunTheSame).
 pub mod Orders
+pub mod Changing
 pub mod True
 pub mod Running
 pub mod OctetsRun

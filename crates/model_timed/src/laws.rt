@@ -1,6 +1,7 @@
 //! What holds of cards that keep their own timers. Each law is the contract of a call that does nothing.
 
 ghost use Rattle.model_timed.specs.Frames.{frames};
+ghost use Rattle.model_timed.specs.LengthsChange.{TimersKeepLengths};
 ghost use Rattle.model_timed.specs.Octets.{octets};
 ghost use Rattle.model_timed.specs.RunTheSame.{OctetTimersRunTheSame, TimersRunTheSame};
 ghost use Rattle.model_timed.specs.TimersAreTrue.{TimersAreTrue};
@@ -10,10 +11,15 @@ ghost use Rattle.model_timed.specs.TimersAreTrue.{TimersAreTrue};
 /// expired since. Its own length, T200, T203, T201 or T202, has passed since then, and at most so many milliseconds more. So
 /// if the steps are prompt to the millisecond, each expiry comes exactly its length after the last start. And none is
 /// passed over. The next moment that the clock tells is the first at which a timer that runs falls due.
-#[tactic(auto, using(crate::proofs::True::timers_are_true))]
+///
+/// Lengths may be changed at any time. Then the same holds with the length that was set when the timer was started: a timer
+/// that runs keeps it.
+#[tactic(auto, using(crate::proofs::True::timers_are_true, crate::proofs::Changing::timers_keep_lengths))]
 pub fn timers_are_true()
     ensures frames { TimersAreTrue frames }
     ensures octets { TimersAreTrue octets }
+    ensures frames_kept { TimersKeepLengths frames }
+    ensures octets_kept { TimersKeepLengths octets }
 {}
 
 /// The timers that run at the clock of a card are those that its lines run, after any steps that may happen. So each expiry is

@@ -1,5 +1,5 @@
 -- A clock that a caller keeps beside a card is as the clock of a card that keeps its own timers.
-use Rattle.std.specs.Prelude.{◌≡◌, ℕ, ◌+◌, ◌*◌, ◌==◌, ◌&&◌, ◌||◌, nat_lt, true, count_by, option_map}
+use Rattle.std.specs.Prelude.{◌≡◌, ℕ, ◌+◌, ◌*◌, ◌==◌, ◌&&◌, ◌||◌, nat_lt, true, false, count_by, option_map}
 use Rattle.std.specs.List.{list_any}
 use Rattle.std.specs.Option.{option_map_or}
 use Rattle.lapd_clock.specs.Timer.{Timer, Order, Start, Stop, Lengths, is_same, standard}
@@ -12,9 +12,15 @@ use Rattle.model_timed.specs.Clock.{Clock, stopped, obey, without_first}
 abbrev pub clock_of : Timers → ℕ → Clock
 clock_of c now = record { lengths = c.lengths; running = c.running; now = now }
 
+-- It has as many lines, and places on each, as it had.
+abbrev pub IsAsLarge : Timers → Timers → Type 0
+IsAsLarge old new = (new.lines ≡ old.lines) × (new.places ≡ old.places)
+
 pub record CallersClocksAreClocks : Type 0 where
-  -- It begins so, with a place for T200 and T203 of two links of each terminal of a line, and for one timer of the line.
+  -- It begins so, for so many lines, with a place for T200 and T203 of two links of each terminal of a line, and for one timer of the
+  -- line.
   pub begins : (lengths : Lengths) (lines terminals : ℕ) → clock_of (callers.idle_with lengths lines terminals) 0 ≡ stopped lengths
+  pub lines : (lengths : Lengths) (lines terminals : ℕ) → (callers.idle_with lengths lines terminals).lines ≡ lines
   pub places : (lengths : Lengths) (lines terminals : ℕ) → (callers.idle_with lengths lines terminals).places ≡ 4 * terminals + 1
   pub usual : (lines terminals : ℕ) → callers.idle lines terminals ≡ callers.idle_with standard lines terminals
   -- An order is carried out if it finds a place: a timer that runs has one, and another where fewer of its line run than there are.
@@ -23,9 +29,14 @@ pub record CallersClocksAreClocks : Type 0 where
   pub stops : (c : Timers) (line : ℕ) (timer : Timer) → callers.finds_place c line (Stop timer) ≡ true
   pub obeys : (c : Timers) (line : ℕ) (order : Order) (now : ℕ) → callers.finds_place c line order ≡ true
       → clock_of (callers.with_order c line order now) now ≡ obey line (clock_of c now) order
+  pub refused : (c : Timers) (line : ℕ) (order : Order) (now : ℕ) → callers.finds_place c line order ≡ false → callers.with_order c line order now ≡ c
   -- The same is due, and taken out; the same falls due next; and new lengths are the same.
   pub due : (c : Timers) (now : ℕ) → callers.due_at c now ≡ option_map (λ (x : Expiry). (x.line, x.timer)) (own.due (clock_of c now))
   pub taken : (c : Timers) (now : ℕ)
       → clock_of (callers.after_due c now) now ≡ option_map_or (λ (x : Expiry). without_first (clock_of c now)) (own.due (clock_of c now)) (clock_of c now)
   pub next : (c : Timers) (now : ℕ) → callers.next_moment c ≡ own.next_moment (clock_of c now)
   pub lengths : (c : Timers) (new : Lengths) (now : ℕ) → clock_of (callers.with_lengths new c) now ≡ own.with_lengths new (clock_of c now)
+  -- Its lines and its places stay.
+  pub as_large_ordered : (c : Timers) (line : ℕ) (order : Order) (now : ℕ) → IsAsLarge c (callers.with_order c line order now)
+  pub as_large_taken : (c : Timers) (now : ℕ) → IsAsLarge c (callers.after_due c now)
+  pub as_large_set : (c : Timers) (new : Lengths) → IsAsLarge c (callers.with_lengths new c)

@@ -16,3 +16,11 @@ pub mod Timing
 pub mod Ordering
 pub mod Calling
 pub mod Said
+pub mod Halves
+pub mod Waits
+pub mod Blocks
+pub mod CarriedOut
+pub mod LinksTold
+pub mod BothKinds
+pub mod Numbers
+pub mod CallEvents

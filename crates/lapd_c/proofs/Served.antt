@@ -2,9 +2,13 @@
 use Rattle.lapd_c.proofs.Vocabulary.{◌≡◌, ◌≤◌, length, Option, IfSome, Result, Ok, IfOk, sym, ap, ◌∙◌, subst, arith, counters_in, LineTold, told, IsInRange, ranges_of, Card, Event, answer, OctetCard, PlainReport, Shows, contents_or_none, ShowsAnswer, ShowsReply, contents_in, Store, KeptCard, Octets, Frames, HeldCard, Machine, with_ports, alone, AnyStands, CardStands, FrameCardStands}
 use Rattle.lapd_card.specs.Card as octets
 use Rattle.lapd_card.specs.FrameCard as frames
+use Rattle.lapd_c.specs.declared.card.CardHandle.{CardHandle}
 use Rattle.lapd_c.specs.Cards.{StandsIn}
+use Rattle.lapd_c.specs.FallsDue.{FellDue}
 use Rattle.lapd_c.specs.Counted.{counters_held}
 use Rattle.lapd_card.specs.Kinds.{counters_of}
+use Rattle.lapd_card.specs.Stands.{meaning_counted}
+use Rattle.lapd_c.proofs.Vocabulary.{moment_counted, moment_of}
 use Rattle.std.proofs.Common.{Some}
 use Rattle.model_card.specs.ports.Card as octet_card
 use Rattle.model_card.specs.ports.Event as octet_event
@@ -87,9 +91,13 @@ timed_any line e (with_ports m) timers c s = s
 timed_any line e (alone m) timers c s = s
 
 -- what is due first, by its name
-pub if_due : (o : Option Expiry) (p : ℕ × Timer) → Some p ≡ option_map named_by o → (Q : ℕ → Timer → Type 0) → Q p.0 p.1 → IfSome o (λ x. Q x.line x.timer)
+if_due : (o : Option Expiry) (p : ℕ × Timer) → Some p ≡ option_map named_by o → (Q : ℕ → Timer → Type 0) → Q p.0 p.1 → IfSome o (λ x. Q x.line x.timer)
 if_due None p e Q q = absurd (none-some p (sym e))
 if_due (Some x) p e Q q = subst (λ (y : ℕ × Timer). Q y.0 y.1) (ap (λ o. unwrap_or o p) e) q
+
+pub if_fell : (now : ℕ) (o : Option Expiry) (p : ℕ × Timer) → Some p ≡ option_map named_by o → (m : Machine) (c : Clock) (old new : CardHandle) (result : ℕ) (r : PlainReport)
+    → FellDue now p.0 p.1 m c old new result r → IfSome o (λ x. FellDue now x.line x.timer m c old new result r)
+if_fell now o p e m c old new result r fell = if_due o p e (λ l x. FellDue now l x m c old new result r) fell
 
 pub none_due : (o : Option Expiry) → None ≡ option_map named_by o → o ≡ None
 none_due None e = refl
@@ -98,6 +106,26 @@ none_due (Some x) e = absurd (none-some (named_by x) e)
 -- the counters of its lines
 pub frames_counted : {held : HeldCard} {kept : KeptCard} {c : frames.Held Store} → held ≡ Some kept → kept.card ≡ Frames c → counters_in c.lines ≡ counters_held held
 frames_counted is kind = sym (ap counters_held is ∙ ap counters_of kind)
+
+-- and what is counted of an event: of a card of frames, of one of octets, of one of either kind
+pub counts : {held : HeldCard} {kept : KeptCard} → held ≡ Some kept → (e : Event) (m : Card) (led new : AnyCard) → new ≡ led
+    → counters_of led ≡ moment_counted (counters_of kept.card) (moment_of m e) → counters_of new ≡ moment_counted (counters_held held) (moment_of m e)
+counts is e m led new same h = ap counters_of same ∙ h ∙ ap (λ all. moment_counted all (moment_of m e)) (sym (ap counters_held is))
+
+pub frames_count : {held : HeldCard} {kept : KeptCard} {c : frames.Held Store} → held ≡ Some kept → kept.card ≡ Frames c → (e : Event) (m : Card) (led : frames.Held Store) (new : AnyCard)
+    → new ≡ Frames led → counters_in led.lines ≡ moment_counted (counters_in c.lines) (moment_of m e) → counters_of new ≡ moment_counted (counters_held held) (moment_of m e)
+frames_count is kind e m led new same h =
+    counts is e m (Frames led) new same (h ∙ ap (λ all. moment_counted all (moment_of m e)) (sym (ap counters_of kind)))
+
+pub heard_count : {held : HeldCard} {kept : KeptCard} {c : frames.Held Store} {e e' : Event} → held ≡ Some kept → kept.card ≡ Frames c → e' ≡ e → (m : Card) (led : frames.Held Store) (new : AnyCard)
+    → new ≡ Frames led → counters_in led.lines ≡ moment_counted (counters_in c.lines) (moment_of m e') → counters_of new ≡ moment_counted (counters_held held) (moment_of m e)
+heard_count {held = held} {e' = e'} is kind same m led new settled h =
+    subst (λ (x : Event). counters_of new ≡ moment_counted (counters_held held) (moment_of m x)) same (frames_count is kind e' m led new settled h)
+
+pub octets_count : {held : HeldCard} {kept : KeptCard} {c : octets.Held Store} → held ≡ Some kept → kept.card ≡ Octets c → (e : octet_event.Event) (m : OctetCard) (led : octets.Held Store) (new : AnyCard)
+    → new ≡ Octets led → counters_in led.frames.lines ≡ meaning_counted (counters_in c.frames.lines) m e → counters_of new ≡ meaning_counted (counters_held held) m e
+octets_count is kind e m led new same h =
+    ap counters_of same ∙ h ∙ ap (λ all. meaning_counted all m e) (sym (ap counters_held is ∙ ap counters_of kind))
 
 -- a result that is known
 pub if_ok : {X E : Type 0} (P : X → Type 0) (o : Result X E) (x : X) → o ≡ Ok x → P x → IfOk o P

@@ -1,10 +1,9 @@
--- What every call of a card comes to, served or not. Its tests come in the order of the fields.
-use Rattle.std.specs.Prelude.{◌≡◌, ◌⊎◌, ◌≤◌, ◌<◌, ℕ, true, false, Option, Some, None, IfSome, replicate}
+-- What a start of a card comes to, and why a request of one is refused.
+use Rattle.std.specs.Prelude.{◌≡◌, ◌⊎◌, ℕ, false, Option, Some, None, IfSome, replicate}
 use Rattle.lapd_clock.specs.Timer.{first_out_of_range}
 use Rattle.lapd_count.specs.Counters.{none_counted}
 use Rattle.model_card.specs.Card.{Card}
 use Rattle.model_card.specs.Card as frames
-use Rattle.model_card.specs.ports.Card.{OctetCard}
 use Rattle.model_card.specs.ports.Card as octets
 use Rattle.model_line.specs.declared.config.Config.{Config}
 use Rattle.model_line.specs.Refusal.{refusal}
@@ -16,14 +15,12 @@ use Rattle.model_card.specs.declared.kinds.CardKind.TheVariants as kinds
 use Rattle.lapd_c.specs.declared.card.CardHandle.{CardHandle}
 use Rattle.lapd_c.specs.declared.kept.KeptCard.{KeptCard}
 use Rattle.lapd_c.specs.declared.plain.config.PlainConfig.{PlainConfig}
-use Rattle.lapd_c.specs.declared.plain.reports.PlainReport.{PlainReport}
 use Rattle.lapd_c.specs.declared.plain.timers.PlainLengths.{PlainLengths}
 use Rattle.lapd_c.specs.CardSlots.{HeldCard}
-use Rattle.lapd_c.specs.Cards.{card_of, kind_in, marks_at, IsHandle, HandleStands, OctetsStand, FramesStand}
+use Rattle.lapd_c.specs.Cards.{card_of, IsHandle}
 use Rattle.lapd_c.specs.Config.{config_fault, config_in}
 use Rattle.lapd_c.specs.Kept.{is_timed, timers_of, TimersStandIn}
 use Rattle.lapd_c.specs.LinkMarks.{AreUnmarked}
-use Rattle.lapd_c.specs.Reopened.{TellsReopened}
 use Rattle.lapd_c.specs.Starts.{IsStart}
 use Rattle.lapd_c.specs.Statuses as status
 use Rattle.lapd_c.specs.Timers.{lengths_in}
@@ -65,64 +62,6 @@ pub record IsTimedStart (kind : CardKind) (config : PlainConfig) (lengths : Plai
   pub timed : result ≡ status.ok
       → TimersStandIn (timers_of new) (card_in (fresh kind (config_in config))) (stopped (lengths_in lengths))
 
--- What C holds stands for a machine, and its timers are the caller's.
-abbrev pub UntimedStands : CardHandle → Machine → Type 0
-UntimedStands h m = HandleStands h m × (is_timed h ≡ false)
-
--- Where there is no card, this is told, and nothing changes.
-pub record IsCall (old new : CardHandle) (result : ℕ) : Type 0 where
-  pub handle : IsHandle new
-  pub no_card : card_of old ≡ None → (result ≡ status.no_card) × (new ≡ old)
-
--- The same of a line: where the card does not have it, this is told. A card keeps its own timers after it where it did before.
-pub record IsCallAt (line : ℕ) (old new : CardHandle) (result : ℕ) : Type 0 where
-  pub handle : IsHandle new
-  pub no_card : card_of old ≡ None → (result ≡ status.no_card) × (new ≡ old)
-  pub wrong_line : (m : Machine) → HandleStands old m → (card_in m).config.lines ≤ line → result ≡ status.wrong_line
-  pub timed : is_timed new ≡ is_timed old
-
--- The same of a line of a card of octets, and of one of frames: where it is one of the other kind, this is told.
-pub record IsOctetsCall (line : ℕ) (old new : CardHandle) (result : ℕ) : Type 0 where
-  pub handle : IsHandle new
-  pub no_card : card_of old ≡ None → (result ≡ status.no_card) × (new ≡ old)
-  pub wrong_card : kind_in old ≡ Some kinds.Frames → result ≡ status.wrong_card
-  pub wrong_line : (m : OctetCard) → OctetsStand old m → m.card.config.lines ≤ line → result ≡ status.wrong_line
-  pub timed : is_timed new ≡ is_timed old
-
-pub record IsFramesCall (line : ℕ) (old new : CardHandle) (result : ℕ) : Type 0 where
-  pub handle : IsHandle new
-  pub no_card : card_of old ≡ None → (result ≡ status.no_card) × (new ≡ old)
-  pub wrong_card : kind_in old ≡ Some kinds.Octets → result ≡ status.wrong_card
-  pub wrong_line : (m : Card) → FramesStand old m → m.config.lines ≤ line → result ≡ status.wrong_line
-  pub timed : is_timed new ≡ is_timed old
-
--- The same of a line of a card whose timers are the caller's: where it keeps its own, this is told.
-pub record IsUntimedCall (line : ℕ) (old new : CardHandle) (result : ℕ) : Type 0 where
-  pub handle : IsHandle new
-  pub no_card : card_of old ≡ None → (result ≡ status.no_card) × (new ≡ old)
-  pub wrong_card : is_timed old ≡ true → result ≡ status.wrong_card
-  pub wrong_line : (m : Machine) → UntimedStands old m → (card_in m).config.lines ≤ line → result ≡ status.wrong_line
-  pub timed : is_timed new ≡ is_timed old
-
--- What holds of each machine that stands for a card with this line: one of either kind, one of either kind whose timers are the
--- caller's, one of octets, one of frames.
-abbrev pub WithLine : ℕ → CardHandle → (Machine → Type 0) → Type 0
-WithLine line h holds = (m : Machine) → HandleStands h m → line < (card_in m).config.lines → holds m
-
-abbrev pub UntimedWithLine : ℕ → CardHandle → (Machine → Type 0) → Type 0
-UntimedWithLine line h holds = (m : Machine) → UntimedStands h m → line < (card_in m).config.lines → holds m
-
-abbrev pub OctetsWithLine : ℕ → CardHandle → (OctetCard → Type 0) → Type 0
-OctetsWithLine line h holds = (m : OctetCard) → OctetsStand h m → line < m.card.config.lines → holds m
-
-abbrev pub FramesWithLine : ℕ → CardHandle → (Card → Type 0) → Type 0
-FramesWithLine line h holds = (m : Card) → FramesStand h m → line < m.config.lines → holds m
-
 -- Why a request at a line is refused, if it is.
 abbrev pub refusal_at : ℕ → Request → Card → Option Refusal
 refusal_at line asked m = refusal m.config (frames.is_full m) asked (frames.line_at line m)
-
--- Where a call of a line is served, its report tells of a link that has room again, if one waits that has.
-abbrev pub IsReopened : ℕ → CardHandle → CardHandle → ℕ → PlainReport → Type 0
-IsReopened line old new result report =
-    WithLine line new (λ m. result ≡ status.ok → TellsReopened line (card_in m) (marks_at old) (marks_at new) report)

@@ -1,10 +1,12 @@
 -- A clock as C holds it.
-use Rattle.std.specs.Prelude.{◌≡◌, ◌≤◌, ◌^◌, ℕ, nat_lt, is_some, None, IfSome, Result, Ok, Err, if◌then◌else◌}
+use Rattle.std.specs.Prelude.{◌≡◌, ◌≤◌, ◌^◌, ℕ, nat_lt, is_some, Option, None, Some, IfSome, option_map, Result, Ok, Err, if◌then◌else◌}
 use Rattle.lapd_frame.specs.declared.timers.Order.{Order}
 use Rattle.lapd_frame.specs.declared.timers.Timer.{Timer}
-use Rattle.lapd_clock.specs.Timer.{Lengths}
-use Rattle.lapd_clock.specs.Timers.{Timers, finds_place, with_order}
-use Rattle.lapd_c.specs.Statuses.{ok, no_clock, wrong_line, wrong_time, no_place}
+use Rattle.lapd_clock.specs.Timer.{Lengths, first_out_of_range}
+use Rattle.lapd_clock.specs.Timers.{Timers, finds_place, idle, with_lengths, with_order}
+use Rattle.lapd_c.specs.Starts.{IsStart}
+use Rattle.lapd_c.specs.Statuses.{ok, no_clock, no_timer, wrong_line, wrong_time, no_place}
+use Rattle.lapd_c.specs.declared.plain.config.PlainConfig.{PlainConfig}
 use Rattle.lapd_c.specs.declared.plain.timers.PlainDue.{PlainDue}
 use Rattle.lapd_c.specs.Timers.{plain_timer}
 use Rattle.lapd_c.specs.declared.clock.ClockHandle.{ClockHandle}
@@ -19,10 +21,18 @@ pub record IsHandle (h : ClockHandle) : Type 0 where
   pub said : h.started ≡ is_some (clock_of h)
   pub lines : IfSome (clock_of h) (λ c. c.lines ≤ 64)
 
--- Where there is no clock, this is told, and nothing changes.
-pub record IsCall (old new : ClockHandle) (result : ℕ) : Type 0 where
+-- What a start of a clock comes to: no timer runs on it.
+pub record IsClockStart (config : PlainConfig) (old new : ClockHandle) (result : ℕ) : Type 0 where
+  pub handle : IsHandle new
+  pub start : IsStart clock_of config old new result
+  pub begun : result ≡ ok → clock_of new ≡ Some (idle config.lines config.terminals)
+
+-- What a call of a clock comes to: the status that the clock has for it, and the clock after it. If there is none, this is told.
+pub record IsClockCall (tells : Timers → ℕ) (leaves : Timers → Timers) (old new : ClockHandle) (result : ℕ) : Type 0 where
   pub handle : IsHandle new
   pub none : clock_of old ≡ None → (result ≡ no_clock) × (new ≡ old)
+  pub told : IfSome (clock_of old) (λ c. result ≡ tells c)
+  pub after : clock_of new ≡ option_map leaves (clock_of old)
 
 -- A timer that fell due, with its line.
 abbrev pub plain_due : ℕ × Timer → PlainDue
@@ -31,6 +41,17 @@ plain_due due = record { line = due.0; timer = plain_timer due.1 }
 -- How long timers are to run.
 abbrev pub lengths_given : ℕ → ℕ → ℕ → ℕ → Lengths
 lengths_given t200 t203 t201 t202 = record { t200 = t200; t203 = t203; t201 = t201; t202 = t202 }
+
+abbrev pub lengths_status : Lengths → Timers → ℕ
+lengths_status lengths c = if is_some (first_out_of_range lengths) then wrong_time else ok
+
+abbrev pub after_lengths : Lengths → Timers → Timers
+after_lengths lengths c = if is_some (first_out_of_range lengths) then c else with_lengths lengths c
+
+-- Of what is due, or falls due first, there may be none.
+abbrev pub timer_status : {A : Type 0} → Option A → ℕ
+timer_status None = no_timer
+timer_status (Some first) = ok
 
 -- An order, or what is wrong with it, for a timer of a line at a moment: what is answered, and the clock after it.
 abbrev pub latest : ℕ

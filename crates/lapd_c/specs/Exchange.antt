@@ -1,5 +1,5 @@
 -- Octets taken and given in turn.
-use Rattle.std.specs.Prelude.{◌≡◌, ◌⊎◌, ℕ, zero, suc, ◌+◌, ◌*◌, ◌/◌, ◌%◌, ◌==◌, nat_le, Bool, true, false, not, ◌&&◌, List, [], ◌∷◌, ◌++◌, length, get_or, set, is_none, None, Some, if◌then◌else◌}
+use Rattle.std.specs.Prelude.{◌≡◌, ◌⊎◌, ℕ, zero, suc, ◌+◌, ◌-◌, ◌*◌, ◌/◌, ◌%◌, ◌==◌, nat_le, Bool, true, false, not, ◌&&◌, List, [], ◌∷◌, ◌++◌, length, get_or, set, is_none, None, Some, if◌then◌else◌}
 use Rattle.model_line.specs.Event.{nothing}
 use Rattle.model_card.specs.ports.Card.{OctetCard, answer}
 use Rattle.model_card.specs.ports.Event.{Event, at}
@@ -12,9 +12,16 @@ use Rattle.lapd_card.specs.Card.{Held}
 use Rattle.lapd_c.specs.declared.plain.reports.PlainReport.{PlainReport}
 use Rattle.lapd_card.specs.declared.kinds.AnyCard.{AnyCard}
 use Rattle.lapd_card.specs.declared.kinds.AnyCard.TheVariants.{Octets, Frames}
+use Rattle.model_card.specs.Counted.{all_counted}
+use Rattle.model_card.specs.Run.{moments}
+use Rattle.model_card.specs.ports.Run.{meant_all}
+use Rattle.lapd_c.specs.declared.card.CardHandle.{CardHandle}
 use Rattle.lapd_c.specs.Answers.{ShowsReply, octet_of}
+use Rattle.lapd_c.specs.Cards.{card_of}
 use Rattle.lapd_c.specs.CardSlots.{HeldCard}
-use Rattle.lapd_c.specs.Kept.{reply_seen_by}
+use Rattle.lapd_c.specs.Counted.{counters_at}
+use Rattle.lapd_c.specs.Kept.{ObeysAll, is_timed, reply_seen_by}
+use Rattle.lapd_c.specs.Statuses as status
 use Rattle.lapd_card.specs.Kinds.{CardStands}
 
 -- An answer has nothing to tell.
@@ -94,3 +101,11 @@ ExchangedBy timed line taken from m (Frames card) given given' to r = ⊥
 abbrev pub ExchangedIn : Bool → ℕ → List ℕ → ℕ → OctetCard → HeldCard → List ℕ → List ℕ → ℕ → PlainReport → Type 0
 ExchangedIn timed line taken from m None given given' to r = ⊥
 ExchangedIn timed line taken from m (Some kept) given given' to r = ExchangedBy timed line taken from m kept.card given given' to r
+
+-- So a call that is several events: its report tells the last, and all are obeyed and counted.
+pub record Exchanges (line : ℕ) (taken : List ℕ) (from : ℕ) (m : OctetCard) (old new : CardHandle) (result : ℕ) (given given' : List ℕ) (to : ℕ)
+    (r : PlainReport) : Type 0 where
+  pub ok : result ≡ status.ok
+  pub exchanged : ExchangedIn (is_timed old) line taken from m (card_of new) given given' to r
+  pub obeyed : ObeysAll (steps_made line taken from (to - from)) m old new
+  pub counted : counters_at new ≡ all_counted (counters_at old) (moments m.card (meant_all m (steps_made line taken from (to - from))))

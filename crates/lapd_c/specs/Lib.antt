@@ -28,13 +28,24 @@ pub mod Laws
 pub mod Links
 pub mod Orders
 pub mod Frames
-pub mod Exchange
 pub mod Counted
+pub mod Exchange
 pub mod Calls
+pub mod Wanted
 pub mod CalledBy
 pub mod Asked
+pub mod Questions
+pub mod FallsDue
+pub mod Texts
 pub mod AsBefore
 pub mod Said
+pub mod Waits
+pub mod Blocks
+pub mod CarriedOut
+pub mod LinksTold
+pub mod BothKinds
+pub mod Numbers
+pub mod CallEvents
 -- the words of the contracts, from where they are defined
 pub use Rattle.lapd_card.specs.Counted.{counters_in}
 pub use Rattle.lapd_card.specs.Kinds.{alone, card_in, CardStands, FrameCardStands, Machine, shelf_of, with_ports}
@@ -56,15 +67,18 @@ pub use Rattle.model_card.specs.ports.Stored.{limit}
 pub use Rattle.model_line.specs.Config.{first_fault}
 pub use Rattle.model_line.specs.Event.{nothing}
 pub use Rattle.lapd_c.specs.Answers.{octet_of, ShowsAnswer, ShowsReply}
-pub use Rattle.lapd_c.specs.Calls.{Begins, FramesWithLine, fresh, HasBegun, IsCall, IsCallAt, IsCardStart, IsFramesCall, IsOctetsCall, IsReopened, IsTimedStart, IsUntimedCall, OctetsWithLine, refusal_at, UntimedWithLine, WithLine}
-pub use Rattle.lapd_c.specs.Asked.{expire_asked, failed_asked, frame_asked, next_frame_asked, octet_asked, pull_asked, request_asked}
-pub use Rattle.lapd_c.specs.CalledBy.{Called, Unchanged}
-pub use Rattle.lapd_c.specs.Starts.{IsStart}
+pub use Rattle.lapd_c.specs.Wanted.{FramesWithLine, of_any, of_frames, of_octets, of_untimed, OctetsWithLine, OfEach, WithLine}
+pub use Rattle.lapd_c.specs.Calls.{Begins, fresh, HasBegun, IsCardStart, IsTimedStart, refusal_at}
+pub use Rattle.lapd_c.specs.Asked.{expire_asked, expiry_at, failed_asked, frame_asked, next_frame_asked, octet_asked, pull_asked, request_asked, request_at}
+pub use Rattle.lapd_c.specs.CalledBy.{at_port, Called, inside, IsCallOf, Served}
+pub use Rattle.lapd_c.specs.Questions.{begun_of, heard_of, IsQuestion, limit_of, lines_of, Questioned, room_of, state_of, stored_of, waiting_from}
+pub use Rattle.lapd_c.specs.FallsDue.{AtMoment, FellDue, IsMomentCall, IsTimersCall, NoneDue, WithClock}
+pub use Rattle.lapd_c.specs.Starts.{IsFreed, IsStart}
 pub use Rattle.lapd_c.specs.Cards.{card_of, FramesStand, IsHandle, kind_in, marks_at, OctetsStand, served_card, HandleStands}
 pub use Rattle.lapd_c.specs.Config.{config_fault, config_in, reading_in, sapi_in, seed_in, side_in}
 pub use Rattle.lapd_c.specs.Counted.{counters_at, Counts, CountsMeaning}
 pub use Rattle.lapd_c.specs.Counters.{plain_counters}
-pub use Rattle.lapd_c.specs.Exchange.{Exchanged, ExchangedIn, is_exchange, OrdersLast, tells_nothing, step_event, steps_made, with_step}
+pub use Rattle.lapd_c.specs.Exchange.{Exchanged, Exchanges, is_exchange, OrdersLast, tells_nothing, step_event, steps_made, with_step}
 pub use Rattle.lapd_c.specs.Frames.{frame_comes, fails, goes, IsGiven, next_at}
 pub use Rattle.lapd_c.specs.Heads.{plain_head}
 pub use Rattle.lapd_c.specs.Kept.{is_timed, Obeys, ObeysAll, ObeysMeaning, orders_seen, reply_seen, seen, timers_of, TimersStandIn}
@@ -77,4 +91,5 @@ pub use Rattle.lapd_c.specs.Requests.{request_in}
 pub use Rattle.lapd_c.specs.Rooms.{plain_room}
 pub use Rattle.lapd_c.specs.Services.{service_in}
 pub use Rattle.lapd_c.specs.Statuses.{field_status, refusal_status}
+pub use Rattle.lapd_c.specs.Texts.{text_of}
 pub use Rattle.lapd_c.specs.Timers.{link_in, no_timer, order_in, plain_order, plain_timer, timer_in}

@@ -1,17 +1,12 @@
--- What a C program's numbers say, and what it is told, in words of their own: not by those that the contracts of the calls use.
-use Rattle.std.specs.Prelude.{◌≡◌, ◌≢◌, ◌<◌, ℕ, true, List, Some, None, Ok}
+-- What a C program's numbers say, in words of their own: not by those that the contracts of the calls use.
+use Rattle.std.specs.Prelude.{◌≡◌, ◌≢◌, ◌≤◌, ◌<◌, Some, None}
 use Rattle.lapd_frame.specs.declared.addresses.Side.TheVariants.{User, Network}
 use Rattle.lapd_frame.specs.declared.readings.Reading.TheVariants.{Profile, AnnexB}
-use Rattle.model_card.specs.Card.{Card}
-use Rattle.model_card.specs.Room.{room}
-use Rattle.model_link.specs.declared.rooms.Room.{Room}
-use Rattle.lapd_c.specs.Config.{config_in}
-use Rattle.lapd_c.specs.LinkMarks.{is_marked, marks_of}
-use Rattle.lapd_c.specs.LinkPlaces.{service_at, tei_at}
-use Rattle.lapd_c.specs.Reopened.{TellsReopened}
-use Rattle.lapd_c.specs.declared.link_marks.LinkMarks.{LinkMarks}
+use Rattle.model_line.specs.declared.config.Field.{Field}
+use Rattle.model_line.specs.Config.{first_fault}
+use Rattle.lapd_c.specs.Config.{config_fault, config_in}
+use Rattle.lapd_c.specs.Statuses.{field_status}
 use Rattle.lapd_c.specs.declared.plain.config.PlainConfig.{PlainConfig}
-use Rattle.lapd_c.specs.declared.plain.reports.PlainReport.{PlainReport}
 
 -- The configuration of a card has each size and limit as C gives it; the side, of which 1 is a trunk's end and 2 a terminal with
 -- its first reference number; the SAPI, 16 if that is 0; and the reading.
@@ -34,12 +29,12 @@ pub record ConfigurationIsGiven (p : PlainConfig) : Type 0 where
   pub profile : p.reading ≡ 0 → (config_in p).reading ≡ Profile
   pub annex_b : p.reading ≡ 1 → (config_in p).reading ≡ AnnexB
 
-abbrev pub ConfigurationsAreGiven : Type 0
-ConfigurationsAreGiven = (p : PlainConfig) → ConfigurationIsGiven p
+-- A start tells the first of these that is out of range, and after them a side over 2, and then a reading over 1; and nothing else.
+pub record ConfigurationIsServed (p : PlainConfig) : Type 0 where
+  pub bad_field : (f : Field) → first_fault (config_in p) ≡ Some f → config_fault p ≡ Some (field_status f)
+  pub bad_side : first_fault (config_in p) ≡ None → 2 < p.side → config_fault p ≡ Some 43
+  pub bad_reading : first_fault (config_in p) ≡ None → p.side ≤ 2 → 1 < p.reading → config_fault p ≡ Some 45
+  pub in_range : first_fault (config_in p) ≡ None → p.side ≤ 2 → p.reading ≤ 1 → config_fault p ≡ None
 
--- If a link that was refused contents has a place in its queue after a call of its line, the report of that call tells of one
--- that has.
-abbrev pub LinksReopen : Type 0
-LinksReopen = (line place : ℕ) (m : Card) (old new : List LinkMarks) (report : PlainReport) (left : Room)
-    → TellsReopened line m old new report → place < 254 → is_marked (marks_of old line) place ≡ true
-    → room line (service_at place) (tei_at place) m ≡ Ok left → 0 < left.queue → report.reopened ≡ 1
+abbrev pub ConfigurationsAreGiven : Type 0
+ConfigurationsAreGiven = (p : PlainConfig) → ConfigurationIsGiven p × ConfigurationIsServed p

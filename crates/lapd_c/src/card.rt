@@ -2,17 +2,15 @@
 
 ghost use Rattle.std.specs.Borrow.{sem};
 ghost use Rattle.std.specs.Option.{option_copied_mut};
-ghost use Rattle.std.specs.Prelude.{◌≡◌, ◌⊎◌, false, Some, None, IfSome, IfNone, option_map};
-ghost use Rattle.lapd_c.specs.{first_fault, config_in, fresh, Begins, HasBegun, IsCall, IsStart, IsCardStart, IsTimedStart, card_of, is_timed, IsHandle};
+ghost use Rattle.std.specs.Prelude.{◌≡◌, Some, None, IfSome, IfNone, option_map};
+ghost use Rattle.lapd_c.specs.{first_fault, fresh, Begins, IsFreed, IsCardStart, IsTimedStart, card_of, IsHandle};
 ghost use Rattle.model_card.specs.declared.kinds.CardKind.{CardKind as Kind};
 ghost use Rattle.model_card.specs.declared.kinds.CardKind.TheVariants as kinds;
 ghost use Rattle.lapd_c.specs.Statuses as status;
 ghost use Rattle.lapd_clock.specs.Given.{lengths_of};
-ghost use Rattle.lapd_clock.specs.Timer.{first_out_of_range};
 ghost use Rattle.model_timed.specs.Clock.{stopped};
 ghost use Rattle.lapd_card.specs.Kinds.{card_in};
-ghost use Rattle.lapd_c.specs.{config_fault, timers_of, TimersStandIn};
-ghost use Rattle.lapd_c.specs.Timers.{lengths_in};
+ghost use Rattle.lapd_c.specs.{TimersStandIn};
 
 use crate::card_slot::CardSlot;
 use crate::kept::KeptCard;
@@ -106,10 +104,7 @@ pub extern "C" fn lapd_card_start_frames(
 // Starts a card of a kind.
 fn start(alloc: Global, handle: &mut CardHandle, config: &PlainConfig, kind: CardKind) -> u32
     requires { IsHandle handle.old }
-    ensures handle { IsHandle handle.new }
-    ensures start { IsStart card_of config.now handle.old handle.new result }
-    ensures begun { result ≡ status.ok → HasBegun (fresh kind (config_in config.now)) (card_of handle.new) }
-    ensures timed { result ≡ status.ok → is_timed handle.new ≡ false }
+    ensures { IsCardStart kind config.now handle.old handle.new result }
 {
     if handle.started {
         return SECOND_START;
@@ -181,16 +176,7 @@ fn start_timed(
     kind: CardKind,
 ) -> u32
     requires { IsHandle handle.old }
-    ensures handle { IsHandle handle.new }
-    ensures second { IfSome (card_of handle.old) (λ _. (result ≡ status.second_start) × (handle.new ≡ handle.old)) }
-    ensures fault { card_of handle.old ≡ None → IfSome (config_fault config.now) (λ wrong. (result ≡ wrong) × (handle.new ≡ handle.old)) }
-    ensures wrong_time { card_of handle.old ≡ None → config_fault config.now ≡ None
-        → IfSome (first_out_of_range (lengths_in lengths.now)) (λ _. (result ≡ status.wrong_time) × (handle.new ≡ handle.old)) }
-    ensures otherwise { card_of handle.old ≡ None → config_fault config.now ≡ None → first_out_of_range (lengths_in lengths.now) ≡ None
-        → (result ≡ status.ok) ⊎ ((result ≡ status.no_memory) × (handle.new ≡ handle.old)) }
-    ensures begun { result ≡ status.ok → HasBegun (fresh kind (config_in config.now)) (card_of handle.new) }
-    ensures timed { result ≡ status.ok
-        → TimersStandIn (timers_of handle.new) (card_in (fresh kind (config_in config.now))) (stopped (lengths_in lengths.now)) }
+    ensures { IsTimedStart kind config.now lengths.now handle.old handle.new result }
 {
     if handle.started {
         return SECOND_START;
@@ -216,8 +202,7 @@ fn timers_started(alloc: Global, config: Config, lengths: Lengths) -> Option<Car
 #[unsafe(no_mangle)]
 pub extern "C" fn lapd_card_free(alloc: Global, handle: &mut CardHandle) -> u32
     requires { IsHandle handle.old }
-    ensures call { IsCall handle.old handle.new result }
-    ensures freed { IfSome (card_of handle.old) (λ _. (result ≡ status.ok) × (card_of handle.new ≡ None)) }
+    ensures { IsFreed IsHandle card_of status.no_card handle.old handle.new result }
 {
     drop(or_answer!(handle.take(alloc), NO_CARD));
     OK

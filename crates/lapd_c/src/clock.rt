@@ -3,9 +3,9 @@
 ghost use Rattle.std.specs.Borrow.{sem};
 ghost use Rattle.std.specs.Option.{option_copied_mut};
 ghost use Rattle.std.specs.Prelude.{◌≡◌, ◌≢◌, ◌≤◌, ◌<◌, Some, None, IfSome, IfNone, option_map};
-ghost use Rattle.lapd_c.specs.{first_fault, due_at, after_due, next_moment, idle, with_lengths, first_out_of_range, order_in, IsStart};
+ghost use Rattle.lapd_c.specs.{first_fault, due_at, after_due, next_moment, idle, order_in, IsFreed};
 ghost use Rattle.lapd_c.specs.Statuses as status;
-ghost use Rattle.lapd_c.specs.Clocks.{clock_of, IsCall, IsHandle, plain_due, order_status, after_order, apply_status, after_apply, lengths_given};
+ghost use Rattle.lapd_c.specs.Clocks.{clock_of, IsClockCall, IsClockStart, IsHandle, plain_due, order_status, after_order, apply_status, after_apply, lengths_given, lengths_status, after_lengths, timer_status};
 
 use crate::clock_slot::ClockSlot;
 use crate::lend::{or_answer, within};
@@ -82,9 +82,7 @@ pub extern "C" fn lapd_clock_start(
     config: &PlainConfig,
 ) -> u32
     requires { IsHandle handle.old }
-    ensures handle { IsHandle handle.new }
-    ensures start { IsStart clock_of config.now handle.old handle.new result }
-    ensures idle { result ≡ status.ok → clock_of handle.new ≡ Some (idle config.now.lines config.now.terminals) }
+    ensures { IsClockStart config.now handle.old handle.new result }
 {
     if handle.started {
         return SECOND_START;
@@ -120,11 +118,7 @@ pub extern "C" fn lapd_clock_set_lengths(
     t202: u32,
 ) -> u32
     requires { IsHandle handle.old }
-    ensures call { IsCall handle.old handle.new result }
-    ensures out_of_range { IfSome (first_out_of_range (lengths_given t200 t203 t201 t202)) (λ _. IfSome (clock_of handle.old)
-        (λ _. (result ≡ status.wrong_time) × (clock_of handle.new ≡ clock_of handle.old))) }
-    ensures set { first_out_of_range (lengths_given t200 t203 t201 t202) ≡ None → IfSome (clock_of handle.old)
-        (λ c. (result ≡ status.ok) × (clock_of handle.new ≡ Some (with_lengths (lengths_given t200 t203 t201 t202) c))) }
+    ensures { IsClockCall (lengths_status (lengths_given t200 t203 t201 t202)) (after_lengths (lengths_given t200 t203 t201 t202)) handle.old handle.new result }
 {
     let clock = or_answer!(handle.clock(), NO_CLOCK);
     let lengths = PlainLengths {
@@ -142,8 +136,7 @@ pub extern "C" fn lapd_clock_set_lengths(
 #[unsafe(no_mangle)]
 pub extern "C" fn lapd_clock_free(alloc: Global, handle: &mut ClockHandle) -> u32
     requires { IsHandle handle.old }
-    ensures call { IsCall handle.old handle.new result }
-    ensures freed { IfSome (clock_of handle.old) (λ _. (result ≡ status.ok) × (clock_of handle.new ≡ None)) }
+    ensures { IsFreed IsHandle clock_of status.no_clock handle.old handle.new result }
 {
     drop(or_answer!(handle.take(alloc), NO_CLOCK));
     OK
@@ -158,9 +151,7 @@ pub extern "C" fn lapd_clock_apply(
     now: u64,
 ) -> u32
     requires { IsHandle handle.old }
-    ensures call { IsCall handle.old handle.new result }
-    ensures applied { IfSome (clock_of handle.old) (λ c. result ≡ apply_status c line (order_in order.now) now) }
-    ensures after { clock_of handle.new ≡ option_map (λ c. after_apply c line (order_in order.now) now) (clock_of handle.old) }
+    ensures { IsClockCall (λ c. apply_status c line (order_in order.now) now) (λ c. after_apply c line (order_in order.now) now) handle.old handle.new result }
 {
     let clock = or_answer!(handle.clock(), NO_CLOCK);
     within!(line, clock);
@@ -190,12 +181,9 @@ pub(crate) fn carry_out_one(clock: &mut Clock, line: usize, order: &PlainOrder, 
 #[unsafe(no_mangle)]
 pub extern "C" fn lapd_clock_due(handle: &mut ClockHandle, now: u64, due: &mut PlainDue) -> u32
     requires { IsHandle handle.old }
-    ensures call { IsCall handle.old handle.new result }
-    ensures untold { result ≢ status.ok → due.new ≡ due.old }
-    ensures after { clock_of handle.new ≡ option_map (λ c. after_due c now) (clock_of handle.old) }
-    ensures none { IfSome (clock_of handle.old) (λ c. due_at c now ≡ None → result ≡ status.no_timer) }
-    ensures due { IfSome (clock_of handle.old) (λ c. IfSome (due_at c now)
-        (λ first. (result ≡ status.ok) × (due.new ≡ plain_due first))) }
+    ensures call { IsClockCall (λ c. timer_status (due_at c now)) (λ c. after_due c now) handle.old handle.new result }
+    ensures unwritten { result ≢ status.ok → due.new ≡ due.old }
+    ensures due { IfSome (clock_of handle.old) (λ c. IfSome (due_at c now) (λ first. due.new ≡ plain_due first)) }
 {
     let clock = or_answer!(handle.clock(), NO_CLOCK);
     let (line, timer) = or_answer!(clock.due(now), NO_TIMER);
@@ -208,12 +196,9 @@ pub extern "C" fn lapd_clock_due(handle: &mut ClockHandle, now: u64, due: &mut P
 #[unsafe(no_mangle)]
 pub extern "C" fn lapd_clock_next(handle: &mut ClockHandle, moment: &mut u64) -> u32
     requires { IsHandle handle.old }
-    ensures call { IsCall handle.old handle.new result }
-    ensures untold { result ≢ status.ok → moment.new ≡ moment.old }
-    ensures unchanged { clock_of handle.new ≡ clock_of handle.old }
-    ensures none { IfSome (clock_of handle.old) (λ c. next_moment c ≡ None → result ≡ status.no_timer) }
-    ensures next { IfSome (clock_of handle.old) (λ c. IfSome (next_moment c)
-        (λ first. (result ≡ status.ok) × (moment.new ≡ first))) }
+    ensures call { IsClockCall (λ c. timer_status (next_moment c)) (λ c. c) handle.old handle.new result }
+    ensures unwritten { result ≢ status.ok → moment.new ≡ moment.old }
+    ensures next { IfSome (clock_of handle.old) (λ c. IfSome (next_moment c) (λ first. moment.new ≡ first)) }
 {
     let clock = or_answer!(handle.clock(), NO_CLOCK);
     *moment = or_answer!(clock.next(), NO_TIMER);

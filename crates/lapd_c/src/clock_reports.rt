@@ -1,8 +1,8 @@
 //! The orders of a report, carried out on a clock.
 
-ghost use Rattle.std.specs.Prelude.{◌≡◌, ◌≤◌, ◌<◌, ◌^◌, IfSome, IfNone, option_map};
+ghost use Rattle.std.specs.Prelude.{◌≡◌, ◌≤◌, ◌<◌, ◌^◌, IfNone};
 ghost use Rattle.lapd_c.specs.Timers.{order_in};
-ghost use Rattle.lapd_c.specs.Clocks.{clock_of, IsCall, IsHandle};
+ghost use Rattle.lapd_c.specs.Clocks.{IsClockCall, IsHandle};
 ghost use Rattle.lapd_c.specs.Orders.{is_placed, after_order, all_placed, after_orders, wrong_among, orders_status, after_all, report_status, after_report};
 
 use crate::clock::{ClockHandle, LATEST, carry_out_one};
@@ -19,9 +19,7 @@ pub extern "C" fn lapd_clock_apply_report(
     now: u64,
 ) -> u32
     requires { IsHandle handle.old }
-    ensures call { IsCall handle.old handle.new result }
-    ensures applied { IfSome (clock_of handle.old) (λ c. result ≡ report_status c line report.now now) }
-    ensures after { clock_of handle.new ≡ option_map (λ c. after_report c line report.now now) (clock_of handle.old) }
+    ensures { IsClockCall (λ c. report_status c line report.now now) (λ c. after_report c line report.now now) handle.old handle.new result }
 {
     let clock = or_answer!(handle.clock(), NO_CLOCK);
     within!(line, clock);

@@ -1,11 +1,9 @@
 //! What happens at a card of either kind: a timer that expires, a request.
 
-ghost use Rattle.std.specs.Prelude.{◌≡◌, ◌≢◌, ◌<◌, None, IfSome, IfOk, IfErr};
-ghost use Rattle.lapd_c.specs.{Called, expire_asked, request_asked, no_timer, Obeys, UntimedWithLine, WithLine, refusal_at, seen, timers_of, IsCallAt, IsUntimedCall, IsReopened, ShowsAnswer, WaitsFor, refused_place, refusal_status, request_in, timer_in, card_of, kind_in, marks_at, served_card, IsHandle, HandleStands, Counts, counters_at};
-ghost use Rattle.model_card.specs.Event.{at};
-ghost use Rattle.model_line.specs.Event as line_event;
+ghost use Rattle.std.specs.Prelude.{◌≡◌, ◌≢◌, None, IfSome, IfOk, IfErr};
+ghost use Rattle.lapd_c.specs.{Called, expire_asked, expiry_at, IsCallOf, IsHandle, of_any, of_untimed, refusal_at, refused_place, request_asked, request_at, Served, WaitsFor, WithLine};
+ghost use Rattle.lapd_c.specs.{card_in, card_of, marks_at, refusal_status, request_in, served_card, timer_in, timers_of};
 ghost use Rattle.lapd_c.specs.Statuses as status;
-ghost use Rattle.lapd_card.specs.Kinds.{card_in, after, answer};
 
 use crate::card::CardHandle;
 use crate::lend::{lend, or_answer, within};
@@ -24,12 +22,8 @@ pub extern "C" fn lapd_expire(
     report: &mut PlainReport,
 ) -> u32
     requires { IsHandle handle.old }
-    ensures called { Called (expire_asked line timer.now) handle.old handle.new result report.new }
-    ensures call { IsUntimedCall line handle.old handle.new result }
-    ensures kind { kind_in handle.new ≡ kind_in handle.old }
-    ensures reopened { IsReopened line handle.old handle.new result report.new }
-    ensures expired { result ≡ status.ok → report.new.expired ≡ no_timer }
-    ensures unchanged { result ≢ status.ok → (card_of handle.new ≡ card_of handle.old) × (report.new ≡ report.old) }
+    ensures called { Called (expire_asked line timer.now) handle.old handle.new result report.old report.new }
+    ensures unchanged { result ≢ status.ok → card_of handle.new ≡ card_of handle.old }
 {
     expire(handle, line, timer, report)
 }
@@ -39,17 +33,11 @@ pub extern "C" fn lapd_expire(
 fn expire(handle: &mut CardHandle, line: u32, timer: &PlainTimer, report: &mut PlainReport) -> u32
     requires { IsHandle handle.old }
     // The expiries of a card that keeps its own timers are its own.
-    ensures call { IsUntimedCall line handle.old handle.new result }
-    ensures kind { kind_in handle.new ≡ kind_in handle.old }
-    ensures unchanged { result ≢ status.ok → (card_of handle.new ≡ card_of handle.old) × (report.new ≡ report.old) }
-    ensures wrong_timer { UntimedWithLine line handle.old (λ m. IfErr (timer_in timer.now) (λ wrong. result ≡ wrong)) }
-    ensures served { UntimedWithLine line handle.old (λ m. IfOk (timer_in timer.now) (λ expired. (result ≡ status.ok)
-        × HandleStands handle.new (after (at line (line_event.expiry expired)) m)
-        × ShowsAnswer report.new (answer (at line (line_event.expiry expired)) m))) }
-    ensures counted { UntimedWithLine line handle.old (λ m. IfOk (timer_in timer.now) (λ expired.
-        Counts (at line (line_event.expiry expired)) (card_in m) (counters_at handle.old) (counters_at handle.new))) }
-    ensures reopened { IsReopened line handle.old handle.new result report.new }
-    ensures expired { result ≡ status.ok → report.new.expired ≡ no_timer }
+    ensures call { IsCallOf of_untimed line handle.old handle.new result report.old report.new }
+    ensures unchanged { result ≢ status.ok → card_of handle.new ≡ card_of handle.old }
+    ensures wrong_timer { WithLine of_untimed line handle.old (λ m. IfErr (timer_in timer.now) (λ wrong. result ≡ wrong)) }
+    ensures served { WithLine of_untimed line handle.old (λ m. IfOk (timer_in timer.now) (λ expired.
+        Served (expiry_at line expired) m handle.old handle.new result report.new)) }
 {
     lend!(kept of handle);
     if kept.timers.is_some() {
@@ -76,14 +64,8 @@ pub extern "C" fn lapd_request(
     report: &mut PlainReport,
 ) -> u32
     requires { IsHandle handle.old }
-    ensures called { Called (request_asked line request service tei contents.now) handle.old handle.new result report.new }
-    ensures call { IsCallAt line handle.old handle.new result }
-    ensures kind { kind_in handle.new ≡ kind_in handle.old }
-    ensures reopened { IsReopened line handle.old handle.new result report.new }
-    ensures expired { result ≡ status.ok → report.new.expired ≡ no_timer }
-    ensures unchanged { result ≢ status.ok → (served_card handle.new ≡ served_card handle.old) × (timers_of handle.new ≡ timers_of handle.old) × (report.new ≡ report.old) }
-    ensures waits { result ≢ status.ok
-        → WaitsFor (refused_place result request service tei) line (marks_at handle.old) (marks_at handle.new) }
+    ensures called { Called (request_asked line request service tei contents.now) handle.old handle.new result report.old report.new }
+    ensures unchanged { result ≢ status.ok → served_card handle.new ≡ served_card handle.old }
 {
     ask(handle, line, request, service, tei, contents, report)
 }
@@ -100,25 +82,17 @@ fn ask(
     report: &mut PlainReport,
 ) -> u32
     requires { IsHandle handle.old }
-    ensures call { IsCallAt line handle.old handle.new result }
-    ensures kind { kind_in handle.new ≡ kind_in handle.old }
-    ensures unchanged { result ≢ status.ok → (served_card handle.new ≡ served_card handle.old) × (report.new ≡ report.old) }
+    ensures call { IsCallOf of_any line handle.old handle.new result report.old report.new }
+    ensures unchanged { result ≢ status.ok → served_card handle.new ≡ served_card handle.old }
     ensures timers { result ≢ status.ok → timers_of handle.new ≡ timers_of handle.old }
     ensures waits { result ≢ status.ok
         → WaitsFor (refused_place result request service tei) line (marks_at handle.old) (marks_at handle.new) }
-    ensures wrong_request { WithLine line handle.old (λ m.
+    ensures wrong_request { WithLine of_any line handle.old (λ m.
         IfErr (request_in request service tei contents.now) (λ wrong. result ≡ wrong)) }
-    ensures refused { WithLine line handle.old (λ m. IfOk (request_in request service tei contents.now) (λ asked.
+    ensures refused { WithLine of_any line handle.old (λ m. IfOk (request_in request service tei contents.now) (λ asked.
         IfSome (refusal_at line asked (card_in m)) (λ why. result ≡ refusal_status why))) }
-    ensures served { WithLine line handle.old (λ m. IfOk (request_in request service tei contents.now) (λ asked.
-        refusal_at line asked (card_in m) ≡ None → (result ≡ status.ok) × HandleStands handle.new (after (at line (line_event.request asked)) m)
-        × ShowsAnswer report.new (seen handle.old (answer (at line (line_event.request asked)) m)))) }
-    ensures timed { WithLine line handle.old (λ m. IfOk (request_in request service tei contents.now) (λ asked.
-        refusal_at line asked (card_in m) ≡ None → Obeys (at line (line_event.request asked)) (card_in m) handle.old handle.new)) }
-    ensures counted { WithLine line handle.old (λ m. IfOk (request_in request service tei contents.now) (λ asked.
-        refusal_at line asked (card_in m) ≡ None → Counts (at line (line_event.request asked)) (card_in m) (counters_at handle.old) (counters_at handle.new))) }
-    ensures reopened { IsReopened line handle.old handle.new result report.new }
-    ensures expired { result ≡ status.ok → report.new.expired ≡ no_timer }
+    ensures served { WithLine of_any line handle.old (λ m. IfOk (request_in request service tei contents.now) (λ asked.
+        refusal_at line asked (card_in m) ≡ None → Served (request_at line asked) m handle.old handle.new result report.new)) }
 {
     lend!(kept of handle, line);
     let asked = or_answer!(request_in(request, service, tei, contents));

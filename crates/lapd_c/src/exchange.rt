@@ -2,7 +2,8 @@
 
 ghost use Rattle.std.specs.Prelude.{◌≡◌, ◌≢◌, ◌≤◌, ◌<◌, ◌*◌, ◌-◌, true, false, not, length, is_some, IfSome};
 ghost use Rattle.std.specs.Option.{option_copied};
-ghost use Rattle.lapd_c.specs.{no_timer, OctetsWithLine, meant_all, told_at, Leads, told_beside, IsOctetsCall, IsReopened, ShowsReply, octet_of, Shows, contents_or_none, card_of, IsHandle, CardStands, shelf_of, counters_at, tells_nothing, is_exchange, step_event, steps_made, with_step, Exchanged, ExchangedIn, counters_in, all_counted, moments, is_timed, listed, ObeysAll, OrdersLast};
+ghost use Rattle.lapd_c.specs.{card_of, Exchanges, is_exchange, IsCallOf, IsHandle, OctetsWithLine, of_octets};
+ghost use Rattle.lapd_c.specs.{all_counted, CardStands, contents_or_none, counters_in, Exchanged, Leads, listed, meant_all, moments, octet_of, OrdersLast, shelf_of, Shows, ShowsReply, step_event, steps_made, tells_nothing, told_at, told_beside, with_step};
 ghost use Rattle.model_timed.specs.Octets.{orders_in};
 ghost use Rattle.model_card.specs.ports.Card as machine;
 ghost use Rattle.model_card.specs.ports.Card.{answer};
@@ -30,20 +31,13 @@ pub extern "C" fn lapd_exchange(
     report: &mut PlainReport,
 ) -> u32
     requires { IsHandle handle.old }
-    ensures call { IsOctetsCall line handle.old handle.new result }
+    ensures call { IsCallOf of_octets line handle.old handle.new result report.old report.new }
     ensures unchanged { result ≢ status.ok
-        → (card_of handle.new ≡ card_of handle.old) × (given.new ≡ given.old) × (steps.new ≡ steps.old) × (report.new ≡ report.old) }
+        → (card_of handle.new ≡ card_of handle.old) × (given.new ≡ given.old) × (steps.new ≡ steps.old) }
     ensures wrong_length { OctetsWithLine line handle.old (λ m. is_exchange taken.now given.old steps.old ≡ false
         → result ≡ status.wrong_length) }
-    ensures served { OctetsWithLine line handle.old (λ m. is_exchange taken.now given.old steps.old ≡ true
-        → (result ≡ status.ok)
-        × ExchangedIn (is_timed handle.old) line taken.now steps.old m (card_of handle.new) given.old given.new steps.new report.new) }
-    ensures timed { OctetsWithLine line handle.old (λ m. is_exchange taken.now given.old steps.old ≡ true
-        → ObeysAll (steps_made line taken.now steps.old (steps.new - steps.old)) m handle.old handle.new) }
-    ensures counted { OctetsWithLine line handle.old (λ m. is_exchange taken.now given.old steps.old ≡ true
-        → counters_at handle.new ≡ all_counted (counters_at handle.old) (moments m.card (meant_all m (steps_made line taken.now steps.old (steps.new - steps.old))))) }
-    ensures reopened { IsReopened line handle.old handle.new result report.new }
-    ensures expired { result ≡ status.ok → report.new.expired ≡ no_timer }
+    ensures exchanged { OctetsWithLine line handle.old (λ m. is_exchange taken.now given.old steps.old ≡ true
+        → Exchanges line taken.now steps.old m handle.old handle.new result given.old given.new steps.new report.new) }
 {
     lend!(kept of handle, Octets(card), line);
     if taken.len() != given.len() || *steps > 2 * taken.len() {

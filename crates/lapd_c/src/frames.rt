@@ -2,9 +2,10 @@
 //! lines one waits.
 
 ghost use Rattle.std.specs.Prelude.{◌≡◌, ◌≢◌, ◌==◌, if◌then◌else◌, ◌+◌, ◌≤◌, ◌<◌, true, length, Some, None, IfSome, IfOk, IfErr};
-ghost use Rattle.lapd_c.specs.{Called, Unchanged, failed_asked, frame_asked, next_frame_asked, no_timer, FramesWithLine, IsFirstWaiting, has_next, next_waiting, IsCall, IsFramesCall, IsReopened, Obeys, ShowsAnswer, ShowsPull, card_of, kind_in, marks_at, orders_seen, seen, timers_of, IsHandle, FramesStand, Counts, counters_at, frame_comes, fails, goes, next_at, IsGiven};
+ghost use Rattle.lapd_c.specs.{alone, Called, failed_asked, frame_asked, frame_comes, fails, FramesStand, FramesWithLine, goes, inside, IsCallOf, IsFirstWaiting, IsGiven, IsHandle, next_at, next_frame_asked, of_frames, Questioned, Served, waiting_from};
+ghost use Rattle.lapd_c.specs.{card_of, counters_at, Counts, has_next, kind_in, marks_at, Obeys, orders_seen, ShowsPull, timers_of};
 ghost use Rattle.model_card.specs.Card as machine;
-ghost use Rattle.model_card.specs.Machine.{after, answer};
+ghost use Rattle.model_card.specs.Machine.{after};
 ghost use Rattle.lapd_c.specs.Faults.{fault_in};
 ghost use Rattle.model_card.specs.declared.kinds.CardKind.TheVariants as kinds;
 ghost use Rattle.lapd_c.specs.Statuses as status;
@@ -27,11 +28,8 @@ pub extern "C" fn lapd_frame(
     report: &mut PlainReport,
 ) -> u32
     requires { IsHandle handle.old }
-    ensures called { Called (frame_asked line octets.now) handle.old handle.new result report.new }
-    ensures call { IsFramesCall line handle.old handle.new result }
-    ensures reopened { IsReopened line handle.old handle.new result report.new }
-    ensures expired { result ≡ status.ok → report.new.expired ≡ no_timer }
-    ensures unchanged { result ≢ status.ok → (card_of handle.new ≡ card_of handle.old) × (report.new ≡ report.old) }
+    ensures called { Called (frame_asked line octets.now) handle.old handle.new result report.old report.new }
+    ensures unchanged { result ≢ status.ok → card_of handle.new ≡ card_of handle.old }
 {
     frame(handle, line, octets, report)
 }
@@ -40,15 +38,10 @@ pub extern "C" fn lapd_frame(
 #[inline(always)]
 fn frame(handle: &mut CardHandle, line: u32, octets: &[u8], report: &mut PlainReport) -> u32
     requires { IsHandle handle.old }
-    ensures call { IsFramesCall line handle.old handle.new result }
-    ensures unchanged { result ≢ status.ok → (card_of handle.new ≡ card_of handle.old) × (report.new ≡ report.old) }
-    ensures served { FramesWithLine line handle.old (λ m. (result ≡ status.ok)
-        × FramesStand handle.new (after (frame_comes line octets.now m) m)
-        × ShowsAnswer report.new (seen handle.old (answer (frame_comes line octets.now m) m))) }
-    ensures timed { FramesWithLine line handle.old (λ m. Obeys (frame_comes line octets.now m) m handle.old handle.new) }
-    ensures counted { FramesWithLine line handle.old (λ m. Counts (frame_comes line octets.now m) m (counters_at handle.old) (counters_at handle.new)) }
-    ensures reopened { IsReopened line handle.old handle.new result report.new }
-    ensures expired { result ≡ status.ok → report.new.expired ≡ no_timer }
+    ensures call { IsCallOf of_frames line handle.old handle.new result report.old report.new }
+    ensures unchanged { result ≢ status.ok → card_of handle.new ≡ card_of handle.old }
+    ensures served { FramesWithLine line handle.old (λ m.
+        Served (inside (frame_comes line octets.now m)) (alone m) handle.old handle.new result report.new) }
 {
     // It stands before all else, so that it is cleared once.
     let mut told = BareReport::nothing();
@@ -90,11 +83,8 @@ pub extern "C" fn lapd_frame_failed(
     report: &mut PlainReport,
 ) -> u32
     requires { IsHandle handle.old }
-    ensures called { Called (failed_asked line cause) handle.old handle.new result report.new }
-    ensures call { IsFramesCall line handle.old handle.new result }
-    ensures reopened { IsReopened line handle.old handle.new result report.new }
-    ensures expired { result ≡ status.ok → report.new.expired ≡ no_timer }
-    ensures unchanged { result ≢ status.ok → (card_of handle.new ≡ card_of handle.old) × (report.new ≡ report.old) }
+    ensures called { Called (failed_asked line cause) handle.old handle.new result report.old report.new }
+    ensures unchanged { result ≢ status.ok → card_of handle.new ≡ card_of handle.old }
 {
     frame_failed(handle, line, cause, report)
 }
@@ -103,17 +93,11 @@ pub extern "C" fn lapd_frame_failed(
 #[inline(always)]
 fn frame_failed(handle: &mut CardHandle, line: u32, cause: u8, report: &mut PlainReport) -> u32
     requires { IsHandle handle.old }
-    ensures call { IsFramesCall line handle.old handle.new result }
-    ensures unchanged { result ≢ status.ok → (card_of handle.new ≡ card_of handle.old) × (report.new ≡ report.old) }
+    ensures call { IsCallOf of_frames line handle.old handle.new result report.old report.new }
+    ensures unchanged { result ≢ status.ok → card_of handle.new ≡ card_of handle.old }
     ensures wrong_cause { FramesWithLine line handle.old (λ m. IfErr (fault_in cause) (λ wrong. result ≡ wrong)) }
-    ensures served { FramesWithLine line handle.old (λ m. IfOk (fault_in cause) (λ fault. (result ≡ status.ok)
-        × FramesStand handle.new (after (fails line fault) m) × ShowsAnswer report.new (seen handle.old (answer (fails line fault) m)))) }
-    ensures timed { FramesWithLine line handle.old (λ m.
-        IfOk (fault_in cause) (λ fault. Obeys (fails line fault) m handle.old handle.new)) }
-    ensures counted { FramesWithLine line handle.old (λ m.
-        IfOk (fault_in cause) (λ fault. Counts (fails line fault) m (counters_at handle.old) (counters_at handle.new))) }
-    ensures reopened { IsReopened line handle.old handle.new result report.new }
-    ensures expired { result ≡ status.ok → report.new.expired ≡ no_timer }
+    ensures served { FramesWithLine line handle.old (λ m. IfOk (fault_in cause) (λ fault.
+        Served (inside (fails line fault)) (alone m) handle.old handle.new result report.new)) }
 {
     lend!(kept of handle, Frames(card), line);
     let fault = or_answer!(fault_in(cause));
@@ -135,12 +119,9 @@ pub extern "C" fn lapd_next_frame(
     report: &mut PlainReport,
 ) -> u32
     requires { IsHandle handle.old }
-    ensures called { Called (next_frame_asked line (length out.old)) handle.old handle.new result report.new }
-    ensures call { IsFramesCall line handle.old handle.new result }
-    ensures reopened { IsReopened line handle.old handle.new result report.new }
-    ensures expired { result ≡ status.ok → report.new.expired ≡ no_timer }
+    ensures called { Called (next_frame_asked line (length out.old)) handle.old handle.new result report.old report.new }
     ensures other_card { kind_in handle.old ≡ Some kinds.Octets → card_of handle.new ≡ card_of handle.old }
-    ensures unchanged { result ≢ status.ok → Unchanged handle.old handle.new × (out.new ≡ out.old) × (count.new ≡ count.old) × (report.new ≡ report.old) }
+    ensures unwritten { result ≢ status.ok → (out.new ≡ out.old) × (count.new ≡ count.old) }
     ensures written { FramesWithLine line handle.old (λ m. m.config.n201 + 4 ≤ length out.old
         → IfSome (next_at line m) (λ next. IsGiven next out.old out.new count.new)) }
 {
@@ -157,8 +138,8 @@ fn next_frame(
     report: &mut PlainReport,
 ) -> u32
     requires { IsHandle handle.old }
-    ensures call { IsFramesCall line handle.old handle.new result }
-    ensures untold { result ≢ status.ok → (out.new ≡ out.old) × (count.new ≡ count.old) × (report.new ≡ report.old) }
+    ensures call { IsCallOf of_frames line handle.old handle.new result report.old report.new }
+    ensures unwritten { result ≢ status.ok → (out.new ≡ out.old) × (count.new ≡ count.old) }
     ensures stays { (m : machine.Card) → FramesStand handle.old m → result ≢ status.ok → FramesStand handle.new m }
     ensures uncounted { (m : machine.Card) → FramesStand handle.old m → result ≢ status.ok
         → counters_at handle.new ≡ counters_at handle.old }
@@ -174,10 +155,7 @@ fn next_frame(
     ensures timed { result ≡ status.ok → FramesWithLine line handle.old (λ m. Obeys (goes line) m handle.old handle.new) }
     ensures counted { FramesWithLine line handle.old (λ m. m.config.n201 + 4 ≤ length out.old
         → Counts (goes line) m (counters_at handle.old) (counters_at handle.new)) }
-    ensures reopened { IsReopened line handle.old handle.new result report.new }
-    ensures expired { result ≡ status.ok → report.new.expired ≡ no_timer }
-    ensures unmarked { result ≢ status.ok → marks_at handle.new ≡ marks_at handle.old }
-    ensures timers { result ≢ status.ok → timers_of handle.new ≡ timers_of handle.old }
+    ensures still { result ≢ status.ok → (marks_at handle.new ≡ marks_at handle.old) × (timers_of handle.new ≡ timers_of handle.old) }
 {
     lend!(kept of handle, Frames(card), line);
     match card.next_frame(line, out) {
@@ -197,13 +175,7 @@ fn next_frame(
 #[unsafe(no_mangle)]
 pub extern "C" fn lapd_next_waiting(handle: &mut CardHandle, from: u32, line: &mut u32) -> u32
     requires { IsHandle handle.old }
-    ensures call { IsCall handle.old handle.new result }
-    ensures unchanged { card_of handle.new ≡ card_of handle.old }
-    ensures untold { result ≢ status.ok → line.new ≡ line.old }
-    ensures wrong_card { kind_in handle.old ≡ Some kinds.Octets → result ≡ status.wrong_card }
-    ensures none { (m : machine.Card) → FramesStand handle.old m → next_waiting from m ≡ None → result ≡ status.no_frame }
-    ensures told { (m : machine.Card) → FramesStand handle.old m
-        → IfSome (next_waiting from m) (λ next. (result ≡ status.ok) × (line.new ≡ next)) }
+    ensures told { Questioned of_frames None (waiting_from from) handle.old handle.new result line.old line.new }
     // By the machine's own answers: a call for the next frame of that line gives one, and of those before it none.
     ensures first { (m : machine.Card) → FramesStand handle.old m
         → IsFirstWaiting from m (if result == status.ok then Some line.new else None) }

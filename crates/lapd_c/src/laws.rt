@@ -2,7 +2,14 @@
 
 ghost use Rattle.lapd_c.specs.AsBefore.{AsBefore};
 ghost use Rattle.lapd_c.specs.Laws.{ContentsFit};
-ghost use Rattle.lapd_c.specs.Said.{ConfigurationsAreGiven, LinksReopen};
+ghost use Rattle.lapd_c.specs.Said.{ConfigurationsAreGiven};
+ghost use Rattle.lapd_c.specs.CallEvents.{CallsAreEvents};
+ghost use Rattle.lapd_c.specs.Blocks.{BlocksAreCalls};
+ghost use Rattle.lapd_c.specs.CarriedOut.{OrdersAreCarriedOut};
+ghost use Rattle.lapd_c.specs.LinksTold.{LinksAreTold};
+ghost use Rattle.lapd_c.specs.BothKinds.{BothKindsAreServed};
+ghost use Rattle.lapd_c.specs.Numbers.{NumbersAreGiven};
+ghost use Rattle.lapd_c.specs.Waits.{LinksReopen};
 
 /// The contents that an answer delivers have at most N201 octets, whatever happens to whichever card: an I-frame with
 /// more is an error (O), a UI frame with more is not served. N201 is at most 260, and so many octets a report holds.
@@ -11,7 +18,7 @@ pub fn contents_fit()
 {}
 
 /// A card that a start without lengths of timers began answers an expiry as if no card kept its own timers, whatever call comes
-/// between: worked for a start, a call of either kind of card, and an expiry. Each other clause follows in the same way.
+/// between: all that `Called` says of an expiry holds of it, and of whose timers they are nothing is asked.
 pub fn as_before()
     ensures { AsBefore }
 {}
@@ -25,7 +32,49 @@ pub fn configurations_are_given()
 
 /// A link on which contents were refused, as its queue was full, is told once it has a place: after each call of its line the
 /// report tells of one such link, if there is any.
-#[tactic(auto, using(crate::proofs::Said::links_reopen_by))]
+#[tactic(auto, using(crate::proofs::Waits::links_reopen_by))]
 pub fn links_reopen()
     ensures { LinksReopen }
+{}
+
+/// A block of octets is so many calls, one after the other. Step 2i takes octet i, as `lapd_octet` does, and step 2i + 1 gives
+/// one, as `lapd_pull` does, which is written at place i. A block goes on only after steps that have nothing to tell.
+#[tactic(auto, using(crate::proofs::Blocks::blocks_are_calls_by))]
+pub fn blocks_are_calls()
+    ensures { BlocksAreCalls }
+{}
+
+/// Orders are carried out. For a line that a clock has, up to the latest moment, the clock carries out an order, and those of a
+/// report one after the other, and it says if one finds no place. What a card tells as an order is read as that order.
+#[tactic(auto, using(crate::proofs::CarriedOut::orders_are_carried_out_by))]
+pub fn orders_are_carried_out()
+    ensures { OrdersAreCarriedOut }
+{}
+
+/// Links are told one after the other: each that is on the line from a place on, by TEI, call control before packet, with its
+/// state; and that there is no more, only if no TEI that a terminal can have has one.
+#[tactic(auto, using(crate::proofs::LinksTold::links_are_told_by))]
+pub fn links_are_told()
+    ensures { LinksAreTold }
+{}
+
+/// Both kinds of cards are served. At a card of octets a request and an expiry are those events of its machine, of which the laws
+/// of octets speak, and at a card of frames each event is itself.
+#[tactic(auto, using(crate::proofs::BothKinds::both_kinds_are_served_by))]
+pub fn both_kinds_are_served()
+    ensures { BothKindsAreServed }
+{}
+
+/// Numbers mean what `include/lapd.h` says: those of notes, errors, causes, faults, timers, orders, requests, refusals and fields;
+/// and lengths, rooms, counters and heads are those of the card.
+#[tactic(auto, using(crate::proofs::Numbers::numbers_are_given_by))]
+pub fn numbers_are_given()
+    ensures { NumbersAreGiven }
+{}
+
+/// A call is the event that `include/lapd.h` says, of the line that is given and of the cards that it is for: an octet, a pull, a
+/// frame, a fault, a call for the next frame, the expiry of each timer, and each request.
+#[tactic(auto, using(crate::proofs::CallEvents::calls_are_events_by))]
+pub fn calls_are_events()
+    ensures { CallsAreEvents }
 {}

@@ -4,6 +4,9 @@
 //! serves it where it lies; a ghost field says which card it is, so that the contracts speak of the card's machine
 //! (`model_card`, and for octets `model_card::ports`) and of the clock's timers (`lapd_clock`).
 //!
+//! The contract of a call is a record of its kind, with at most three clauses of its own: of one that is an event of a line
+//! `Called`, of a question `Questioned`. `tests/reading --calls` prints each.
+//!
 //! - `lend`: how a call begins, with what its handle holds, or with the status that says what is wrong.
 //! - `card`: a card in C, how it begins and ends. `kept`: a card with its links that wait for room, which `refused` and, of a
 //!   line, `link_marks` mark. `card_slot`: where it lies.

@@ -1,7 +1,7 @@
 //! Which links a card has.
 
-ghost use Rattle.std.specs.Prelude.{◌≡◌, ◌≢◌, ◌<◌, ◌⊎◌, IfSome};
-ghost use Rattle.lapd_c.specs.{WithLine, IsCallAt, card_of, IsHandle, card_in, FrameCardStands, FirstFrom, IsNext, NoneFrom};
+ghost use Rattle.std.specs.Prelude.{◌≡◌, ◌≢◌, ◌≤◌, ◌<◌, ◌⊎◌, IfSome};
+ghost use Rattle.lapd_c.specs.{card_in, FirstFrom, FrameCardStands, IsHandle, IsNext, IsQuestion, NoneFrom, of_any, OfEach, WithLine};
 ghost use Rattle.model_card.specs.Card as machine;
 ghost use Rattle.lapd_c.specs.Statuses as status;
 
@@ -20,13 +20,11 @@ pub extern "C" fn lapd_next_link(
     link: &mut PlainLink,
 ) -> u32
     requires { IsHandle handle.old }
-    ensures call { IsCallAt line handle.old handle.new result }
-    ensures unchanged { card_of handle.new ≡ card_of handle.old }
-    ensures untold { result ≢ status.ok → (place.new ≡ place.old) × (link.new ≡ link.old) }
-    ensures either { WithLine line handle.old (λ m. (result ≡ status.ok) ⊎ (result ≡ status.no_more_links)) }
-    ensures told { WithLine line handle.old (λ m. result ≡ status.ok
-        → IsNext line (card_in m) place.old place.new link.new) }
-    ensures none { WithLine line handle.old (λ m. result ≡ status.no_more_links → NoneFrom line (card_in m) place.old) }
+    ensures question { IsQuestion of_any handle.old handle.new result place.old place.new }
+    ensures unwritten { result ≢ status.ok → link.new ≡ link.old }
+    ensures wrong_line { OfEach of_any handle.old (λ m. (card_in m).config.lines ≤ line → result ≡ status.wrong_line) }
+    ensures told { WithLine of_any line handle.old (λ m. ((result ≡ status.ok) × IsNext line (card_in m) place.old place.new link.new)
+        ⊎ ((result ≡ status.no_more_links) × NoneFrom line (card_in m) place.old)) }
 {
     lend!(kept of handle, line);
     let (found, state) = or_answer!(first_link(kept.card.frames(), line, *place), NO_MORE_LINKS);

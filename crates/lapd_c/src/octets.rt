@@ -1,9 +1,8 @@
 //! What happens at a card of octets: one that comes, and one that goes; which frame a pull began, and which was heard last.
 
-ghost use Rattle.std.specs.Prelude.{◌≡◌, ◌≢◌};
-ghost use Rattle.lapd_c.specs.{Called, octet_asked, pull_asked, no_timer, OctetsWithLine, head_begun_at, head_heard_at, plain_head, IsOctetsCall, IsReopened, ObeysMeaning, ShowsReply, octet_of, reply_seen, card_of, IsHandle, OctetsStand, CountsMeaning, counters_at};
-ghost use Rattle.model_card.specs.ports.Card as machine;
-ghost use Rattle.model_card.specs.ports.Card.{after, answer};
+ghost use Rattle.std.specs.Prelude.{◌≡◌, ◌≢◌, Some};
+ghost use Rattle.lapd_c.specs.{at_port, begun_of, card_of, heard_of, IsCallOf, IsHandle, octet_asked, octet_of, OctetsWithLine, of_octets, pull_asked, Called, Questioned, Served, with_ports};
+ghost use Rattle.model_card.specs.ports.Card.{answer};
 ghost use Rattle.model_card.specs.ports.Event.{at};
 ghost use Rattle.model_card.specs.ports.Port as port;
 ghost use Rattle.lapd_c.specs.Statuses as status;
@@ -21,11 +20,8 @@ pub extern "C" fn lapd_octet(
     report: &mut PlainReport,
 ) -> u32
     requires { IsHandle handle.old }
-    ensures called { Called (octet_asked line octet) handle.old handle.new result report.new }
-    ensures call { IsOctetsCall line handle.old handle.new result }
-    ensures reopened { IsReopened line handle.old handle.new result report.new }
-    ensures expired { result ≡ status.ok → report.new.expired ≡ no_timer }
-    ensures unchanged { result ≢ status.ok → (card_of handle.new ≡ card_of handle.old) × (report.new ≡ report.old) }
+    ensures called { Called (octet_asked line octet) handle.old handle.new result report.old report.new }
+    ensures unchanged { result ≢ status.ok → card_of handle.new ≡ card_of handle.old }
 {
     take_octet(handle, line, octet, report)
 }
@@ -34,15 +30,10 @@ pub extern "C" fn lapd_octet(
 #[inline(always)]
 fn take_octet(handle: &mut CardHandle, line: u32, octet: u8, report: &mut PlainReport) -> u32
     requires { IsHandle handle.old }
-    ensures call { IsOctetsCall line handle.old handle.new result }
-    ensures unchanged { result ≢ status.ok → (card_of handle.new ≡ card_of handle.old) × (report.new ≡ report.old) }
-    ensures served { OctetsWithLine line handle.old (λ m. (result ≡ status.ok)
-        × OctetsStand handle.new (after (at line (port.octet octet)) m)
-        × ShowsReply report.new (reply_seen handle.old (answer (at line (port.octet octet)) m))) }
-    ensures timed { OctetsWithLine line handle.old (λ m. ObeysMeaning (at line (port.octet octet)) m handle.old handle.new) }
-    ensures counted { OctetsWithLine line handle.old (λ m. CountsMeaning (at line (port.octet octet)) m (counters_at handle.old) (counters_at handle.new)) }
-    ensures reopened { IsReopened line handle.old handle.new result report.new }
-    ensures expired { result ≡ status.ok → report.new.expired ≡ no_timer }
+    ensures call { IsCallOf of_octets line handle.old handle.new result report.old report.new }
+    ensures unchanged { result ≢ status.ok → card_of handle.new ≡ card_of handle.old }
+    ensures served { OctetsWithLine line handle.old (λ m.
+        Served (at_port (at line (port.octet octet))) (with_ports m) handle.old handle.new result report.new) }
 {
     lend!(kept of handle, Octets(card), line);
     match card.hear(line, octet) {
@@ -68,11 +59,8 @@ pub extern "C" fn lapd_pull(
     report: &mut PlainReport,
 ) -> u32
     requires { IsHandle handle.old }
-    ensures called { Called (pull_asked line) handle.old handle.new result report.new }
-    ensures call { IsOctetsCall line handle.old handle.new result }
-    ensures reopened { IsReopened line handle.old handle.new result report.new }
-    ensures expired { result ≡ status.ok → report.new.expired ≡ no_timer }
-    ensures unchanged { result ≢ status.ok → (card_of handle.new ≡ card_of handle.old) × (octet.new ≡ octet.old) × (report.new ≡ report.old) }
+    ensures called { Called (pull_asked line) handle.old handle.new result report.old report.new }
+    ensures unchanged { result ≢ status.ok → (card_of handle.new ≡ card_of handle.old) × (octet.new ≡ octet.old) }
     ensures written { OctetsWithLine line handle.old (λ m. octet.new ≡ octet_of (answer (at line port.pull) m)) }
 {
     pull(handle, line, octet, report)
@@ -82,16 +70,11 @@ pub extern "C" fn lapd_pull(
 #[inline(always)]
 fn pull(handle: &mut CardHandle, line: u32, octet: &mut u8, report: &mut PlainReport) -> u32
     requires { IsHandle handle.old }
-    ensures call { IsOctetsCall line handle.old handle.new result }
-    ensures unchanged { result ≢ status.ok
-        → (card_of handle.new ≡ card_of handle.old) × (octet.new ≡ octet.old) × (report.new ≡ report.old) }
-    ensures served { OctetsWithLine line handle.old (λ m. (result ≡ status.ok)
-        × OctetsStand handle.new (after (at line port.pull) m) × (octet.new ≡ octet_of (answer (at line port.pull) m))
-        × ShowsReply report.new (reply_seen handle.old (answer (at line port.pull) m))) }
-    ensures timed { OctetsWithLine line handle.old (λ m. ObeysMeaning (at line port.pull) m handle.old handle.new) }
-    ensures counted { OctetsWithLine line handle.old (λ m. CountsMeaning (at line port.pull) m (counters_at handle.old) (counters_at handle.new)) }
-    ensures reopened { IsReopened line handle.old handle.new result report.new }
-    ensures expired { result ≡ status.ok → report.new.expired ≡ no_timer }
+    ensures call { IsCallOf of_octets line handle.old handle.new result report.old report.new }
+    ensures unchanged { result ≢ status.ok → (card_of handle.new ≡ card_of handle.old) × (octet.new ≡ octet.old) }
+    ensures served { OctetsWithLine line handle.old (λ m.
+        Served (at_port (at line port.pull)) (with_ports m) handle.old handle.new result report.new) }
+    ensures written { OctetsWithLine line handle.old (λ m. octet.new ≡ octet_of (answer (at line port.pull) m)) }
 {
     lend!(kept of handle, Octets(card), line);
     let pulled = card.pull(line);
@@ -105,11 +88,7 @@ fn pull(handle: &mut CardHandle, line: u32, octet: &mut u8, report: &mut PlainRe
 #[unsafe(no_mangle)]
 pub extern "C" fn lapd_begun(handle: &mut CardHandle, line: u32, head: &mut PlainHead) -> u32
     requires { IsHandle handle.old }
-    ensures call { IsOctetsCall line handle.old handle.new result }
-    ensures unchanged { card_of handle.new ≡ card_of handle.old }
-    ensures untold { result ≢ status.ok → head.new ≡ head.old }
-    ensures told { OctetsWithLine line handle.old (λ m. (result ≡ status.ok)
-        × (head.new ≡ plain_head (head_begun_at line m))) }
+    ensures { Questioned of_octets (Some line) (begun_of line) handle.old handle.new result head.old head.new }
 {
     lend!(kept of handle, Octets(card), line);
     *head = PlainHead::of(card.begun(line));
@@ -120,11 +99,7 @@ pub extern "C" fn lapd_begun(handle: &mut CardHandle, line: u32, head: &mut Plai
 #[unsafe(no_mangle)]
 pub extern "C" fn lapd_heard(handle: &mut CardHandle, line: u32, head: &mut PlainHead) -> u32
     requires { IsHandle handle.old }
-    ensures call { IsOctetsCall line handle.old handle.new result }
-    ensures unchanged { card_of handle.new ≡ card_of handle.old }
-    ensures untold { result ≢ status.ok → head.new ≡ head.old }
-    ensures told { OctetsWithLine line handle.old (λ m. (result ≡ status.ok)
-        × (head.new ≡ plain_head (head_heard_at line m))) }
+    ensures { Questioned of_octets (Some line) (heard_of line) handle.old handle.new result head.old head.new }
 {
     lend!(kept of handle, Octets(card), line);
     *head = PlainHead::of(card.latest_heard(line));

@@ -1,12 +1,9 @@
 //! What a card answers about itself.
 
-ghost use Rattle.std.specs.Prelude.{◌≡◌, ◌≢◌, ◌≤◌, ◌<◌, IfSome, IfOk, IfErr, get_or};
-ghost use Rattle.std.specs.Option.{unwrap_or};
-ghost use Rattle.lapd_c.specs.{WithLine, limit, none_counted, IsCall, IsCallAt, plain_counters, plain_room, refusal_status, link_in, card_of, served_card, IsHandle, HandleStands};
-ghost use Rattle.model_card.specs.Card as machine;
-ghost use Rattle.model_card.specs.Room.{room as machine_room};
+ghost use Rattle.std.specs.Prelude.{◌≡◌, ◌≤◌, ◌<◌, Some, None, IfSome, get_or};
+ghost use Rattle.lapd_c.specs.{IsHandle, IsQuestion, limit_of, lines_of, none_counted, of_any, plain_counters, Questioned, room_of, served_card, state_of, stored_of};
 ghost use Rattle.lapd_c.specs.Statuses as status;
-ghost use Rattle.lapd_card.specs.Kinds.{Machine, card_in, counters_of, line_count, stored};
+ghost use Rattle.lapd_card.specs.Kinds.{counters_of, line_count};
 
 use crate::card::CardHandle;
 use crate::lend::{lend, or_answer};
@@ -25,12 +22,7 @@ pub extern "C" fn lapd_state(
     state: &mut u8,
 ) -> u32
     requires { IsHandle handle.old }
-    ensures call { IsCallAt line handle.old handle.new result }
-    ensures unchanged { card_of handle.new ≡ card_of handle.old }
-    ensures untold { result ≢ status.ok → state.new ≡ state.old }
-    ensures wrong_link { WithLine line handle.old (λ m. IfErr (link_in service tei) (λ wrong. result ≡ wrong)) }
-    ensures told { WithLine line handle.old (λ m. IfOk (link_in service tei) (λ link. (result ≡ status.ok)
-        × (state.new ≡ unwrap_or (machine.state line link.0 link.1 (card_in m)) 0))) }
+    ensures { Questioned of_any (Some line) (state_of line service tei) handle.old handle.new result state.old state.new }
 {
     lend!(kept of handle, line);
     let (service, tei) = or_answer!(link_in(service, tei));
@@ -42,10 +34,7 @@ pub extern "C" fn lapd_state(
 #[unsafe(no_mangle)]
 pub extern "C" fn lapd_stored(handle: &mut CardHandle, octets: &mut u32) -> u32
     requires { IsHandle handle.old }
-    ensures call { IsCall handle.old handle.new result }
-    ensures unchanged { card_of handle.new ≡ card_of handle.old }
-    ensures untold { result ≢ status.ok → octets.new ≡ octets.old }
-    ensures told { (m : Machine) → HandleStands handle.old m → (result ≡ status.ok) × (octets.new ≡ stored m) }
+    ensures { Questioned of_any None stored_of handle.old handle.new result octets.old octets.new }
 {
     lend!(kept of handle);
     *octets = kept.card.stored();
@@ -56,10 +45,7 @@ pub extern "C" fn lapd_stored(handle: &mut CardHandle, octets: &mut u32) -> u32
 #[unsafe(no_mangle)]
 pub extern "C" fn lapd_limit(handle: &mut CardHandle, octets: &mut u32) -> u32
     requires { IsHandle handle.old }
-    ensures call { IsCall handle.old handle.new result }
-    ensures unchanged { card_of handle.new ≡ card_of handle.old }
-    ensures untold { result ≢ status.ok → octets.new ≡ octets.old }
-    ensures told { (m : Machine) → HandleStands handle.old m → (result ≡ status.ok) × (octets.new ≡ limit (card_in m).config) }
+    ensures { Questioned of_any None limit_of handle.old handle.new result octets.old octets.new }
 {
     lend!(kept of handle);
     *octets = kept.card.frames().limit();
@@ -70,10 +56,7 @@ pub extern "C" fn lapd_limit(handle: &mut CardHandle, octets: &mut u32) -> u32
 #[unsafe(no_mangle)]
 pub extern "C" fn lapd_lines(handle: &mut CardHandle, lines: &mut u32) -> u32
     requires { IsHandle handle.old }
-    ensures call { IsCall handle.old handle.new result }
-    ensures unchanged { card_of handle.new ≡ card_of handle.old }
-    ensures untold { result ≢ status.ok → lines.new ≡ lines.old }
-    ensures told { (m : Machine) → HandleStands handle.old m → (result ≡ status.ok) × (lines.new ≡ (card_in m).config.lines) }
+    ensures { Questioned of_any None lines_of handle.old handle.new result lines.old lines.new }
 {
     lend!(kept of handle);
     *lines = kept.card.lines().min(MOST_LINES) as u32;
@@ -90,14 +73,7 @@ pub extern "C" fn lapd_room(
     room: &mut PlainRoom,
 ) -> u32
     requires { IsHandle handle.old }
-    ensures call { IsCallAt line handle.old handle.new result }
-    ensures unchanged { card_of handle.new ≡ card_of handle.old }
-    ensures untold { result ≢ status.ok → room.new ≡ room.old }
-    ensures wrong_link { WithLine line handle.old (λ m. IfErr (link_in service tei) (λ wrong. result ≡ wrong)) }
-    ensures no_link { WithLine line handle.old (λ m. IfOk (link_in service tei) (λ link.
-        IfErr (machine_room line link.0 link.1 (card_in m)) (λ why. result ≡ refusal_status why))) }
-    ensures told { WithLine line handle.old (λ m. IfOk (link_in service tei) (λ link.
-        IfOk (machine_room line link.0 link.1 (card_in m)) (λ is. (result ≡ status.ok) × (room.new ≡ plain_room is)))) }
+    ensures { Questioned of_any (Some line) (room_of line service tei) handle.old handle.new result room.old room.new }
 {
     lend!(kept of handle, line);
     let (service, tei) = or_answer!(link_in(service, tei));
@@ -118,9 +94,7 @@ pub extern "C" fn lapd_counters(
     counters: &mut PlainCounters,
 ) -> u32
     requires { IsHandle handle.old }
-    ensures call { IsCall handle.old handle.new result }
-    ensures unchanged { card_of handle.new ≡ card_of handle.old }
-    ensures untold { result ≢ status.ok → counters.new ≡ counters.old }
+    ensures question { IsQuestion of_any handle.old handle.new result counters.old counters.new }
     ensures wrong_line { IfSome (served_card handle.old) (λ card. line_count card ≤ line → result ≡ status.wrong_line) }
     ensures told { IfSome (served_card handle.old) (λ card. line < line_count card
         → (result ≡ status.ok) × (counters.new ≡ plain_counters (get_or (counters_of card) line none_counted))) }

@@ -1,7 +1,7 @@
 //! What octets say in words.
 
-ghost use Rattle.std.specs.Prelude.{◌≡◌, ◌≢◌, ◌≤◌, ◌<◌, true, length};
-ghost use Rattle.lapd_c.specs.{side_in, told_text, IsPutIn};
+ghost use Rattle.std.specs.Prelude.{◌≡◌, ◌≢◌, true, length, IfOk, IfErr};
+ghost use Rattle.lapd_c.specs.{IsPutIn, text_of};
 ghost use Rattle.lapd_c.specs.Statuses as status;
 
 use crate::plain::{BAD_SIDE, OK, WRONG_LENGTH, side_in};
@@ -15,13 +15,9 @@ const MOST: usize = 1028;
 /// after its octets.
 #[unsafe(no_mangle)]
 pub extern "C" fn lapd_frame_text(octets: &[u8], side: u16, text: &mut [u8]) -> u32
-    ensures untold { result ≢ status.ok → text.new ≡ text.old }
-    ensures too_long { 1028 < length octets.now → result ≡ status.wrong_length }
-    ensures wrong_side { length octets.now ≤ 1028 → 2 < side → result ≡ status.bad_side }
-    ensures no_room { length octets.now ≤ 1028 → side ≤ 2 → length text.old < length (told_text (side_in side) octets.now)
-        → result ≡ status.wrong_length }
-    ensures told { length octets.now ≤ 1028 → side ≤ 2 → length (told_text (side_in side) octets.now) ≤ length text.old
-        → (result ≡ status.ok) × IsPutIn true (told_text (side_in side) octets.now) text.old text.new }
+    ensures unwritten { result ≢ status.ok → text.new ≡ text.old }
+    ensures wrong { IfErr (text_of octets.now side (length text.old)) (λ wrong. result ≡ wrong) }
+    ensures told { IfOk (text_of octets.now side (length text.old)) (λ said. (result ≡ status.ok) × IsPutIn true said text.old text.new) }
 {
     if octets.len() > MOST {
         return WRONG_LENGTH;

@@ -1,19 +1,16 @@
 //! A card of either kind that keeps its own timers: what falls due, and when.
 
-ghost use Rattle.std.specs.Prelude.{◌≡◌, ◌≢◌, ◌≤◌, ◌<◌, ◌^◌, ◌⊎◌, false, None, IfSome};
+ghost use Rattle.std.specs.Prelude.{◌≡◌, ◌≤◌, ◌<◌, ◌^◌, ◌⊎◌, false, true, None, IfSome};
 ghost use Rattle.model_card.specs.Card as machine;
-ghost use Rattle.model_card.specs.Event.{at};
-ghost use Rattle.model_line.specs.Event.{expiry};
-ghost use Rattle.model_timed.specs.Clock.{Clock, at_moment, due, next_moment, obeyed, without_first};
-ghost use Rattle.model_timed.specs.Frames.{orders_at};
-ghost use Rattle.lapd_card.specs.Kinds.{Machine, after, answer, card_in};
-ghost use Rattle.lapd_c.specs.{Counts, HandleStands, IsCall, IsHandle, ShowsAnswer, TellsReopened, TimersStandIn, card_of, counters_at, is_timed, kind_in, marks_at, plain_timer, timers_of};
-ghost use Rattle.lapd_c.specs.Kept.{without_orders};
+ghost use Rattle.lapd_clock.specs.Timer.{first_out_of_range};
+ghost use Rattle.model_timed.specs.Clock.{Clock, at_moment, due, next_moment, with_lengths};
+ghost use Rattle.lapd_c.specs.{AtMoment, FellDue, IsHandle, IsMomentCall, IsQuestion, IsTimersCall, NoneDue, TimersStandIn, WithClock, card_of, is_timed, of_any, timers_of};
+ghost use Rattle.lapd_c.specs.Timers.{lengths_in};
 ghost use Rattle.lapd_c.specs.Statuses as status;
 
 use crate::card::CardHandle;
 use crate::lend::{lend, or_answer};
-use crate::plain::{NO_TIMER, OK, PlainReport, WRONG_CARD, WRONG_TIME};
+use crate::plain::{NO_TIMER, OK, PlainLengths, PlainReport, WRONG_CARD, WRONG_TIME};
 use lapd_card::BareReport;
 
 /// The time is now a moment; and the timer that is due first, if one is, expires: the report tells which it was, of which line, and
@@ -21,36 +18,13 @@ use lapd_card::BareReport;
 #[unsafe(no_mangle)]
 pub extern "C" fn lapd_fall_due(handle: &mut CardHandle, now: u64, report: &mut PlainReport) -> u32
     requires { IsHandle handle.old }
-    ensures call { IsCall handle.old handle.new result }
-    ensures kind { kind_in handle.new ≡ kind_in handle.old }
-    ensures untold { result ≢ status.ok → report.new ≡ report.old }
-    // A card keeps its own timers after it if it did before; that of one whose timers are the caller's is refused.
-    ensures timed { is_timed handle.new ≡ is_timed handle.old }
-    ensures wrong_card { is_timed handle.old ≡ false
-        → (card_of handle.old ≡ None) ⊎ ((result ≡ status.wrong_card) × (card_of handle.new ≡ card_of handle.old)) }
+    ensures call { IsMomentCall handle.old handle.new result report.old report.new }
     // A moment before the last one, or after the latest, is refused, and nothing changes.
-    ensures wrong_time { (m : Machine) (c : Clock) → HandleStands handle.old m → TimersStandIn (timers_of handle.old) (card_in m) c
-        → (now < c.now) ⊎ (2 ^ 63 ≤ now) → (result ≡ status.wrong_time) × (card_of handle.new ≡ card_of handle.old) }
-    // Else the time is now: nothing is due, and the first timer that runs falls due later;
-    ensures none { (m : Machine) (c : Clock) → HandleStands handle.old m → TimersStandIn (timers_of handle.old) (card_in m) c
-        → c.now ≤ now → now < 2 ^ 63 → due (at_moment now c) ≡ None
-        → (result ≡ status.no_timer) × HandleStands handle.new m × TimersStandIn (timers_of handle.new) (card_in m) (at_moment now c)
-        × IfSome (next_moment (at_moment now c)) (λ first. now < first)
-        × (marks_at handle.new ≡ marks_at handle.old) × (counters_at handle.new ≡ counters_at handle.old) }
-    // or what is due first falls due.
-    ensures due { (m : Machine) (c : Clock) → HandleStands handle.old m → TimersStandIn (timers_of handle.old) (card_in m) c
-        → c.now ≤ now → now < 2 ^ 63 → IfSome (due (at_moment now c)) (λ x.
-        (result ≡ status.ok) × (report.new.line ≡ x.line) × (report.new.expired ≡ plain_timer x.timer)
-        × ShowsAnswer report.new (without_orders (answer (at x.line (expiry x.timer)) m))
-        × HandleStands handle.new (after (at x.line (expiry x.timer)) m)
-        × TimersStandIn (timers_of handle.new) (card_in (after (at x.line (expiry x.timer)) m))
-        (obeyed x.line (orders_at (at x.line (expiry x.timer)) (card_in m)) (without_first (at_moment now c)))) }
-    ensures counted { (m : Machine) (c : Clock) → HandleStands handle.old m → TimersStandIn (timers_of handle.old) (card_in m) c
-        → c.now ≤ now → now < 2 ^ 63
-        → IfSome (due (at_moment now c)) (λ x. Counts (at x.line (expiry x.timer)) (card_in m) (counters_at handle.old) (counters_at handle.new)) }
-    ensures reopened { (m : Machine) (c : Clock) → HandleStands handle.old m → TimersStandIn (timers_of handle.old) (card_in m) c
-        → c.now ≤ now → now < 2 ^ 63 → IfSome (due (at_moment now c)) (λ x.
-        TellsReopened x.line (card_in (after (at x.line (expiry x.timer)) m)) (marks_at handle.old) (marks_at handle.new) report.new) }
+    ensures wrong_time { WithClock handle.old (λ m c. (now < c.now) ⊎ (2 ^ 63 ≤ now)
+        → (result ≡ status.wrong_time) × (card_of handle.new ≡ card_of handle.old)) }
+    ensures none { AtMoment now handle.old (λ m c. due (at_moment now c) ≡ None → NoneDue now m c handle.old handle.new result) }
+    ensures due { AtMoment now handle.old (λ m c. IfSome (due (at_moment now c)) (λ x.
+        FellDue now x.line x.timer m c handle.old handle.new result report.new)) }
 {
     lend!(kept of handle);
     if let Some(timers) = &mut kept.timers {
@@ -66,36 +40,13 @@ pub extern "C" fn lapd_fall_due(handle: &mut CardHandle, now: u64, report: &mut 
 #[inline(never)]
 fn fall_due(handle: &mut CardHandle, now: u64, report: &mut PlainReport) -> u32
     requires { IsHandle handle.old }
-    ensures call { IsCall handle.old handle.new result }
-    ensures kind { kind_in handle.new ≡ kind_in handle.old }
-    ensures untold { result ≢ status.ok → report.new ≡ report.old }
-    // A card keeps its own timers after it if it did before; that of one whose timers are the caller's is refused.
-    ensures timed { is_timed handle.new ≡ is_timed handle.old }
-    ensures wrong_card { is_timed handle.old ≡ false
-        → (card_of handle.old ≡ None) ⊎ ((result ≡ status.wrong_card) × (card_of handle.new ≡ card_of handle.old)) }
+    ensures call { IsMomentCall handle.old handle.new result report.old report.new }
     // A moment before the last one, or after the latest, is refused, and nothing changes.
-    ensures wrong_time { (m : Machine) (c : Clock) → HandleStands handle.old m → TimersStandIn (timers_of handle.old) (card_in m) c
-        → (now < c.now) ⊎ (2 ^ 63 ≤ now) → (result ≡ status.wrong_time) × (card_of handle.new ≡ card_of handle.old) }
-    // Else the time is now: nothing is due, and the first timer that runs falls due later;
-    ensures none { (m : Machine) (c : Clock) → HandleStands handle.old m → TimersStandIn (timers_of handle.old) (card_in m) c
-        → c.now ≤ now → now < 2 ^ 63 → due (at_moment now c) ≡ None
-        → (result ≡ status.no_timer) × HandleStands handle.new m × TimersStandIn (timers_of handle.new) (card_in m) (at_moment now c)
-        × IfSome (next_moment (at_moment now c)) (λ first. now < first)
-        × (marks_at handle.new ≡ marks_at handle.old) × (counters_at handle.new ≡ counters_at handle.old) }
-    // or what is due first falls due.
-    ensures due { (m : Machine) (c : Clock) → HandleStands handle.old m → TimersStandIn (timers_of handle.old) (card_in m) c
-        → c.now ≤ now → now < 2 ^ 63 → IfSome (due (at_moment now c)) (λ x.
-        (result ≡ status.ok) × (report.new.line ≡ x.line) × (report.new.expired ≡ plain_timer x.timer)
-        × ShowsAnswer report.new (without_orders (answer (at x.line (expiry x.timer)) m))
-        × HandleStands handle.new (after (at x.line (expiry x.timer)) m)
-        × TimersStandIn (timers_of handle.new) (card_in (after (at x.line (expiry x.timer)) m))
-        (obeyed x.line (orders_at (at x.line (expiry x.timer)) (card_in m)) (without_first (at_moment now c)))) }
-    ensures counted { (m : Machine) (c : Clock) → HandleStands handle.old m → TimersStandIn (timers_of handle.old) (card_in m) c
-        → c.now ≤ now → now < 2 ^ 63
-        → IfSome (due (at_moment now c)) (λ x. Counts (at x.line (expiry x.timer)) (card_in m) (counters_at handle.old) (counters_at handle.new)) }
-    ensures reopened { (m : Machine) (c : Clock) → HandleStands handle.old m → TimersStandIn (timers_of handle.old) (card_in m) c
-        → c.now ≤ now → now < 2 ^ 63 → IfSome (due (at_moment now c)) (λ x.
-        TellsReopened x.line (card_in (after (at x.line (expiry x.timer)) m)) (marks_at handle.old) (marks_at handle.new) report.new) }
+    ensures wrong_time { WithClock handle.old (λ m c. (now < c.now) ⊎ (2 ^ 63 ≤ now)
+        → (result ≡ status.wrong_time) × (card_of handle.new ≡ card_of handle.old)) }
+    ensures none { AtMoment now handle.old (λ m c. due (at_moment now c) ≡ None → NoneDue now m c handle.old handle.new result) }
+    ensures due { AtMoment now handle.old (λ m c. IfSome (due (at_moment now c)) (λ x.
+        FellDue now x.line x.timer m c handle.old handle.new result report.new)) }
 {
     lend!(kept of handle);
     let Some(timers) = &mut kept.timers else {
@@ -122,9 +73,7 @@ fn fall_due(handle: &mut CardHandle, now: u64, report: &mut PlainReport) -> u32
 #[unsafe(no_mangle)]
 pub extern "C" fn lapd_next_moment(handle: &mut CardHandle, moment: &mut u64) -> u32
     requires { IsHandle handle.old }
-    ensures call { IsCall handle.old handle.new result }
-    ensures unchanged { card_of handle.new ≡ card_of handle.old }
-    ensures untold { result ≢ status.ok → moment.new ≡ moment.old }
+    ensures question { IsQuestion of_any handle.old handle.new result moment.old moment.new }
     ensures wrong_card { is_timed handle.old ≡ false → (card_of handle.old ≡ None) ⊎ (result ≡ status.wrong_card) }
     ensures none { (m : machine.Card) (c : Clock) → TimersStandIn (timers_of handle.old) m c → next_moment c ≡ None → result ≡ status.no_timer }
     ensures next { (m : machine.Card) (c : Clock) → TimersStandIn (timers_of handle.old) m c
@@ -135,5 +84,25 @@ pub extern "C" fn lapd_next_moment(handle: &mut CardHandle, moment: &mut u64) ->
         return WRONG_CARD;
     };
     *moment = or_answer!(timers.next_moment(), NO_TIMER);
+    OK
+}
+
+/// Has timers that are started from now on run so long. Those that run keep their moments.
+#[unsafe(no_mangle)]
+pub extern "C" fn lapd_card_set_lengths(handle: &mut CardHandle, lengths: &PlainLengths) -> u32
+    requires { IsHandle handle.old }
+    ensures call { IsTimersCall handle.old handle.new result }
+    // A length that is out of range is refused.
+    ensures wrong_time { is_timed handle.old ≡ true
+        → IfSome (first_out_of_range (lengths_in lengths.now)) (λ _. (result ≡ status.wrong_time) × (card_of handle.new ≡ card_of handle.old)) }
+    ensures set { first_out_of_range (lengths_in lengths.now) ≡ None → (m : machine.Card) (c : Clock) → TimersStandIn (timers_of handle.old) m c
+        → (result ≡ status.ok) × TimersStandIn (timers_of handle.new) m (with_lengths (lengths_in lengths.now) c) }
+{
+    lend!(kept of handle);
+    let Some(timers) = &mut kept.timers else {
+        return WRONG_CARD;
+    };
+    let lengths = or_answer!(lengths.read());
+    timers.set_lengths(lengths);
     OK
 }

@@ -4,19 +4,30 @@ use Rattle.model_line.specs.Event as line_event
 use Rattle.model_line.specs.Laws.{orders_in}
 use Rattle.model_card.specs.Machine as machine
 use Rattle.model_timed.specs.Frames.{orders_at}
-use Rattle.lapd_card.specs.Kinds.{after}
+use Rattle.lapd_card.specs.Kinds.{after, answer}
 use Rattle.lapd_c.proofs.Reopening.{settled_answered, still_stands}
-use Rattle.lapd_c.proofs.Served.{if_ok, if_some, led_any, seen_there, there}
+use Rattle.lapd_c.proofs.Calling.{shown_given}
+use Rattle.lapd_c.proofs.Served.{counts, if_ok, if_some, led_any, seen_there, there}
 use Rattle.lapd_c.proofs.Timing.{carried-there, obeys}
 use Rattle.lapd_c.proofs.events.ask.Goals as goal
 
 pub returns-in-Ok-request-clause-served : goal.returns-in-Ok-request-clause-served
-returns-in-Ok-request-clause-served c = λ m s w. let t = there c.in-Some.ensures.card m s in if_ok _ _ (request_of c.in-Ok.value) (sym c.request_in.ensures.read ∙ ap read_of c.in-Ok.is) (λ granted. (
-  refl,
-  still_stands (after (at c.args.line (line_event.request (request_of c.in-Ok.value))) m) c.settle.ensures.card (c.request.ensures.after.stands m t),
-  seen_there c.in-Some.ensures.card c.settle.new.report _ (settled_answered _ c.settle.new.report c.show.new.self _ c.settle.ensures.rest
-      (subst (ShowsAnswer c.show.new.self) (ap (λ r. answer_of_request r c.request.new.report) (sym c.in-Ok-request.is) ∙ c.request.ensures.told m t) (c.show.ensures (omega arith)))),
-))
+returns-in-Ok-request-clause-served c = λ m s w.
+    let t = there c.in-Some.ensures.card m s in
+    let what = line_event.request (request_of c.in-Ok.value) in
+    let e = at c.args.line what in
+    let stands = c.request.ensures.after.stands m t in
+    let told = ap (λ r. answer_of_request r c.request.new.report) (sym c.in-Ok-request.is) ∙ c.request.ensures.told m t in
+    if_ok _ _ (request_of c.in-Ok.value) (sym c.request_in.ensures.read ∙ ap read_of c.in-Ok.is) (λ granted. record {
+      ok = refl;
+      stands = still_stands (after e m) c.settle.ensures.card stands;
+      shown = shown_given _ c.settle.new.report _ (answer e m) (seen_there c.in-Some.ensures.card c.settle.new.report _ (settled_answered _ c.settle.new.report c.show.new.self _ c.settle.ensures.rest
+          (subst (ShowsAnswer c.show.new.self) told (c.show.ensures (omega arith)))));
+      obeyed = carried-there c.in-Some.ensures.card c.args.line (orders_at e (card_in m)) (card_in m) (machine.after e (card_in m)) c.settle.new.self.timers
+          (obeys c.request.new.self c.args.line _ _ c.settle.new.self.timers c.settle.ensures.timed c.settle.ensures.untimed e (card_in m)
+          (led_any c.args.line what m c.request.new.self w stands) (c.orders.ensures ∙ ap orders_in told) tt);
+      counted = counts c.in-Some.ensures.card e (card_in m) c.request.new.self c.settle.new.self.card c.settle.ensures.card (c.request.ensures.after.counted m t);
+    })
 
 pub returns-in-Err-request-clause-refused : goal.returns-in-Err-request-clause-refused
 returns-in-Err-request-clause-refused c = λ m s w. if_ok _ _ (request_of c.in-Ok.value) (sym c.request_in.ensures.read ∙ ap read_of c.in-Ok.is)
@@ -24,18 +35,4 @@ returns-in-Err-request-clause-refused c = λ m s w. if_ok _ _ (request_of c.in-O
 
 pub returns-in-Err-request-clause-served : goal.returns-in-Err-request-clause-served
 returns-in-Err-request-clause-served c = λ m s w. if_ok _ _ (request_of c.in-Ok.value) (sym c.request_in.ensures.read ∙ ap read_of c.in-Ok.is)
-    (λ none. absurd (none-some c.in-Err-request.why (sym none ∙ c.in-Err-request.ensures.refused m (there c.in-Some.ensures.card m s))))
-
--- its orders are carried out
-pub returns-in-Ok-request-clause-timed : goal.returns-in-Ok-request-clause-timed
-returns-in-Ok-request-clause-timed c = λ m s w. if_ok _ _ (request_of c.in-Ok.value) (sym c.request_in.ensures.read ∙ ap read_of c.in-Ok.is) (λ granted.
-    let t = there c.in-Some.ensures.card m s in
-    let e = at c.args.line (line_event.request (request_of c.in-Ok.value)) in
-    carried-there c.in-Some.ensures.card c.args.line (orders_at e (card_in m)) (card_in m) (machine.after e (card_in m)) c.settle.new.self.timers
-    (obeys c.request.new.self c.args.line _ _ c.settle.new.self.timers c.settle.ensures.timed c.settle.ensures.untimed e (card_in m)
-    (led_any c.args.line (line_event.request (request_of c.in-Ok.value)) m c.request.new.self w (c.request.ensures.after.stands m t))
-    (c.orders.ensures ∙ ap orders_in (ap (λ r. answer_of_request r c.request.new.report) (sym c.in-Ok-request.is) ∙ c.request.ensures.told m t)) tt))
-
-pub returns-in-Err-request-clause-timed : goal.returns-in-Err-request-clause-timed
-returns-in-Err-request-clause-timed c = λ m s w. if_ok _ _ (request_of c.in-Ok.value) (sym c.request_in.ensures.read ∙ ap read_of c.in-Ok.is)
     (λ none. absurd (none-some c.in-Err-request.why (sym none ∙ c.in-Err-request.ensures.refused m (there c.in-Some.ensures.card m s))))

@@ -1,6 +1,11 @@
 -- Hand-written answers for `lapd_exchange`: what was exchanged is told, also where a link has room again, and its orders are carried out.
-use Rattle.lapd_c.proofs.Vocabulary.{◌-◌, refl, sym, ap, subst, AnyCard, Octets, steps_made}
+use Rattle.lapd_c.proofs.Vocabulary.{◌-◌, ◌∙◌, refl, sym, ap, subst, AnyCard, Octets, steps_made}
 use Rattle.std.specs.Prelude.{is_some}
+use Rattle.lapd_c.specs.Counted.{counters_held}
+use Rattle.lapd_card.specs.Kinds.{counters_of}
+use Rattle.model_card.specs.Counted.{all_counted}
+use Rattle.model_card.specs.Run.{moments}
+use Rattle.model_card.specs.ports.Run.{meant_all}
 use Rattle.lapd_c.specs.Exchange.{Exchanged, ExchangedBy, OrdersLast}
 use Rattle.lapd_c.specs.Kept.{is_timed, timers_held}
 use Rattle.lapd_c.proofs.Exchanging.{stands-to}
@@ -9,22 +14,20 @@ use Rattle.lapd_c.proofs.Served.{octets_there}
 use Rattle.lapd_c.proofs.Timing.{all-there, exchanged}
 use Rattle.lapd_c.proofs.exchange.lapd_exchange.Goals as goal
 
-pub returns-clause-served : goal.returns-clause-served
-returns-clause-served c = λ m s w ok.
+pub returns-clause-exchanged : goal.returns-clause-exchanged
+returns-clause-exchanged c = λ m s w ok.
     let line = c.args.line in let taken = c.args.taken.now in let from = c.args.steps.now in let given = c.args.given.now in
-    let given' = c.exchange-orders.new.given in let to = c.exchange-orders.new.steps in let told = c.settle.new.report in (
-      refl,
-      subst (λ (card : AnyCard). ExchangedBy (is_timed c.args.handle.now) line taken from m card given given' to told) (sym c.settle.ensures.card)
-          (subst (λ timers. Exchanged (is_some timers) line taken from m c.exchange-orders.new.card given given' to told) (sym (ap timers_held c.in-Some.ensures.card))
-          (settled_exchanged _ line from taken m c.exchange-orders.new.card given given' to told c.exchange-orders.new.report c.settle.ensures.rest
-          (c.exchange-orders.ensures.made m (octets_there c.in-Some.ensures.card c.in-Octets.is m s)))),
-    )
-
-pub returns-clause-timed : goal.returns-clause-timed
-returns-clause-timed c = λ m s w ok.
-    let line = c.args.line in let taken = c.args.taken.now in let from = c.args.steps.now in let to = c.exchange-orders.new.steps in
+    let given' = c.exchange-orders.new.given in let to = c.exchange-orders.new.steps in let told = c.settle.new.report in
     let t = octets_there c.in-Some.ensures.card c.in-Octets.is m s in
-    all-there c.in-Some.ensures.card (steps_made line taken from (to - from)) m c.settle.new.self.timers
-    (exchanged (Octets c.exchange-orders.new.card) line taken from m to _ _ c.settle.new.self.timers c.settle.ensures.timed c.settle.ensures.untimed c.settle.ensures.none w
-    (stands-to line taken from m c.exchange-orders.new.card _ _ to _ (c.exchange-orders.ensures.made m t)).frames
-    (subst (OrdersLast line taken from m to) (sym c.as_slice.ensures) (c.exchange-orders.ensures.ordered m t)))
+    let made = c.exchange-orders.ensures.made m t in record {
+      ok = refl;
+      exchanged = subst (λ (card : AnyCard). ExchangedBy (is_timed c.args.handle.now) line taken from m card given given' to told) (sym c.settle.ensures.card)
+          (subst (λ timers. Exchanged (is_some timers) line taken from m c.exchange-orders.new.card given given' to told) (sym (ap timers_held c.in-Some.ensures.card))
+          (settled_exchanged _ line from taken m c.exchange-orders.new.card given given' to told c.exchange-orders.new.report c.settle.ensures.rest made));
+      obeyed = all-there c.in-Some.ensures.card (steps_made line taken from (to - from)) m c.settle.new.self.timers
+          (exchanged (Octets c.exchange-orders.new.card) line taken from m to _ _ c.settle.new.self.timers c.settle.ensures.timed c.settle.ensures.untimed c.settle.ensures.none w
+          (stands-to line taken from m c.exchange-orders.new.card _ _ to _ made).frames
+          (subst (OrdersLast line taken from m to) (sym c.as_slice.ensures) (c.exchange-orders.ensures.ordered m t)));
+      counted = ap counters_of c.settle.ensures.card ∙ c.exchange-orders.ensures.counted m t
+          ∙ ap (λ all. all_counted all (moments m.card (meant_all m (steps_made line taken from (to - from))))) (sym (ap counters_held c.in-Some.ensures.card ∙ ap counters_of c.in-Octets.is));
+    }

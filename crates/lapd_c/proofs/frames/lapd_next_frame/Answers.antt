@@ -1,42 +1,32 @@
 -- Hand-written answers for `lapd_next_frame`.
-use Rattle.lapd_c.proofs.Vocabulary.{◌≡◌, ℕ, length, IfSome, subst, sym, ap, alone, with_ports, Machine, goes, next_at}
+use Rattle.lapd_c.proofs.Vocabulary.{◌≡◌, length, subst, sym, ap, alone, with_ports, Machine, next_at}
 use Rattle.std.specs.Prelude.{◌≢◌}
-use Rattle.lapd_c.specs.Asked.{next_with_room}
 use Rattle.lapd_c.specs.Cards.{HandleStands, StandsIn}
 use Rattle.lapd_c.specs.Counted.{counters_at, counters_held}
 use Rattle.lapd_c.specs.Statuses as status
-use Rattle.lapd_c.proofs.Calling.{any_some, at_some, frames_called, never_refused_next, next_served, next_wrong, nothing_refused, octets_held, shown_next}
+use Rattle.lapd_c.proofs.Calling.{any_some, at_some, never_refused_next, next_served, next_wrong, nothing_refused, octets_held, shown_next}
 use Rattle.lapd_c.proofs.frames.lapd_next_frame.Goals as goal
 
 pub returns-clause-called : goal.returns-clause-called
-returns-clause-called c = let room = length c.args.out.now in
-    frames_called c.args.line (next_with_room c.args.line room) _ _ _ _ c.next_frame.ensures.call
-    (λ m s w. next_wrong c.args.line room m _ (c.next_frame.ensures.wrong_length m s w) (c.next_frame.ensures.none m s w))
-    (λ m s w. next_served c.args.line room m _ (λ fits sent is. nothing_refused _ _ (never_refused_next c.args.line m)))
-    (λ m s w. next_served c.args.line room m _ (λ fits sent is none.
-    let given = at_some _ is (c.next_frame.ensures.given m s w fits) in record {
-      ok = given.0;
-      stands = given.1;
-      shown = shown_next _ _ _ c.args.line m sent is given.3;
-      obeyed = c.next_frame.ensures.timed given.0 m s w;
-      counted = c.next_frame.ensures.counted m s w fits;
-      reopened = c.next_frame.ensures.reopened _ given.1 w given.0;
-      expired = c.next_frame.ensures.expired given.0;
-    }))
-
--- Nothing changes where no frame is given.
-pub returns-clause-unchanged : goal.returns-clause-unchanged
-returns-clause-unchanged c = λ not_ok. (
-  record {
+returns-clause-called c = let room = length c.args.out.now in record {
+  call = c.next_frame.ensures.call;
+  wrong = λ m s w. next_wrong c.args.line room m _ (c.next_frame.ensures.wrong_length m s w) (c.next_frame.ensures.none m s w);
+  refused = λ m s w. next_served c.args.line room m _ (λ fits sent is. nothing_refused _ _ (never_refused_next c.args.line m));
+  unchanged = λ not_ok. record {
     stands = λ m s. stays m s not_ok;
     counters = λ m s. uncounted m s not_ok;
-    marks = c.next_frame.ensures.unmarked not_ok;
-    timers = c.next_frame.ensures.timers not_ok;
-  },
-  (c.next_frame.ensures.untold not_ok).0,
-  (c.next_frame.ensures.untold not_ok).1,
-  (c.next_frame.ensures.untold not_ok).2,
-)
+    timers = (c.next_frame.ensures.still not_ok).1;
+    marks = (c.next_frame.ensures.still not_ok).0;
+  };
+  served = λ m s w. next_served c.args.line room m _ (λ fits sent is none.
+      let given = at_some _ is (c.next_frame.ensures.given m s w fits) in record {
+        ok = given.0;
+        stands = given.1;
+        shown = shown_next _ _ _ c.args.line m sent is given.3;
+        obeyed = c.next_frame.ensures.timed given.0 m s w;
+        counted = c.next_frame.ensures.counted m s w fits;
+      });
+}
   where
     stays : (m : Machine) → HandleStands c.args.handle.now m → c.next_frame.result ≢ status.ok → HandleStands c.next_frame.new.handle m
     stays (alone m) s not_ok = c.next_frame.ensures.stays m s not_ok

@@ -5,39 +5,37 @@ use Rattle.model_card.specs.ports.Event.{at}
 use Rattle.model_card.specs.ports.Port as port
 use Rattle.model_timed.specs.Octets.{orders_at, orders_in}
 use Rattle.lapd_c.proofs.Reopening.{settled_replied, still_replied, still_stands}
-use Rattle.lapd_c.proofs.Served.{nothing_there, replied_there, shown_reply, octets_there}
+use Rattle.lapd_c.proofs.Served.{nothing_there, octets_count, octets_there, replied_there, shown_reply}
 use Rattle.lapd_c.proofs.Timing.{carried-there, obeys-meaning, obeys-nothing}
 use Rattle.lapd_c.proofs.octets.take_octet.Goals as goal
 
 pub returns-in-Some-hear-clause-served : goal.returns-in-Some-hear-clause-served
-returns-in-Some-hear-clause-served c = λ m s w. let t = octets_there c.in-Some.ensures.card c.in-Octets.is m s in (
-  refl,
-  still_stands (with_ports (after (at c.args.line (port.octet c.args.octet)) m)) c.settle.ensures.card (c.hear.ensures.after.stands m t),
-  replied_there c.in-Some.ensures.card c.settle.new.report _ (settled_replied _ c.settle.new.report c.show.new.self _ c.settle.ensures.rest
-      (shown_reply m (at c.args.line (port.octet c.args.octet)) _ c.show.new.self t.reached.config (ap port.told c.contents.ensures ∙ c.in-Some-hear.ensures.told m t) c.show.ensures)),
-)
-
-pub returns-in-Some-hear-clause-timed : goal.returns-in-Some-hear-clause-timed
-returns-in-Some-hear-clause-timed c = λ m s w.
+returns-in-Some-hear-clause-served c = λ m s w.
     let t = octets_there c.in-Some.ensures.card c.in-Octets.is m s in
     let e = at c.args.line (port.octet c.args.octet) in
-    carried-there c.in-Some.ensures.card c.args.line (orders_at e m) m.card (after e m).card c.settle.new.self.timers
-    (obeys-meaning (Octets c.hear.new.self) c.args.line _ _ c.settle.new.self.timers c.settle.ensures.timed c.settle.ensures.untimed c.settle.ensures.none e m refl w
-    (c.hear.ensures.after.stands m t).frames (c.orders.ensures ∙ ap (λ (told : LineTold). told.orders) c.contents.ensures ∙ ap orders_in (c.in-Some-hear.ensures.told m t)) tt)
+    let stands = c.hear.ensures.after.stands m t in record {
+      ok = refl;
+      stands = still_stands (with_ports (after e m)) c.settle.ensures.card stands;
+      shown = replied_there c.in-Some.ensures.card c.settle.new.report _ (settled_replied _ c.settle.new.report c.show.new.self _ c.settle.ensures.rest
+          (shown_reply m e _ c.show.new.self t.reached.config (ap port.told c.contents.ensures ∙ c.in-Some-hear.ensures.told m t) c.show.ensures));
+      obeyed = carried-there c.in-Some.ensures.card c.args.line (orders_at e m) m.card (after e m).card c.settle.new.self.timers
+          (obeys-meaning (Octets c.hear.new.self) c.args.line _ _ c.settle.new.self.timers c.settle.ensures.timed c.settle.ensures.untimed c.settle.ensures.none e m refl w
+          stands.frames (c.orders.ensures ∙ ap (λ (told : LineTold). told.orders) c.contents.ensures ∙ ap orders_in (c.in-Some-hear.ensures.told m t)) tt);
+      counted = octets_count c.in-Some.ensures.card c.in-Octets.is e m c.hear.new.self c.settle.new.self.card c.settle.ensures.card (c.hear.ensures.after.counted m t);
+    }
 
 -- one that ended nothing tells nothing, and orders nothing
 pub returns-in-None-hear-clause-served : goal.returns-in-None-hear-clause-served
-returns-in-None-hear-clause-served c = λ m s w. let t = octets_there c.in-Some.ensures.card c.in-Octets.is m s in (
-  refl,
-  still_stands (with_ports (after (at c.args.line (port.octet c.args.octet)) m)) c.tell_reopened.ensures.card (c.hear.ensures.after.stands m t),
-  nothing_there c.args.handle.now.slot.card c.tell_reopened.new.report _ (c.in-None-hear.ensures.told m t)
-      (still_replied c.tell_reopened.new.report c.show_nothing.new.self (port.told _) c.tell_reopened.ensures.rest c.show_nothing.ensures.told),
-)
-
-pub returns-in-None-hear-clause-timed : goal.returns-in-None-hear-clause-timed
-returns-in-None-hear-clause-timed c = λ m s w.
+returns-in-None-hear-clause-served c = λ m s w.
     let t = octets_there c.in-Some.ensures.card c.in-Octets.is m s in
     let e = at c.args.line (port.octet c.args.octet) in
-    carried-there c.in-Some.ensures.card c.args.line (orders_at e m) m.card (after e m).card c.tell_reopened.new.self.timers
-    (obeys-nothing (Octets c.hear.new.self) c.args.line _ c.tell_reopened.new.self.timers c.tell_reopened.ensures.timers e m refl w
-    (c.hear.ensures.after.stands m t).frames (ap orders_in (c.in-None-hear.ensures.told m t)) tt)
+    let stands = c.hear.ensures.after.stands m t in record {
+      ok = refl;
+      stands = still_stands (with_ports (after e m)) c.tell_reopened.ensures.card stands;
+      shown = nothing_there c.args.handle.now.slot.card c.tell_reopened.new.report _ (c.in-None-hear.ensures.told m t)
+          (still_replied c.tell_reopened.new.report c.show_nothing.new.self (port.told _) c.tell_reopened.ensures.rest c.show_nothing.ensures.told);
+      obeyed = carried-there c.in-Some.ensures.card c.args.line (orders_at e m) m.card (after e m).card c.tell_reopened.new.self.timers
+          (obeys-nothing (Octets c.hear.new.self) c.args.line _ c.tell_reopened.new.self.timers c.tell_reopened.ensures.timers e m refl w
+          stands.frames (ap orders_in (c.in-None-hear.ensures.told m t)) tt);
+      counted = octets_count c.in-Some.ensures.card c.in-Octets.is e m c.hear.new.self c.tell_reopened.new.self.card c.tell_reopened.ensures.card (c.hear.ensures.after.counted m t);
+    }

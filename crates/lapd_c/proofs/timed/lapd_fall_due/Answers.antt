@@ -19,26 +19,16 @@ returns-then-pass-clause-wrong_time c = λ m clock s stood wrong.
 
 pub returns-then-pass-clause-none : goal.returns-then-pass-clause-none
 returns-then-pass-clause-none c = λ m clock s stood later before none.
-    let t = subst (λ timers. TimersStandIn timers (card_in m) clock) c.in-Some-timers.is (timers_there c.in-Some.ensures.card (card_in m) clock stood) in (
-      refl,
-      there c.in-Some.ensures.card m s,
-      (c.pass.ensures.passed c.if-pass.true (card_in m) clock t).3,
-      due-later clock.running c.args.now none,
-      sym (ap marks_held c.in-Some.ensures.card),
-      sym (ap counters_held c.in-Some.ensures.card),
-    )
+    let t = subst (λ timers. TimersStandIn timers (card_in m) clock) c.in-Some-timers.is (timers_there c.in-Some.ensures.card (card_in m) clock stood) in record {
+      none = refl;
+      stands = there c.in-Some.ensures.card m s;
+      timers = (c.pass.ensures.passed c.if-pass.true (card_in m) clock t).3;
+      later = due-later clock.running c.args.now none;
+      marks = sym (ap marks_held c.in-Some.ensures.card);
+      counters = sym (ap counters_held c.in-Some.ensures.card);
+    }
 
 pub returns-then-pass-clause-due : goal.returns-then-pass-clause-due
 returns-then-pass-clause-due c = λ m clock s stood later before.
-    let t = subst (λ timers. TimersStandIn timers (card_in m) clock) c.in-Some-timers.is (timers_there c.in-Some.ensures.card (card_in m) clock stood) in
-    none_said _ _ (c.pass.ensures.passed c.if-pass.true (card_in m) clock t).2
-
-pub returns-then-pass-clause-counted : goal.returns-then-pass-clause-counted
-returns-then-pass-clause-counted c = λ m clock s stood later before.
-    let t = subst (λ timers. TimersStandIn timers (card_in m) clock) c.in-Some-timers.is (timers_there c.in-Some.ensures.card (card_in m) clock stood) in
-    none_said _ _ (c.pass.ensures.passed c.if-pass.true (card_in m) clock t).2
-
-pub returns-then-pass-clause-reopened : goal.returns-then-pass-clause-reopened
-returns-then-pass-clause-reopened c = λ m clock s stood later before.
     let t = subst (λ timers. TimersStandIn timers (card_in m) clock) c.in-Some-timers.is (timers_there c.in-Some.ensures.card (card_in m) clock stood) in
     none_said _ _ (c.pass.ensures.passed c.if-pass.true (card_in m) clock t).2

@@ -1,0 +1,33 @@
+-- A block of octets is so many calls, one after the other, in words of their own.
+use Rattle.std.specs.Prelude.{◌≡◌, ◌⊎◌, ◌<◌, ℕ, suc, ◌+◌, ◌*◌, Bool, true, false, List, [], ◌∷◌, ◌++◌, get_or, set}
+use Rattle.lapd_frame.specs.declared.timers.Order.{Order}
+use Rattle.model_line.specs.Event.{nothing}
+use Rattle.model_card.specs.ports.Card.{OctetCard, answer}
+use Rattle.model_card.specs.ports.Event.{at}
+use Rattle.model_card.specs.ports.Port.{Answer, octet, pull, told, pulled}
+use Rattle.model_card.specs.ports.Run.{after_all}
+use Rattle.lapd_c.specs.Answers.{octet_of}
+use Rattle.lapd_c.specs.Exchange.{AllQuiet, answer_after, card_after, given_after, step_event, steps_made, tells_nothing, with_step}
+
+-- An answer that tells nothing: to an octet, and to a pull.
+abbrev pub IsEmpty : Answer → Type 0
+IsEmpty a = (a ≡ told nothing) ⊎ ((value : ℕ) × (a ≡ pulled value false []))
+
+pub record BlocksAreCalls : Type 0 where
+  -- Step 2i takes octet i, and step 2i + 1 is a pull, whose octet is written at place i. Nothing else is written.
+  pub takes : (line i : ℕ) (taken : List ℕ) → step_event line taken (2 * i) ≡ at line (octet (get_or taken i 0))
+  pub pulls : (line i : ℕ) (taken : List ℕ) → step_event line taken (2 * i + 1) ≡ at line pull
+  pub given : (value : ℕ) (begun : Bool) (orders : List Order) → octet_of (pulled value begun orders) ≡ value
+  pub writes : (i value : ℕ) (begun : Bool) (orders : List Order) (given : List ℕ) → with_step (2 * i + 1) (pulled value begun orders) given ≡ set given i value
+  pub leaves : (i : ℕ) (a : Answer) (given : List ℕ) → with_step (2 * i) a given ≡ given
+  -- The steps are made in turn, each of the card after those before it.
+  pub none : (line from : ℕ) (taken : List ℕ) → steps_made line taken from 0 ≡ []
+  pub more : (line from n : ℕ) (taken : List ℕ) → steps_made line taken from (suc n) ≡ steps_made line taken from n ++ step_event line taken (from + n) ∷ []
+  pub card : (line from n : ℕ) (taken : List ℕ) (m : OctetCard) → card_after line taken from n m ≡ after_all m (steps_made line taken from n)
+  pub answers : (line from n : ℕ) (taken : List ℕ) (m : OctetCard) → answer_after line taken from n m ≡ answer (step_event line taken (from + n)) (card_after line taken from n m)
+  pub nothing_given : (line from : ℕ) (taken given : List ℕ) (m : OctetCard) → given_after line taken from 0 m given ≡ given
+  pub all_given : (line from n : ℕ) (taken given : List ℕ) (m : OctetCard)
+      → given_after line taken from (suc n) m given ≡ with_step (from + n) (answer_after line taken from n m) (given_after line taken from n m given)
+  -- A block goes on after those steps alone that have nothing to tell.
+  pub quiet : (line from n step : ℕ) (taken : List ℕ) (m : OctetCard) → AllQuiet line taken from n m → step < n → IsEmpty (answer_after line taken from step m)
+  pub empty : (a : Answer) → tells_nothing a ≡ true → IsEmpty a

@@ -1,0 +1,72 @@
+-- Which event of which line a call is, and of which cards, in words of their own: those of `lapd.h`, and not those that the
+-- contracts of the calls use.
+use Rattle.std.specs.Prelude.{◌≡◌, ℕ, ◌+◌, ◌≤◌, true, List, [], is_some, Ok}
+use Rattle.model_bits.specs.Stream.{dropped}
+use Rattle.model_bits.specs.declared.heard.Cause.{Cause}
+use Rattle.model_bits.specs.declared.heard.Cause.TheVariants as cause
+use Rattle.lapd_frame.specs.declared.services.Service.{Service}
+use Rattle.lapd_frame.specs.declared.timers.Timer.{Timer}
+use Rattle.lapd_frame.specs.declared.timers.Timer.TheVariants.{T200, T203, T201, T202}
+use Rattle.model_line.specs.Came.{came}
+use Rattle.model_line.specs.Event.{hears, next, expiry, request, given_in}
+use Rattle.model_line.specs.Request.{Request, Establish, Release, Data, Unit, Assign, Remove, Check, Disown, AskTei, VerifyTei, SetBusy, ClearBusy, Deactivate, Down}
+use Rattle.model_card.specs.Card.{Card}
+use Rattle.model_card.specs.Event.{at}
+use Rattle.model_card.specs.Machine.{answer}
+use Rattle.model_card.specs.ports.Event as octets
+use Rattle.model_card.specs.ports.Port as port
+use Rattle.lapd_c.specs.Asked.{octet_asked, pull_asked, frame_asked, failed_asked, next_frame_asked, expire_asked, request_asked}
+use Rattle.lapd_c.specs.CalledBy.{Asked, Happening, inside, at_port}
+use Rattle.lapd_c.specs.Numbers.{number_of}
+use Rattle.lapd_c.specs.Wanted.{Wanted, of_any, of_octets, of_frames, of_untimed}
+
+-- A call is of these cards, and this event of this line, whatever the card has.
+abbrev pub IsEvent : Wanted → Asked → ℕ → Happening → Type 0
+IsEvent cards asked line e = (asked.cards ≡ cards) × (asked.line ≡ line) × ((card : Card) → asked.event card ≡ Ok e)
+
+-- A fault in place of a frame, a timer of a link, and a request have these numbers.
+abbrev pub IsFault : ℕ → Cause → Type 0
+IsFault number what = (line : ℕ) → IsEvent of_frames (failed_asked line number) line (inside (at line (hears (dropped what))))
+
+abbrev pub IsExpiry : ℕ → (Service → ℕ → Timer) → Type 0
+IsExpiry number which = (line : ℕ) (service : Service) (tei : ℕ) → tei ≤ 126
+    → IsEvent of_untimed (expire_asked line (record { timer = number; service = number_of service; tei = tei })) line (inside (at line (expiry (which service tei))))
+
+abbrev pub IsRequest : ℕ → (Service → ℕ → Request) → Type 0
+IsRequest number which = (line : ℕ) (service : Service) (tei : ℕ)
+    → IsEvent of_any (request_asked line number (number_of service) tei []) line (inside (at line (request (which service tei))))
+
+abbrev pub IsSent : ℕ → (Service → ℕ → List ℕ → Request) → Type 0
+IsSent number which = (line : ℕ) (service : Service) (tei : ℕ) (contents : List ℕ)
+    → IsEvent of_any (request_asked line number (number_of service) tei contents) line (inside (at line (request (which service tei contents))))
+
+pub record CallsAreEvents : Type 0 where
+  pub octet : (line value : ℕ) → IsEvent of_octets (octet_asked line value) line (at_port (octets.at line (port.octet value)))
+  pub pull : (line : ℕ) → IsEvent of_octets (pull_asked line) line (at_port (octets.at line port.pull))
+  pub frame_line : (line : ℕ) (taken : List ℕ) → ((frame_asked line taken).cards ≡ of_frames) × ((frame_asked line taken).line ≡ line)
+  pub frame : (line : ℕ) (taken : List ℕ) (card : Card) → (frame_asked line taken).event card ≡ Ok (inside (at line (hears (came card.config.n201 taken))))
+  pub next_line : (line room : ℕ) → ((next_frame_asked line room).cards ≡ of_frames) × ((next_frame_asked line room).line ≡ line)
+  pub next_frame : (line room : ℕ) (card : Card) → card.config.n201 + 4 ≤ room → is_some (given_in (answer (at line next) card)) ≡ true
+      → (next_frame_asked line room).event card ≡ Ok (inside (at line next))
+  pub abort : IsFault 1 cause.Abort
+  pub ragged : IsFault 2 cause.Ragged
+  pub short : IsFault 3 cause.Short
+  pub bad_check : IsFault 4 cause.Fcs
+  pub t200 : IsExpiry 1 T200
+  pub t203 : IsExpiry 2 T203
+  pub t201 : IsExpiry 3 (λ service tei. T201)
+  pub t202 : IsExpiry 4 (λ service tei. T202)
+  pub establish : IsRequest 1 Establish
+  pub release : IsRequest 2 Release
+  pub send_data : IsSent 3 Data
+  pub send_unit : IsSent 4 Unit
+  pub assign : IsRequest 5 (λ service tei. Assign tei)
+  pub remove : IsRequest 6 (λ service tei. Remove tei)
+  pub check : IsRequest 7 (λ service tei. Check tei)
+  pub busy : IsRequest 8 SetBusy
+  pub ready : IsRequest 9 ClearBusy
+  pub deactivate : IsRequest 10 Deactivate
+  pub down : IsRequest 11 (λ service tei. Down)
+  pub disown : IsRequest 12 (λ service tei. Disown tei)
+  pub ask : IsRequest 13 (λ service tei. AskTei)
+  pub verify : IsRequest 14 (λ service tei. VerifyTei tei)

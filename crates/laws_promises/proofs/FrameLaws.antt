@@ -18,7 +18,6 @@ use Rattle.lapd_store.specs.Store.{Store}
 use Rattle.lapd_card.specs.FrameCard.{Held, line_count}
 use Rattle.lapd_card.proofs.Counting.{numbers_in_runs}
 use Rattle.laws_promises.specs.FrameDrive.{event_of, line_of, events_of, FramesKeepLaws}
-use Rattle.laws_promises.specs.Linear.{IsLinear}
 use Rattle.laws_promises.specs.declared.frame_events.FrameEvent as rust
 use Rattle.laws_promises.proofs.Kept.{promises-kept}
 use Rattle.laws_promises.proofs.Linear.{TakesItsOctets, all_take, is_linear}
@@ -35,7 +34,7 @@ events_at_lines store card n201 events within m s =
     (λ e below. subst (λ n. n < m.config.lines) (sym (line_is n201 e)) (subst (λ c. line_of e < c.lines) (sym s.config) below)) events within)
 
 -- The laws hold of the events of a list, of each front of it, and of each front of that of a card as it begins.
-laws : {S : Type 0} (store : S → Store) (card : Held S) (list : List Event) → ((m : Card) → FrameStands store card m → AreAtLines m list) → All (TakesItsOctets card.config.n201) list
+pub laws : {S : Type 0} (store : S → Store) (card : Held S) (list : List Event) → ((m : Card) → FrameStands store card m → AreAtLines m list) → All (TakesItsOctets card.config.n201) list
     → FramesKeepLaws store card list
 laws store card list within octets = record {
   moments = run_is_moments;

@@ -5,3 +5,7 @@ mod Telling
 pub mod FrameLaws
 pub mod OctetsKept
 pub mod Linear
+pub mod TimedRunning
+pub mod TimedLines
+pub mod TimedServing
+pub mod TimedLaws

@@ -1,5 +1,5 @@
 -- The frames sent are linear in the octets of the frames that came.
-use Rattle.laws_promises.proofs.Vocabulary.{◌≡◌, ℕ, ◌+◌, ◌*◌, ◌≤◌, Bool, false, List, [], ◌∷◌, length, map, take, sym, subst, cond, arith, count_by, All, ltb-false, leb-true, All-nil, All-cons, All-head, All-tail, All-weaker, sum_by-cons, mul-le-mul_left, Short, came, hears_frame, hears_long_frame, is_frame, is_long_frame, Card, may_send, window, sent, heard, long_heard, accepted, expired}
+use Rattle.laws_promises.proofs.Vocabulary.{◌≡◌, ℕ, ◌+◌, ◌*◌, ◌≤◌, Bool, false, List, [], ◌∷◌, length, map, take, sym, subst, cond, arith, count_by, All, leb-true, All-nil, All-cons, All-head, All-tail, All-weaker, sum_by-cons, mul-le-mul_left, Short, came, hears_frame, hears_long_frame, is_frame, is_long_frame, Card, may_send, window, sent, heard, long_heard, accepted, expired}
 use Rattle.laws_promises.proofs.Vocabulary.{rejected, after, answer, Moment, after_all, IsSound, frames_amortised, rejects_are_long}
 use Rattle.lapd_frame.specs.Faults.{is_short}
 use Rattle.std.specs.Prelude.{true, max}
@@ -34,7 +34,7 @@ frame_six n201 octets = grind (arith, three)
 frame_seven : (n201 : ℕ) (octets : List ℕ) → 7 * cond (is_long_frame (came n201 octets)) 1 0 ≤ octets_taken n201 (came n201 octets)
 frame_seven n201 octets = grind (arith, leb-true)
 
-takes : (n201 : ℕ) (e : rust.FrameEvent) → TakesItsOctets n201 (event_of n201 e)
+pub takes : (n201 : ℕ) (e : rust.FrameEvent) → TakesItsOctets n201 (event_of n201 e)
 takes n201 e = grind (arith, frame_six, frame_seven)
 
 pub all_take : (n201 : ℕ) (events : List rust.FrameEvent) → All (TakesItsOctets n201) (map (event_of n201) events)

@@ -4,3 +4,6 @@ pub mod PromisesOfOctets
 pub mod Linear
 pub mod FrameReply
 pub mod FrameDrive
+pub mod TimedReply
+pub mod TimedRun
+pub mod TimedDrive

@@ -22,11 +22,15 @@ const LONGEST: usize = MOST_N201 as usize + 4;
 
 /// Runs a list of events, and hands each reply to the sink, in order. Answers how many events there were.
 ///
-/// Its clauses are those of [`lapd_card::Card::drive`] with the same names. `run` is of a frame that came or a fault in
-/// place of an octet, and of a call for the next frame in place of a pull. The laws of every run say of frames what
-/// those say of what octets mean. In `rejects_are_long` each REJ with a valid N(R) is one of the frames heard that have
-/// four octets or more. The frames that it gives, with those still to be sent, are linear in the octets of the frames
-/// that came (`linear`). And it keeps all promises (`promises`).
+/// Its clauses are those of [`lapd_card::Card::drive`] with the same names, of a frame that came or a fault in place of an
+/// octet, and of a call for the next frame in place of a pull.
+///
+/// - `config`, `run`: the card keeps its configuration. If the sink takes every reply, the card is where the machine is after
+///   all events. The sink was handed the machine's reply to each, once and in order, and the counters of each line have counted
+///   what the run shows at it. If the sink missed a reply, all this is so up to that event.
+/// - `laws`: the laws of every run say of frames what those say of what octets mean. In `rejects_are_long` each REJ with a valid
+///   N(R) is one of the frames heard that have four octets or more. The frames that it gives, with those still to be sent, are
+///   linear in the octets of the frames that came (`linear`). And it keeps all promises (`promises`).
 ///
 /// # Errors
 ///

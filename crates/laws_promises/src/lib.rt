@@ -9,6 +9,8 @@
 //! - `frame_call` with `frame_events`, `frame_sink` and `frame_replies`: `drive_frames`, which runs a whole list of events
 //!   at a card of frames, with what a run is, the laws of every run, and the promises. A caller that needs no proof calls
 //!   the card itself.
+//! - `timed_call` with `timed_events`, `timed_sink` and `timed_replies`: `drive_timed`, the same of a card of frames that keeps
+//!   its own timers. `specs/TimedRun` has what its run is, of whichever kind the card is; `specs/TimedDrive` its clauses.
 //! - `call`: `drive`, the same of a card of octets.
 //! - `laws`: the promises of every machine of a card that is reached, as calls without effect.
 #![tactic(auto)]
@@ -23,6 +25,12 @@ mod frame_tests;
 mod laws;
 #[cfg(test)]
 mod tests;
+mod timed_call;
+mod timed_events;
+mod timed_replies;
+mod timed_sink;
+#[cfg(test)]
+mod timed_tests;
 
 pub use call::drive;
 pub use frame_call::drive_frames;
@@ -30,3 +38,7 @@ pub use frame_events::FrameEvent;
 pub use frame_replies::{FrameReply, SentFrame};
 pub use frame_sink::FrameSink;
 pub use laws::{promises_are_kept, promises_of_octets_are_kept};
+pub use timed_call::drive_timed;
+pub use timed_events::TimedEvent;
+pub use timed_replies::TimedReply;
+pub use timed_sink::TimedSink;

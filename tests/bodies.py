@@ -13,6 +13,8 @@ BEGUN = re.compile(r"(edit|control): ([\w-]+)")
 # A name with a capital, and small letters, that no path has before it and none after it; and what a name's module is called.
 NAMED, MODULE = re.compile(r"(?<![\w:.])[A-Z]\w*[a-z]\w*\b(?!\s*::|[\w!])"), re.compile(r"\bspecs\.[\w.]+")
 USUAL = {"Some", "None", "Ok", "Err"}
+# What an edit brings in for itself: the crate, the module, and the words.
+BROUGHT_IN = re.compile(r"ghost use Rattle\.(\w+)\.specs\.([\w.]+)\.\{([^}]*)\}")
 
 
 def blocks_of(path):
@@ -33,14 +35,23 @@ def blocks_of(path):
     return blocks
 
 
+def brought_in(crate, module, words):
+    """Returns those of the words that the module of a crate has; the kit's has all."""
+    path = f"{ROOT}/crates/{crate}/specs/{module.replace('.', '/')}.antt"
+    there = set(re.findall(r"\w+", read(path))) if os.path.exists(path) else set()
+    return [it for it in words.split(", ") if crate == "std" or it in there]
+
+
 class Edit:
     """One edit: the lines that it changes, by file, and the functions in which they are."""
 
     def __init__(self, crate, place, name):
         self.label, self.is_control = f"{crate.name}/{name.removesuffix('.edit')}", name.endswith(".control")
-        self.texts, path, old = {}, "", ""
+        self.texts, self.breaks, path, old = {}, [], "", ""
         for line in crate.edits[place, name].split("\n"):
-            if line.startswith("file: "):
+            if line.startswith("breaks: "):
+                self.breaks = line[8:].split()
+            elif line.startswith("file: "):
                 path = line[6:].strip()
             elif line.startswith("old: "):
                 old = line[5:]
@@ -58,6 +69,7 @@ class Edit:
             self.add_hunks(crate, path, text.split("\n"))
         known = {it for path in self.texts for it in re.findall(r"\w+", MODULE.sub("", read(f"{crate.folder}/{path}")))}
         news = "\n".join(line for _, _, _, lines in self.hunks for line in lines)
+        known |= {it for at in BROUGHT_IN.findall(news) for it in brought_in(*at)}
         self.unknown = sorted(set(NAMED.findall(re.sub(r"//.*", "", news))) - known - USUAL)
 
     def add_hunks(self, crate, path, new):

@@ -1,23 +1,26 @@
-"""What is promised, and where it stands: clauses of `Card::drive`, fields of records, and laws, for `tests/reading`.
+"""What is promised, and where it stands: clauses of calls that run lists, fields of records, laws, and records that contracts
+name, for `tests/reading`.
 
-What a clause says is its item in the list above `Card::drive`; what a field of a record says is the comment above it,
+What a clause says is its item in the list above its call; what a field of a record says is the comment above it,
 and what a law says the one above its function. The fields of the two records that `Card::drive` names, of a run and of
-its laws, are clauses of it. Each clause and each field must have one, and each name in that list must be a clause."""
+its laws, are clauses of it. Each clause and each field must have one, and each name in such a list must be a clause."""
 import pathlib
 import re
 import sys
 from typing import List, NamedTuple, Tuple
 
 from specs import CRATES, ROOT, WORD, Specs
-from statement import promises
+from statement import CALLS, DRIVE, promises
 
 ITEM = re.compile(r'^- ((?:`\w+`(?:, )?)+): (.*)$')
 FIELD = re.compile(r'^  pub (\w+) : ?(.*)$')
 RECORDS = 'Promises', 'PromisesOfOctets'
-DRIVE = 'drive'
 # The clauses of `drive` that are a record, whose fields are its clauses: its file in specs/ of lapd_card, its name, and where
 # another file applies it, by which word.
 PARTS = {'run': ('Runs', 'Runs', ('Drive', 'HasRun')), 'laws': ('Drive', 'KeepsLaws', None)}
+# The record that the contracts of a crate's calls name: its file in specs/, its name, and the file of the words that it is applied
+# to, which end so.
+CALLED = {'lapd_c': ('CalledBy', 'Called', 'Asked', '_asked')}
 BINDERS = re.compile(r'\(((?:\w+ )+):')
 LAW_IN = re.compile(r'^((?:///.*\n)+)(?:#\[.*\n)*pub fn (\w+)\(\)\n((?:.*\n)*?)\{\}', re.MULTILINE)
 # Where laws of one card and of two stand: those that are not in the statement are printed beside it.
@@ -100,21 +103,23 @@ def part_of(file, record, applied):
             for name, text in texts_of(lines).items()}
 
 
-def clauses():
-    """What `drive` promises."""
-    path = CRATES / 'lapd_card' / 'src' / 'drive.rt'
-    found = re.search(r'((?: *///.*\n)+) *pub fn drive\b.*\n((?:.*\n)*?)    \{\n', path.read_text(encoding='utf-8'))
-    specs, texts = Specs('lapd_card', path), {}
+def clauses(call):
+    """What a call that runs a list promises."""
+    crate, file = CALLS[call]
+    path = CRATES / crate / 'src' / (file + '.rt')
+    found = re.search(r'((?: *///.*\n)+) *pub fn %s\b.*\n((?:.*\n)*?) *\{\n' % call, path.read_text(encoding='utf-8'))
+    specs, texts = Specs(crate, path), {}
     for name, text in clauses_of(found.group(2)).items():
-        texts.update(part_of(*PARTS[name]) if name in PARTS else {name: (text, specs.meanings(text), specs)})
+        is_part = call == DRIVE and name in PARTS
+        texts.update(part_of(*PARTS[name]) if is_part else {name: (text, specs.meanings(text), specs)})
     items = items_of(found.group(1).splitlines())
     told = [name for names, _ in items for name in names]
     for name in texts:
         if told.count(name) != 1:
-            sys.exit('reading: crates/lapd_card/src/drive.rt: %d sentences for the clause %s' % (told.count(name), name))
+            sys.exit('reading: %s: %d sentences for the clause %s' % (path.relative_to(ROOT), told.count(name), name))
     for name in told:
         if name not in texts:
-            sys.exit('reading: crates/lapd_card/src/drive.rt: no clause %s' % name)
+            sys.exit('reading: %s: no clause %s' % (path.relative_to(ROOT), name))
     return [Row(names, said, [key for name in names for key in texts[name][1]], path,
                 [(name, texts[name][0], texts[name][2]) for name in names]) for names, said in items]
 
@@ -162,6 +167,21 @@ def laws_of(place):
     return laws
 
 
+def records_of(place):
+    """The record that contracts of a crate name, as one promise: what it says is the comment above it."""
+    if place not in CALLED:
+        return []
+    file, record, other, end = CALLED[place]
+    path = CRATES / place / 'specs' / (file + '.antt')
+    specs, asked = Specs(place, path), Specs(place, path.with_name(other + '.antt'))
+    found = re.search(r'((?:^-- .*\n)+)pub record %s ' % record, path.read_text(encoding='utf-8'), re.MULTILINE)
+    if not found:
+        sys.exit('reading: %s: no sentence above the record %s' % (path.relative_to(ROOT), record))
+    roots = [(place, file, record)] + [(place, other, it) for it in asked.definitions if it.endswith(end)]
+    said = ' '.join(it[3:] for it in found.group(1).splitlines())
+    return [Row([record], said, roots, path, [(record, '', specs)])]
+
+
 def named_laws(name):
     """The laws of this name in any crate, each by its file, with what its contract names."""
     found = []
@@ -174,8 +194,8 @@ def named_laws(name):
 
 
 def rows_at(place):
-    """All that is promised at a place: clauses of `drive`, fields of a record, or laws."""
-    return clauses() if place == DRIVE else fields(place) if place in RECORDS else laws_of(place)
+    """All that is promised at a place: clauses of a call, fields of a record, or a record that contracts name, and laws."""
+    return clauses(place) if place in CALLS else fields(place) if place in RECORDS else records_of(place) + laws_of(place)
 
 
 def listed():
@@ -188,6 +208,11 @@ def listed():
         for name in names:
             if not any(name in row.names for row in rows):
                 sys.exit('reading: tests/statement.txt: %s has no %s' % (place, name))
+        for it in promises():
+            text = next((text for row in rows for clause, text, _ in row.claims if (place, clause) == (it.place, it.name)), '')
+            law = it.law.split('::')[-1]
+            if it.place == place and law[:1].isupper() and text.strip() != law:
+                sys.exit('reading: tests/statement.txt: %s %s does not say %s' % (place, it.name, law))
         for row in rows:
             missing = [it for it in row.names if it not in names]
             if missing and len(missing) < len(row.names):

@@ -6,16 +6,24 @@ the machine and the ports, which the last table has; laws of two cards what they
 table counts each definition once. Premises that each card has, and keeps (PREMISES), are not counted, nor are what the
 prover's library defines and the types of the .rt files.
 
+A promise refutes the rows of tests/wrong-machines.d that name its law, if tests/wrong-machines --record has each down as
+refuted over the definitions as they are (`--last` tells which others it has). A clause of `Card::drive` also refutes the edits of
+lapd_card that name it after `breaks:`, if tests/wrong-bodies --record has them down.
+
 The law that docs/PROOFS.md prints whole, HEADLINE, needs at most MOST_LINES.
 The worked run of a promise is that of RUNS: a file of worked values that names a definition which the promise needs."""
-import re
 import sys
 import textwrap
 
+sys.path.insert(0, __file__.rpartition('/')[0] + '/wrong-machines.d')
 from premises import ALWAYS, of_claim, of_definition
-from promised import DRIVE, OF_ONE_CARD, OF_TWO_CARDS, RECORDS, listed, rows_at
+from promised import CALLS, DRIVE, OF_ONE_CARD, OF_TWO_CARDS, RECORDS, listed, rows_at
 from specs import CRATES, ROOT, count, needed, read_all
 from statement import promises
+from recorded import refuted_as_they_are
+from rows import rows_of
+from tried import refused_as_they_are
+from vithrynel.crates import uses
 
 MACHINE = [('model_card', 'Run', 'moments'), ('model_card', 'Run', 'after_all'), ('model_card', 'Card', 'fresh')]
 PORTS = [('model_card', 'ports.Run', 'moments'), ('model_card', 'ports.Run', 'after_all'),
@@ -47,16 +55,15 @@ RUNS = {
     'timers_are_true': 'model_timed Worked', 'timers_run_the_same': 'model_timed WorkedOctets',
     'frames_are_heard': 'model_card ports/WorkedText', 'given_frames_are_heard': 'laws_trace octets/Worked',
     'frames_go_at_once': 'model_card ports/WorkedText',
-    'a_call_comes_through': 'laws_wire Worked', 'a_terminal_comes_through': 'laws_wire WorkedTerminals', 'cards_deliver': 'laws_wire Worked',
+    'a_call_comes_through': 'laws_wire Worked', 'a_terminal_comes_through': 'laws_wire WorkedTerminals',
     'assignments_hold': 'laws_teis Worked', 'two_terminals_differ': 'laws_teis Worked',
     'a_call_comes_through_in_octets': 'laws_order circuit/WorkedCall', 'calls_are_of_frames': 'laws_order circuit/WorkedMixed',
-    'all_is_told_in_beats': 'laws_order circuit/Worked', 'a_call_comes_to_rest': 'laws_order circuit/WorkedDamaged',
-    'told_in_order': 'laws_wire WorkedLosing',
+    'all_is_told_in_beats': 'laws_order circuit/Worked',
     'what_is_lost_arrives': 'laws_wire WorkedRecovering', 'expiries_are_counted': 'laws_wire WorkedCounted',
     'a_call_with_losses_comes_through': 'laws_wire WorkedAnswering',
     'a_call_with_losses_comes_to_rest': 'laws_wire WorkedSettling', 'a_call_ends': 'laws_wire WorkedEnding',
     'delivered_in_order': 'laws_order Worked', 'delivered_though_damaged': 'laws_order circuit/WorkedDamaged',
-    'delivered_between_kinds': 'laws_order circuit/WorkedMixed', 'releases_end': 'laws_order WorkedRelease',
+    'releases_end': 'laws_order WorkedRelease',
     'releases_are_told': 'laws_order WorkedInTheEnd'}
 # The law that the pages print whole, and the most lines that it may need.
 HEADLINE, MOST_LINES = 'a_call_comes_through', 200
@@ -76,19 +83,25 @@ SHARED = {'a call': ['CanCall c line d other tei'], 'talk': ['All (IsTalk servic
 IN_WORDS = {'a call': 'two cards, one of each side, with one TEI', 'talk': 'data is asked for; frames are sent and received',
             'rough talk': 'frames are lost and timers expire, too', 'full talk': 'so, and ends are busy and ready again',
             'a noisy call': 'T200 is long enough; noise makes no frame', 'a quiet call': 'no noise; no timer falls due'}
-MACHINE_ROW = re.compile(r'^machine: (\S+)$|^law: (\S+) (\S+)', re.MULTILINE)
 
 
 def refuted():
-    """For each promise the rows of wrong machines that break it."""
-    rows, name = {}, ''
-    for path in sorted((ROOT / 'tests' / 'wrong-machines.d').glob('*.txt')):
-        for row, crate, law in MACHINE_ROW.findall(path.read_text(encoding='utf-8')):
-            name = row or name
-            if crate:
-                rows.setdefault((crate, law.split('::')[-1]), {})[name] = None
+    """For each promise the rows of wrong machines that break it, of those that were refuted over the definitions as they are; for
+    each clause of `Card::drive` also the wrong bodies of lapd_card that name it, of those that were refused over the code as it is."""
+    found, (rows, faults) = {}, rows_of([])
+    if faults:
+        sys.exit('reading: tests/wrong-machines.d: ' + faults[0])
+    for row in refuted_as_they_are(rows):
+        for it in row.claims:
+            found.setdefault((it.crate, it.law_name.split('::')[-1]), set()).add(row.name)
     laws = {it: [(law.split()[0], law.split()[1].split('::')[-1]) for law in it.laws()] for it in promises()}
-    return {(it.place, it.name): sorted({name for key in keys for name in rows.get(key, {})}) for it, keys in laws.items()}
+    broken = {(it.place, it.name): {name for key in keys for name in found.get(key, ())} for it, keys in laws.items()}
+    for edit, clauses in refused_as_they_are('lapd_card', uses()).items():
+        for clause in clauses:
+            if (DRIVE, clause) not in broken:
+                sys.exit('reading: %s breaks %s, which is no promise of `Card::drive`' % (edit, clause))
+            broken[(DRIVE, clause)].add(edit)
+    return {it: sorted(names) for it, names in broken.items()}
 
 
 class Statement:
@@ -97,7 +110,7 @@ class Statement:
     def __init__(self):
         self.names, self.files, self.refuted = listed(), read_all(), refuted()
         self.machine, self.below = needed(self.files, MACHINE), needed(self.files, MACHINE + PORTS)
-        places = [DRIVE, *RECORDS, *dict.fromkeys([*OF_ONE_CARD, *self.names, *OF_TWO_CARDS])]
+        places = [*CALLS, *RECORDS, *dict.fromkeys([*OF_ONE_CARD, *self.names, *OF_TWO_CARDS])]
         parts = {place: parted(rows_at(place), set(self.names.get(place, []))) for place in dict.fromkeys(places)}
         self.rows_of = {place: sorted(rows, key=lambda it, them=self.names.get(place): them.index(it.names[0]))
                         for place, (rows, _) in parts.items() if rows}
@@ -147,10 +160,12 @@ class Statement:
         shared = [it for it in next(iter(found.values())) if all(it in them for them in found.values())]
         shared = [] if len(found) == 1 and ' ' in next(iter(found)) else shared
         own = {name.rpartition(' ')[2]: [it for it in them if it not in shared] for name, them in found.items()}
-        said, parts = {}, [quoted(shared)] * bool(shared)
+        said, parts, alike = {}, [quoted(shared)] * bool(shared), {}
         for name, them in own.items():
-            parts += ['*%s*: %s' % (name, shortest(them, said))] * bool(them)
-            said[name] = them
+            alike.setdefault(tuple(them), []).append(name)
+        for them, names in alike.items():
+            parts += ['%s: %s' % (', '.join('*%s*' % it for it in names), shortest(them, said))] * bool(them)
+            said[names[0]] = them
         return '. '.join(parts)
 
     def sentence_of(self, place, row):
@@ -200,7 +215,7 @@ def parted(rows, names):
 
 def title(place):
     """What the pages call a place."""
-    return '`Card::drive`' if place == DRIVE else '`%s`' % place if place in RECORDS else 'laws of `%s`' % place
+    return '`Card::drive`' if place == DRIVE else '`%s`' % place if place in CALLS or place in RECORDS else 'laws of `%s`' % place
 
 
 def page():
@@ -237,7 +252,7 @@ def together(it):
     for place in places:
         rows = rows + it.rows_of[place]
         if place in (DRIVE, places[-1]):
-            said = title(place) if place == DRIVE else 'and all other promises of one card'
+            said = ', '.join(map(title, CALLS)) if place == DRIVE else 'and all other promises of one card'
             lines.append('|%s|%d|' % (said, it.lines(rows)))
     of_two = sum((rows for place, rows in it.rows_of.items() if place in OF_TWO_CARDS), [])
     return lines + ['|beside it, the laws of two cards|%d|' % it.lines(of_two, it.read)]

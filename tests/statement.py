@@ -4,6 +4,9 @@ import re
 import sys
 from typing import List, NamedTuple
 
+DRIVE = 'drive'
+# The calls that run lists of events, whose clauses are promises: the crate and the file of each.
+CALLS = {'drive_frames': ('laws_promises', 'frame_call'), 'drive_timed': ('laws_promises', 'timed_call'), DRIVE: ('lapd_card', 'drive')}
 PATH = pathlib.Path(__file__).resolve().parent / 'statement.txt'
 LINE = re.compile(r'(\S+) (\w+)(?: as (\w+) (\S+))?')
 
@@ -18,7 +21,7 @@ class Promise(NamedTuple):
     def laws(self) -> List[str]:
         """The laws as a row of wrong machines names them, `CRATE FUNCTION`, that break this promise."""
         crate, _, module = self.place.partition('::')
-        own = [] if crate[0].isupper() or crate == 'drive' else ['%s %s' % (crate, '::'.join(filter(None, [module, self.name])))]
+        own = [] if crate[0].isupper() or crate in CALLS else ['%s %s' % (crate, '::'.join(filter(None, [module, self.name])))]
         return own + [self.law] * bool(self.law)
 
 

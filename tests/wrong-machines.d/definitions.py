@@ -13,8 +13,15 @@ DEFINES = re.compile(r"(?:--.*\n)*(?:pub )?(?:use|abbrev|unfoldable) ")
 # The words that an import brings by a list, or by another name. And a line that hands words on.
 WORDS = re.compile(r"[^\s,{}]+(?=[,}])|(?<= as )\w+$", re.MULTILINE)
 HANDS_ON = re.compile(r"(?:unfoldable )?pub use ")
-# A type that a crate keeps to itself.
+# A type that a crate keeps to itself, and a plain one of a static library, of which no other crate can take any.
 KEPT = re.compile(r"^#\[derive\(Clone, Copy\)\]\npub\(crate\) (?:struct|enum) (\w+) \{\n(?:.+\n|\n)*?\}\n", re.MULTILINE)
+PLAIN = re.compile(
+    r"^(?:#\[repr\(C\)\]\n)?#\[derive\(Clone, Copy(?:, Debug)?\)\]\npub(?:\(crate\))? struct (\w+) \{\n(?:.+\n|\n)*?\}\n",
+    re.MULTILINE,
+)
+# What such a type may name: a constant of its file, and what that brings in of a library.
+CONSTANT = re.compile(r"^const (\w+): .*\n", re.MULTILINE)
+BROUGHT_IN = re.compile(r"^use ((?!crate\b)\w+)::(.*);", re.MULTILINE)
 # An import of a list of words.
 LIST = re.compile(r"((?:unfoldable )?(?:pub )?use )(Rattle\.[\w.]*\w)\.\{([^}]*)\}$", re.MULTILINE)
 # A module by its full name, or a word of it; and the words that an import takes of it.
@@ -56,14 +63,27 @@ def modules_of(crates, name):
     return found
 
 
-def kept_types(crates, name):
-    """Returns the types that a crate keeps to itself: for the full name of each the file of src/ that has it, and its text."""
-    found = {}
-    for file in files_in(f"{crates}/{name}/src"):
-        for it in KEPT.finditer(read(f"{crates}/{name}/src/{file}")):
-            module = file.removesuffix(".rt").replace("/", ".")
-            found[f"Rattle.{name}.specs.declared.{module}.{it[1]}"] = file, it[0]
-    return found
+def kept_types(crates, name, is_static):
+    """Returns the types that a crate keeps to itself, of a static library its plain ones: for the full name of each the file of
+    src/ that has it, what it brings in, and its text."""
+    found, codes, places = {}, {it: read(f"{crates}/{name}/src/{it}") for it in files_in(f"{crates}/{name}/src")}, {}
+    for file, code in codes.items():
+        for it in (PLAIN if is_static else KEPT).finditer(code):
+            path = f"{name}/{file.removesuffix('.rt')}/{it[1]}".split("/")
+            places[it[1]] = "::".join(["crate", *path])
+            text = re.sub(r"^ *(?:///|#\[repr).*\n", "", it[0], flags=re.MULTILINE).replace(", Debug", "")
+            found[".".join(["Rattle", name, "specs", "declared", *path[1:]])] = file, text
+    return {full: (file, *with_words(codes[file], text, places if is_static else {})) for full, (file, text) in found.items()}
+
+
+def with_words(code, text, places):
+    """Returns what a type brings in, of types of other files at these places and of libraries, and its text with the constants
+    that it names."""
+    constants = [it[0] for it in CONSTANT.finditer(code) if places and re.search(rf"\b{it[1]}\b", text)]
+    words = set(re.findall(r"\w+", "".join([*constants, text])))
+    uses = [places[it] for it in sorted(words & set(places)) if not re.search(rf"\bstruct {it}\b", code)]
+    uses += [f"{at}::{it}" for at, them in BROUGHT_IN.findall(code) for it in sorted(words & set(re.findall(r"\w+", them)))]
+    return uses if places else [], "".join([*constants, *["\n"] * bool(constants), text])
 
 
 @functools.lru_cache(maxsize=None)

@@ -1,14 +1,17 @@
 """The crate `wrong`, which has many wrong machines at once, for tests/wrong-machines. It stands on the crates as they are, and
 has a copy, for each machine, of the definitions that are changed there or stand on one that is."""
+import re
+
 from definitions import FULL, LIST, handed_on, imports_of, module_in, narrowed, words_in
 
 
 class Machine:
     """A machine: the modules of definitions, with those that are changed, and a row's laws and proofs. What it has for itself
-    stands in a folder of its own. Without a folder it is the machine as it is."""
+    stands in a folder of its own. Without a folder it is the machine as it is. Static libraries, of which no crate can take
+    anything, it has for itself."""
 
-    def __init__(self, folder, definitions, kept, changed, laws):
-        self.folder, self.laws, self.kept, self.own = folder, laws, kept, {}
+    def __init__(self, folder, definitions, kept, static, changed, laws):
+        self.folder, self.laws, self.kept, self.static, self.own = folder, laws, kept, static, {}
         self.texts = {**definitions, **changed, **laws}
         begun, more = set(), {*changed, *laws} if folder else set()
         while more:
@@ -28,28 +31,27 @@ class Machine:
 
     def has_own(self, name):
         """Returns whether a module is changed here, or stands on one that is."""
+        if name not in self.own and name.split(".")[1] in self.static:
+            self.own[name] = True
         if name not in self.own:
             imports = imports_of(self.texts, narrowed(self.texts[name], frozenset("*")))
             self.own[name] = any([self.has_own(it) for it in imports])
         return self.own[name]
 
-    def is_own(self, name):
-        return bool(self.folder) and self.has_own(name)
-
     def place(self, name):
         """Returns the full name by which this machine has a module."""
         _, crate, part, path = name.split(".", 3)
-        if self.is_own(name):
-            return ".".join(["Rattle.wrong", part, self.folder, *[crate] * (crate != "wrong"), path])
+        if self.has_own(name):
+            return ".".join(["Rattle.wrong", part, *filter(None, [self.folder]), *[crate] * (crate != "wrong"), path])
         return name
 
     def placed(self, text):
         """Returns a text with the full names of modules as this machine has them."""
 
         def named(found):
-            name, crate = module_in(self.texts, found[0]), found[0].split(".")[1]
+            name = module_in(self.texts, found[0])
             if any(found[0].startswith(it) for it in self.kept):
-                return found[0].replace(f"Rattle.{crate}.specs.declared.", f"Rattle.wrong.specs.declared.{crate}.")
+                return placed_type(found[0])
             return (self.place(name) if name else "") + found[0][len(name) :]
 
         return FULL.sub(named, LIST.sub(self.taken, text))
@@ -60,10 +62,15 @@ class Machine:
         found = {}
         for plain, word in words_in(line[3]):
             at = line[2]
-            while at in self.texts and not self.is_own(at) and plain in handed_on(self.texts[at]):
+            while at in self.texts and not self.has_own(at) and plain in handed_on(self.texts[at]):
                 at, plain = handed_on(self.texts[at])[plain]
             found.setdefault(at, []).append(plain if plain == word else f"{plain} as {word}")
         return "\n".join(f"{line[1]}{at}.{{{', '.join(words)}}}" for at, words in found.items())
+
+
+def placed_type(full):
+    """Returns the full name by which the crate `wrong` has a type that a crate keeps to itself."""
+    return re.sub(r"^Rattle\.(\w+)\.specs\.declared\.", r"Rattle.wrong.specs.declared.\1.", full)
 
 
 def written(machines):
@@ -93,12 +100,30 @@ def files_of(texts):
     return {f"{path}.antt": text for path, text in files.items()}
 
 
+def named_types(kept, texts):
+    """Returns those of the types that crates keep to themselves which modules of the crate `wrong` name, and those that these
+    bring in."""
+    all_texts, found = "\n".join(texts.values()), {}
+    places = {"::".join(["crate", crate, *path]): full for full in kept for _, crate, _, _, *path in [full.split(".")]}
+    more = {full for full in kept if f"{placed_type(full)}." in all_texts}
+    while more:
+        found.update((full, kept[full]) for full in more)
+        more = {places[it] for full in more for it in kept[full][1] if it in places} - set(found)
+    return {full: found[full] for full in kept if full in found}
+
+
 def files_of_types(kept):
     """Returns the files of src/ that have types which crates keep to themselves, by their paths, and the names of these crates."""
-    files, crates = {}, {}
-    for full, (file, text) in kept.items():
-        crate = full.split(".")[1]
-        files[f"src/{crate}/{file}"] = f"//! Types.\n\n{text}"
-        crates.setdefault(crate, []).append(file.removesuffix(".rt"))
-    files.update({f"src/{it}/mod.rt": "//! Types.\n\n" + "".join(f"mod {name};\n" for name in names) for it, names in crates.items()})
-    return files, [*crates]
+    parts, files, below = {}, {}, {}
+    for full, (file, uses, text) in kept.items():
+        brought, texts = parts.setdefault(f"{full.split('.')[1]}/{file.removesuffix('.rt')}", ({}, []))
+        brought.update(dict.fromkeys(uses))
+        texts.append(text)
+    for path, (uses, texts) in parts.items():
+        brought = "".join(f"use {it};\n" for it in uses)
+        files[f"src/{path}.rt"] = "\n".join(["//! Types.\n", *[brought] * bool(brought), *texts])
+        names = path.split("/")
+        for at in range(1, len(names)):
+            below.setdefault("/".join(names[:at]), {})[names[at]] = None
+    files.update({f"src/{at}/mod.rt": "//! Types.\n\n" + "".join(f"mod {it};\n" for it in names) for at, names in below.items()})
+    return files, [it for it in below if "/" not in it]

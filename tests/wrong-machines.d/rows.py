@@ -1,4 +1,5 @@
 """The rows of wrong machines: what each changes, the laws that it breaks, and the proofs, for tests/wrong-machines."""
+import functools
 import os
 import re
 
@@ -67,14 +68,18 @@ class Claim:
 
     def __init__(self, row, number, law, proof):
         self.crate, self.law_name, *clause = law.split()
+        # the crates of all laws of the row
+        self.together = {self.crate}
         self.clause, self.proof = clause[0] if clause else "", proof
         self.function = row.replace("-", "_") + f"_{number}" * (number > 1)
         module = row.title().replace("-", "") + str(number) * (number > 1)
         self.law_at, self.proof_at = f"Rattle.wrong.specs.{module}", f"Rattle.wrong.proofs.{module}"
 
     def law(self):
-        """Returns the imports and the text of the law, from the contract that states it."""
+        """Returns the imports and the text of the law, from the contract that states it. A name with a capital is a definition."""
         *modules, name = self.law_name.split("::")
+        if name[0].isupper():
+            return self.definition(".".join(modules), name)
         at = "/".join([f"{ROOT}/crates/{self.crate}/src", *modules])
         files = [f"{at}.rt"] if os.path.isfile(f"{at}.rt") else [f"{at}/{it}" for it in files_in(at)]
         for file in sorted(files, key=lambda it: (it.count("/"), it)):
@@ -86,6 +91,12 @@ class Claim:
                     raise Fault(f"law {self.law_name} has no clause '{self.clause}'")
                 return re.findall(r"^ghost use (.*);$", text, re.MULTILINE), clauses[self.clause]
         raise Fault(f"{self.crate} has no law {self.law_name}")
+
+    def definition(self, module, name):
+        path = f"{ROOT}/crates/{self.crate}/specs/{module.replace('.', '/')}.antt"
+        if self.clause or not os.path.isfile(path) or f"\nabbrev pub {name} : Type 0\n" not in read(path):
+            raise Fault(f"{self.crate} defines no law {self.law_name}")
+        return [f"Rattle.{self.crate}.specs.{module}.{{{name}}}"], name
 
     def of_page(self):
         return f"`{self.law_name}`" + f" (`{self.clause}`)" * bool(self.clause)
@@ -118,6 +129,8 @@ class Row:
         if len(proofs) != len(laws):
             raise Fault(f"it has {len(laws)} lines 'law:' and {len(proofs)} lines 'proof:'")
         self.claims = [Claim(name, number, *it) for number, it in enumerate(zip(laws, proofs), 1)]
+        for it in self.claims:
+            it.together = {other.crate for other in self.claims}
 
     def changed(self, texts):
         """Returns the modules that the row changes, by their full names, as it makes them of those that are there."""
@@ -179,20 +192,29 @@ def without(own, uses):
     return "".join(it for it in lists.splitlines(True) if "{}" not in it and it.split(" as ")[-1].strip() not in own)
 
 
+@functools.lru_cache(maxsize=None)
 def shared_imports():
     """Returns the imports that proofs share, by the part of which they are."""
     parts = re.split(r"^(\w+):\n", read(f"{ROWS}/uses.text"), flags=re.MULTILINE)
     return {name: text.rstrip("\n") + "\n" for name, text in zip(parts[1::2], parts[2::2])}
 
 
-def imports_for(proof, shared):
-    """Returns the imports that proofs share, of those parts of which the proof has a word that is not its own."""
+def crates_in(text):
+    """Returns the crates that a text brings in, by itself and by the shared parts that it names."""
+    return set(re.findall(r"^use Rattle\.(\w+)\.", "\n".join([text, *map(shared_part, parts_of([text]))]), re.MULTILINE))
+
+
+def imports_for(proof, shared, crates):
+    """Returns the imports that proofs share, of those parts of which the proof has a word that is not its own. A part that
+    brings in more than these crates has to be named in what the proof says, not only in an import, a field or a comment."""
     there = shared_imports()
     imported = words_in("\n".join(re.findall(r"^use .*", proof, re.MULTILINE)))
     own, used = {*imported, *re.findall(r"^(?:abbrev |unfoldable )?(?:pub )?(\S+) :", proof, re.MULTILINE)}, ""
+    body = re.sub(r"^(?:use |--).*\n|\w+ = |\.\w+", "", proof, flags=re.MULTILINE)
 
     def is_used(text):
-        return any(re.search(rf"(?<![\w-]){re.escape(it)}(?![\w-])", proof) for it in words_in(text))
+        said = proof if crates_in(text) <= crates else body
+        return any(re.search(rf"(?<![\w-]){re.escape(it)}(?![\w-])", said) for it in words_in(text))
 
     for it in shared:
         text = without(own, there[it])
@@ -206,9 +228,11 @@ def proof_of(crates, claim):
     """Returns the proof of a claim, with the imports that it shares with others."""
     needed = closure(crates, claim.crate)
     shared = [it for it, crate in SHARED.items() if not crate or crate in needed]
-    return imports_for(claim.proof, shared) + claim.proof
+    there = {"std", "wrong"}.union(*(closure(crates, it) for it in claim.together))
+    return imports_for(claim.proof, shared, there) + claim.proof
 
 
+@functools.lru_cache(maxsize=None)
 def shared_part(name):
     return read(f"{ROWS}/lemmas-{name.lower()}.text")
 

@@ -66,7 +66,7 @@ class Sums:
     """The definitions and types of crates, and sums of those that texts reach."""
 
     def __init__(self, crates, names):
-        self.texts, self.modules, self.types, self.reached = {}, {}, {}, {}
+        self.texts, self.modules, self.types, self.reached, self.read = {}, {}, {}, {}, {}
         for name in names:
             self.texts.update(modules_of(crates, name))
             for file in files_in(f"{crates}/{name}/src"):
@@ -111,12 +111,16 @@ class Sums:
 
     def text(self, node):
         """Returns a definition, with what its imports mean in it, or a type, as it is read."""
-        at, which = node
-        if at == "type":
-            return "\n".join(f"{file}\n{text}" for file, text in sorted(self.types.get(which, {}).items()))
-        module = self.module(at)
-        imports = [f"{word} {' '.join(it)}" for word, it in module.meant(module.items[which])[1].items()]
-        return "\n".join([at, spelled(module.items[which]), *imports])
+        if node not in self.read:
+            at, which = node
+            if at == "type":
+                lines = [f"{file}\n{text}" for file, text in sorted(self.types.get(which, {}).items())]
+            else:
+                module = self.module(at)
+                imports = [f"{word} {' '.join(it)}" for word, it in module.meant(module.items[which])[1].items()]
+                lines = [at, spelled(module.items[which]), *imports]
+            self.read[node] = "\n".join(lines)
+        return self.read[node]
 
     def sum_of(self, texts, changes):
         """Returns a sum of texts and of changes, and of all that they reach: of a text what its imports bring."""

@@ -545,6 +545,10 @@ LAPD_STATUS lapd_fall_due(lapd_card *card, uint64_t now, lapd_report *report);
  * is left, it has passed. LAPD_NO_TIMER: none runs. */
 LAPD_STATUS lapd_next_moment(lapd_card *card, uint64_t *moment);
 
+/* How long timers run that are started from now on. Those that run keep the lengths that they were started with.
+ * LAPD_WRONG_TIME: a length is out of range, and nothing has changed. */
+LAPD_STATUS lapd_card_set_lengths(lapd_card *card, const lapd_lengths *lengths);
+
 /* ---- What a card says of itself --------------------------------------------------------------------------------- */
 
 /* The state of the link of a service with this TEI, by its number in Q.921: 4 (TEI assigned), 5 (awaiting

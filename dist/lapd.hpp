@@ -338,6 +338,8 @@ public:
     status fall_due(uint64_t now, report &to) { return of(lapd_fall_due(&card_, now, to.raw())); }
     /// When the first timer falls due; status::no_timer if none runs.
     status next_moment(uint64_t &moment) { return of(lapd_next_moment(&card_, &moment)); }
+    /// Timers that are started from now on run so long, and those that run as long as they were to.
+    status set_lengths(const lapd_lengths &lengths) { return of(lapd_card_set_lengths(&card_, &lengths)); }
     /// A request (LAPD_ESTABLISH to LAPD_VERIFY_TEI) with its moment: while a timer is due, that falls due, and is_done is false;
     /// then the request is made, and it is true. So call it until it is done.
     status request_at(uint64_t now, uint32_t line, uint8_t request, service by, uint8_t tei, octets contents, bool &is_done,

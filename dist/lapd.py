@@ -307,7 +307,7 @@ _TAKES: Dict[str, List[Any]] = {
     "lapd_version": [],
     "lapd_card_start": [_AT, _AT], "lapd_card_start_frames": [_AT, _AT], "lapd_card_free": [_AT],
     "lapd_card_start_timed": [_AT, _AT, _AT], "lapd_card_start_frames_timed": [_AT, _AT, _AT],
-    "lapd_fall_due": [_AT, _U64, _AT], "lapd_next_moment": [_AT, _AT],
+    "lapd_fall_due": [_AT, _U64, _AT], "lapd_next_moment": [_AT, _AT], "lapd_card_set_lengths": [_AT, _AT],
     "lapd_octet": [_AT, _U32, _U8, _AT], "lapd_pull": [_AT, _U32, _AT, _AT],
     "lapd_exchange": [_AT, _U32, _AT, _SIZE, _AT, _SIZE, _AT, _AT],
     "lapd_frame": [_AT, _U32, _AT, _SIZE, _AT], "lapd_frame_failed": [_AT, _U32, _U8, _AT],
@@ -782,12 +782,16 @@ class FrameCard(AnyCard):
         return line.value if is_there else None
 
 
+def _lengths(*milliseconds: int) -> _Lengths:
+    return _Lengths(*(_whole(_U32, it) for it in milliseconds))
+
+
 class _Timed(AnyCard):
     """What a card that keeps its own timers does besides: its reports have no orders. Its calls happen at the moment of
     `fall_due`, and at 0 before the first: so tell it the time before all else."""
 
     def __init__(self, config: Config, t200: int = 1000, t203: int = 10000, t201: int = 1000, t202: int = 2000) -> None:
-        self._lengths = _Lengths(*(_whole(_U32, it) for it in (t200, t203, t201, t202)))
+        self._lengths = _lengths(t200, t203, t201, t202)
         super().__init__(config)
 
     def _begin(self, config: Config) -> None:
@@ -812,6 +816,11 @@ class _Timed(AnyCard):
         moment = ctypes.c_uint64()
         is_there = _unless(Status.NO_TIMER, "lapd_next_moment", self._at, ctypes.byref(moment))
         return moment.value if is_there else None
+
+    def set_lengths(self, t200: int = 1000, t203: int = 10000, t201: int = 1000, t202: int = 2000) -> None:
+        """Timers that are started from now on run so many milliseconds, and those that run as long as they were to."""
+        lengths = _lengths(t200, t203, t201, t202)
+        _call("lapd_card_set_lengths", self._at, ctypes.byref(lengths))
 
 
 class TimedCard(_Timed, Card):

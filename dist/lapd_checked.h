@@ -133,6 +133,13 @@ LAPD_INLINE_STATUS lapd_checked_next_moment(lapd_card *card, uint64_t *moment) {
 }
 #define lapd_next_moment lapd_checked_next_moment
 
+LAPD_INLINE_STATUS lapd_checked_card_set_lengths(lapd_card *card, const lapd_lengths *lengths) {
+    if (card == LAPD_NULL || lengths == LAPD_NULL)
+        return LAPD_WRONG_POINTER;
+    return lapd_card_set_lengths(card, lengths);
+}
+#define lapd_card_set_lengths lapd_checked_card_set_lengths
+
 LAPD_INLINE_STATUS lapd_checked_state(lapd_card *card, uint32_t line, uint8_t service, uint8_t tei, uint8_t *state) {
     if (card == LAPD_NULL || state == LAPD_NULL)
         return LAPD_WRONG_POINTER;

@@ -5,7 +5,7 @@
  *     cc -O2 -o lapdsim lapdsim.c
  *
  * Made by wasm-opt 108 (binaryen) and wasm2c 1.0.32 (wabt) of a module with the sum
- * fa68be5266eec0935d4dd2c330207d722c604928c1a11b6f5655b3894bc7c53a.
+ * bf59f1e74ff6ccc744149b48863aeb0d6590be272a03dbbbf5358acdf30304f2.
  *
  * The code is proved, each function of it, in Rattle. Proofs end with the code as the kit's compiler has it. From there on nothing
  * is proved, and all is tested: that code is compiled for WebAssembly by the kit's clang, wasm-opt lowers its addresses and splits its
@@ -17430,11 +17430,12 @@ i64_store(AT(w_l4, 0), 0ull);
 i32_store(AT(w_l4, 8), 0u);
 w_l18 = i64_load(AT(w_p1, 0));
 if ((w_l18 & 4278190080ull) != 100663296ull) goto w_B2;
-w_l19 = i64_load8_u(AT(w_p0, 20));
-if (w_l19 > 1ull) goto w_B2;
-w_l20 = i64_load(AT(w_p1, 16));
+w_l19 = i64_load(AT(w_p1, 16));
+if (w_l19 > i64_load16_u(AT(w_p0, 16))) goto w_B2;
+w_l20 = i64_load8_u(AT(w_p0, 20));
+if (w_l20 > 1ull) goto w_B2;
 w_l21 = i64_load(AT(w_p1, 8));
-switch ((u32)w_l19) {
+switch ((u32)w_l20) {
 case 0: goto w_B3;
 case 1: goto w_B1;
 default: goto w_B3;
@@ -17458,7 +17459,7 @@ i64_store(AT(w_l4, 80), 0ull);
 i32_store(AT(w_l4, 88), 0u);
 i64_store(AT(w_l4, 64), 0ull);
 i32_store(AT(w_l4, 72), 0u);
-if (w_l20 != 5ull) goto w_B9;
+if (w_l19 != 5ull) goto w_B9;
 if (i32_load8_u(AT(w_l21, 0)) != 15u) goto w_B9;
 w_l90 = i32_load8_u(AT(w_l21, 4));
 if (!(w_l90 & 1u)) goto w_B9;
@@ -17813,14 +17814,14 @@ if (i32_load8_u(AT(w_p0, 40)) != 1u) goto w_B7;
 if (i32_load8_u(AT(w_p0, 96)) != 1u) goto w_B7;
 w_l97 = i32_load(AT(w_p0, 97));
 i32_store(AT(w_l4, 96), w_l97);
-if (w_l20 < 4ull) goto w_B7;
-if ((w_l20 - 69ull) < 18446744073709551553ull) goto w_B7;
+if (w_l19 < 4ull) goto w_B7;
+if ((w_l19 - 69ull) < 18446744073709551553ull) goto w_B7;
 if ((i32_load8_u(AT(w_l21, 0)) & 255u) != 15u) goto w_B7;
 if ((i32_load8_u(AT(w_l21, 3)) & 255u) != 5u) goto w_B7;
-w_l6 = w_l20 - 4ull;
-w_l5 = 5ull - w_l20;
-w_l7 = w_l21 + 4ull;
-w_p1 = w_l7;
+w_l7 = w_l19 - 4ull;
+w_l5 = 5ull - w_l19;
+w_l6 = w_l21 + 4ull;
+w_p1 = w_l6;
 w_L57:;
 if (i32_load8_u(AT(w_p1, 0)) & 1u) goto w_B56;
 w_p1 = w_p1 + 1ull;
@@ -17832,10 +17833,10 @@ w_B56:;
 if (w_l5 != 0ull) goto w_B7;
 w_l98 = w_l97 & 255u;
 w_L58:;
-if (!w_l6) goto w_B7;
-w_l99 = i32_load8_u(AT(w_l7, 0));
-w_l6 = w_l6 - 1ull;
-w_l7 = w_l7 + 1ull;
+if (!w_l7) goto w_B7;
+w_l99 = i32_load8_u(AT(w_l6, 0));
+w_l7 = w_l7 - 1ull;
+w_l6 = w_l6 + 1ull;
 if ((w_l99 >> 1) != w_l98) goto w_L58;
 w2c_f92(instance, w_l4 + 168ull, w_l22, w_l4 + 96ull);
 w_l81 = i32_load(AT(w_l4, 169));
@@ -17850,7 +17851,7 @@ w_l5 = i64_load8_u(AT(w_l4, 192));
 w_l82 = i32_load8_u(AT(w_l4, 168));
 goto w_B6;
 w_B8:;
-if (w_l20 == 5ull) goto w_B62;
+if (w_l19 == 5ull) goto w_B62;
 w_l78 = 1u;
 goto w_B61;
 w_B62:;

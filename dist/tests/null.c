@@ -180,6 +180,12 @@ void check_null(void) {
     wants(lapd_next_moment(&card, NULL) == LAPD_WRONG_POINTER && memcmp(&own, &was, sizeof own) == 0,
           "lapd_next_moment with null for moment");
     fresh();
+    wants(lapd_card_set_lengths(NULL, &own.at_lapd_lengths) == LAPD_WRONG_POINTER && memcmp(&own, &was, sizeof own) == 0,
+          "lapd_card_set_lengths with null for card");
+    fresh();
+    wants(lapd_card_set_lengths(&card, NULL) == LAPD_WRONG_POINTER && memcmp(&own, &was, sizeof own) == 0,
+          "lapd_card_set_lengths with null for lengths");
+    fresh();
     wants(lapd_state(NULL, 0, 0, 64, &own.at_uint8_t) == LAPD_WRONG_POINTER && memcmp(&own, &was, sizeof own) == 0,
           "lapd_state with null for card");
     fresh();

@@ -341,9 +341,9 @@ static fault obeyed(station *b, const command *c) {
     if (c->verb == WAIT)
         return wait(b, c->numbers[0]);
     if (c->verb == TIMERS) {
-        const uint32_t *lengths = c->numbers;
-        want_ok(b->is_timed ? LAPD_WRONG_CARD : LAPD_OK, "lengths after the start");
-        uint32_t status = lapd_clock_set_lengths(&b->clock, lengths[0], lengths[1], lengths[2], lengths[3]);
+        const lapd_lengths of = {c->numbers[0], c->numbers[1], c->numbers[2], c->numbers[3]};
+        uint32_t status = b->is_timed ? lapd_card_set_lengths(&b->card, &of)
+                                      : lapd_clock_set_lengths(&b->clock, of.t200, of.t203, of.t201, of.t202);
         return status == LAPD_OK ? NO_FAULT : BAD_NUMBER;
     }
     if (c->verb == STORED) {

@@ -26,7 +26,7 @@ typedef struct {
     lapd_card card;
     lapd_clock clock;
     uint64_t now;
-    bool is_timed;    /* the card keeps its own timers, and there is no clock; a script that changes their lengths is none for it */
+    bool is_timed;    /* the card keeps its own timers, and there is no clock */
     bool by_exchange; /* every pull is one of lapd_exchange; lines `rx LINE OCTET` and `pull LINE 1` in turn are one run of it */
     bool for_frames;
     station_run run; /* what is not handed over yet */

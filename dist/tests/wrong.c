@@ -14,6 +14,7 @@ static lapd_clock clock, no_clock;
 static const lapd_config of_card = {.lines = 2, .terminals = 2, .k = 1, .k16 = 1, .queue = 1, .unit_queue = 1, .control = 2,
                                     .slots = 1, .n201 = 8, .n200 = 1};
 static const lapd_lengths lengths = {.t200 = 1000, .t203 = 10000, .t201 = 1000, .t202 = 2000};
+static const lapd_lengths too_short = {.t200 = 0, .t203 = 1, .t201 = 1, .t202 = 1};
 static const uint8_t octets[16] = {0};
 
 /* What calls write to. */
@@ -89,6 +90,7 @@ static void no_card(void) {
     ANSWERS(LAPD_NO_CARD, lapd_line_down(&none, 0, &own.place, &own.report));
     ANSWERS(LAPD_NO_CARD, lapd_fall_due(&none, 0, &own.report));
     ANSWERS(LAPD_NO_CARD, lapd_next_moment(&none, &own.moment));
+    ANSWERS(LAPD_NO_CARD, lapd_card_set_lengths(&none, &lengths));
     ANSWERS(LAPD_NO_CARD, lapd_state(&none, 0, LAPD_CALL, 64, &own.octet));
     ANSWERS(LAPD_NO_CARD, lapd_next_link(&none, 0, &own.place, &own.link));
     ANSWERS(LAPD_NO_CARD, lapd_room(&none, 0, LAPD_CALL, 64, &own.room));
@@ -133,6 +135,7 @@ static void wrong_card(void) {
     ANSWERS(LAPD_WRONG_CARD, lapd_next_waiting(&card, 0, &own.number));
     ANSWERS(LAPD_WRONG_CARD, lapd_fall_due(&card, 0, &own.report));
     ANSWERS(LAPD_WRONG_CARD, lapd_next_moment(&card, &own.moment));
+    ANSWERS(LAPD_WRONG_CARD, lapd_card_set_lengths(&card, &too_short));
 }
 
 static void wrong_words(void) {
@@ -155,6 +158,7 @@ static void wrong_words(void) {
     ANSWERS(LAPD_WRONG_TEI, lapd_room(&card, 0, LAPD_CALL, 127, &own.room));
     ANSWERS(LAPD_WRONG_TIME, lapd_fall_due(&timed, 4, &own.report));
     ANSWERS(LAPD_WRONG_TIME, lapd_fall_due(&timed, LAPD_LATEST, &own.report));
+    ANSWERS(LAPD_WRONG_TIME, lapd_card_set_lengths(&timed, &too_short));
     ANSWERS(LAPD_NO_FRAME, lapd_next_frame(&timed, 0, own.out, sizeof own.out, &own.length, &own.report));
     ANSWERS(LAPD_NO_FRAME, lapd_next_waiting(&timed, 0, &own.number));
     ANSWERS(LAPD_NO_TIMER, lapd_next_moment(&timed, &own.moment));
@@ -233,7 +237,6 @@ static void bad_fields(void) {
 }
 
 static void wrong_starts(void) {
-    const lapd_lengths too_short = {.t200 = 0, .t203 = 1, .t201 = 1, .t202 = 1};
     ANSWERS(LAPD_SECOND_START, lapd_card_start(&card, &of_card));
     ANSWERS(LAPD_SECOND_START, lapd_card_start_frames(&card, &of_card));
     ANSWERS(LAPD_SECOND_START, lapd_card_start_timed(&timed, &of_card, &lengths));

@@ -38,16 +38,6 @@ class Words(NamedTuple):
         name = MESSAGES.get(info[3])
         return f"{name}, Ri {info[1:3].hex().upper()}, Ai {info[4] >> 1}" if name else ""
 
-    def several(self) -> str:
-        """The same of a check response with several Ai: an octet each, with bit 1 at 0 in all but the last (Q.921 clause 5.3.6)."""
-        info = self.info
-        if (self.sapi, self.name) != (63, "ui") or len(info) < 6 or (info[0], info[3]) != (0x0F, 5):
-            return ""
-        *before, last = info[4:]
-        if not last & 1 or any(it & 1 for it in before):
-            return ""
-        return f"{MESSAGES[5]}, Ri {info[1:3].hex().upper()}, Ai {' '.join(str(it >> 1) for it in info[4:])}"
-
 
 def digits(octets: bytes) -> str:
     """Octets as transcripts have them."""

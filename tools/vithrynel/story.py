@@ -35,7 +35,7 @@ def of_frame(at: int, kind: str, octets: bytes, is_of_network: bool) -> Row:
     words = read(octets, is_of_network)
     if isinstance(words, Words):
         head, info = (f"{words.head()} info", digits(words.info)) if words.info else (words.head(), "")
-        return Row(at, kind, head, info, words.meaning() or words.several())
+        return Row(at, kind, head, info, words.meaning())
     return Row(at, kind, "octets", digits(octets), f"no frame: {words}")
 
 

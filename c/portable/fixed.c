@@ -5,7 +5,6 @@
 #define FUNC_PROLOGUE const u32 limit = OWN(instance)->octets; (void)limit
 #define LIMIT limit
 #define LOAD_DATA(memory, at, octets, count) memcpy(MEMORY(instance) + (at), octets, count)
-#define wasm_rt_allocate_memory(memory, least, most) (void)0
 
 static inline u32 wasm_rt_grow_memory(machine *instance, u32 pages) {
     (void)instance;

@@ -4,7 +4,6 @@
 #define FUNC_PROLOGUE (void)instance
 #define LIMIT (u32)instance->octets
 #define LOAD_DATA(memory, at, octets, count) memcpy(MEMORY(instance) + (at), octets, count)
-#define wasm_rt_allocate_memory(memory, least, most) (void)0
 
 enum { PAGE = 65536, MOST_PAGES = 65535 };
 

@@ -10,6 +10,7 @@ int main(int count, char **given) {
     }
     init_globals(&whole);
     init_memories(&whole);
+    init_rest(&whole);
     int status = (int)w2c_main(&whole, 0, 0);
     free(whole.data);
     return status;

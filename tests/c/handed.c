@@ -23,8 +23,8 @@ static void fail(const char *what, u32 one, u32 other) {
     exit(1);
 }
 
-/* The stack begins at STACK and goes down to 0; the lower half of it is filled. */
-enum { STACK = 9216, FILL = 0xA5 };
+/* The stack begins at STACK, which lapd.c has, and goes down to 0; the lower half of it is filled. */
+enum { FILL = 0xA5 };
 
 static machine *filled(u64 heap) {
     machine *instance = new_machine(heap);

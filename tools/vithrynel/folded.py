@@ -14,7 +14,7 @@ from .static_library import NotBuilt
 from .statements import alive, NAME, next_of, SLOT, Statement, statements, surely_set
 
 # An access goes less than so far ahead of the place that is tested. One place is as good as another only where none wraps:
-# an access nearer to 0 than this would lie at the far end of the stack (portable.STACK), where none is.
+# an access nearer to 0 than this would lie at the far end of the stack (united.STACK), where none is.
 AHEAD = 512
 # So long is an expression at most.
 LONGEST = 240
@@ -340,7 +340,8 @@ def folded_function(head: str, body: str) -> str:
     used = sorted(set(re.findall(r"\bw_[ijl]\d+\b", "\n".join(rows))), key=lambda it: (int(it[3:]), it))
     kinds.update((it, {"i": "u32", "j": "u64"}[it[2]]) for it in used if it[2] != "l")
     of = {kind: [it + " = 0" * (it[2] == "l") for it in used if kinds[it] == kind] for kind in ("u32", "u64")}
-    return head + "\n".join([*declared("u32", of["u32"]), *declared("u64", of["u64"]), "FUNC_PROLOGUE;", *rows, "}"]) + "\n"
+    unused = [f"(void){it};" for it in re.findall(r"w_p\d+", head) if not re.search(rf"\b{it}\b", "\n".join(rows))]
+    return head + "\n".join([*declared("u32", of["u32"]), *declared("u64", of["u64"]), "FUNC_PROLOGUE;", *unused, *rows, "}"]) + "\n"
 
 
 def folded(body: str) -> str:

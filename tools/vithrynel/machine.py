@@ -1,5 +1,4 @@
-"""What wabt's wasm2c makes of a module, as the middle of a file in C99: for the card (portable.py) and for the simulator
-(portable_program.py). A function a step:
+"""What wabt's wasm2c makes of a module, as the middle of files in C99: united.py takes it apart. A function a step:
 
     split       wasm-opt gives each value of the module a variable of its own: so folded.py finds what is a sum of another
     machine     wasm2c's output without its own head: the parts are found by what they say
@@ -55,7 +54,8 @@ def machine(wasm: str, folder: str) -> Machine:
     base = part(body, r"instance->w2c___heap_base = (\d+)ull;", "where the heap begins")
     pages = part(body, r"wasm_rt_allocate_memory\(&instance->w2c_memory, (\d+), \d+\);", "pages of memory")
     body = body.replace(part(body, r"^(static void init_data_instances\([^)]*\) \{\n\}\n)", "data that are put in later"), "")
-    return Machine(plain(fields), folded(plain(body)), int(base), int(pages))
+    functions = folded(plain(body)).replace("instance->", "OWN(instance)->")
+    return Machine(plain(fields), functions, int(base), int(pages))
 
 
 def plain(body: str) -> str:
@@ -87,8 +87,9 @@ Made by {by} of a module with the sum
 {sum}.
 
 The code is proved, each function of it, in Rattle. Proofs end with the code as the kit's compiler has it. From there on nothing
-is proved, and all is tested: that code is compiled for WebAssembly by the kit's clang, wasm-opt lowers its addresses and splits its
-variables, wasm2c writes the module as C, and folded.py of the repository makes statements of its instructions."""
+is proved, and all is tested: that code is compiled for WebAssembly by the kit's clang, the library and the simulator as one module
+in which what both have stands once (shared.py of the repository). wasm-opt lowers its addresses and splits its variables, wasm2c
+writes the module as C, and folded.py makes statements of its instructions."""
 
 
 def comment(text: str, wasm: str) -> str:

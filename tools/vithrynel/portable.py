@@ -1,5 +1,6 @@
-"""The card as one file in C99, for each processor: what machine.py has of the module of tools/vithrynel/wasm.py, between the
-parts of c/portable, and what turns a caller's structs to the module's memory and back. A function a step:
+"""The card as one file in C99, for each processor: what united.py has of the library, between the parts of c/portable, and what turns a
+caller's structs to the module's memory and back. lapdsim.c (portable_program.py) includes it with LAPD_SIMULATOR, and so takes the
+functions that both have. A function a step:
 
     marshalling   a struct's fields to the module's memory, or from there, by the table that header.structs has
     call          a function of lapd.h over the machine's
@@ -11,9 +12,9 @@ from typing import Dict, List, Tuple
 
 from .checked import tag, tests, wrapped
 from .header import Field, Function, Parameter, Struct, functions, numbers, structs
-from .machine import AHEAD, WIDEST, Machine, asked_for, comment, content, machine
-from .static_library import built, module
-from .wasm import need, put, wasm
+from .machine import AHEAD, WIDEST, asked_for, comment, content
+from .united import PROGRAM_STACK, STACK, United, united
+from .wasm import put
 
 # Each function of these has its own text in c/portable/card.c; the others are written here.
 BY_HAND = ("lapd_version", "lapd_card_start", "lapd_card_start_frames", "lapd_clock_start", "lapd_card_free", "lapd_clock_free",
@@ -34,9 +35,6 @@ MOST = {"lapd_frame": numbers()["LAPD_MOST_FRAME"] + 1, "lapd_request": numbers(
         "lapd_next_frame": numbers()["LAPD_MOST_FRAME"]}
 # Octets of an exchange that are handed over at a time, and the room for a report.
 RUN, REPORT = 256, -(-structs()["lapd_report"].octets // 16) * 16
-# Octets of stack in a machine's memory, where C's own has the rest; calls were seen to take less than half, and one that takes
-# more ends the program, as the stack lies at the memory's beginning.
-STACK = 9216
 WIDTH = {"uint8_t": 8, "uint16_t": 16, "uint32_t": 32, "uint64_t": 64, "size_t": 64}
 LOADS = {8: "i32_load8_u", 16: "i32_load16_u", 32: "i32_load", 64: "i64_load"}
 STORES = {8: "i32_store8", 16: "i32_store16", 32: "i32_store", 64: "i64_store"}
@@ -232,28 +230,49 @@ def other_octets() -> int:
     return max(16 + 2 * RUN, *(it.octets for it in calls()))
 
 
-def own_octets(made: Machine) -> int:
+def own_octets(made: United) -> int:
     """So many octets a machine takes beside its heap: its data and stack, what is handed over, what is behind it, and 64 of
     its own."""
-    return -(-made.heap_base // 16) * 16 + 16 + REPORT + other_octets() + AHEAD + WIDEST + 64
+    return made.places + 16 + REPORT + other_octets() + AHEAD + WIDEST + 64
 
 
-def portable(made: Machine, head: str) -> str:
-    struct = ("/* A card or a clock: its memory. Before it lie WebAssembly's globals, and how many octets it has. */\ntypedef u8 machine;\n"
-              f"typedef struct {{\n{made.fields}u32 octets;\n}} own;\n")
+def machines(made: United) -> str:
+    """What a machine is, and its memory: a card's or a clock's, or the simulator's."""
+    return f"""\
+#ifndef LAPD_SIMULATOR
+{memory()}
+/* A card or a clock: its memory. Before it lie WebAssembly's globals, and how many octets it has. */
+typedef u8 machine;
+typedef struct {{
+{made.fields}u32 octets;
+}} own;
+enum {{ STACK = {STACK} }};
+{content("c/portable/fixed.c")}
+#else
+/* The program: WebAssembly's globals and memory. */
+typedef struct {{
+{made.fields}u64 octets, room;
+u8 *data;
+}} machine;
+enum {{ STACK = {PROGRAM_STACK}, PAGES = {made.pages} }};
+{content("c/portable/growing.c")}
+#endif
+"""
+
+
+def portable(made: United, head: str) -> str:
     movers = marshalling()
-    made = made._replace(functions=made.functions.replace("instance->", "OWN(instance)->"))
-    loads = asked_for(content("c/portable/memory.c"), made.functions + movers)
+    loads = asked_for(content("c/portable/memory.c"), made.both + made.library + movers)
     return "\n".join([
-        head, content("c/portable/choices.c"), f"enum {{ AHEAD = {AHEAD}, WIDEST = {WIDEST} }};\n", content("c/portable/head.c"), memory(),
-        struct, content("c/portable/fixed.c"), loads,
-        "/* ---- What wasm2c made of the proved library ---- */\n", made.functions,
-        f"enum {{ PLACES = {-(-made.heap_base // 16) * 16}, REPORT_OCTETS = {REPORT}, OTHER_OCTETS = {other_octets()}, RUN = {RUN} }};\n",
-        content("c/portable/handed.c"),
-        movers, content("c/portable/card.c"), *(it.text() for it in calls())])
+        head, "/* lapdsim.c includes this file with LAPD_SIMULATOR, and so takes what it has in common with the library. */",
+        "#ifndef LAPD_SIMULATOR", content("c/portable/choices.c"), f"#endif\n\nenum {{ AHEAD = {AHEAD}, WIDEST = {WIDEST} }};\n",
+        content("c/portable/head.c"), machines(made), loads,
+        "/* ---- What wasm2c made of the proved library: what lapdsim.c has, too ---- */\n", made.begin, made.both,
+        "#ifndef LAPD_SIMULATOR\n/* ---- And what it has not ---- */\n", made.library,
+        f"enum {{ PLACES = {made.places}, REPORT_OCTETS = {REPORT}, OTHER_OCTETS = {other_octets()}, RUN = {RUN} }};\n",
+        content("c/portable/handed.c"), movers, content("c/portable/card.c"), *(it.text() for it in calls()), "#endif\n"])
 
 
-NAME = "lapd_c"
 WRITTEN = ("lapd.c", "lapd.h", "lapd_checked.h", "lapd_memory.h", "README")
 COMMENT = """\
 lapd.c: the whole of lapd.h in one file, for each processor. Written by tools/portable of Vithrynel; not to be edited.
@@ -284,19 +303,15 @@ No access leaves a card's block: one that would ends the program by abort(), whi
 leaves that test out. A compiler that does not tell the order of octets as GCC does wants -DLAPD_BIG_END_FIRST=0 or 1."""
 
 
-def card_of(over_gate: bool, folder: str) -> Tuple[str, str]:
-    """lapd.c by all steps, in a folder that is empty; and what is to be said of its memory."""
-    need("wasm-opt", "wasm2c")
-    built(NAME, over_gate=over_gate, with_module=True)
-    module_of = wasm(module(NAME), exports(), folder, STACK)
-    made = machine(module_of, folder)
-    return portable(made, comment(COMMENT, module_of)), MEMORY.format(own=own_octets(made))
+def card_of(made: United) -> Tuple[str, str]:
+    """lapd.c, and what is to be said of its memory."""
+    return portable(made, comment(COMMENT, made.wasm)), MEMORY.format(own=own_octets(made))
 
 
 def written(to: str, over_gate: bool = False) -> None:
     """lapd.c, its headers and a page, in a folder."""
     with tempfile.TemporaryDirectory(prefix="portable-") as folder:
-        card, memory_of = card_of(over_gate, folder)
+        card, memory_of = card_of(united(exports(), folder, over_gate))
         for name, text in zip(WRITTEN, (card, *(content(f"include/{it}") for it in WRITTEN[1:-1]), README.format(memory=memory_of))):
             with open(f"{folder}/{name}", "w", encoding="utf-8") as file:
                 file.write(text)

@@ -16,11 +16,10 @@ from .machine import content
 from .page import page, version
 from .page_module import module_of
 from .page_module import NAME as PAGE
-from .portable import NAME as LIBRARY
-from .portable import card_of
-from .portable_program import NAME as PROGRAM
-from .portable_program import program_of
+from .portable import card_of, exports
+from .portable_program import program
 from .static_library import HOST, module
+from .united import LIBRARY, PROGRAM, united
 from .wasm import logic, put, versions
 
 # What is copied, from where.
@@ -72,11 +71,10 @@ def release(over_gate: bool) -> Dict[str, bytes]:
     """Each file, SHA256SUMS last."""
     made: Dict[str, bytes] = {}
     with tempfile.TemporaryDirectory(prefix="release-") as folder:
-        for name in ("card", "program"):
-            os.makedirs(f"{folder}/{name}")
-        card, portable = card_of(over_gate, f"{folder}/card")
+        both = united(exports(), folder, over_gate)
+        card, portable = card_of(both)
         made["lapd.c"] = card.encode("ascii")
-        made["lapdsim.c"] = program_of(over_gate, f"{folder}/program").encode("ascii")
+        made["lapdsim.c"] = program(both, card).encode("ascii")
     made["lapd.S"] = assembly(over_gate).encode("ascii")
     made["lapd.html"] = page(module_of(None, over_gate)).encode()
     made.update(copied())

@@ -53,21 +53,21 @@ def clang() -> str:
     return f"{kit()}/toolchain/bin/clang"
 
 
-def for_wasm(source: str, folder: str) -> str:
-    """The compiler's module as an object for WebAssembly. Its functions name a processor that this target has not; clang says
-    so, and goes on."""
+def for_wasm(source: str, folder: str, to: str = "module.o", words: Iterable[str] = ("-c",)) -> str:
+    """What clang makes of the compiler's module for WebAssembly: an object, or by other words another file. Its functions name a
+    processor that this target has not; clang says so, and goes on."""
     try:
-        run([clang(), *TARGET, *SECTIONS, "-Wno-override-module", "-O2", "-c", "-x", "ir", source, "-o", "module.o"], folder)
+        run([clang(), *TARGET, *SECTIONS, "-Wno-override-module", "-O2", *words, "-x", "ir", source, "-o", to], folder)
     except NotBuilt as fault:
         if NO_TARGET not in str(fault):
             raise
         raise NotBuilt("the kit's clang has no WebAssembly: README.md names a kit whose clang has it") from None
-    return f"{folder}/module.o"
+    return f"{folder}/{to}"
 
 
-def memory_for_wasm(folder: str) -> str:
+def memory_for_wasm(folder: str, words: Iterable[str] = ()) -> str:
     strict = ["-std=c99", "-ffreestanding", "-Wall", "-Wextra", "-Werror"]
-    run([clang(), *TARGET, *SECTIONS, *strict, "-O2", "-c", f"{ROOT}/c/module.c", "-o", "memory.o"], folder)
+    run([clang(), *TARGET, *SECTIONS, *strict, "-O2", *words, "-c", f"{ROOT}/c/module.c", "-o", "memory.o"], folder)
     return f"{folder}/memory.o"
 
 
@@ -86,11 +86,11 @@ def lowered(wide: str, folder: str) -> str:
     return f"{folder}/module.wasm"
 
 
-def wasm(source: str, exports: Iterable[str], folder: str, stack: int = STACK, has_imports: bool = False) -> str:
+def wasm(source: str, exports: Iterable[str], folder: str, stack: int = STACK) -> str:
     """All steps from the compiler's module: the path of module.wasm in the folder, which is to be empty."""
     need("wasm-opt")
     objects = [for_wasm(source, folder), memory_for_wasm(folder)]
-    return lowered(linked(objects, exports, folder, stack, has_imports), folder)
+    return lowered(linked(objects, exports, folder, stack), folder)
 
 
 def wasm_of(name: str, exports: Iterable[str], to: str, over_gate: bool = False) -> None:

@@ -7,8 +7,8 @@ pub begun_by : (octets first : List ℕ) (size : ℕ) → first ≡ first_four o
 begun_by octets first size four long some = grind (arith, lt-ltb)
 
 -- One octet more is given.
-pub Stands-octet : (old new : Framing) (octet : ℕ) (items : List Item) (given : List ℕ) → low_bits 8 octet ++ new.left ≡ refilled old.left → new.held ≡ still_held new.left old.held → new.begun ≡ old.begun → FramerStands old items given → FramerStands new (with_idle old.left items) (given ++ octet ∷ [])
-Stands-octet old new octet items given bits_are held_is begun_is s =
+pub Stands-octet : (old new : Framing) (octet : ℕ) (items : List Item) (given : List ℕ) → low_bits 8 octet ++ new.left ≡ refilled old.left → new.held ≡ still_held new.left old.held → new.begun ≡ old.begun → new.loaded ≡ old.loaded → FramerStands old items given → FramerStands new (with_idle old.left items) (given ++ octet ∷ [])
+Stands-octet old new octet items given bits_are held_is begun_is loaded_is s =
     let moved : bits given ++ (low_bits 8 octet ++ new.left) ≡ bits (given ++ octet ∷ []) ++ new.left =
     sym (append_assoc (bits given) (low_bits 8 octet) new.left) ∙ ap (λ l. l ++ new.left) (sym (bits-push given octet)) in
     ⊎_elim
@@ -27,6 +27,7 @@ Stands-octet old new octet items given bits_are held_is begun_is s =
           ∙ moved;
       held = rw (lt-ltb (length new.left) 8 fewer) (rw (lt-ltb (length new.left) 8 fewer) at held_is);
       begun = begun_is ∙ s.begun ∙ ap head_of (sym (latest-push items idle));
+      loaded = loaded_is ∙ s.loaded ∙ sym (latest-push items idle);
     })
     (λ enough.
     let taken : low_bits 8 octet ++ new.left ≡ old.left = rw (le-ltb (length old.left) 8 enough) at bits_are in
@@ -36,9 +37,10 @@ Stands-octet old new octet items given bits_are held_is begun_is s =
       text = s.text ∙ ap (λ l. bits given ++ l) (sym taken) ∙ moved;
       held = held_is ∙ ap (still_held new.left) same;
       begun = begun_is ∙ s.begun;
+      loaded = loaded_is ∙ s.loaded;
     })
     (cases_lt (length old.left) 8)
 
 -- One frame more is loaded.
-pub Stands-load : (old new : Framing) (octets : List ℕ) (latest : ℕ) (items : List Item) (given : List ℕ) → new.left ≡ old.left ++ item_text (frame octets) → new.held ≡ still_held new.left latest → latest ≡ length octets → new.begun ≡ head_of octets → FramerStands old items given → FramerStands new (items ++ frame octets ∷ []) given
-Stands-load old new octets latest items given left_is held_is latest_is begun_is s = grind (arith, length-append, line_text-push, append_assoc, le-ltb, last_octets-push, latest-push)
+pub Stands-load : (old new : Framing) (octets : List ℕ) (latest : ℕ) (items : List Item) (given : List ℕ) → new.left ≡ old.left ++ item_text (frame octets) → new.held ≡ still_held new.left latest → latest ≡ length octets → new.begun ≡ head_of octets → new.loaded ≡ octets → FramerStands old items given → FramerStands new (items ++ frame octets ∷ []) given
+Stands-load old new octets latest items given left_is held_is latest_is begun_is loaded_is s = grind (arith, length-append, line_text-push, append_assoc, le-ltb, last_octets-push, latest-push)

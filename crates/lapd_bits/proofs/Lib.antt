@@ -20,3 +20,4 @@ pub mod StuffedText
 pub mod FramerGiven
 pub mod FramerStands
 pub mod FramerLoad
+pub mod ReadBack

@@ -8,4 +8,5 @@ pub mod Unstuffer
 pub mod FlagEnd
 pub mod Stuffer
 pub mod FramerText
+pub mod Reading
 pub mod FramerFields

@@ -1,5 +1,5 @@
 //! What goes out on a line (clauses 2.2, 2.6 and 2.7): frames, and idle flags between them.
-ghost use Rattle.std.specs.Prelude.{◌≡◌, ℕ, ◌+◌, ◌<◌, ◌≤◌, ◌↔◌, List, [], ◌∷◌, ◌++◌, length, take, min, IsTrue, None, IfOk};
+ghost use Rattle.std.specs.Prelude.{◌≡◌, ℕ, ◌+◌, ◌<◌, ◌≤◌, ◌↔◌, List, [], ◌∷◌, ◌++◌, length, take, drop, min, IsTrue, None, IfNone, IfOk, IfSome};
 ghost use Rattle.model_bits.specs.Bits.{low_bits, flag, number_of};
 ghost use Rattle.model_bits.specs.Heads.{head_of};
 ghost use Rattle.model_bits.specs.Sent.{Item, frame, item_text};
@@ -7,6 +7,7 @@ ghost use Rattle.model_bits.specs.Framer.{Framing, FramerStands, refilled, with_
 
 use crate::check::fcs_of_both;
 use crate::heads::keep_first_four;
+use crate::reading::Reading;
 use crate::start_fault::StartFault;
 use crate::stuffed_text::StuffedText;
 use crate::waiting::{FLAG, Waiting};
@@ -31,6 +32,8 @@ pub struct Framer {
     end: usize,
     /// The bits after them, fewer than eight.
     after: Waiting,
+    /// How many bits of the first octet are of what went before the latest frame.
+    lead: u8,
     /// The octets, without check, of the latest frame.
     latest: u16,
     /// Its first four octets. No frame has fewer than three, so where `latest` is 0 there was none.
@@ -57,7 +60,7 @@ impl Framer {
     /// [`StartFault::OutOfMemory`] if there is no memory for the longest frame.
     pub fn start(alloc: Global, n201: u16) -> Result<Framer, StartFault>
         requires { n201 ≤ 1024 }
-        ensures begins { IfOk result (λ framer. framer ≡ record { left = flag; held = 0; begun = None; room = n201 }) }
+        ensures begins { IfOk result (λ framer. framer ≡ record { left = flag; held = 0; begun = None; loaded = []; room = n201 }) }
         ensures stands { IfOk result (λ framer. FramerStands framer [] []) }
     {
         // A 0 more for five 1s at most, the bits that were left, and a flag.
@@ -69,6 +72,7 @@ impl Framer {
             next: 0,
             end: 1,
             after: Waiting { bits: 0, count: 0 },
+            lead: 0,
             latest: 0,
             first: [0; 4],
             n201,
@@ -121,6 +125,22 @@ impl Framer {
         }
     }
 
+    /// Writes the octets of the latest frame that was loaded, without its check, in front of `out`, and answers how many they
+    /// are: 0 if none was loaded. None if `out` has too little room; then nothing is written. They are read back out of the
+    /// frame's text, which stays until another is loaded.
+    pub fn write_loaded(&self, out: &mut [u8]) -> Option<usize>
+        ensures none { IfNone result ((length out.old < length self.now.loaded) × (out.new ≡ out.old)) }
+        ensures written { IfSome result (λ count. (count ≡ length self.now.loaded) × (out.new ≡ self.now.loaded ++ drop count out.old)) }
+    {
+        let count = usize::from(self.latest);
+        if out.len() < count {
+            return None;
+        }
+        let text = &self.octets[..self.end];
+        Reading::at_bit(self.lead).octets(text, &mut out[..count]);
+        Some(count)
+    }
+
     /// Takes the frame of these octets, without its check: `head`, its address and control field, and then `info`, its
     /// information. It goes out after the bits that are left, with its check and a closing flag.
     ///
@@ -137,6 +157,7 @@ impl Framer {
         ensures left { self.new.left ≡ self.old.left ++ item_text (frame (head.now ++ info.now)) }
         ensures held { self.new.held ≡ length head.now + length info.now }
         ensures begun { self.new.begun ≡ head_of (head.now ++ info.now) }
+        ensures loaded { self.new.loaded ≡ head.now ++ info.now }
         ensures room { self.new.room ≡ self.old.room }
         ensures stands { (items : List Item) (given : List ℕ) → FramerStands self.old items given
             → FramerStands self.new (items ++ frame (head.now ++ info.now) ∷ []) given }
@@ -151,6 +172,7 @@ impl Framer {
         let octets = self.octets.as_mut_slice();
         text.stuff(octets, head);
         text.end_with(octets, info, check);
+        self.lead = self.after.count as u8;
         self.next = 0;
         self.end = text.end;
         self.after = text.waiting;
@@ -167,6 +189,7 @@ impl Framer {
         ensures bits { low_bits 8 result ++ self.new.left ≡ refilled self.old.left }
         ensures held { self.new.held ≡ still_held self.new.left self.old.held }
         ensures begun { self.new.begun ≡ self.old.begun }
+        ensures loaded { self.new.loaded ≡ self.old.loaded }
         ensures room { self.new.room ≡ self.old.room }
         ensures stands { (items : List Item) (given : List ℕ) → FramerStands self.old items given
             → FramerStands self.new (with_idle self.old.left items) (given ++ result ∷ []) }

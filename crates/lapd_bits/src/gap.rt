@@ -179,7 +179,7 @@ impl Gap {
 
 /// The number with `more` above its `place` low bits.
 // A u16 would do, but then what is shifted is cut to 16 bits: an instruction more at each octet.
-fn above(number: u8, place: u8, more: u8, count: u8) -> u32
+pub(crate) fn above(number: u8, place: u8, more: u8, count: u8) -> u32
     requires place { place < 8 }
     requires below { number < 2 ^ place }
     requires more { more < 2 ^ count }

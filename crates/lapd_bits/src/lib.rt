@@ -7,7 +7,8 @@
 //! gap* and an *item* are. Its types and laws are public here, too. This is the code:
 //!
 //! - `deframer`, over `gap`, `unstuffer` and `flag_end`: from octets to frames; `ended`: what an octet ends.
-//! - `framer`, over `stuffed_text`, `stuffer` and `waiting`: from frames to octets; `heads`: the first octets of the latest.
+//! - `framer`, over `stuffed_text`, `stuffer` and `waiting`: from frames to octets; `heads`: the first octets of the latest;
+//!   `reading`: all of them, read back out of its text.
 //! - `start_fault`: why neither could be started.
 //! - `check`: the frame check sequence.
 //!
@@ -24,6 +25,7 @@ mod flag_end;
 mod framer;
 mod gap;
 mod heads;
+mod reading;
 mod start_fault;
 mod stuffed_text;
 mod stuffer;

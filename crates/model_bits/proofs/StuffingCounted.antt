@@ -52,7 +52,7 @@ pub stuffed-counted : (b : List Bool) → stuffed b ≡ stuffed_after 0 b
 stuffed-counted b = stuffed_alike 0 b (omega arith)
 
 -- after five 1s or more a receiver takes out one 0, however many they are
-unstuffed_past_five : (m n : ℕ) (text : List Bool) → 5 ≤ m → 5 ≤ n → unstuffed_after m text ≡ unstuffed_after n text
+pub unstuffed_past_five : (m n : ℕ) (text : List Bool) → 5 ≤ m → 5 ≤ n → unstuffed_after m text ≡ unstuffed_after n text
 unstuffed_past_five m n [] p q = refl
 unstuffed_past_five m n (false ∷ text) p q = rw (le-ltb m 5 p, le-ltb n 5 q) refl
 unstuffed_past_five m n (true ∷ text) p q =

@@ -11,12 +11,13 @@ use Rattle.model_bits.specs.Sent.{Item, idle, frame, line_text}
 use Rattle.model_bits.specs.declared.heads.Head.{Head}
 
 -- What a framer holds: the bits that are left to give; the octets, without check, of the last item, where that
--- is a frame and eight bits or more are left, else 0; how the latest frame begins; and how many octets of information
--- a frame may have.
+-- is a frame and eight bits or more are left, else 0; how the latest frame begins, and all its octets, without check; and how
+-- many octets of information a frame may have.
 pub record Framing : Type 0 where
   pub left : List Bool
   pub held : ℕ
   pub begun : Option Head
+  pub loaded : List ℕ
   pub room : ℕ
 
 -- Fewer than eight bits are left: not enough for an octet.
@@ -52,3 +53,4 @@ pub record FramerStands (framer : Framing) (items : List Item) (given : List ℕ
   pub text : line_text items ≡ bits given ++ framer.left
   pub held : framer.held ≡ still_held framer.left (last_octets items)
   pub begun : framer.begun ≡ head_of (latest_frame items)
+  pub loaded : framer.loaded ≡ latest_frame items

@@ -36,7 +36,7 @@ returns-then-busy-clause-stands c = λ items given_up s.
     let a = c.self.inside in
     let left = to_give a.octets.items (a.next + 1) a.end a.after in
     let held = held_after (to_give a.octets.items a.next a.end a.after) left c.index-octet.result.now a.latest (given c) ∙ ap (λ f. still_held left f.held) c.self.view_is in
-    Stands-octet c.args.self.now _ c.index-octet.result.now items given_up (returns-then-busy-clause-bits c) held (ap (λ f. f.begun) c.self.view_is) s
+    Stands-octet c.args.self.now _ c.index-octet.result.now items given_up (returns-then-busy-clause-bits c) held (ap (λ f. f.begun) c.self.view_is) (ap (λ f. f.loaded) c.self.view_is) s
 
 -- ---- none is
 
@@ -73,4 +73,4 @@ returns-else-busy-clause-held c =
 
 pub returns-else-busy-clause-stands : goal.returns-else-busy-clause-stands
 returns-else-busy-clause-stands c = λ items given_up s.
-    Stands-octet c.args.self.now _ c.octet.result items given_up (returns-else-busy-clause-bits c) (returns-else-busy-clause-held c) (ap (λ f. f.begun) c.self.view_is) s
+    Stands-octet c.args.self.now _ c.octet.result items given_up (returns-else-busy-clause-bits c) (returns-else-busy-clause-held c) (ap (λ f. f.begun) c.self.view_is) (ap (λ f. f.loaded) c.self.view_is) s

@@ -10,10 +10,10 @@ pub returns-clause-begins : goal.returns-clause-begins
 returns-clause-begins c =
     let octets = c.in_ok-octets.octets in
     let some : 0 < vec_len octets = search rules in
-    ap (λ l. record { left = l; held = still_held l 0; begun = None; room = c.args.n201 }) (left_is octets.items (omega (arith, octets.ok.0, some)))
+    ap (λ l. record { left = l; held = still_held l 0; begun = None; loaded = []; room = c.args.n201 }) (left_is octets.items (omega (arith, octets.ok.0, some)))
 
 pub returns-clause-stands : goal.returns-clause-stands
 returns-clause-stands c =
     let octets = c.in_ok-octets.octets in
     let some : 0 < vec_len octets = search rules in
-    record { text = sym (left_is octets.items (omega (arith, octets.ok.0, some))); held = refl; begun = refl }
+    record { text = sym (left_is octets.items (omega (arith, octets.ok.0, some))); held = refl; begun = refl; loaded = refl }

@@ -1,11 +1,13 @@
 -- What a port does.
-use Rattle.lapd_line.proofs.Vocabulary.{first_type, arith, ◌≡◌, ℕ, ◌≤◌, Bool, false, List, [], ◌∷◌, ◌++◌, length, take, slice_get, Option, Some, None, is_some, option_map, option_to_list, fold, fold-append, ◌⊎◌, refl, sym, ap, ◌∙◌, subst, append_assoc, le-ltb, same_Some, option_map_or, unwrap_or, bits, low_bits, number_of, Framing, runs_low, refilled, with_idle, Item, frame, line_text, bits-push}
+use Rattle.lapd_line.proofs.Vocabulary.{first_type, arith, ◌≡◌, ℕ, ◌≤◌, Bool, false, List, [], ◌∷◌, ◌++◌, length, length-append, take, take-append_seam, slice_get, Option, Some, None, is_some, option_map, option_to_list, fold, fold-append, ◌⊎◌, refl, sym, ap, ◌∙◌, subst, append_assoc, le-ltb, same_Some, option_map_or, unwrap_or, bits, low_bits, number_of, Framing, runs_low, refilled}
+use Rattle.lapd_line.proofs.Vocabulary.{with_idle, Item, frame, line_text, bits-push}
 use Rattle.lapd_line.proofs.Vocabulary.{heard_in}
 use Rattle.lapd_line.proofs.Vocabulary.{Head, head_shown, listed, ShortList, Order, Owned, Store, next, answer_shown, answer, without_octets, Cause, in_bits, Loading, TakesNext, FrameLine, Management, type_of, config_of, orders_taken, IsLoaded, IsSaid, PortStands, or_heard, or_latest, with_frame, left_is, one_item, text_of, Port, Ended, IsTextOf, LineStands, Answer, NextFrame, given_in}
 use Rattle.lapd_bits.specs.declared.ended.Ended.TheVariants as ended
 use Rattle.model_bits.specs.Framer as framer
 use Rattle.model_bits.specs.Stream as stream
 use Rattle.model_line.specs.Line as lines
+use Rattle.model_card.specs.ports.FrameHeard.{before_latest, ended_by_latest}
 use Rattle.model_card.specs.ports.Port as machine
 use Rattle.model_card.specs.ports.Port.{gained, is_due, next_octet, with_item, frame_begun, orders_with, pull, pulled}
 use Rattle.lapd_line.proofs.MessageSteps.{head_and_message, type_counted}
@@ -21,6 +23,16 @@ last_gained (y ∷ xs) o = last_gained xs o
 
 pub gained_is : (n201 octet : ℕ) (received : List ℕ) (o : Option stream.Event) → heard_in n201 (received ++ octet ∷ []) ≡ heard_in n201 received ++ option_to_list o → gained n201 received octet ≡ o
 gained_is n201 octet received o is = ap (λ l. slice_get l (length (heard_in n201 received))) is ∙ last_gained (heard_in n201 received) o
+
+-- and that is what the latest octet has ended
+without_latest : (octets : List ℕ) (octet : ℕ) → before_latest (octets ++ octet ∷ []) ≡ octets
+without_latest octets octet =
+    ap (λ n. take n (octets ++ octet ∷ [])) (omega (arith, length-append octets (octet ∷ []))) ∙ take-append_seam octets (octet ∷ [])
+
+pub ended_is : (n201 octet : ℕ) (received : List ℕ) (o : Option stream.Event) → heard_in n201 (received ++ octet ∷ []) ≡ heard_in n201 received ++ option_to_list o
+    → o ≡ ended_by_latest n201 (received ++ octet ∷ [])
+ended_is n201 octet received o is =
+    sym (ap (λ r. slice_get (heard_in n201 (received ++ octet ∷ [])) (length (heard_in n201 r))) (without_latest received octet) ∙ gained_is n201 octet received o is)
 
 -- an octet that ended nothing brought no event
 pub nothing_heard : (o : Option stream.Event) → ended.Nothing ≡ without_octets o → o ≡ None
@@ -77,7 +89,7 @@ module _ {old : FrameLine} {s : Store} {mid : FrameLine} {t : Store} (port : Por
       subst (λ a. IsLoaded a (Some orders) port (reframed port g)) (sym one.is)
       (record {
         orders = ap Some one.loaded.0;
-        stands = λ n201 p there. record { received = there.received; sent = one.loaded.1.0 p.items p.given there.sent; room = h.room ∙ there.room; latest = there.latest; limit = there.limit };
+        stands = λ n201 p there. record { received = there.received; sent = one.loaded.1.0 p.items p.given there.sent; room = h.room ∙ there.room; latest = there.latest; limit = there.limit; ended = there.ended };
       })
 
   -- and what is shown of it is its head, and the message that waited first
@@ -141,7 +153,7 @@ module _ {port : Port} {g : Framing} {octet : ℕ} (gives : Gives port.framer g 
       subst (PortStands n201 (reframed port g))
       (sym (ap {B = machine.Port} (λ x. record (with_item said p) { given = (with_item said p).given ++ x ∷ [] }) octet_is
       ∙ ap {A = machine.Port} {B = machine.Port} (λ q. record q { given = q.given ++ octet ∷ [] }) (sym item_is)))
-      (record { received = st.received; sent = gives.stands begun.items begun.given st.sent; room = gives.room ∙ st.room; latest = st.latest; limit = st.limit })
+      (record { received = st.received; sent = gives.stands begun.items begun.given st.sent; room = gives.room ∙ st.room; latest = st.latest; limit = st.limit; ended = st.ended })
 
   -- and answers what it answers
   pub given_told : (none told : ShortList Order) (taken_one : Bool) → taken_one ≡ is_some taken → listed none ≡ [] → told ≡ unwrap_or taken none

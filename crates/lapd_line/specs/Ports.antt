@@ -1,5 +1,5 @@
 -- What the port of a line stands for: its deframer for the octets received, its framer for the items that were put on the
--- line and the octets given; and it keeps how the frame begins that was heard last.
+-- line and the octets given; and it keeps how the frame begins that was heard last, and what the latest octet has ended.
 use Rattle.std.specs.Prelude.{◌≡◌, ℕ, ◌+◌, ◌++◌, ◌∷◌, [], List, Option, Some, None, is_some, option_map}
 use Rattle.std.specs.Option.{option_map_or}
 use Rattle.lapd_bits.specs.Deframer as deframer
@@ -10,6 +10,7 @@ use Rattle.model_bits.specs.Stream as stream
 use Rattle.lapd_frame.specs.declared.timers.Order.{Order}
 use Rattle.model_line.specs.Event.{Answer, NextFrame, given_in}
 use Rattle.model_card.specs.ports.Codec.{IsTextOf}
+use Rattle.model_card.specs.ports.FrameHeard.{ended_by_latest}
 use Rattle.model_card.specs.ports.HeadHeard.{head_heard, or_heard}
 use Rattle.model_card.specs.ports.Port as machine
 use Rattle.model_card.specs.ports.Port.{is_due, frame_begun, orders_with, after, answer, pull}
@@ -23,6 +24,7 @@ pub record PortStands (n201 : ℕ) (port : Port) (p : machine.Port) : Type 0 whe
   pub room : port.framer.room ≡ n201
   pub latest : port.heard ≡ head_heard n201 p
   pub limit : port.too_long ≡ n201 + 5
+  pub ended : deframer.latest_of port.deframer ≡ ended_by_latest n201 p.received
 
 -- What the latest octet has ended, if it ended anything.
 abbrev pub latest_in : Port → Option stream.Event

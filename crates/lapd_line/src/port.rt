@@ -1,7 +1,8 @@
 //! The port of a line: what stands between its octets and its frames.
 
-ghost use Rattle.std.specs.Prelude.{◌≡◌, ℕ, ◌+◌, ◌*◌, ◌<◌, ◌≤◌, ◌^◌, ◌∷◌, ◌++◌, [], length, IsTrue, Option, IfOk};
+ghost use Rattle.std.specs.Prelude.{◌≡◌, ℕ, ◌+◌, ◌*◌, ◌<◌, ◌≤◌, ◌^◌, ◌∷◌, ◌++◌, [], length, drop, IsTrue, Option, Some, IfNone, IfOk, IfSome};
 ghost use Rattle.lapd_line.specs.{without_octets, head_of, heard_of, Answer, head_begun, head_heard, gained, is_due, fresh_port, held_at, orders_taken, PortStands, IsSaid, latest_in, latest_frame, or_latest, with_frame};
+ghost use Rattle.model_bits.specs.Heads as heads;
 ghost use Rattle.model_card.specs.ports.Port as machine;
 
 use crate::came::octets_of;
@@ -67,7 +68,7 @@ impl Port {
         ended
     }
 
-    /// What the latest octet has ended. A frame is lent until the next octet.
+    /// What the latest octet has ended; nothing if none has come. A frame is lent until the next octet.
     #[inline(always)]
     pub fn latest(&self) -> Heard<'_>
         ensures { heard_of result ≡ latest_in self.now }
@@ -112,6 +113,18 @@ impl Port {
         ensures begun { (n201 : ℕ) (p : machine.Port) → PortStands n201 self.now p → result ≡ head_begun p }
     {
         self.framer.begun()
+    }
+
+    /// Writes that frame, without its check, in front of `out`, and answers how many octets it has: 0 if none was begun yet. None
+    /// if `out` has too little room; then nothing is written.
+    pub fn write_begun(&self, out: &mut [u8]) -> Option<usize>
+        ensures none { IfNone result (out.new ≡ out.old) }
+        ensures empty { result ≡ Some 0 → out.new ≡ out.old }
+        ensures short { IfNone result ((n201 : ℕ) (p : machine.Port) → PortStands n201 self.now p → length out.old < length (heads.latest_frame p.items)) }
+        ensures written { IfSome result (λ count. (n201 : ℕ) (p : machine.Port) → PortStands n201 self.now p
+            → (count ≡ length (heads.latest_frame p.items)) × (out.new ≡ heads.latest_frame p.items ++ drop count out.old)) }
+    {
+        self.framer.write_loaded(out)
     }
 
     /// How the frame that was heard last begins, and how long it is, also if it was dropped afterwards; none if none was heard

@@ -25,6 +25,9 @@ use Rattle.model_card.specs.ports.Codec.{asked_among, asked_in, asked_of, asked_
 use Rattle.model_card.specs.ports.Event as octet
 use Rattle.model_card.specs.ports.Port as port
 use Rattle.model_card.specs.ports.Run as octets
+use Rattle.laws_line.specs.Frames.{lost_in}
+use Rattle.laws_line.specs.Heard.{contents_in, notes_of}
+use Rattle.laws_line.specs.Share.{is_granted}
 use Rattle.laws_trace.specs.Managing.{manages}
 
 -- The octet that an event brings, and what it hears.
@@ -42,6 +45,12 @@ pub record WordsMeanThis : Type 0 where
   pub orders : (t : LineTold) → orders_in (told t) ≡ t.orders
   pub orders_given : (next : NextFrame) → orders_in (gave (Some next)) ≡ next.orders
   pub cause : (t : LineTold) → cause_in (told t) ≡ t.cause
+  -- So are the notes, the contents, and how many frames are lost; and what is told to a request grants it.
+  pub notes : (t : LineTold) → notes_of (told t) ≡ t.notes
+  pub contents : (t : LineTold) → contents_in (told t) ≡ t.contents
+  pub lost : (t : LineTold) → lost_in (told t) ≡ t.lost
+  pub granted : (t : LineTold) → is_granted (told t) ≡ true
+  pub refused : (why : Refusal) → is_granted (line.refused why) ≡ false
   -- A terminal is a user's side with a seed of reference numbers (profile).
   pub terminal : (c : Config) → is_terminal c ≡ (not (manages c.side) && is_some c.seed)
   -- As frames are read, call control has SAPI 0, and the second service 16 (Q.921 clause 3.3.3, table 2).

@@ -10,6 +10,7 @@ pub mod PortGoesOn
 pub mod Fold
 pub mod Codec
 mod FramesThere
+mod Aborted
 pub mod FramesHeard
 pub mod LatestHeard
 pub mod Sound

@@ -1,14 +1,23 @@
 -- What is heard in the octets that a frame or a fault means.
-use Rattle.model_card.proofs.OfPorts.Vocabulary.{◌≡◌, ℕ, zero, suc, ◌+◌, ◌-◌, ◌*◌, ◌/◌, ◌%◌, ◌≤◌, Bool, true, List, [], ◌∷◌, ◌++◌, length, replicate, reverse, refl, ap, sym, ◌∙◌, arith, length-append, length-replicate, bits, flag, low_bits, check, frame_text, heard_until, heard_in, room_for, AreOctets, bits-append, low_bits-number_of_n, NoSix-stuffed, after_flag, heard_until-onto, hears_text}
+use Rattle.model_card.proofs.OfPorts.Vocabulary.{octets_sent-stuffed, octets_are_those_sent, gap_event_sent, not, take, inl, inr, cases_lt, eq-eqb, ne_eqb, ◌≡◌, ℕ, zero, suc, ◌+◌, ◌-◌, ◌*◌, ◌/◌, ◌%◌, ◌≤◌, Bool, true, List, [], ◌∷◌}
+use Rattle.model_card.proofs.OfPorts.Vocabulary.{◌++◌, length, replicate, reverse, refl, ap, sym, ◌∙◌, arith, length-append, length-replicate, bits, flag, low_bits, check, frame_text, heard_until, heard_in, room_for, AreOctets, bits-append, low_bits-number_of_n, NoSix-stuffed, after_flag, heard_until-onto, hears_text}
 use Rattle.model_card.proofs.OfPorts.Vocabulary.{after_text, reverse_aux-append, Fault, IsIdle, line_octets, came, fault_octets, cause_of, AreHeardAs, FramesAreHeard, hears, hears-append, reverse_aux, some_text, append_assoc, ◌<◌, get_or-replicate, Config, Port, after_all, fresh, fresh_port, meant_all, octets_come, port_at, Event as CardEvent, lt-ltb, le-ltb, false}
 use Rattle.model_bits.specs.Bits.{octets_of}
-use Rattle.std.specs.Prelude.{◌||◌, cond, drop, nat_lt, option_to_list, option_map, option_and_then, Some, None}
+use Rattle.model_bits.proofs.StuffingCounted.{NoSix}
+use Rattle.std.proofs.lemmas.Option.{same_Some}
+use Rattle.std.specs.Prelude.{◌≢◌, ◌||◌, ◌&&◌, nat_eq, slice_index, cond, nat_lt, option_to_list, option_map, option_and_then, Option, Some, None}
 use Rattle.model_bits.specs.Stream.{Event, dropped, ends_flag, since_flag, has_abort, gap_event, closed_by_flag, given_up, heard_at as heard_bit}
 use Rattle.model_line.specs.declared.faults.Fault.TheVariants.{Fcs, Abort, Ragged, Short}
 use Rattle.model_card.specs.ports.Codec.{heard_at}
 use Rattle.model_card.proofs.OfPorts.Codec.{run_goes_on}
-use Rattle.model_card.specs.ports.WholeLaws.{StandsIn}
-use Rattle.model_card.proofs.OfPorts.FramesThere.{frames_there}
+use Rattle.model_bits.specs.Stream as stream
+use Rattle.model_bits.specs.Stream.{is_short, judged, text_event}
+use Rattle.model_bits.specs.Stuffing.{octets_sent, stuffed}
+use Rattle.model_bits.specs.Check.{is_good}
+use Rattle.model_bits.specs.declared.heard.Cause.TheVariants as cause
+use Rattle.model_card.specs.ports.WholeLaws.{AreBetween, AreEnough, AreFew, HaveNoCheck, IsAborted, IsBetween, IsHeardLast, IsRagged, StandsIn}
+use Rattle.model_card.proofs.OfPorts.Aborted.{six_ones, hears_abort, given_up_then, seven_then, nothing_after}
+use Rattle.model_card.proofs.OfPorts.FramesThere.{checked, frames_there}
 use Rattle.model_card.proofs.OfPorts.FramesIdle.{IdleAt, hears_first_flag, idle_again}
 use Rattle.model_card.proofs.OfPorts.FramesJudged.{gap_event_came}
 
@@ -125,26 +134,129 @@ quiet room past g (b ∷ rest) since few =
     ap (λ o. option_to_list o ++ hears room (b ∷ past) rest) (brings_none room b past g since (omega (arith, few)))
     ∙ quiet room (b ∷ past) then.0 rest then.1 (omega (arith, few, then.2))
 
+-- what stands between two flags is judged
+part_heard : (n201 : ℕ) (octets : List ℕ) (part : List Bool) → 0 < length part → NoSix 0 part → IsBetween (bits octets) part
+    → (earlier : List Event) × (heard_in n201 octets ≡ earlier ++ gap_event (room_for n201) part ∷ [])
+part_heard n201 octets part some few h =
+    let room = room_for n201 in
+    let first = reverse_aux h.before [] in
+    let place = after_flag first in
+    let end = reverse_aux (part ++ flag) place in
+    let rest : hears room place (part ++ (flag ++ h.after)) ≡ gap_event room part ∷ hears room end h.after =
+    ap (hears room place) (sym (append_assoc part flag h.after)) ∙ hears-append room (part ++ flag) h.after place ∙ ap (λ l. l ++ hears room end h.after) (hears_text room first part some few) in
+    let none : hears room end h.after ≡ [] =
+    ap (λ p. hears room p h.after) (after_text part place) ∙ quiet room (after_flag (reverse_aux part place)) [] h.after refl (omega (arith, h.late)) in (
+      hears room [] h.before ++ hears room first flag,
+      by_bits n201 octets ∙ ap (hears room []) h.is
+          ∙ hears-append room h.before (flag ++ (part ++ (flag ++ h.after))) []
+          ∙ ap (λ l. hears room [] h.before ++ l) (hears-append room flag (part ++ (flag ++ h.after)) first ∙ ap (λ l. hears room first flag ++ l) rest)
+          ∙ sym (append_assoc (hears room [] h.before) (hears room first flag) (gap_event room part ∷ hears room end h.after))
+          ∙ ap (λ l. (hears room [] h.before ++ hears room first flag) ++ gap_event room part ∷ l) none,
+    )
+
+heard_last : (n201 : ℕ) (octets : List ℕ) (part : List Bool) (event : Event) → 0 < length part → NoSix 0 part → IsBetween (bits octets) part → gap_event (room_for n201) part ≡ event
+    → IsHeardLast n201 octets event
+heard_last n201 octets part event some few h is = let p = part_heard n201 octets part some few h in (p.0, p.1 ∙ ap (λ e. p.0 ++ e ∷ []) is)
+
 all_heard : (n201 : ℕ) (octets frame : List ℕ) → AreOctets frame → StandsIn (bits octets) frame
     → (earlier : List Event) × (heard_in n201 octets ≡ earlier ++ came n201 frame ∷ [])
 all_heard n201 octets frame are h =
+    heard_last n201 octets (frame_text frame) (came n201 frame) (some_text frame) (NoSix-stuffed (bits frame ++ check (bits frame)))
+    (record { before = h.before; after = h.after; is = h.is; late = h.late }) (gap_event_came n201 frame are)
+
+-- ---- what is no frame
+
+some_stuffed : (stretch : List ℕ) → AreOctets stretch → 0 < length stretch → 0 < length (stuffed (bits stretch))
+some_stuffed stretch are some = go (stuffed (bits stretch)) refl
+  where
+    go : (text : List Bool) → stuffed (bits stretch) ≡ text → 0 < length text
+    go [] is =
+        let none : [] ≡ stretch = same_Some [] stretch (ap octets_sent (sym is) ∙ octets_sent-stuffed stretch are) in
+        absurd (omega (arith, some, ap (λ (l : List ℕ). length l) none))
+    go (x ∷ text) is = omega arith
+
+-- the octets of a stuffed stretch are judged
+judged_is : (n201 : ℕ) (stretch : List ℕ) → AreOctets stretch → gap_event (room_for n201) (stuffed (bits stretch)) ≡ judged (room_for n201) stretch
+judged_is n201 stretch are = gap_event_sent (room_for n201) (stuffed (bits stretch)) stretch (octets_sent-stuffed stretch are)
+
+few_short : (stretch : List ℕ) → AreFew stretch → is_short stretch ≡ true
+few_short stretch (inl less) = ap (λ (b : Bool). b || (nat_eq (length stretch) 5 && not (nat_eq (slice_index stretch 2 % 4) 3))) (lt-ltb (length stretch) 5 less)
+few_short stretch (inr five) = grind (arith, five, eq-eqb, ne_eqb)
+
+enough_long : (stretch : List ℕ) → AreEnough stretch → is_short stretch ≡ false
+enough_long stretch (inl more) = grind (arith, le-ltb, ne_eqb)
+enough_long stretch (inr five) = grind (arith, five, eq-eqb, le-ltb)
+
+short_heard : (n201 : ℕ) (octets stretch : List ℕ) → AreBetween octets stretch → AreFew stretch → IsHeardLast n201 octets (dropped cause.Short)
+short_heard n201 octets stretch h few =
+    let whole = cond (nat_lt (room_for n201) (length stretch)) (stream.overlong (take 4 stretch)) (stream.frame (take (length stretch - 2) stretch)) in
+    let rest = cond (not (is_good (bits stretch))) (dropped cause.Fcs) whole in
+    heard_last n201 octets (stuffed (bits stretch)) (dropped cause.Short) (some_stuffed stretch h.are h.some) (NoSix-stuffed (bits stretch)) h.between
+    (judged_is n201 stretch h.are ∙ ap (λ (b : Bool). cond b (dropped cause.Short) rest) (few_short stretch few))
+
+-- octets that end in no check have no good one
+no_good : (stretch : List ℕ) → 2 ≤ length stretch → HaveNoCheck stretch → is_good (bits stretch) ≡ false
+no_good stretch two none = (elim (is_good (bits stretch)) as (λ b. is_good (bits stretch) ≡ b → is_good (bits stretch) ≡ false) [
+  | true ↦ λ is. absurd (none (take (length stretch - 2) stretch) (checked stretch two is))
+  | false ↦ λ is. is
+]) refl
+
+two_of : (stretch : List ℕ) → AreEnough stretch → 2 ≤ length stretch
+two_of stretch (inl more) = omega (arith, more)
+two_of stretch (inr five) = let is = five.0 in omega (arith, is)
+
+fcs_heard : (n201 : ℕ) (octets stretch : List ℕ) → AreBetween octets stretch → AreEnough stretch → HaveNoCheck stretch → IsHeardLast n201 octets (dropped cause.Fcs)
+fcs_heard n201 octets stretch h enough none =
+    let rest = cond (nat_lt (room_for n201) (length stretch)) (stream.overlong (take 4 stretch)) (stream.frame (take (length stretch - 2) stretch)) in
+    heard_last n201 octets (stuffed (bits stretch)) (dropped cause.Fcs) (some_stuffed stretch h.are h.some) (NoSix-stuffed (bits stretch)) h.between
+    (judged_is n201 stretch h.are
+    ∙ ap (λ b. cond b (dropped cause.Short) (cond (not (is_good (bits stretch))) (dropped cause.Fcs) rest)) (enough_long stretch enough)
+    ∙ ap (λ b. cond (not b) (dropped cause.Fcs) rest) (no_good stretch (two_of stretch enough) none))
+
+-- bits without six contiguous 1s, behind some of them
+no_six : (ones : ℕ) (part : List Bool) → ones ≤ 5 → ((front back : List Bool) → replicate ones true ++ part ≢ front ++ (true ∷ true ∷ true ∷ true ∷ true ∷ true ∷ back)) → NoSix ones part
+no_six ones [] few none = tt
+no_six ones (false ∷ part) few none =
+    no_six 0 part (omega arith) (λ front back is. none (replicate ones true ++ false ∷ front) back
+    (ap (λ (l : List Bool). replicate ones true ++ false ∷ l) is ∙ sym (append_assoc (replicate ones true) (false ∷ front) (true ∷ true ∷ true ∷ true ∷ true ∷ true ∷ back))))
+no_six ones (true ∷ part) few none = elim (cases_lt ones 5) [
+  | inl less ↦ (less, no_six (suc ones) part (omega (arith, less)) (λ front back is. none front back (one_behind ones part ∙ is)))
+  | inr at ↦ let five : ones ≡ 5 = omega (arith, few, at) in absurd (none [] part (ap (λ n. replicate n true ++ true ∷ part) five))
+]
+  where
+    one_behind : (n : ℕ) (l : List Bool) → replicate n true ++ true ∷ l ≡ replicate (suc n) true ++ l
+    one_behind zero l = refl
+    one_behind (suc n) l = ap (λ m. true ∷ m) (one_behind n l)
+
+-- what a sender makes of no octets
+none_sent : (part : List Bool) (o : Option (List ℕ)) → octets_sent part ≡ o → ((stretch : List ℕ) → part ≢ stuffed (bits stretch)) → octets_sent part ≡ None
+none_sent part None is none = is
+none_sent part (Some octets) is none = absurd (none octets (((octets_are_those_sent part octets).0 is).0))
+
+ragged_heard : (n201 : ℕ) (octets : List ℕ) (part : List Bool) → IsBetween (bits octets) part → IsRagged part → IsHeardLast n201 octets (dropped cause.Ragged)
+ragged_heard n201 octets part h is =
+    heard_last n201 octets part (dropped cause.Ragged) is.some (no_six 0 part (omega arith) is.few) h
+    (ap (text_event (room_for n201)) (none_sent part (octets_sent part) refl is.unsent))
+
+-- seven contiguous 1s
+abort_heard : (n201 : ℕ) (octets : List ℕ) (part : List Bool) → IsAborted (bits octets) part → IsHeardLast n201 octets (dropped cause.Abort)
+abort_heard n201 octets part h =
     let room = room_for n201 in
-    let text = frame_text frame in
     let first = reverse_aux h.before [] in
     let place = after_flag first in
-    let end = reverse_aux (text ++ flag) place in
-    let one : hears room place (text ++ flag) ≡ came n201 frame ∷ [] =
-    hears_text room first text (some_text frame) (NoSix-stuffed (bits frame ++ check (bits frame))) ∙ ap (λ e. e ∷ []) (gap_event_came n201 frame are) in
-    let rest : hears room place (text ++ (flag ++ h.after)) ≡ came n201 frame ∷ hears room end h.after =
-    ap (hears room place) (sym (append_assoc text flag h.after)) ∙ hears-append room (text ++ flag) h.after place ∙ ap (λ l. l ++ hears room end h.after) one in
-    let none : hears room end h.after ≡ [] =
-    ap (λ p. hears room p h.after) (after_text text place) ∙ quiet room (after_flag (reverse_aux text place)) [] h.after refl (omega (arith, h.late)) in (
+    let some = no_six 0 part (omega arith) h.few in
+    let there = reverse_aux (part ++ six_ones) place in
+    let rest : hears room place (part ++ (six_ones ++ true ∷ h.after)) ≡ dropped cause.Abort ∷ [] =
+    ap (hears room place) (sym (append_assoc part six_ones (true ∷ h.after)) ∙ sym (append_assoc (part ++ six_ones) (true ∷ []) h.after))
+    ∙ hears-append room ((part ++ six_ones) ++ true ∷ []) h.after place
+    ∙ ap (λ l. l ++ hears room (reverse_aux ((part ++ six_ones) ++ true ∷ []) place) h.after) (hears_abort room first part some)
+    ∙ ap (λ q. dropped cause.Abort ∷ hears room q h.after) (reverse_aux-append (part ++ six_ones) (true ∷ []) place)
+    ∙ ap (λ l. dropped cause.Abort ∷ l) (nothing_after room h.after (true ∷ there) (omega (arith, h.late)) (given_up_then room first part some) (inl (seven_then room first part some))) in (
       hears room [] h.before ++ hears room first flag,
       by_bits n201 octets ∙ ap (hears room []) h.is
-          ∙ hears-append room h.before (flag ++ (text ++ (flag ++ h.after))) []
-          ∙ ap (λ l. hears room [] h.before ++ l) (hears-append room flag (text ++ (flag ++ h.after)) first ∙ ap (λ l. hears room first flag ++ l) rest)
-          ∙ sym (append_assoc (hears room [] h.before) (hears room first flag) (came n201 frame ∷ hears room end h.after))
-          ∙ ap (λ l. (hears room [] h.before ++ hears room first flag) ++ came n201 frame ∷ l) none,
+          ∙ hears-append room h.before (flag ++ (part ++ (six_ones ++ true ∷ h.after))) []
+          ∙ ap (λ l. hears room [] h.before ++ l) (hears-append room flag (part ++ (six_ones ++ true ∷ h.after)) first ∙ ap (λ l. hears room first flag ++ l) rest)
+          ∙ sym (append_assoc (hears room [] h.before) (hears room first flag) (dropped cause.Abort ∷ [])),
     )
 
 -- ---- a fault
@@ -195,4 +307,8 @@ frames_are_heard = record {
   begins = record { ones = refl; no_gap = refl };
   frames = frame_heard;
   faults = fault_heard;
+  short = short_heard;
+  fcs = fcs_heard;
+  ragged = ragged_heard;
+  abort = abort_heard;
 }

@@ -1,5 +1,5 @@
 -- What the octets between two flags are judged to be, where they end in their check.
-use Rattle.model_card.proofs.OfPorts.Vocabulary.{◌≡◌, ℕ, ◌+◌, ◌<◌, ◌≤◌, true, List, [], ◌∷◌, ◌++◌, length, take, nat_lt, refl, ap, sym, ◌∙◌, arith, length-append, take_at, le-ltb, lt-ltb, ltb-true, ne_eqb, or_from, and_left, cases_lt, bits, number_of, stuffed, octets_sent, AreOctets, check, is_good, judged, gap_event, room_for, frame_text, octets_sent-stuffed, is_good-check, came, checked}
+use Rattle.model_card.proofs.OfPorts.Vocabulary.{◌≡◌, ℕ, ◌+◌, ◌<◌, ◌≤◌, true, List, [], ◌∷◌, ◌++◌, length, take, nat_lt, refl, ap, sym, ◌∙◌, arith, length-append, take_at, le-ltb, lt-ltb, ltb-true, ne_eqb, cases_lt, bits, number_of, stuffed, octets_sent, AreOctets, check, is_good, judged, gap_event, room_for, frame_text, octets_sent-stuffed, is_good-check, came, checked}
 use Rattle.model_card.proofs.OfPorts.Vocabulary.{AreOctets-checked, bits-checked, gap_event_sent}
 use Rattle.lapd_frame.specs.Faults.{is_short}
 use Rattle.model_bits.specs.Stream as stream

@@ -21,7 +21,7 @@ IsText text (overlong head) = (octets : List ℕ) × (head ≡ take 4 octets) ×
 IsText text (dropped cause) = Unit {0}
 
 -- octets whose check is good end in it
-checked : (octets : List ℕ) → 2 ≤ length octets → is_good (bits octets) ≡ true → let front = take (length octets - 2) octets in bits octets ≡ bits front ++ check (bits front)
+pub checked : (octets : List ℕ) → 2 ≤ length octets → is_good (bits octets) ≡ true → let front = take (length octets - 2) octets in bits octets ≡ bits front ++ check (bits front)
 checked octets few good =
     let n = length octets - 2 in
     let front = take n octets in

@@ -1,10 +1,13 @@
 -- What a card of octets hears is what stands in the octets that come; and what stands in those of whole frames and of faults is
 -- what `Came` of `model_line` says of them.
-use Rattle.std.specs.Prelude.{◌≡◌, ℕ, ◌<◌, Bool, List, [], ◌∷◌, ◌++◌, length, take, All, Option, option_to_list}
+use Rattle.std.specs.Prelude.{◌≡◌, ◌≢◌, ◌⊎◌, ℕ, ◌<◌, ◌%◌, Bool, true, false, List, [], ◌∷◌, ◌++◌, length, take, slice_index, All, Option, option_to_list}
 use Rattle.model_bits.specs.Bits.{bits, flag}
+use Rattle.model_bits.specs.Check.{check}
 use Rattle.model_bits.specs.Sent.{frame_text}
+use Rattle.model_bits.specs.Stuffing.{stuffed}
 use Rattle.model_bits.specs.StuffingLaws.{AreOctets}
 use Rattle.model_bits.specs.Stream.{Event, frame, overlong, dropped, heard_in}
+use Rattle.model_bits.specs.declared.heard.Cause.TheVariants as cause
 use Rattle.model_line.specs.Came.{came, cause_of}
 use Rattle.model_line.specs.declared.config.Config.{Config}
 use Rattle.model_line.specs.declared.faults.Fault.{Fault}
@@ -38,6 +41,49 @@ pub record Brings (n201 : ℕ) (octets : List ℕ) (value : ℕ) : Type 0 where
   pub is : heard_in n201 (octets ++ value ∷ []) ≡ heard_in n201 octets ++ option_to_list event
   pub there : All (IsThere (bits (octets ++ value ∷ []))) (option_to_list event)
 
+-- Bits stand in a text between two flags, of which the second ends with its last octet; and so do octets.
+pub record IsBetween (text part : List Bool) : Type 0 where
+  pub before : List Bool
+  pub after : List Bool
+  pub is : text ≡ before ++ (flag ++ (part ++ (flag ++ after)))
+  pub late : length after < 8
+
+pub record AreBetween (octets stretch : List ℕ) : Type 0 where
+  pub are : AreOctets stretch
+  pub some : 0 < length stretch
+  pub between : IsBetween (bits octets) (stuffed (bits stretch))
+
+-- Six contiguous 1s stand nowhere in bits.
+abbrev pub HasNoSix : List Bool → Type 0
+HasNoSix part = (front back : List Bool) → part ≢ front ++ (true ∷ true ∷ true ∷ true ∷ true ∷ true ∷ back)
+
+-- Bits stand there after a flag, and then seven contiguous 1s, which end with its last octet (clause 2.10).
+pub record IsAborted (text part : List Bool) : Type 0 where
+  pub before : List Bool
+  pub after : List Bool
+  pub is : text ≡ before ++ (flag ++ (part ++ (false ∷ true ∷ true ∷ true ∷ true ∷ true ∷ true ∷ true ∷ after)))
+  pub late : length after < 8
+  pub few : HasNoSix part
+
+-- Octets are too few for a frame with its check: fewer than five; or five, of which the third begins a control field of two. Or
+-- they are enough (clause 2.9). They end in no check; and bits are those of no octets that a sender makes.
+abbrev pub AreFew : List ℕ → Type 0
+AreFew octets = (length octets < 5) ⊎ ((length octets ≡ 5) × (slice_index octets 2 % 4 ≢ 3))
+
+abbrev pub AreEnough : List ℕ → Type 0
+AreEnough octets = (5 < length octets) ⊎ ((length octets ≡ 5) × (slice_index octets 2 % 4 ≡ 3))
+
+abbrev pub HaveNoCheck : List ℕ → Type 0
+HaveNoCheck octets = (frame : List ℕ) → bits octets ≢ bits frame ++ check (bits frame)
+
+pub record IsRagged (part : List Bool) : Type 0 where
+  pub some : 0 < length part
+  pub few : HasNoSix part
+  pub unsent : (octets : List ℕ) → part ≢ stuffed (bits octets)
+
+abbrev pub IsHeardLast : ℕ → List ℕ → Event → Type 0
+IsHeardLast n201 octets event = (earlier : List Event) × (heard_in n201 octets ≡ earlier ++ event ∷ [])
+
 pub record FramesAreHeard : Type 0 where
   -- A card, from its start on: after any events, what its card of frames has heard at a line is exactly what stands in all
   -- octets that came there, whatever else happened, there or at other lines. As it holds after each event of a list, each
@@ -54,3 +100,10 @@ pub record FramesAreHeard : Type 0 where
       AreHeardAs n201 before (line_octets octets) (came n201 octets)
   pub faults : (n201 : ℕ) (before : List ℕ) (fault : Fault) → IsIdle before →
       AreHeardAs n201 before (fault_octets fault) (dropped (cause_of fault))
+  -- Whatever came before it, what else stands between two flags is dropped, and told why: octets that are too few; those that end in
+  -- no check; and bits of which a sender makes no octets.
+  pub short : (n201 : ℕ) (octets stretch : List ℕ) → AreBetween octets stretch → AreFew stretch → IsHeardLast n201 octets (dropped cause.Short)
+  pub fcs : (n201 : ℕ) (octets stretch : List ℕ) → AreBetween octets stretch → AreEnough stretch → HaveNoCheck stretch → IsHeardLast n201 octets (dropped cause.Fcs)
+  pub ragged : (n201 : ℕ) (octets : List ℕ) (part : List Bool) → IsBetween (bits octets) part → IsRagged part → IsHeardLast n201 octets (dropped cause.Ragged)
+  -- So is what seven contiguous 1s give up.
+  pub abort : (n201 : ℕ) (octets : List ℕ) (part : List Bool) → IsAborted (bits octets) part → IsHeardLast n201 octets (dropped cause.Abort)

@@ -1,5 +1,5 @@
 -- Worked values: when pulls call for the next frame, and what goes out then; and frames that stand in octets, as they are heard.
-use Rattle.std.specs.Prelude.{◌≡◌, ℕ, List, [], ◌∷◌, ◌++◌, replicate, Some, refl}
+use Rattle.std.specs.Prelude.{◌≡◌, ℕ, List, [], ◌∷◌, ◌++◌, replicate, None, Some, refl}
 use Rattle.std.proofs.Common.{lit<}
 use Rattle.std.proofs.lemmas.List.Elements.{All-nil, All-cons}
 use Rattle.model_bits.specs.Bits.{bits, flag, low_bits}
@@ -19,6 +19,7 @@ use Rattle.model_card.specs.Run as runs
 use Rattle.model_card.specs.ports.AtOnce.{text_of_calls, left_to_give}
 use Rattle.model_card.specs.ports.Card.{fresh, after, answer, meant}
 use Rattle.model_card.specs.ports.Event.{Event, at}
+use Rattle.model_card.specs.ports.FrameHeard.{ended_by_latest}
 use Rattle.model_card.specs.ports.GoingOut.{octets_given}
 use Rattle.model_card.specs.ports.Port.{request, pull}
 use Rattle.model_card.specs.ports.Run.{moments, meant_all}
@@ -71,6 +72,18 @@ its_end = refl
 -- A UA stands in these octets, and the last of them brings it, and nothing else.
 abbrev ua : List ℕ
 ua = 0x7E ∷ 0x00 ∷ 0x81 ∷ 0x73 ∷ 0xC4 ∷ 0x12 ∷ 0x7E ∷ []
+
+ua_ended : ended_by_latest 8 ua ≡ Some (frame (0x00 ∷ 0x81 ∷ 0x73 ∷ []))
+unfolding low_bits
+ua_ended = refl
+
+-- One octet later it is no more what the latest octet has ended; and no octet has ended nothing.
+ua_gone : ended_by_latest 8 (ua ++ 0x7E ∷ []) ≡ None
+unfolding low_bits
+ua_gone = refl
+
+none_ended : ended_by_latest 8 [] ≡ None
+none_ended = refl
 
 ua_stands : IsThere (bits ua) (frame (0x00 ∷ 0x81 ∷ 0x73 ∷ []))
 unfolding exchanged low_bits

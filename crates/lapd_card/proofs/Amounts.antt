@@ -6,7 +6,7 @@ use Rattle.model_line.specs.Line as line
 use Rattle.model_line.specs.Line.{is_terminal}
 use Rattle.model_line.specs.Stored.{held_most}
 use Rattle.model_card.specs.ports.Stored as octets
-use Rattle.lapd_card.proofs.OneLine.{Called, lines-all, few-lines}
+use Rattle.lapd_card.proofs.OneLine.{Found, lines-all, few-lines}
 use Rattle.lapd_card.proofs.OneEvent.{octets_is}
 
 -- one line more
@@ -75,7 +75,7 @@ module _ {S : Type 0} (store : S → Store) {card self : Held S} (same : card �
 
   -- the lines so far, in a loop over them
   module _ {items : List FrameLine} {i : ℕ} (is : items ≡ card.lines) where
-    pub call_of : {x : FrameLine} → i < length items → x ≡ get_or items i x → Called store card self i x
+    pub call_of : {x : FrameLine} → i < length items → x ≡ get_or items i x → Found store card self i x
     call_of {x} here is_x = record {
       past = past;
       same = same;

@@ -6,7 +6,7 @@ use Rattle.model_card.specs.ports.Stored.{held_at}
 use Rattle.lapd_card.specs.Card.{Held}
 use Rattle.lapd_card.specs.Stands.{OctetCardStands, HasPast}
 use Rattle.lapd_card.proofs.Amounts.{limit_small}
-use Rattle.lapd_card.proofs.OnePort.{Called, ports-all}
+use Rattle.lapd_card.proofs.OnePort.{Found, ports-all}
 
 -- one port more
 pub held_more : (n201 : ℕ) (ps : List port.Port) (i frames : ℕ) {held one : ℕ} → i < length ps → held ≡ frames + sum_by (held_at n201) (take i ps) → one ≡ held_at n201 (get_or ps i fresh_port)
@@ -32,7 +32,7 @@ module _ {S : Type 0} (store : S → Store) {card self : Held S} (same : card �
 
   -- the ports so far, in a loop over them
   module _ {items : List Port} {i : ℕ} (is : items ≡ card.ports) where
-    pub call_of : {x : Port} → i < length items → x ≡ get_or items i x → Called store card i x
+    pub call_of : {x : Port} → i < length items → x ≡ get_or items i x → Found store card i x
     call_of {x} here is_x = record {
       past = past;
       within = subst (λ n. i < n) (ap length is ∙ ports-all store card past) here;

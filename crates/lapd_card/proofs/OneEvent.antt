@@ -1,20 +1,29 @@
 -- An event at a card is one at one of its lines.
-use Rattle.lapd_card.proofs.Vocabulary.{arith, if◌then◌else◌, ◌≡◌, ℕ, ◌<◌, ◌-◌, false, List, [], ◌++◌, length, nat_le, refl, sym, ap, subst, ◌∙◌, Some, None, IsSome, Option, Ok, Err, Result, IfOk, IfErr, IfSome, OnOk, OnErr, lt-ltb, append-nil, set-get_or, set, map, flat_map, sum_by, zip, Refusal, Service, none_counted, BareReport, answer_of_request, told_beside, Config, refusal, Request}
+use Rattle.lapd_card.proofs.Vocabulary.{arith, if◌then◌else◌, ◌≡◌, ℕ, ◌<◌, ◌-◌, false, List, [], ◌++◌, length, nat_le, refl, sym, ap, subst, ◌∙◌, Some, None, IsSome, Option, Ok, Err, Result, IfOk, IfErr, IfSome, OnOk, OnErr, lt-ltb, append-nil, set-get_or, set, map, flat_map, sum_by, zip, Refusal, Service, none_counted, BareReport, answer_of_request, told_beside, told_in, Config, refusal, Request}
 use Rattle.lapd_card.proofs.Vocabulary.{slots_of, octets_of, Card, line_at, used, is_full, state, Event, at, wants_room, after, refused_by_the_table, IfErr-weaker, moment_counted, Store, used_slots, stored_octets, used_slots-held, stored_octets-held, slots-machines, octets-machines, slots-pairs, octets-pairs, owned_octets, Owned, FrameLine, config_of, Held, counters_of, IsFit, owned, FrameStands}
 use Rattle.lapd_card.proofs.Vocabulary.{HasPast, Leads, Room, room_in, room, RefusesBy, refuses_by}
+use Rattle.lapd_line.specs.Reports.{octets_of as told_octets}
 use Rattle.lapd_line.specs.Stands as line
 use Rattle.model_bits.specs.Stream as stream
 use Rattle.model_line.specs.Event as line_event
 use Rattle.model_line.specs.Line as machine
 use Rattle.model_line.specs.Machine as lines
 use Rattle.model_card.specs.Machine.{answer}
+use Rattle.lapd_card.specs.Called.{Called}
 use Rattle.model_card.proofs.Reaching.{reached-sound}
 use Rattle.model_card.proofs.Steps.{has_lines, line_sound}
 use Rattle.model_line.proofs.Placed.{place-few}
-use Rattle.lapd_card.proofs.OneLine.{Called, one_holds, one_says, one_leads}
+use Rattle.lapd_card.proofs.OneLine.{Found, one_holds, one_says, one_leads}
 use Rattle.lapd_line.specs.declared.marks.Marks.{Marks}
 use Rattle.lapd_card.proofs.Waiting.{Looked}
 use Rattle.lapd_card.proofs.Served.{TakesNoSlot, heard_takes, has_room, answer_served, accepted_has_room}
+
+-- What is told, or given, is no refusal.
+pub told_unrefused : {t : line_event.LineTold} (why : Refusal) → line_event.told t ≡ line_event.refused why → ⊥
+told_unrefused why is = cc
+
+pub gave_unrefused : {next : Option line_event.NextFrame} (why : Refusal) → line_event.gave next ≡ line_event.refused why → ⊥
+gave_unrefused why is = cc
 
 module _ {S : Type 0} (store : S → Store) where
   -- the slots in use are those of the machine, and so are the octets in them
@@ -50,7 +59,7 @@ module _ {S : Type 0} (store : S → Store) where
   pub past_after : {e : Event} {card self new : Held S} → card ≡ self → Leads store e self new → HasPast store card → HasPast store new
   past_after {e} same leads (m, s) = (after e m, leads.stands m (subst (λ c. FrameStands store c m) same s))
 
-  module _ {card self : Held S} {i : ℕ} {x : FrameLine} (call : Called store card self i x) where
+  module _ {card self : Held S} {i : ℕ} {x : FrameLine} (call : Found store card self i x) where
     -- what the line does with an event that takes no slot, the card does,
     pub event_leads : (e : line_event.Event) → TakesNoSlot e → {y : FrameLine} {t : S} {w : Marks} → line.Leads e x (store card.shelf) y (store t) → Looked i card.waiting y w
         → Leads store (at i e) self (record { config = card.config; lines = set card.lines i y; shelf = t; waiting = w })
@@ -65,20 +74,31 @@ module _ {S : Type 0} (store : S → Store) where
         → (m : Card) → FrameStands store self m → P (answer (at i e) m)
     event_says e takes P says m s = answers e P says m s (has_room i e takes m)
 
-    pub event_told : (e : line_event.Event) → TakesNoSlot e → {r : line_event.Answer} → ((others : List Owned) (l : machine.Line) → line.LineStands x (store card.shelf) others l → r ≡ lines.answer (config_of x) e l)
-        → (m : Card) → FrameStands store self m → r ≡ answer (at i e) m
-    event_told e takes {r} told = event_says e takes (λ a. r ≡ a) told
+    -- So a call that is not refused is this event.
+    pub event_called : (e : line_event.Event) → TakesNoSlot e → {r : line_event.Answer} → ((why : Refusal) → r ≡ line_event.refused why → ⊥)
+        → ((others : List Owned) (l : machine.Line) → line.LineStands x (store card.shelf) others l → r ≡ lines.answer (config_of x) e l)
+        → {y : FrameLine} {t : S} {w : Marks} → line.Leads e x (store card.shelf) y (store t) → Looked i card.waiting y w
+        → Called store (at i e) r self (record { config = card.config; lines = set card.lines i y; shelf = t; waiting = w })
+    event_called e takes {r} never told leads looked = record {
+      answers = event_says e takes (λ a. r ≡ a) told;
+      unchanged = λ why is. absurd (never why is);
+      leads = event_leads e takes leads looked;
+    }
 
     -- What is heard, if anything is, it serves so too.
-    pub heard_told : (o : Option stream.Event) {r : line_event.Answer} → ((others : List Owned) (l : machine.Line) → line.LineStands x (store card.shelf) others l → r ≡ line.answer_if_heard (config_of x) o l)
-        → IfSome o (λ e. (m : Card) → FrameStands store self m → r ≡ answer (at i (line_event.hears e)) m)
-    heard_told None says = tt
-    heard_told (Some e) says = event_told (line_event.hears e) (heard_takes e) says
+    heard_as : (o : Option stream.Event) {t : line_event.LineTold} → ((others : List Owned) (l : machine.Line) → line.LineStands x (store card.shelf) others l → line_event.told t ≡ line.answer_if_heard (config_of x) o l)
+        → (y : FrameLine) (s : S) (w : Marks) → line.LeadsIfHeard o x (store card.shelf) y (store s) → Looked i card.waiting y w
+        → IfSome o (λ e. Called store (at i (line_event.hears e)) (line_event.told t) self (record { config = card.config; lines = set card.lines i y; shelf = s; waiting = w }))
+    heard_as None says y s w leads looked = tt
+    heard_as (Some e) says y s w leads looked = event_called (line_event.hears e) (heard_takes e) told_unrefused says leads looked
 
-    pub heard_leads : (o : Option stream.Event) (y : FrameLine) (t : S) (w : Marks) → line.LeadsIfHeard o x (store card.shelf) y (store t) → Looked i card.waiting y w
-        → IfSome o (λ e. Leads store (at i (line_event.hears e)) self (record { config = card.config; lines = set card.lines i y; shelf = t; waiting = w }))
-    heard_leads None y t w leads looked = tt
-    heard_leads (Some e) y t w leads looked = event_leads (line_event.hears e) (heard_takes e) leads looked
+    pub heard_called : {o h : Option stream.Event} (bare : BareReport) → o ≡ h
+        → ((others : List Owned) (l : machine.Line) → line.LineStands x (store card.shelf) others l → line_event.told (told_in (told_octets o) bare) ≡ line.answer_if_heard (config_of x) o l)
+        → (y : FrameLine) (s : S) (w : Marks) → line.LeadsIfHeard o x (store card.shelf) y (store s) → Looked i card.waiting y w
+        → IfSome h (λ e. Called store (at i (line_event.hears e)) (line_event.told (told_in (told_octets h) bare)) self (record { config = card.config; lines = set card.lines i y; shelf = s; waiting = w }))
+    heard_called {o} {h} bare is says y s w leads looked =
+        subst (λ h. IfSome h (λ e. Called store (at i (line_event.hears e)) (line_event.told (told_in (told_octets h) bare)) self (record { config = card.config; lines = set card.lines i y; shelf = s; waiting = w }))) is
+        (heard_as o says y s w leads looked)
 
     pub heard_past : (o : Option stream.Event) (y : FrameLine) (t : S) (w : Marks) → IsSome o → line.LeadsIfHeard o x (store card.shelf) y (store t) → Looked i card.waiting y w
         → HasPast store (record { config = card.config; lines = set card.lines i y; shelf = t; waiting = w })
@@ -145,7 +165,7 @@ pub record Requested {S : Type 0} (store : S → Store) (r : Request) (card : He
   pub leads : OnOk result (line.Leads (line_event.request r) x (store card.shelf) y (store t))
   pub looked : OnOk result (Looked i card.waiting y w)
 
-module _ {S : Type 0} (store : S → Store) {r : Request} {card self : Held S} {i slots : ℕ} {x : FrameLine} (call : Called store card self i x) {o : BareReport} {y : FrameLine} {t : S} {w : Marks} where
+module _ {S : Type 0} (store : S → Store) {r : Request} {card self : Held S} {i slots : ℕ} {x : FrameLine} (call : Found store card self i x) {o : BareReport} {y : FrameLine} {t : S} {w : Marks} where
   -- the card refuses and accepts with its line
   pub request_refused : (result : Result Unit Refusal) → Requested store r card i slots x result o y t w → IfErr result (λ why. (m : Card) → FrameStands store self m → refusal m.config (is_full m) r (line_at i m) ≡ Some why)
   request_refused result asked = IfErr-weaker result _ _ (λ why. refusal_is store call r slots (Some why) asked.most) asked.refused
@@ -154,13 +174,13 @@ module _ {S : Type 0} (store : S → Store) {r : Request} {card self : Held S} {
   request_accepted (Ok done) asked = refusal_is store call r slots None asked.most asked.accepted
   request_accepted (Err why) asked = tt
 
-  pub request_told : (result : Result Unit Refusal) → Requested store r card i slots x result o y t w → (m : Card) → FrameStands store self m → answer_of_request result o ≡ answer (at i (line_event.request r)) m
+  request_told : (result : Result Unit Refusal) → Requested store r card i slots x result o y t w → (m : Card) → FrameStands store self m → answer_of_request result o ≡ answer (at i (line_event.request r)) m
   request_told (Err why) asked m s = sym ((refused_by_the_table.refused_exactly m i r why).1 (request_refused (Err why) asked m s))
   request_told (Ok done) asked m s =
       answers store call (line_event.request r) (λ a. line_event.told (told_beside None o) ≡ a) asked.told m s (accepted_has_room r i m (request_accepted (Ok done) asked m s))
 
   -- one that is refused leaves the card as it is
-  pub request_unchanged : (result : Result Unit Refusal) → Requested store r card i slots x result o y t w → OnErr result (record { config = card.config; lines = set card.lines i y; shelf = t; waiting = w } ≡ self)
+  request_unchanged : (result : Result Unit Refusal) → Requested store r card i slots x result o y t w → OnErr result (record { config = card.config; lines = set card.lines i y; shelf = t; waiting = w } ≡ self)
   request_unchanged result asked = grind (arith, set-get_or)
 
   pub request_leads : (result : Result Unit Refusal) → Requested store r card i slots x result o y t w
@@ -179,3 +199,23 @@ module _ {S : Type 0} (store : S → Store) {r : Request} {card self : Held S} {
             ∙ sym (set-get_or (map counters_of self.lines) i none_counted)
             ∙ ap (λ a. moment_counted (map counters_of self.lines) (record { card = m; event = at i (line_event.request r); answer = a })) (sym ((refused_by_the_table.refused_exactly m i r why).1 (refused m s)));
       }
+
+  request_kept : (result : Result Unit Refusal) → Requested store r card i slots x result o y t w → (why : Refusal) → answer_of_request result o ≡ line_event.refused why
+      → record { config = card.config; lines = set card.lines i y; shelf = t; waiting = w } ≡ self
+  request_kept (Ok done) asked why is = absurd (told_unrefused why is)
+  request_kept (Err e) asked why is = request_unchanged (Err e) asked
+
+  pub request_called : (result : Result Unit Refusal) → Requested store r card i slots x result o y t w
+      → Called store (at i (line_event.request r)) (answer_of_request result o) self (record { config = card.config; lines = set card.lines i y; shelf = t; waiting = w })
+  request_called result asked = record { answers = request_told result asked; unchanged = request_kept result asked; leads = request_leads result asked }
+
+-- What a card answers to a request says what its table of refusals does.
+pub refused_so : (m : Card) (i : ℕ) (r : Request) (why : Refusal) → line_event.refused why ≡ answer (at i (line_event.request r)) m → refusal m.config (is_full m) r (line_at i m) ≡ Some why
+refused_so m i r why is = (refused_by_the_table.refused_exactly m i r why).0 (sym is)
+
+pub accepted_so : (m : Card) (i : ℕ) (r : Request) {t : line_event.LineTold} → line_event.told t ≡ answer (at i (line_event.request r)) m → refusal m.config (is_full m) r (line_at i m) ≡ None
+accepted_so m i r is = go (refusal m.config (is_full m) r (line_at i m)) refl
+  where
+    go : (o : Option Refusal) → refusal m.config (is_full m) r (line_at i m) ≡ o → o ≡ None
+    go None none = refl
+    go (Some why) some = absurd (told_unrefused why (is ∙ (refused_by_the_table.refused_exactly m i r why).1 some))

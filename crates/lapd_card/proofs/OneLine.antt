@@ -14,7 +14,7 @@ use Rattle.lapd_card.proofs.Served.{after_served, answer_served}
 use Rattle.lapd_card.proofs.Waiting.{Looked, waiting_set}
 
 -- A call at a line of a card, as it finds them: the card has a past, and the line is there.
-pub record Called {S : Type 0} (store : S → Store) (card self : Held S) (i : ℕ) (x : FrameLine) : Type 0 where
+pub record Found {S : Type 0} (store : S → Store) (card self : Held S) (i : ℕ) (x : FrameLine) : Type 0 where
   pub past : HasPast store card
   pub same : card ≡ self
   pub within : i < line_count self
@@ -78,7 +78,7 @@ module _ {S : Type 0} (store : S → Store) where
   pub few-lines : (card : Held S) → HasPast store card → length card.lines ≤ 64
   few-lines card o = grind (arith, ranges_of, reached-sound)
 
-  module _ {card self : Held S} {i : ℕ} {x : FrameLine} (call : Called store card self i x) where
+  module _ {card self : Held S} {i : ℕ} {x : FrameLine} (call : Found store card self i x) where
     focused_at : (m : Card) → FrameStands store self m → Focused m.config card.lines (store card.shelf) m.lines i x
     focused_at m stood =
         let s = subst (λ c. FrameStands store c m) (sym call.same) stood in

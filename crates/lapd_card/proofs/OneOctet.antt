@@ -1,6 +1,6 @@
 -- An event at a card of octets: what it means to the card of frames, and what becomes of its port.
-use Rattle.lapd_card.proofs.Vocabulary.{arith, ◌≡◌, ◌⊎◌, ℕ, ◌<◌, Bool, true, false, List, [], ◌∷◌, ◌++◌, length, refl, sym, ap, subst, ◌∙◌, cond, false≢true, lt-ltb, set, set-get_or, Option, None, Some, IsSome, IfSome, is_some, option_map, option_map_or, option_to_list, Result, Ok, Err, All-cons, All-nil, All-head, ShortList, Order, Store, Counters, all_counted, moment_counted, moment_of}
-use Rattle.lapd_card.proofs.Vocabulary.{Card, line_at, may_send, frames_by_event, reached-sound, Timer, Request, BareReport, Port, PortStands, told_in, told_if, latest_in, latest_frame, with_frame, orders_taken, IsLoaded, IsSaid, Pulls, OctetCard, port_at, counters_in}
+use Rattle.lapd_card.proofs.Vocabulary.{arith, ◌≡◌, ◌⊎◌, ℕ, ◌<◌, Bool, true, false, List, [], ◌∷◌, ◌++◌, length, refl, sym, ap, subst, ◌∙◌, cond, false≢true, lt-ltb, set, set-get_or, Option, None, Some, IsSome, IfSome, is_some, option_map, option_map_or, option_to_list, Result, Ok, Err, All-cons, All-nil, All-head, Refusal, ShortList, Order, Store, Counters, all_counted, moment_counted, moment_of}
+use Rattle.lapd_card.proofs.Vocabulary.{Card, line_at, may_send, frames_by_event, reached-sound, Timer, Request, BareReport, Port, PortStands, told_if_at, told_in, told_if, latest_in, with_frame, orders_taken, IsLoaded, IsSaid, Pulls, OctetCard, port_at, counters_in}
 use Rattle.std.specs.Result.{IsErr, IsErrAnd}
 use Rattle.lapd_bits.specs.Ended.{without_octets}
 use Rattle.lapd_bits.specs.declared.ended.Ended.{Ended}
@@ -28,13 +28,14 @@ use Rattle.model_card.proofs.OfPorts.Reaching.{frames_reached, reached_sound}
 use Rattle.lapd_line.specs.Reports.{octets_of, pulled_of}
 use Rattle.lapd_line.specs.declared.pulled.Pulled.{Pulled}
 use Rattle.lapd_line.proofs.PortSteps.{due_is, port_text}
+use Rattle.lapd_card.specs.Called.{Called, OctetCalled}
 use Rattle.lapd_card.specs.Card.{Held, line_count}
 use Rattle.lapd_card.specs.Drive.{CostsAs, IsPriced}
 use Rattle.lapd_card.specs.FrameCard as frame_card
 use Rattle.lapd_card.specs.FrameStands as frame
 use Rattle.lapd_card.specs.FrameStands.{FrameStands}
 use Rattle.lapd_card.specs.Stands.{OctetCardStands, Leads}
-use Rattle.lapd_card.proofs.OnePort.{Called, port_holds, gone_on, with_config, reached-after}
+use Rattle.lapd_card.proofs.OnePort.{Found, port_holds, ports-all, told_if_there, gone_on, with_config, reached-after}
 
 -- ---- what an event costs
 
@@ -61,78 +62,73 @@ dropped m number value t r within is some =
 
 -- ---- what a card of frames does with what it is told
 
--- What is heard, if anything is, leads it on; else it stays.
-abbrev pub LeadsIfHeard : {S : Type 0} → (S → Store) → ℕ → Option stream.Event → frame_card.Held S → frame_card.Held S → Type 0
-LeadsIfHeard store i None old new = new ≡ old
-LeadsIfHeard store i (Some e) old new = frame.Leads store (frames.at i (line.hears e)) old new
+-- What is heard, if anything is, leads it on, and this is told of it; else it stays, and nothing is told.
+abbrev pub Hears : {S : Type 0} → (S → Store) → ℕ → Option stream.Event → Option BareReport → frame_card.Held S → frame_card.Held S → Type 0
+Hears store i None bare old new = (bare ≡ None) × (new ≡ old)
+Hears store i (Some e) bare old new = Called store (frames.at i (line.hears e)) (line.told (told_if (octets_of (Some e)) bare)) old new
 
 abbrev heard_at : ℕ → Option stream.Event → Option frames.Event
 heard_at i h = option_map (frames.at i) (option_map line.hears h)
 
--- and this is told of it
-abbrev pub Tells : {S : Type 0} → (S → Store) → ℕ → Option stream.Event → frame_card.Held S → Option BareReport → Type 0
-Tells store i None old bare = bare ≡ None
-Tells store i (Some e) old bare =
-    (m : Card) → FrameStands store old m → line.told (told_if (octets_of (Some e)) bare) ≡ machine.answer (frames.at i (line.hears e)) m
-
 -- as it does where something is heard
-pub if_leads : {S : Type 0} (store : S → Store) (i : ℕ) (old new : frame_card.Held S) (h : Option stream.Event) → IsSome h → IfSome h (λ e. frame.Leads store (frames.at i (line.hears e)) old new)
-    → LeadsIfHeard store i h old new
-if_leads store i old new h some leads = grind arith
-
-pub if_tells : {S : Type 0} (store : S → Store) (i : ℕ) (old : frame_card.Held S) (bare : BareReport) (h : Option stream.Event) → IsSome h
-    → IfSome h (λ e. (m : Card) → FrameStands store old m → line.told (told_in (octets_of h) bare) ≡ machine.answer (frames.at i (line.hears e)) m)
-    → Tells store i h old (Some bare)
-if_tells store i old bare h some says = grind arith
+pub if_hears : {S : Type 0} (store : S → Store) (i : ℕ) (bare : BareReport) (old new : frame_card.Held S) (h : Option stream.Event) → IsSome h
+    → IfSome h (λ e. Called store (frames.at i (line.hears e)) (line.told (told_in (octets_of h) bare)) old new) → Hears store i h (Some bare) old new
+if_hears store i bare old new None some called = absurd (cc)
+if_hears store i bare old new (Some e) some called = called
 
 -- a frame, overlong or not, is something
 pub ended_something : (h : Option stream.Event) {e : Ended} → e ≡ without_octets h → ((n : ℕ) × (e ≡ ended.Frame n)) ⊎ (e ≡ ended.Overlong) → IsSome h
 ended_something h told is = grind arith
 
-module _ {S : Type 0} (store : S → Store) {card : Held S} {i : ℕ} {x : Port} (call : Called store card i x) where
+module _ {S : Type 0} (store : S → Store) {card : Held S} {i : ℕ} {x : Port} (call : Found store card i x) where
   -- ---- an octet
 
   module _ {value : ℕ} {y : Port}
       (brings : (n201 : ℕ) (p : port.Port) → PortStands n201 x p → gained n201 p.received value ≡ latest_in y)
       (goes_on : (n201 : ℕ) (p : port.Port) → PortStands n201 x p → PortStands n201 y (record p { received = p.received ++ value ∷ [] })) where
-    stays : (f : frame_card.Held S) (h : Option stream.Event) → LeadsIfHeard store i h card.frames f → f.config ≡ card.frames.config
-    stays f h same = grind arith
+    stays : (f : frame_card.Held S) (h : Option stream.Event) (bare : Option BareReport) → Hears store i h bare card.frames f → f.config ≡ card.frames.config
+    stays f None bare is = ap (λ k. k.config) is.1
+    stays f (Some e) bare called = called.leads.config
 
-    frames_stand : (f : frame_card.Held S) (h : Option stream.Event) → LeadsIfHeard store i h card.frames f → (m : OctetCard) → OctetCardStands store card m
+    frames_stand : (f : frame_card.Held S) (h : Option stream.Event) (bare : Option BareReport) → Hears store i h bare card.frames f → (m : OctetCard) → OctetCardStands store card m
         → FrameStands store f (option_map_or (card_after m.card) (heard_at i h) m.card)
-    frames_stand f h same m s = grind arith
+    frames_stand f None bare is m s = subst (λ k. FrameStands store k m.card) (sym is.1) s.frames
+    frames_stand f (Some e) bare called m s = called.leads.stands m.card s.frames
 
-    frames_count : (f : frame_card.Held S) (h : Option stream.Event) → LeadsIfHeard store i h card.frames f → (m : OctetCard) → OctetCardStands store card m
+    frames_count : (f : frame_card.Held S) (h : Option stream.Event) (bare : Option BareReport) → Hears store i h bare card.frames f → (m : OctetCard) → OctetCardStands store card m
         → counters_in f.lines ≡ all_counted (counters_in card.frames.lines) (option_to_list (option_map (frame_moment m) (heard_at i h)))
-    frames_count f h same m s = grind arith
+    frames_count f None bare is m s = ap (λ k. counters_in k.lines) is.1
+    frames_count f (Some e) bare called m s = called.leads.counted m.card s.frames
 
-    pub octet_leads : (f : frame_card.Held S) → LeadsIfHeard store i (latest_in y) card.frames f → Leads store (at i (port.octet value)) card (record { frames = f; ports = set card.ports i y })
-    unfolding after meant
-    octet_leads f leads = record {
-      config = stays f (latest_in y) leads;
-      stands = λ m s.
-          let there = port_holds store call m s in
-          let is = brings m.card.config.n201 (port_at i m) there in
-          gone_on store (port.octet value) call.within (stays f (latest_in y) leads) m s
-          (subst (λ h. FrameStands store f (option_map_or (card_after m.card) (heard_at i h) m.card)) (sym is) (frames_stand f (latest_in y) leads m s))
-          (goes_on m.card.config.n201 (port_at i m) there);
-      counted = λ m s.
-          let is = brings m.card.config.n201 (port_at i m) (port_holds store call m s) in
-          frames_count f (latest_in y) leads m s
-          ∙ ap (λ h. all_counted (counters_in card.frames.lines) (option_to_list (option_map (frame_moment m) (heard_at i h)))) (sym is);
-    }
-
-    tells : (h : Option stream.Event) (bare : Option BareReport) → Tells store i h card.frames bare → (m : OctetCard) → OctetCardStands store card m
+    tells : (f : frame_card.Held S) (h : Option stream.Event) (bare : Option BareReport) → Hears store i h bare card.frames f → (m : OctetCard) → OctetCardStands store card m
         → port.told (told_if (octets_of h) bare) ≡ option_map_or answer_of (option_map (answer_to m.card) (heard_at i h)) (port.told line.nothing)
-    tells h bare none m s = grind arith
+    tells f None bare is m s = ap (λ b. port.told (told_if [] b)) is.0
+    tells f (Some e) bare called m s = ap answer_of (called.answers m.card s.frames)
 
-    pub octet_told : (bare : Option BareReport) → Tells store i (latest_in y) card.frames bare → (m : OctetCard) → OctetCardStands store card m
-        → port.told (told_if (latest_frame y) bare) ≡ answer (at i (port.octet value)) m
-    unfolding answer meant
-    octet_told bare says m s =
-        let is = brings m.card.config.n201 (port_at i m) (port_holds store call m s) in
-        tells (latest_in y) bare says m s
-        ∙ ap (λ h. option_map_or answer_of (option_map (answer_to m.card) (heard_at i h)) (port.told line.nothing)) (sym is)
+    pub octet_called : (bare : Option BareReport) (f : frame_card.Held S) → Hears store i (latest_in y) bare card.frames f
+        → OctetCalled store (at i (port.octet value)) (port.told (told_if_at (set card.ports i y) i bare)) card (record { frames = f; ports = set card.ports i y })
+    unfolding after answer meant
+    octet_called bare f hears = record {
+      answers = λ m s.
+          let is = brings m.card.config.n201 (port_at i m) (port_holds store call m s) in
+          ap port.told (told_if_there card.ports i y bare (subst (λ n. i < n) (sym (ports-all store card call.past)) call.within))
+          ∙ tells f (latest_in y) bare hears m s
+          ∙ ap (λ h. option_map_or answer_of (option_map (answer_to m.card) (heard_at i h)) (port.told line.nothing)) (sym is);
+      unchanged = λ why is. absurd (cc);
+      leads = record {
+        config = stays f (latest_in y) bare hears;
+        stands = λ m s.
+            let there = port_holds store call m s in
+            let is = brings m.card.config.n201 (port_at i m) there in
+            gone_on store (port.octet value) call.within (stays f (latest_in y) bare hears) m s
+            (subst (λ h. FrameStands store f (option_map_or (card_after m.card) (heard_at i h) m.card)) (sym is) (frames_stand f (latest_in y) bare hears m s))
+            (goes_on m.card.config.n201 (port_at i m) there);
+        counted = λ m s.
+            let is = brings m.card.config.n201 (port_at i m) (port_holds store call m s) in
+            frames_count f (latest_in y) bare hears m s
+            ∙ ap (λ h. all_counted (counters_in card.frames.lines) (option_to_list (option_map (frame_moment m) (heard_at i h)))) (sym is);
+      };
+    }
 
 -- ---- what is passed on
 
@@ -147,6 +143,11 @@ expiry_passes timer = record { means = λ n201 p. refl; leaves = λ says p. refl
 
 pub request_passes : (r : Request) → IsPassedOn (port.request r) (line.request r)
 request_passes r = record { means = λ n201 p. refl; leaves = λ says p. refl; answers = λ says p. refl }
+
+refused_in : (r : line.Answer) (why : Refusal) → answer_of r ≡ port.refused why → r ≡ line.refused why
+refused_in (line.told t) why is = absurd (cc)
+refused_in (line.refused x) why is = grind arith
+refused_in (line.gave next) why is = absurd (cc)
 
 module _ {e : port.Event} {f : line.Event} (on : IsPassedOn e f) where
   pub meant_is : (i : ℕ) (m : OctetCard) → meant (at i e) m ≡ Some (frames.at i f)
@@ -178,9 +179,13 @@ module _ {e : port.Event} {f : line.Event} (on : IsPassedOn e f) where
         ∙ ap (λ o. all_counted (counters_in card.frames.lines) (option_to_list (option_map (frame_moment m) o))) (sym (meant_is i m));
   }
 
-  pub passed_told : {S : Type 0} (store : S → Store) {card : Held S} (i : ℕ) {r : line.Answer} → ((m : Card) → FrameStands store card.frames m → r ≡ machine.answer (frames.at i f) m)
-      → (m : OctetCard) → OctetCardStands store card m → answer_of r ≡ answer (at i e) m
-  passed_told store i says m s = ap answer_of (says m.card s.frames) ∙ sym (passed_answer i m)
+  pub passed_called : {S : Type 0} (store : S → Store) {card : Held S} {i : ℕ} {r : line.Answer} {g : frame_card.Held S} → i < line_count card
+      → Called store (frames.at i f) r card.frames g → OctetCalled store (at i e) (answer_of r) card (record { frames = g; ports = card.ports })
+  passed_called store {card} {i} {r} within called = record {
+    answers = λ m s. ap answer_of (called.answers m.card s.frames) ∙ sym (passed_answer i m);
+    unchanged = λ why is. ap (λ (g : frame_card.Held _). record { frames = g; ports = card.ports }) (called.unchanged why (refused_in r why is));
+    leads = passed_leads store within called.leads;
+  }
 
 -- what is refused is answered so
 pub err_is : {A E : Type 0} (r : Result A E) (e : E) → IsErr r × IsErrAnd r (λ x. x ≡ e) → r ≡ Err e
@@ -242,7 +247,7 @@ abbrev pub Gives : Port → Option (ShortList Order) → Pulled → Port → Typ
 Gives mid taken_one pulled new =
     (n201 : ℕ) (p : port.Port) (says : Option line.Answer) → IsSaid p says (orders_taken taken_one) → PortStands n201 mid (with_frame (frame_begun says) p) → Pulls n201 p says pulled new
 
-module _ {S : Type 0} (store : S → Store) {card : Held S} {i : ℕ} {x : Port} (call : Called store card i x) where
+module _ {S : Type 0} (store : S → Store) {card : Held S} {i : ℕ} {x : Port} (call : Found store card i x) where
   -- no frame is taken
   module _ {pulled : Pulled} {y : Port} (gives : Gives x None pulled y) (nothing : (m : OctetCard) → OctetCardStands store card m → frame_begun (said (at i port.pull) m) ≡ None) where
     pulls_none : (m : OctetCard) → OctetCardStands store card m → Pulls m.card.config.n201 (port_at i m) (said (at i port.pull) m) pulled y
@@ -254,19 +259,19 @@ module _ {S : Type 0} (store : S → Store) {card : Held S} {i : ℕ} {x : Port}
         (record { text = port_text there; due = said_if_due m.card i (is_due (port_at i m)); orders = ap (option_map port.orders_with) (sym none) })
         (subst (λ o. PortStands m.card.config.n201 x (with_frame o (port_at i m))) (sym none) there)
 
-    pub none_told : (m : OctetCard) → OctetCardStands store card m → pulled_of pulled ≡ answer (at i port.pull) m
-    unfolding answer
-    none_told m s = (pulls_none m s).told
-
-    pub none_leads : Leads store (at i port.pull) card (record { frames = card.frames; ports = set card.ports i y })
-    unfolding after meant
-    none_leads = record {
-      config = refl;
-      stands = λ m s.
-          gone_on store port.pull call.within refl m s
-          (subst (FrameStands store card.frames) (sym (none_begun_leaves m.card i (is_due (port_at i m)) (nothing m s))) s.frames)
-          (pulls_none m s).after;
-      counted = λ m s. none_begun_counts m i (counters_in card.frames.lines) (is_due (port_at i m)) (nothing m s);
+    pub none_called : OctetCalled store (at i port.pull) (pulled_of pulled) card (record { frames = card.frames; ports = set card.ports i y })
+    unfolding after answer meant
+    none_called = record {
+      answers = λ m s. (pulls_none m s).told;
+      unchanged = λ why is. absurd (cc);
+      leads = record {
+        config = refl;
+        stands = λ m s.
+            gone_on store port.pull call.within refl m s
+            (subst (FrameStands store card.frames) (sym (none_begun_leaves m.card i (is_due (port_at i m)) (nothing m s))) s.frames)
+            (pulls_none m s).after;
+        counted = λ m s. none_begun_counts m i (counters_in card.frames.lines) (is_due (port_at i m)) (nothing m s);
+      };
     }
 
   -- the next frame is called for
@@ -283,20 +288,24 @@ module _ {S : Type 0} (store : S → Store) {card : Held S} {i : ℕ} {x : Port}
         gives m.card.config.n201 (port_at i m) (Some (machine.answer (frames.at i line.next) m.card))
         (record { text = port_text there; due = sym (due m s); orders = one.orders }) (one.stands m.card.config.n201 (port_at i m) there)
 
-    pub next_told : (m : OctetCard) → OctetCardStands store card m → pulled_of pulled ≡ answer (at i port.pull) m
+    next_told : (m : OctetCard) → OctetCardStands store card m → pulled_of pulled ≡ answer (at i port.pull) m
     unfolding answer meant
     next_told m s = grind (arith, pulls_next, due)
 
-    pub next_leads : Leads store (at i port.pull) card (record { frames = f; ports = set card.ports i y })
+    pub next_called : OctetCalled store (at i port.pull) (pulled_of pulled) card (record { frames = f; ports = set card.ports i y })
     unfolding after meant
-    next_leads = record {
-      config = leads.config;
-      stands = λ m s.
-          let p = port_at i m in
-          gone_on store port.pull call.within leads.config m s
-          (subst (λ b. FrameStands store f (option_map_or (card_after m.card) (called i b) m.card)) (sym (due m s)) (leads.stands m.card s.frames))
-          (subst (λ b. PortStands m.card.config.n201 y (port.after port.pull (option_map (answer_to m.card) (called i b)) p)) (sym (due m s)) (pulls_next m s).after);
-      counted = λ m s.
-          leads.counted m.card s.frames
-          ∙ ap (λ b. all_counted (counters_in card.frames.lines) (option_to_list (option_map (frame_moment m) (called i b)))) (sym (due m s));
+    next_called = record {
+      answers = next_told;
+      unchanged = λ why is. absurd (cc);
+      leads = record {
+        config = leads.config;
+        stands = λ m s.
+            let p = port_at i m in
+            gone_on store port.pull call.within leads.config m s
+            (subst (λ b. FrameStands store f (option_map_or (card_after m.card) (called i b) m.card)) (sym (due m s)) (leads.stands m.card s.frames))
+            (subst (λ b. PortStands m.card.config.n201 y (port.after port.pull (option_map (answer_to m.card) (called i b)) p)) (sym (due m s)) (pulls_next m s).after);
+        counted = λ m s.
+            leads.counted m.card s.frames
+            ∙ ap (λ b. all_counted (counters_in card.frames.lines) (option_to_list (option_map (frame_moment m) (called i b)))) (sym (due m s));
+      };
     }

@@ -9,10 +9,11 @@ use Rattle.model_card.specs.ports.Port.{fresh_port}
 unfoldable use Rattle.model_card.specs.ports.Run.{after_all}
 use Rattle.model_card.proofs.OfPorts.Reaching.{reached_sound}
 pub use Rattle.model_card.proofs.OfPorts.Reaching.{reached_after as reached-after}
+use Rattle.lapd_card.specs.Called.{OctetCalled}
 use Rattle.lapd_card.specs.Card.{Held, line_count}
 use Rattle.lapd_card.specs.FrameCard as frame_card
 use Rattle.lapd_card.specs.FrameStands.{FrameStands}
-use Rattle.lapd_card.specs.Stands.{OctetCardStands, HasPast, Leads}
+use Rattle.lapd_card.specs.Stands.{OctetCardStands, HasPast}
 
 -- ---- the ports
 
@@ -77,7 +78,7 @@ module _ {S : Type 0} (store : S → Store) where
   port-in {card} {self} {i} past same within = port-there card self i (length card.ports) past same within refl
 
   -- A call at a port of a card, as it finds them.
-  pub record Called (card : Held S) (i : ℕ) (x : Port) : Type 0 where
+  pub record Found (card : Held S) (i : ℕ) (x : Port) : Type 0 where
     pub past : HasPast store card
     pub within : i < line_count card
     pub is : x ≡ get_or card.ports i x
@@ -86,13 +87,13 @@ module _ {S : Type 0} (store : S → Store) where
   at_lines {i = i} m s within = subst (λ c. i < c.lines) (sym s.frames.config) within
 
   -- it stands for that of the machine
-  pub port_holds : {card : Held S} {i : ℕ} {x : Port} → Called card i x → (m : OctetCard) → OctetCardStands store card m → PortStands m.card.config.n201 x (port_at i m)
+  pub port_holds : {card : Held S} {i : ℕ} {x : Port} → Found card i x → (m : OctetCard) → OctetCardStands store card m → PortStands m.card.config.n201 x (port_at i m)
   port_holds {card} {i} {x} call m s =
       subst (λ c. PortStands c.n201 x (port_at i m)) (sym s.frames.config)
       (subst (λ y. PortStands card.frames.config.n201 y (port_at i m)) (sym call.is)
       (s.ports.each i x (subst (λ n. i < n) (sym (ports-all card call.past)) call.within)))
 
-  pub room_at : {card : Held S} {i : ℕ} {x : Port} → Called card i x → x.framer.room ≡ card.frames.config.n201
+  pub room_at : {card : Held S} {i : ℕ} {x : Port} → Found card i x → x.framer.room ≡ card.frames.config.n201
   room_at call =
       let (m, s) = call.past in
       (port_holds call m s).room ∙ ap (λ c. c.n201) s.frames.config
@@ -109,18 +110,22 @@ module _ {S : Type 0} (store : S → Store) where
   }
 
   -- an event keeps a past, and what is said of a card is said of its value
-  pub past_after : {e : Event} {card new : Held S} → Leads store e card new → HasPast store card → HasPast store new
-  past_after {e} leads (m, s) = (after e m, leads.stands m s)
+  pub past_after : {e : Event} {r : port.Answer} {card new : Held S} → OctetCalled store e r card new → HasPast store card → HasPast store new
+  past_after {e} called (m, s) = (after e m, called.leads.stands m s)
 
-  pub seen : {e : Event} {card self new : Held S} → card ≡ self → Leads store e card new → Leads store e self new
-  seen {e} {new = new} same leads = subst (λ c. Leads store e c new) same leads
+  pub seen : {e : Event} {r : port.Answer} {card self new : Held S} → card ≡ self → OctetCalled store e r card new → OctetCalled store e r self new
+  seen {e} {r} {new = new} same called = subst (λ c. OctetCalled store e r c new) same called
+
+  -- an answer by what it says
+  pub as_told : {e : Event} {r says : port.Answer} {card new : Held S} → r ≡ says → OctetCalled store e says card new → OctetCalled store e r card new
+  as_told {e} {card = card} {new} is called = subst (λ a. OctetCalled store e a card new) (sym is) called
 
   pub stood : {card self : Held S} → card ≡ self → (m : OctetCard) → OctetCardStands store self m → OctetCardStands store card m
   stood same m s = subst (λ c. OctetCardStands store c m) (sym same) s
 
-  pub put_twice : {e : Event} {card : Held S} {f : frame_card.Held S} (ports : List Port) (i : ℕ) (x y : Port) → Leads store e card (record { frames = f; ports = set ports i y })
-      → Leads store e card (record { frames = f; ports = set (set ports i x) i y })
-  put_twice {e} {card} {f} ports i x y leads = subst (λ ps. Leads store e card (record { frames = f; ports = ps })) (sym (set-set ports i x y)) leads
+  pub put_twice : {e : Event} {r : port.Answer} {card : Held S} {f : frame_card.Held S} (ports : List Port) (i : ℕ) (x y : Port) → OctetCalled store e r card (record { frames = f; ports = set ports i y })
+      → OctetCalled store e r card (record { frames = f; ports = set (set ports i x) i y })
+  put_twice {e} {r} {card} {f} ports i x y called = subst (λ ps. OctetCalled store e r card (record { frames = f; ports = ps })) (sym (set-set ports i x y)) called
 
   -- what holds of the card of frames inside
   pub inside : {card self : Held S} → card ≡ self → {P : Card → Type 0} → ((m : Card) → FrameStands store card.frames m → P m) → (m : OctetCard) → OctetCardStands store self m → P m.card

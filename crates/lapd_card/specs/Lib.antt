@@ -13,6 +13,7 @@ pub mod Counted
 pub mod Lines
 pub mod FrameCard
 pub mod FrameStands
+pub mod Called
 pub mod Ports
 pub mod Card
 pub mod Stands
@@ -31,7 +32,8 @@ pub use Rattle.model_bits.specs.Heard.{heard_of}
 pub use Rattle.model_card.specs.ByEvent.{FallsByNext, RisesByExpiry, RisesByHeard, RisesByRequest}
 pub use Rattle.model_card.specs.Counts.{may_send}
 pub use Rattle.model_card.specs.Room.{RefusesBy, room}
-pub use Rattle.model_card.specs.ports.Begun.{head_begun_at}
+pub use Rattle.model_card.specs.ports.Begun.{frame_begun_at, head_begun_at}
+pub use Rattle.model_card.specs.ports.FrameHeard.{ended_at}
 pub use Rattle.model_card.specs.ports.HeadHeard.{head_heard_at}
 pub use Rattle.model_card.specs.ports.Port.{fresh_port}
 pub use Rattle.model_card.specs.ports.Stored.{limit}

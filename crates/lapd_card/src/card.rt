@@ -1,8 +1,8 @@
 //! The card of octets: a card, and a port for each of its lines.
 
-ghost use Rattle.std.specs.Prelude.{◌≡◌, ◌≤◌, ◌<◌, Some, None, IsSome, IfOk, IfErr, IfSome, OnErr, slice_get, length};
+ghost use Rattle.std.specs.Prelude.{◌≡◌, ◌≤◌, ◌<◌, Some, None, IsSome, IfOk, IfErr, IfNone, IfSome, OnErr, slice_get, drop, length, ◌++◌};
 ghost use Rattle.std.specs.Option.{option_copied};
-ghost use Rattle.lapd_card.specs.{report_told, told_beside, pulled_of, RisesByExpiry, RisesByRequest, may_send, refusal, request_of, starts, head_begun_at, head_heard_at};
+ghost use Rattle.lapd_card.specs.{report_told, told_beside, pulled_of, RisesByExpiry, RisesByRequest, may_send, refusal, request_of, starts, ended_at, frame_begun_at, head_begun_at, head_heard_at, heard_of};
 ghost use Rattle.model_card.specs.Card as frames;
 ghost use Rattle.model_card.specs.ports.Card as machine;
 ghost use Rattle.model_card.specs.ports.Card.{after, answer};
@@ -15,7 +15,7 @@ use lapd_bits::Ended;
 use lapd_frame::{Refusal, Service, Timer};
 use lapd_line::{BareReport, Port, Pulled, Report, Request};
 use lapd_store::Shelf;
-use model_bits::Head;
+use model_bits::{Head, Heard};
 use std::marker::Model;
 
 /// A line card of octets: a card of frames, with a port at each line. A port hears frames in the octets that come, and puts
@@ -48,6 +48,7 @@ impl<S: Shelf> Card<S> {
     ghost use Rattle.std.specs.Io.BufRead.{Rests};
     ghost use Rattle.lapd_card.specs.{IsPriced, told_at, told_if_at};
     ghost use Rattle.lapd_card.specs.contracts.card.Card.{the_row};
+    ghost use Rattle.lapd_card.specs.Called.{OctetCalled};
     ghost use Rattle.lapd_card.specs.Card.{line_count};
     ghost use Rattle.lapd_card.specs.Reply.{answer_of_result};
     ghost use Rattle.lapd_card.specs.Stands.{OctetCardStands, Leads};
@@ -91,9 +92,7 @@ impl<S: Shelf> Card<S> {
     #[inline(always)]
     pub fn hear(&mut self, line: usize, octet: u8) -> Option<BareReport>
         requires { line < line_count self.old }
-        ensures told { (m : machine.OctetCard) → OctetCardStands S.store self.old m
-            → told (told_if_at self.new.ports line result) ≡ answer (at line (port.octet octet)) m }
-        ensures after { Leads S.store (at line (port.octet octet)) self.old self.new }
+        ensures called { OctetCalled S.store (at line (port.octet octet)) (told (told_if_at self.new.ports line result)) self.old self.new }
         ensures frames { (m : machine.OctetCard) → OctetCardStands S.store self.old m → IsPriced (at line (port.octet octet)) m }
     {
         match self.ports[line].octet(octet) {
@@ -129,9 +128,7 @@ impl<S: Shelf> Card<S> {
     /// A timer of a line expired. One that does not run has no effect, and nothing is reported.
     pub fn expire(&mut self, line: usize, timer: Timer) -> Report<'static>
         requires { line < line_count self.old }
-        ensures told { (m : machine.OctetCard) → OctetCardStands S.store self.old m
-            → told (report_told result) ≡ answer (at line (port.expiry timer)) m }
-        ensures after { Leads S.store (at line (port.expiry timer)) self.old self.new }
+        ensures called { OctetCalled S.store (at line (port.expiry timer)) (told (report_told result)) self.old self.new }
         // It starts one timer at most, so applying the orders of what falls due comes to an end.
         ensures starts { starts (report_told result).orders ≤ 1 }
         // What may be sent rises by k + 1 where the timer was running, else by nothing.
@@ -150,14 +147,12 @@ impl<S: Shelf> Card<S> {
     /// exactly if the card holds as many contents as its configuration has slots.
     pub fn request(&mut self, line: usize, request: Request<'_>) -> Result<Report<'static>, Refusal>
         requires { line < line_count self.old }
+        ensures called { OctetCalled S.store (at line (port.request (request_of request.entry))) (answer_of_result result) self.old self.new }
         ensures refused { IfErr result (λ why. (m : machine.OctetCard) → OctetCardStands S.store self.old m
             → refusal m.card.config (frames.is_full m.card) (request_of request.entry) (frames.line_at line m.card) ≡ Some why) }
         ensures unchanged { OnErr result (self.new ≡ self.old) }
         ensures accepted { IfOk result (λ report. (m : machine.OctetCard) → OctetCardStands S.store self.old m
             → refusal m.card.config (frames.is_full m.card) (request_of request.entry) (frames.line_at line m.card) ≡ None) }
-        ensures told { (m : machine.OctetCard) → OctetCardStands S.store self.old m
-            → answer_of_result result ≡ answer (at line (port.request (request_of request.entry))) m }
-        ensures after { Leads S.store (at line (port.request (request_of request.entry))) self.old self.new }
         // What may be sent rises by one where it is accepted, else by nothing.
         ensures frames { (m : machine.OctetCard) → OctetCardStands S.store self.old m → RisesByRequest line (request_of request.entry) m.card }
     {
@@ -171,8 +166,7 @@ impl<S: Shelf> Card<S> {
     #[inline(always)]
     pub fn pull(&mut self, line: usize) -> Pulled
         requires { line < line_count self.old }
-        ensures told { (m : machine.OctetCard) → OctetCardStands S.store self.old m → pulled_of result ≡ answer (at line port.pull) m }
-        ensures after { Leads S.store (at line port.pull) self.old self.new }
+        ensures called { OctetCalled S.store (at line port.pull) (pulled_of result) self.old self.new }
         // Where it begins a frame, what may be sent falls by one or two; else it stays.
         ensures frames { (m : machine.OctetCard) → OctetCardStands S.store self.old m → IsPriced (at line port.pull) m }
     {
@@ -191,8 +185,7 @@ impl<S: Shelf> Card<S> {
     fn pull_next(&mut self, line: usize) -> Pulled
         requires within { line < line_count self.old }
         requires few { IfSome (slice_get self.old.ports line) (λ port. length port.framer.left < 8) }
-        ensures told { (m : machine.OctetCard) → OctetCardStands S.store self.old m → pulled_of result ≡ answer (at line port.pull) m }
-        ensures after { Leads S.store (at line port.pull) self.old self.new }
+        ensures { OctetCalled S.store (at line port.pull) (pulled_of result) self.old self.new }
     {
         let orders = self.frames.load_next(line, &mut self.ports[line]);
         self.ports[line].give(orders)
@@ -222,6 +215,27 @@ impl<S: Shelf> Card<S> {
         ensures { (m : machine.OctetCard) → OctetCardStands S.store self.now m → result ≡ head_heard_at line m }
     {
         self.ports[line].heard()
+    }
+
+    /// What the latest octet of a line has ended; nothing if none has come. A frame is lent until the card's next event.
+    pub fn ended(&self, line: usize) -> Heard<'_>
+        requires { line < line_count self.now }
+        ensures { (m : machine.OctetCard) → OctetCardStands S.store self.now m → heard_of result ≡ ended_at line m }
+    {
+        self.ports[line].latest()
+    }
+
+    /// Writes the frame that a pull of the line began last, without its check, in front of `out`, and answers how many octets it
+    /// has: 0 if none was begun yet. None if `out` has too little room; then nothing is written.
+    pub fn write_begun(&self, line: usize, out: &mut [u8]) -> Option<usize>
+        requires { line < line_count self.now }
+        ensures none { IfNone result (out.new ≡ out.old) }
+        ensures empty { result ≡ Some 0 → out.new ≡ out.old }
+        ensures short { IfNone result ((m : machine.OctetCard) → OctetCardStands S.store self.now m → length out.old < length (frame_begun_at line m)) }
+        ensures written { IfSome result (λ count. (m : machine.OctetCard) → OctetCardStands S.store self.now m
+            → (count ≡ length (frame_begun_at line m)) × (out.new ≡ frame_begun_at line m ++ drop count out.old)) }
+    {
+        self.ports[line].write_begun(out)
     }
 
     fn report(&self, line: usize, bare: &Option<BareReport>) -> Report<'_>

@@ -1,8 +1,8 @@
 //! The card: one call an event.
 
-ghost use Rattle.std.specs.Prelude.{◌≡◌, ◌≤◌, ◌<◌, ◌↔◌, [], true, length, drop, Some, None, IsSome, IfOk, IfErr, IfSome, IsErr, OnOk, OnErr, get_or};
+ghost use Rattle.std.specs.Prelude.{◌≡◌, ◌≤◌, ◌<◌, ◌↔◌, [], true, length, drop, Some, None, IsSome, IfOk, IfErr, IfSome, IsErr, OnErr, get_or};
 ghost use Rattle.std.specs.Option.{option_copied};
-ghost use Rattle.lapd_card.specs.{none_counted, IsQuiet, answer_of_request, delivered_in, listed, told_beside, told_in, octets_of, gave_in, written, IsClear, latest_in, RisesByHeard, RisesByExpiry, RisesByRequest, FallsByNext, room, RefusesBy, IsFirstWaiting, has_next, next_waiting, came, cause_of, refusal, request_of, starts, limit, IsLoaded, orders_taken};
+ghost use Rattle.lapd_card.specs.{none_counted, IsQuiet, answer_of_request, delivered_in, listed, told_beside, told_in, octets_of, gave_in, written, IsClear, latest_in, RisesByHeard, RisesByExpiry, RisesByRequest, FallsByNext, room, RefusesBy, IsFirstWaiting, has_next, next_waiting, came, cause_of, request_of, starts, limit, IsLoaded, orders_taken};
 ghost use Rattle.model_bits.specs.Stream as stream;
 ghost use Rattle.model_card.specs.Card as machine;
 ghost use Rattle.model_card.specs.Event.{at};
@@ -62,6 +62,7 @@ impl<S: Shelf> Model for FrameCard<S> {
 impl<S: Shelf> FrameCard<S> {
     ghost use Rattle.lapd_card.specs.Counted.{counters_in};
     ghost use Rattle.lapd_card.specs.FrameCard.{line_count, room_for_frames};
+    ghost use Rattle.lapd_card.specs.Called.{Called};
     ghost use Rattle.lapd_card.specs.FrameStands.{FrameStands, Leads};
 
     /// How many lines the card has: 1 to 64.
@@ -86,10 +87,8 @@ impl<S: Shelf> FrameCard<S> {
     pub fn frame(&mut self, line: usize, octets: &[u8], report: &mut BareReport) -> bool
         requires within { line < line_count self.old }
         requires clear { IsClear report.old }
-        ensures told { (m : machine.Card) → FrameStands S.store self.old m
-            → told (told_in (octets_of (Some (came self.old.config.n201 octets.now))) report.new)
-            ≡ answer (at line (hears (came self.old.config.n201 octets.now))) m }
-        ensures after { Leads S.store (at line (hears (came self.old.config.n201 octets.now))) self.old self.new }
+        ensures called { Called S.store (at line (hears (came self.old.config.n201 octets.now)))
+            (told (told_in (octets_of (Some (came self.old.config.n201 octets.now))) report.new)) self.old self.new }
         ensures quiet { result ≡ true → IsQuiet report.new }
         // What may be sent rises by two at most for the frame, or by so many as a terminal may have TEIs, if these are
         // more; and by k more if that is an REJ with a valid N(R).
@@ -121,9 +120,7 @@ impl<S: Shelf> FrameCard<S> {
     pub fn failed(&mut self, line: usize, fault: Fault, report: &mut BareReport)
         requires within { line < line_count self.old }
         requires clear { IsClear report.old }
-        ensures told { (m : machine.Card) → FrameStands S.store self.old m
-            → told (told_beside None report.new) ≡ answer (at line (hears (stream.dropped (cause_of fault)))) m }
-        ensures after { Leads S.store (at line (hears (stream.dropped (cause_of fault)))) self.old self.new }
+        ensures called { Called S.store (at line (hears (stream.dropped (cause_of fault)))) (told (told_beside None report.new)) self.old self.new }
     {
         let frame_line = &mut self.lines[line];
         frame_line.failed(fault, report);
@@ -137,9 +134,7 @@ impl<S: Shelf> FrameCard<S> {
         requires within { line < line_count self.old }
         requires clear { IsClear report.old }
         requires something { IsSome (latest_in port.now) }
-        ensures told { IfSome (latest_in port.now) (λ e. (m : machine.Card) → FrameStands S.store self.old m
-            → told (told_in (octets_of (latest_in port.now)) report.new) ≡ answer (at line (hears e)) m) }
-        ensures after { IfSome (latest_in port.now) (λ e. Leads S.store (at line (hears e)) self.old self.new) }
+        ensures { IfSome (latest_in port.now) (λ e. Called S.store (at line (hears e)) (told (told_in (octets_of (latest_in port.now)) report.new)) self.old self.new) }
     {
         let frame_line = &mut self.lines[line];
         frame_line.heard(port.latest(), report, &mut self.shelf);
@@ -152,9 +147,7 @@ impl<S: Shelf> FrameCard<S> {
     pub(crate) fn dropped(&mut self, line: usize, cause: Cause, report: &mut BareReport)
         requires within { line < line_count self.old }
         requires clear { IsClear report.old }
-        ensures told { (m : machine.Card) → FrameStands S.store self.old m
-            → told (told_in [] report.new) ≡ answer (at line (hears (stream.dropped cause))) m }
-        ensures after { Leads S.store (at line (hears (stream.dropped cause))) self.old self.new }
+        ensures { Called S.store (at line (hears (stream.dropped cause))) (told (told_in [] report.new)) self.old self.new }
     {
         let frame_line = &mut self.lines[line];
         frame_line.dropped(cause, report);
@@ -179,12 +172,10 @@ impl<S: Shelf> FrameCard<S> {
         ensures room { IfErr result (λ fault. fault.room ≡ room_for_frames self.old) }
         ensures unchanged { OnErr result (self.new ≡ self.old) }
         ensures unwritten { OnErr result (out.new ≡ out.old) }
-        ensures gave { IfOk result (λ given. (m : machine.Card) → FrameStands S.store self.old m
-            → gave_in out.new given ≡ answer (at line next) m) }
+        ensures called { IfOk result (λ given. Called S.store (at line next) (gave_in out.new given) self.old self.new) }
         ensures fits { IfOk result (λ given. written given ≤ length out.new) }
         ensures rest { IfOk result (λ given. drop (written given) out.new ≡ drop (written given) out.old) }
         ensures length { length out.new ≡ length out.old }
-        ensures after { OnOk result (Leads S.store (at line next) self.old self.new) }
         // Where it gives a frame, what may be sent falls by one or two; else it stays.
         ensures frames { (m : machine.Card) → FrameStands S.store self.old m → FallsByNext line m }
     {
@@ -241,9 +232,7 @@ impl<S: Shelf> FrameCard<S> {
     pub fn expire(&mut self, line: usize, timer: Timer, report: &mut BareReport)
         requires within { line < line_count self.old }
         requires clear { IsClear report.old }
-        ensures told { (m : machine.Card) → FrameStands S.store self.old m
-            → told (told_beside None report.new) ≡ answer (at line (expiry timer)) m }
-        ensures after { Leads S.store (at line (expiry timer)) self.old self.new }
+        ensures called { Called S.store (at line (expiry timer)) (told (told_beside None report.new)) self.old self.new }
         // It starts one timer at most, so applying the orders of what falls due comes to an end.
         ensures starts { starts (listed report.new.orders) ≤ 1 }
         // What may be sent rises by k + 1 where the timer was running, else by nothing.
@@ -269,15 +258,8 @@ impl<S: Shelf> FrameCard<S> {
     ) -> Result<(), Refusal>
         requires within { line < line_count self.old }
         requires clear { IsClear report.old }
-        ensures refused { IfErr result (λ why. (m : machine.Card) → FrameStands S.store self.old m
-            → refusal m.config (machine.is_full m) (request_of request.entry) (machine.line_at line m) ≡ Some why) }
-        ensures unchanged { OnErr result (self.new ≡ self.old) }
+        ensures called { Called S.store (at line (line_event.request (request_of request.entry))) (answer_of_request result report.new) self.old self.new }
         ensures untold { OnErr result (report.new ≡ report.old) }
-        ensures accepted { OnOk result ((m : machine.Card) → FrameStands S.store self.old m
-            → refusal m.config (machine.is_full m) (request_of request.entry) (machine.line_at line m) ≡ None) }
-        ensures told { (m : machine.Card) → FrameStands S.store self.old m
-            → answer_of_request result report.new ≡ answer (at line (line_event.request (request_of request.entry))) m }
-        ensures after { Leads S.store (at line (line_event.request (request_of request.entry))) self.old self.new }
         // What may be sent rises by one where it is accepted, else by nothing.
         ensures frames { (m : machine.Card) → FrameStands S.store self.old m → RisesByRequest line (request_of request.entry) m }
     {

@@ -1,12 +1,12 @@
 //! A card of either kind, and what both do alike.
 
-ghost use Rattle.std.specs.Prelude.{◌≡◌, ◌≤◌, ◌<◌, Some, None, IfErr, OnOk, OnErr};
-ghost use Rattle.lapd_card.specs.{answer_of_request, listed, refusal, request_of, starts, told_beside, IsClear};
-ghost use Rattle.model_card.specs.Card as machine;
+ghost use Rattle.std.specs.Prelude.{◌≡◌, ◌≤◌, ◌<◌, None, OnErr};
+ghost use Rattle.lapd_card.specs.{answer_of_request, listed, request_of, starts, told_beside, IsClear};
 ghost use Rattle.model_card.specs.Event.{at};
 ghost use Rattle.model_line.specs.Event as line_event;
 ghost use Rattle.model_line.specs.Event.{told};
-ghost use Rattle.lapd_card.specs.Kinds.{Machine, card_in, answer, stored, frames_of, line_count, FrameCardStands, AnyStands, AnyLeads};
+ghost use Rattle.lapd_card.specs.Called.{AnyCalled};
+ghost use Rattle.lapd_card.specs.Kinds.{Machine, card_in, stored, frames_of, line_count, FrameCardStands, AnyStands};
 
 use crate::card::Card;
 use crate::frame_card::FrameCard;
@@ -51,9 +51,7 @@ impl AnyCard {
     pub fn expire(&mut self, line: usize, timer: Timer, report: &mut BareReport)
         requires within { line < line_count self.old }
         requires clear { IsClear report.old }
-        ensures told { (m : Machine) → AnyStands self.old m
-            → told (told_beside None report.new) ≡ answer (at line (line_event.expiry timer)) m }
-        ensures after { AnyLeads (at line (line_event.expiry timer)) self.old self.new }
+        ensures called { AnyCalled (at line (line_event.expiry timer)) (told (told_beside None report.new)) self.old self.new }
         // It starts one timer at most, so applying the orders of what falls due comes to an end.
         ensures starts { starts (listed report.new.orders) ≤ 1 }
     {
@@ -72,15 +70,8 @@ impl AnyCard {
     ) -> Result<(), Refusal>
         requires within { line < line_count self.old }
         requires clear { IsClear report.old }
-        ensures refused { IfErr result (λ why. (m : Machine) → AnyStands self.old m
-            → refusal (card_in m).config (machine.is_full (card_in m)) (request_of request.entry) (machine.line_at line (card_in m)) ≡ Some why) }
-        ensures unchanged { OnErr result (self.new ≡ self.old) }
+        ensures called { AnyCalled (at line (line_event.request (request_of request.entry))) (answer_of_request result report.new) self.old self.new }
         ensures untold { OnErr result (report.new ≡ report.old) }
-        ensures accepted { OnOk result ((m : Machine) → AnyStands self.old m
-            → refusal (card_in m).config (machine.is_full (card_in m)) (request_of request.entry) (machine.line_at line (card_in m)) ≡ None) }
-        ensures told { (m : Machine) → AnyStands self.old m
-            → answer_of_request result report.new ≡ answer (at line (line_event.request (request_of request.entry))) m }
-        ensures after { AnyLeads (at line (line_event.request (request_of request.entry))) self.old self.new }
     {
         match self {
             AnyCard::Octets(card) => card.frames.request(line, request, report),

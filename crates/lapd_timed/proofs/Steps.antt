@@ -1,10 +1,10 @@
 -- A card and its timers, one step on.
-use Rattle.std.proofs.Common.{arith, ◌≡◌, ℕ, zero, suc, ◌<◌, List, [], ◌∷◌, length, Option, Some, None, option_map, refl, sym, ap, subst}
+use Rattle.std.proofs.Common.{arith, ◌≡◌, ℕ, zero, suc, ◌<◌, List, [], ◌∷◌, length, Option, Some, None, option_map, refl, sym, ap, ◌∙◌, subst}
 use Rattle.std.proofs.lemmas.Option.{none-some, same_Some}
 use Rattle.std.specs.Option.{option_map_or}
+use Rattle.lapd_card.specs.Called.{AnyCalled, Called, OctetCalled}
 use Rattle.lapd_card.specs.Card as octets_card
 use Rattle.lapd_card.specs.FrameCard as frames_card
-use Rattle.lapd_card.specs.FrameStands as frames_stand
 use Rattle.lapd_card.specs.Kinds.{alone, card_in, frames_of, line_count, shelf_of, with_ports, AnyLeads, AnyStands, CardStands, FrameCardStands, Machine}
 use Rattle.lapd_card.specs.Stands as octets_stand
 use Rattle.lapd_card.specs.declared.kinds.AnyCard.{AnyCard}
@@ -14,6 +14,7 @@ use Rattle.lapd_card.proofs.OneOctet.{IsPassedOn, meant_is, passed_after}
 use Rattle.lapd_card.proofs.OnePort.{ports-all}
 use Rattle.lapd_clock.specs.Timer.{Timer, Order}
 use Rattle.lapd_clock.specs.Timers.{Expiry}
+use Rattle.lapd_frame.specs.declared.refusals.Refusal.{Refusal}
 use Rattle.lapd_line.specs.declared.port.Port.{Port}
 use Rattle.lapd_link_steps.specs.declared.report.BareReport.{BareReport}
 use Rattle.lapd_store.specs.Store.{Store}
@@ -25,6 +26,7 @@ use Rattle.model_card.specs.ports.Card.{OctetCard}
 use Rattle.model_card.specs.ports.Event as octet
 use Rattle.model_card.specs.ports.Port as port
 use Rattle.model_line.specs.Event as line_event
+use Rattle.model_line.specs.Laws.{orders_in}
 use Rattle.model_line.specs.declared.config.Config.{Config}
 use Rattle.model_timed.specs.Clock.{Clock, due, without_first}
 use Rattle.model_timed.specs.Frames as frames
@@ -32,12 +34,14 @@ use Rattle.model_timed.specs.Octets as octets
 use Rattle.model_timed.specs.Timed as timed
 use Rattle.model_timed.specs.Timed.{Kind, Timed, happens, falls_due, with_event, with_expiry}
 use Rattle.model_timed.proofs.OctetsRun.{OctetsMean, octets-mean}
+use Rattle.lapd_timed.specs.Called.{CalledOfBoth, CalledOfFrames, CalledOfOctets}
 use Rattle.lapd_timed.specs.Carried.{AreCarriedOut}
 use Rattle.lapd_timed.specs.Places.{named_by}
 use Rattle.lapd_timed.specs.Stands.{AreLeft}
 use Rattle.lapd_timed.specs.Kinds.{LedByFrames, LedByOctets}
-use Rattle.lapd_timed.specs.TimedStands.{AreFrames, AreOctets}
+use Rattle.lapd_timed.specs.TimedStands.{AreFrames, AreOctets, FramesStand, OctetsStand}
 use Rattle.lapd_timed.specs.declared.card_timers.CardTimers.{CardTimers}
+use Rattle.lapd_timed.specs.declared.timed_card.TimedCard.{TimedCard}
 use Rattle.lapd_timed.proofs.Events.{frames-done, octets-done, all-left, meant-so}
 
 -- The card of frames stands for that of the machine, and has the line.
@@ -52,36 +56,44 @@ there card m line stands within = subst (λ n. line < n) (ap (λ d. d.lines) (sy
 
 -- ---- an event of one kind alone
 
-module _ (line : ℕ) (e : octet.Event) (at_line : e.line ≡ line) (may : octets.IsNoExpiry e.what) (old new : AnyCard) (card now : octets_card.Held Store) (is : old ≡ Octets card) (be : new ≡ Octets now)
-    (leads : octets_stand.Leads shelf_of e card now) where
-  pub led-by-octets : LedByOctets e old new
-  led-by-octets = subst (λ k. LedByOctets e k new) (sym is) (subst (LedByOctets e (Octets card)) (sym be) leads)
-
-  pub octets-step : line < line_count old → (timers then : CardTimers) (orders : List Order) → AreCarriedOut now.frames line orders timers then → ((m : OctetCard) → CardStands card m → orders ≡ octets.orders_at e m)
-      → (t : octets.TimedOctetCard) → AreOctets old timers t → AreOctets new then (octets.after (happens e) t)
-  octets-step within timers then orders carried says t s =
+module _ (line : ℕ) (e : octet.Event) (at_line : e.line ≡ line) (may : octets.IsNoExpiry e.what) {r : port.Answer} (old new : TimedCard) (card now : octets_card.Held Store) (is : old.card ≡ Octets card) (be : new.card ≡ Octets now)
+    (called : OctetCalled shelf_of e r card now) (within : line < line_count old.card) (orders : List Order) (carried : AreCarriedOut now.frames line orders old.timers new.timers)
+    (says : (m : OctetCard) → CardStands card m → orders ≡ octets.orders_in r) where
+  octets-step : (t : octets.TimedOctetCard) → OctetsStand old t → OctetsStand new (octets.after (happens e) t)
+  octets-step t s =
       let on = subst (λ k. AnyStands k (with_ports t.card)) is s.card_stands in
-      let stands = leads.stands t.card on in
+      let stands = called.leads.stands t.card on in
       record {
         card_stands = subst (λ k. AnyStands k (with_ports (ports.after e t.card))) (sym be) stands;
-        timers_stand = octets-done now.frames line orders timers then carried e at_line may t.card t.clock (there old (with_ports t.card) line s.card_stands within) stands.frames (says t.card on) s.timers_stand;
+        timers_stand = octets-done now.frames line orders old.timers new.timers carried e at_line may t.card t.clock (there old.card (with_ports t.card) line s.card_stands within) stands.frames
+            (says t.card on ∙ ap octets.orders_in (called.answers t.card on)) s.timers_stand;
       }
 
-module _ (line : ℕ) (e : frame.Event) (at_line : e.line ≡ line) (may : frames.IsNoExpiry e.what) (old new : AnyCard) (card now : frames_card.Held Store) (is : old ≡ Frames card) (be : new ≡ Frames now)
-    (leads : frames_stand.Leads shelf_of e card now) where
-  pub led-by-frames : LedByFrames e old new
-  led-by-frames = subst (λ k. LedByFrames e k new) (sym is) (subst (LedByFrames e (Frames card)) (sym be) leads)
+  pub octets-called : CalledOfOctets e r old new
+  octets-called = record {
+    answers = λ m s. called.answers m (subst (λ k. AnyStands k (with_ports m)) is s);
+    leads = subst (λ k. LedByOctets e k new.card) (sym is) (subst (LedByOctets e (Octets card)) (sym be) called.leads);
+    after = octets-step;
+  }
 
-  pub frames-step : line < line_count old → (timers then : CardTimers) (orders : List Order) → AreCarriedOut now line orders timers then → ((m : Card) → FrameCardStands card m → orders ≡ frames.orders_at e m)
-      → (t : frames.TimedCard) → AreFrames old timers t → AreFrames new then (frames.after (happens e) t)
-  frames-step within timers then orders carried says t s =
+module _ (line : ℕ) (e : frame.Event) (at_line : e.line ≡ line) (may : frames.IsNoExpiry e.what) {r : line_event.Answer} (old new : TimedCard) (card now : frames_card.Held Store) (is : old.card ≡ Frames card) (be : new.card ≡ Frames now)
+    (called : Called shelf_of e r card now) (within : line < line_count old.card) (orders : List Order) (carried : AreCarriedOut now line orders old.timers new.timers) (ordered : orders ≡ orders_in r) where
+  frames-step : (t : frames.TimedCard) → FramesStand old t → FramesStand new (frames.after (happens e) t)
+  frames-step t s =
       let on = subst (λ k. AnyStands k (alone t.card)) is s.card_stands in
-      let stands = leads.stands t.card on in
+      let stands = called.leads.stands t.card on in
       record {
         card_stands = subst (λ k. AnyStands k (alone (machine.after e t.card))) (sym be) stands;
-        timers_stand = frames-done now line orders timers then carried e at_line t.card t.clock (there old (alone t.card) line s.card_stands within) stands (says t.card on)
-            (all-left e may timers t.card t.clock s.timers_stand);
+        timers_stand = frames-done now line orders old.timers new.timers carried e at_line t.card t.clock (there old.card (alone t.card) line s.card_stands within) stands
+            (ordered ∙ ap orders_in (called.answers t.card on)) (all-left e may old.timers t.card t.clock s.timers_stand);
       }
+
+  pub frames-called : CalledOfFrames e r old new
+  frames-called = record {
+    answers = λ m s. called.answers m (subst (λ k. AnyStands k (alone m)) is s);
+    leads = subst (λ k. LedByFrames e k new.card) (sym is) (subst (LedByFrames e (Frames card)) (sym be) called.leads);
+    after = frames-step;
+  }
 
 -- the orders of what an octet led to
 told-orders : (ports : List Port) (line : ℕ) (report : BareReport) → line < length ports → (told_at ports line report).orders ≡ listed report.orders
@@ -118,6 +130,26 @@ module _ {e : port.Event} {f : line_event.Event} (passes : IsPassedOn e f) (line
     timers_stand = frames-done (frames_of now) line orders timers new carried (frame.at line f) refl m c (there card (alone m) line on within)
         (inside now _ (leads.stands (alone m) on)) (says (alone m) on) left;
   }
+
+module _ {e : port.Event} {f : line_event.Event} (passes : IsPassedOn e f) (line : ℕ) (may : frames.IsNoExpiry f) {r : line_event.Answer} (old new : TimedCard) (now : AnyCard) (be : new.card ≡ now) (called : AnyCalled (frame.at line f) r old.card now)
+    (kept : (why : Refusal) → r ≡ line_event.refused why → new ≡ old) (within : line < line_count old.card) (orders : List Order) (carried : AreCarriedOut (frames_of now) line orders old.timers new.timers) (ordered : orders ≡ orders_in r) where
+  says : (m : Machine) → AnyStands old.card m → orders ≡ frames.orders_at (frame.at line f) (card_in m)
+  says m on = ordered ∙ ap orders_in (called.answers m on)
+
+  pub both-called : CalledOfBoth (octet.at line e) (frame.at line f) r old new
+  both-called = record {
+    answers = called.answers;
+    unchanged = kept;
+    leads = subst (AnyLeads (frame.at line f) old.card) (sym be) called.leads;
+    after = record {
+      octets = λ t s. both-octets passes line old.card now new.card be called.leads within old.timers new.timers orders carried says t.card t.clock s.card_stands (all-left (frame.at line f) may old.timers t.card.card t.clock s.timers_stand);
+      frames = λ t s. both-frames passes line old.card now new.card be called.leads within old.timers new.timers orders carried says t.card t.clock s.card_stands (all-left (frame.at line f) may old.timers t.card t.clock s.timers_stand);
+    };
+  }
+
+-- an answer by what it says
+pub both-as : {o : octet.Event} {e : frame.Event} {r says : line_event.Answer} {old new : TimedCard} → r ≡ says → CalledOfBoth o e says old new → CalledOfBoth o e r old new
+both-as {o} {e} {old = old} {new} is called = subst (λ a. CalledOfBoth o e a old new) (sym is) called
 
 -- ---- what is due
 

@@ -6,3 +6,4 @@ pub mod Stands
 pub mod Carried
 pub mod Kinds
 pub mod TimedStands
+pub mod Called

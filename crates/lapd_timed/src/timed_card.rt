@@ -1,27 +1,22 @@
 //! A card that keeps its own timers.
 
-ghost use Rattle.std.specs.Prelude.{◌≡◌, ◌⊎◌, ◌^◌, ◌<◌, ◌≤◌, ◌↔◌, [], true, None, Some, length, drop, IfOk, IfErr, IfSome, IfNone, IsErr, OnErr, OnOk, option_map};
-ghost use Rattle.lapd_card.specs.{answer_of_request, came, cause_of, gave_in, listed, octets_of, pulled_of, refusal, request_of, starts, told_beside, told_if_at, told_in, written, IsClear, IsQuiet};
+ghost use Rattle.std.specs.Prelude.{◌≡◌, ◌⊎◌, ◌^◌, ◌<◌, ◌≤◌, ◌↔◌, true, None, Some, length, drop, IfOk, IfSome, IfNone, IsErr, OnErr, OnOk, option_map};
+ghost use Rattle.lapd_card.specs.{answer_of_request, came, cause_of, gave_in, listed, octets_of, pulled_of, request_of, starts, told_beside, told_if_at, told_in, written, IsClear, IsQuiet};
 ghost use Rattle.lapd_clock.specs.Given.{lengths_of};
-ghost use Rattle.lapd_card.specs.Kinds.{alone, answer, card_in, config_of, frames_of, kind_of, line_count, with_ports, AnyLeads, AnyStands, Machine};
+ghost use Rattle.lapd_card.specs.Kinds.{config_of, frames_of, kind_of, line_count};
 ghost use Rattle.model_card.specs.declared.kinds.CardKind.TheVariants.{Frames, Octets};
 ghost use Rattle.model_bits.specs.Stream as stream;
-ghost use Rattle.model_card.specs.Card.{Card, is_full, line_at};
+ghost use Rattle.model_card.specs.Card.{Card};
 ghost use Rattle.model_card.specs.Event.{at};
-ghost use Rattle.model_card.specs.Machine as machine;
-ghost use Rattle.model_card.specs.ports.Card as ports;
-ghost use Rattle.model_card.specs.ports.Card.{OctetCard};
 ghost use Rattle.model_card.specs.ports.Event as octet_event;
 ghost use Rattle.model_card.specs.ports.Port as port;
 ghost use Rattle.model_line.specs.Event as line_event;
 ghost use Rattle.model_line.specs.Event.{told, hears, expiry, next};
 ghost use Rattle.model_timed.specs.Clock.{Clock, due, next_moment, with_lengths};
-ghost use Rattle.model_timed.specs.Frames as of_frames;
-ghost use Rattle.model_timed.specs.Octets as of_octets;
 ghost use Rattle.model_timed.specs.Timed.{happens, time, falls_due};
 ghost use Rattle.lapd_timed.specs.Places.{named_by};
 ghost use Rattle.lapd_timed.specs.Stands.{TimersStand};
-ghost use Rattle.lapd_timed.specs.Kinds.{ports_of, room_of, LedByFrames, LedByOctets};
+ghost use Rattle.lapd_timed.specs.Kinds.{ports_of, room_of};
 
 use crate::card_timers::CardTimers;
 use crate::wrong_time::WrongTime;
@@ -42,8 +37,10 @@ pub struct TimedCard {
 }
 
 impl TimedCard {
+    ghost use Rattle.lapd_card.specs.Called.{AnyCalled};
     ghost use Rattle.lapd_timed.specs.Carried.{AreCarriedOut};
-    ghost use Rattle.lapd_timed.specs.TimedStands.{FramesStand, OctetsStand, Steps};
+    ghost use Rattle.lapd_timed.specs.Called.{CalledOfBoth, CalledOfFrames, CalledOfOctets};
+    ghost use Rattle.lapd_timed.specs.TimedStands.{Steps};
 
     /// A card that has just begun, and the timers of it: of as many lines and terminals, none of which runs. With timers of
     /// fewer terminals nothing would start those that are missing, and no clause speaks of such a card.
@@ -101,9 +98,7 @@ impl TimedCard {
         requires clear { IsClear report.old }
         ensures due { (m : Card) (c : Clock) → TimersStand self.old.timers m c → result ≡ option_map named_by (due c) }
         ensures line { IfSome result (λ d. d.0 < line_count self.old.card) }
-        ensures told { IfSome result (λ d. (m : Machine) → AnyStands self.old.card m
-            → told (told_beside None report.new) ≡ answer (at d.0 (expiry d.1)) m) }
-        ensures card { IfSome result (λ d. AnyLeads (at d.0 (expiry d.1)) self.old.card self.new.card) }
+        ensures called { IfSome result (λ d. AnyCalled (at d.0 (expiry d.1)) (told (told_beside None report.new)) self.old.card self.new.card) }
         ensures after { Steps falls_due falls_due self.old self.new }
         ensures unchanged { IfNone result (self.new ≡ self.old) }
         ensures untold { IfNone result (report.new ≡ report.old) }
@@ -139,17 +134,9 @@ impl TimedCard {
     ) -> Result<(), Refusal>
         requires within { line < line_count self.old.card }
         requires clear { IsClear report.old }
-        ensures refused { IfErr result (λ why. (m : Machine) → AnyStands self.old.card m
-            → refusal (card_in m).config (is_full (card_in m)) (request_of request.entry) (line_at line (card_in m)) ≡ Some why) }
-        ensures unchanged { OnErr result (self.new ≡ self.old) }
+        ensures called { CalledOfBoth (octet_event.at line (port.request (request_of request.entry))) (at line (line_event.request (request_of request.entry)))
+            (answer_of_request result report.new) self.old self.new }
         ensures untold { OnErr result (report.new ≡ report.old) }
-        ensures accepted { OnOk result ((m : Machine) → AnyStands self.old.card m
-            → refusal (card_in m).config (is_full (card_in m)) (request_of request.entry) (line_at line (card_in m)) ≡ None) }
-        ensures told { (m : Machine) → AnyStands self.old.card m
-            → answer_of_request result report.new ≡ answer (at line (line_event.request (request_of request.entry))) m }
-        ensures card { AnyLeads (at line (line_event.request (request_of request.entry))) self.old.card self.new.card }
-        ensures after { Steps (happens (octet_event.at line (port.request (request_of request.entry))))
-            (happens (at line (line_event.request (request_of request.entry)))) self.old self.new }
     {
         self.card.request(line, request, report)?;
         self.carry_out(line, report.orders());
@@ -160,11 +147,7 @@ impl TimedCard {
     pub fn hear(&mut self, line: usize, octet: u8) -> Option<BareReport>
         requires kind { kind_of self.old.card ≡ Octets }
         requires within { line < line_count self.old.card }
-        ensures told { (m : OctetCard) → AnyStands self.old.card (with_ports m)
-            → port.told (told_if_at (ports_of self.new.card) line result) ≡ ports.answer (octet_event.at line (port.octet octet)) m }
-        ensures card { LedByOctets (octet_event.at line (port.octet octet)) self.old.card self.new.card }
-        ensures after { (t : of_octets.TimedOctetCard) → OctetsStand self.old t
-            → OctetsStand self.new (of_octets.after (happens (octet_event.at line (port.octet octet))) t) }
+        ensures called { CalledOfOctets (octet_event.at line (port.octet octet)) (port.told (told_if_at (ports_of self.new.card) line result)) self.old self.new }
     {
         let AnyCard::Octets(card) = &mut self.card else {
             unreachable!();
@@ -182,10 +165,7 @@ impl TimedCard {
     pub fn pull(&mut self, line: usize) -> Pulled
         requires kind { kind_of self.old.card ≡ Octets }
         requires within { line < line_count self.old.card }
-        ensures told { (m : OctetCard) → AnyStands self.old.card (with_ports m) → pulled_of result ≡ ports.answer (octet_event.at line port.pull) m }
-        ensures card { LedByOctets (octet_event.at line port.pull) self.old.card self.new.card }
-        ensures after { (t : of_octets.TimedOctetCard) → OctetsStand self.old t
-            → OctetsStand self.new (of_octets.after (happens (octet_event.at line port.pull)) t) }
+        ensures called { CalledOfOctets (octet_event.at line port.pull) (pulled_of result) self.old self.new }
     {
         let AnyCard::Octets(card) = &mut self.card else {
             unreachable!();
@@ -201,12 +181,8 @@ impl TimedCard {
         requires kind { kind_of self.old.card ≡ Frames }
         requires within { line < line_count self.old.card }
         requires clear { IsClear report.old }
-        ensures told { (m : Card) → AnyStands self.old.card (alone m)
-            → told (told_in (octets_of (Some (came (config_of self.old.card).n201 octets.now))) report.new)
-            ≡ machine.answer (at line (hears (came (config_of self.old.card).n201 octets.now))) m }
-        ensures card { LedByFrames (at line (hears (came (config_of self.old.card).n201 octets.now))) self.old.card self.new.card }
-        ensures after { (t : of_frames.TimedCard) → FramesStand self.old t
-            → FramesStand self.new (of_frames.after (happens (at line (hears (came (config_of self.old.card).n201 octets.now)))) t) }
+        ensures called { CalledOfFrames (at line (hears (came (config_of self.old.card).n201 octets.now)))
+            (told (told_in (octets_of (Some (came (config_of self.old.card).n201 octets.now))) report.new)) self.old self.new }
         ensures quiet { result ≡ true → IsQuiet report.new }
     {
         let AnyCard::Frames(card) = &mut self.card else {
@@ -223,11 +199,7 @@ impl TimedCard {
         requires kind { kind_of self.old.card ≡ Frames }
         requires within { line < line_count self.old.card }
         requires clear { IsClear report.old }
-        ensures told { (m : Card) → AnyStands self.old.card (alone m)
-            → told (told_beside None report.new) ≡ machine.answer (at line (hears (stream.dropped (cause_of fault)))) m }
-        ensures card { LedByFrames (at line (hears (stream.dropped (cause_of fault)))) self.old.card self.new.card }
-        ensures after { (t : of_frames.TimedCard) → FramesStand self.old t
-            → FramesStand self.new (of_frames.after (happens (at line (hears (stream.dropped (cause_of fault))))) t) }
+        ensures called { CalledOfFrames (at line (hears (stream.dropped (cause_of fault)))) (told (told_beside None report.new)) self.old self.new }
     {
         let AnyCard::Frames(card) = &mut self.card else {
             unreachable!();
@@ -252,14 +224,10 @@ impl TimedCard {
         ensures refused { IsErr result ↔ (length out.old < room_of self.old.card) }
         ensures unchanged { OnErr result (self.new ≡ self.old) }
         ensures unwritten { OnErr result (out.new ≡ out.old) }
-        ensures gave { IfOk result (λ given. (m : Card) → AnyStands self.old.card (alone m)
-            → gave_in out.new given ≡ machine.answer (at line next) m) }
+        ensures called { IfOk result (λ given. CalledOfFrames (at line next) (gave_in out.new given) self.old self.new) }
         ensures fits { IfOk result (λ given. written given ≤ length out.new) }
         ensures rest { IfOk result (λ given. drop (written given) out.new ≡ drop (written given) out.old) }
         ensures length { length out.new ≡ length out.old }
-        ensures card { OnOk result (LedByFrames (at line next) self.old.card self.new.card) }
-        ensures after { OnOk result ((t : of_frames.TimedCard) → FramesStand self.old t
-            → FramesStand self.new (of_frames.after (happens (at line next)) t)) }
     {
         let AnyCard::Frames(card) = &mut self.card else {
             unreachable!();

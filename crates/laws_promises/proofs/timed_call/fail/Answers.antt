@@ -13,5 +13,5 @@ pub returns : goal.returns
 returns g c =
     let e = at c.args.line (hears (stream.dropped (cause_of c.args.fault))) in
     serves (happens e) c.args.card.now c.failed.new.self c.args.sink.now c.take.new.self c.take.result c.now.result (answered c.args.line (told _))
-    (led-by-event e c.args.card.now c.failed.new.self c.now.result _ (moves-frames e _ _ c.failed.ensures.card) c.failed.ensures.after c.now.ensures (λ m s. ap told c.of.ensures ∙ c.failed.ensures.told m s))
+    (led-by-event e c.args.card.now c.failed.new.self c.now.result _ (moves-frames e _ _ c.failed.ensures.called.leads) c.failed.ensures.called.after c.now.ensures (λ m s. ap told c.of.ensures ∙ c.failed.ensures.called.answers m s))
     c.take.ensures.taken c.take.ensures.none_failed c.take.ensures.missed c.take.ensures.failed

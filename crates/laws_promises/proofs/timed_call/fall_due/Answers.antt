@@ -9,8 +9,8 @@ use Rattle.laws_promises.proofs.timed_call.fall_due.Goals as goal
 pub returns-in-Some : goal.returns-in-Some
 returns-in-Some g c =
     serves falls_due c.args.card.now c.fall_due.new.self c.args.sink.now c.take.new.self c.take.result c.now.result (fell_due c.in-Some.timer (answered c.in-Some.line (told _)))
-    (led-by-due c.in-Some.line c.in-Some.timer c.args.card.now c.fall_due.new.self c.now.result _ c.in-Some.ensures.due c.in-Some.ensures.card c.in-Some.ensures.after c.now.ensures
-    (λ m s. ap told c.of.ensures ∙ c.in-Some.ensures.told m s))
+    (led-by-due c.in-Some.line c.in-Some.timer c.args.card.now c.fall_due.new.self c.now.result _ c.in-Some.ensures.due c.in-Some.ensures.called.leads c.in-Some.ensures.after c.now.ensures
+    (λ m s. ap told c.of.ensures ∙ c.in-Some.ensures.called.answers m s))
     c.take.ensures.taken c.take.ensures.none_failed c.take.ensures.missed c.take.ensures.failed
 
 pub returns-in-None : goal.returns-in-None

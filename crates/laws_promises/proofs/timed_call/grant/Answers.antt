@@ -13,12 +13,12 @@ pub returns-in-Ok : goal.returns-in-Ok
 returns-in-Ok g c =
     let e = at c.args.line (request (request_of c.args.request)) in
     serves (happens e) c.args.card.now c.request.new.self c.args.sink.now c.take.new.self c.take.result c.now.result (answered c.args.line (told _))
-    (led-by-event e c.args.card.now c.request.new.self c.now.result _ (moves-any e _ _ c.in-Ok.ensures.card) c.in-Ok.ensures.after.frames c.now.ensures (λ m s. ap told c.of.ensures ∙ c.in-Ok.ensures.told (alone m) s))
+    (led-by-event e c.args.card.now c.request.new.self c.now.result _ (moves-any e _ _ c.in-Ok.ensures.called.leads) c.in-Ok.ensures.called.after.frames c.now.ensures (λ m s. ap told c.of.ensures ∙ c.in-Ok.ensures.called.answers (alone m) s))
     c.take.ensures.taken c.take.ensures.none_failed c.take.ensures.missed c.take.ensures.failed
 
 pub returns-in-Err : goal.returns-in-Err
 returns-in-Err g c =
     let e = at c.args.line (request (request_of c.args.request)) in
     serves (happens e) c.args.card.now c.request.new.self c.args.sink.now c.take-in-Err.new.self c.take-in-Err.result c.now-in-Err.result (answered c.args.line (refused c.in-Err.refusal))
-    (led-by-event e c.args.card.now c.request.new.self c.now-in-Err.result (refused c.in-Err.refusal) (moves-any e _ _ c.in-Err.ensures.card) c.in-Err.ensures.after.frames c.now-in-Err.ensures (λ m s. c.in-Err.ensures.told (alone m) s))
+    (led-by-event e c.args.card.now c.request.new.self c.now-in-Err.result (refused c.in-Err.refusal) (moves-any e _ _ c.in-Err.ensures.called.leads) c.in-Err.ensures.called.after.frames c.now-in-Err.ensures (λ m s. c.in-Err.ensures.called.answers (alone m) s))
     c.take-in-Err.ensures.taken c.take-in-Err.ensures.none_failed c.take-in-Err.ensures.missed c.take-in-Err.ensures.failed

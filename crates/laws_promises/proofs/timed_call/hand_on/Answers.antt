@@ -13,16 +13,16 @@ pub returns-in-Ok-Some : goal.returns-in-Ok-Some
 returns-in-Ok-Some g c =
     let e = at c.args.line next in
     serves (happens e) c.args.card.now c.next_frame.new.self c.args.sink.now c.take.new.self c.take.result c.now.result (answered c.args.line (gave _))
-    (led-by-event e c.args.card.now c.next_frame.new.self c.now.result _ (moves-frames e _ _ c.in-Ok-Some.ensures.card) c.in-Ok-Some.ensures.after c.now.ensures
-    (λ m s. ap (gave_in c.next_frame.new.out) (sym c.in-Ok-Some.field-0-is) ∙ c.in-Ok-Some.ensures.gave m s))
+    (led-by-event e c.args.card.now c.next_frame.new.self c.now.result _ (moves-frames e _ _ c.in-Ok-Some.ensures.called.leads) c.in-Ok-Some.ensures.called.after c.now.ensures
+    (λ m s. ap (gave_in c.next_frame.new.out) (sym c.in-Ok-Some.field-0-is) ∙ c.in-Ok-Some.ensures.called.answers m s))
     c.take.ensures.taken c.take.ensures.none_failed c.take.ensures.missed c.take.ensures.failed
 
 pub returns-in-Ok-None : goal.returns-in-Ok-None
 returns-in-Ok-None g c =
     let e = at c.args.line next in
     serves (happens e) c.args.card.now c.next_frame.new.self c.args.sink.now c.take-in-Ok-None.new.self c.take-in-Ok-None.result c.now-in-Ok-None.result (answered c.args.line (gave _))
-    (led-by-event e c.args.card.now c.next_frame.new.self c.now-in-Ok-None.result _ (moves-frames e _ _ c.in-Ok-None.ensures.card) c.in-Ok-None.ensures.after c.now-in-Ok-None.ensures
-    (λ m s. ap (gave_in c.next_frame.new.out) (sym c.in-Ok-None.field-0-is) ∙ c.in-Ok-None.ensures.gave m s))
+    (led-by-event e c.args.card.now c.next_frame.new.self c.now-in-Ok-None.result _ (moves-frames e _ _ c.in-Ok-None.ensures.called.leads) c.in-Ok-None.ensures.called.after c.now-in-Ok-None.ensures
+    (λ m s. ap (gave_in c.next_frame.new.out) (sym c.in-Ok-None.field-0-is) ∙ c.in-Ok-None.ensures.called.answers m s))
     c.take-in-Ok-None.ensures.taken c.take-in-Ok-None.ensures.none_failed c.take-in-Ok-None.ensures.missed c.take-in-Ok-None.ensures.failed
 
 pub returns-in-Err : goal.returns-in-Err

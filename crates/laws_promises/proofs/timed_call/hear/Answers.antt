@@ -13,11 +13,11 @@ use Rattle.laws_promises.proofs.timed_call.hear.Goals as goal
 pub returns : goal.returns
 returns g c =
     let e = at c.args.line (hears (came (config_of c.args.card.now.card).n201 c.args.octets.now)) in
-    let moves = moves-frames e c.args.card.now.card c.frame.new.self.card c.frame.ensures.card in
+    let moves = moves-frames e c.args.card.now.card c.frame.new.self.card c.frame.ensures.called.leads in
     let report = c.frame.new.report in
     let same = ap (λ h. h.config.n201) c.frames.ensures.card ∙ ap (λ k. (config_of k).n201) c.card.ensures ∙ ap (λ d. d.n201) moves.config in
     let lent = c.contents-contents.ensures ∙ ap (λ n. delivered_in (octets_of (Some (came n c.args.octets.now))) report) same in
     serves (happens e) c.args.card.now c.frame.new.self c.args.sink.now c.take.new.self c.take.result c.now.result (answered c.args.line (told _))
-    (led-by-event e c.args.card.now c.frame.new.self c.now.result _ moves c.frame.ensures.after c.now.ensures
-    (λ m s. ap told (c.of.ensures ∙ ap (λ k. told_beside k report) lent) ∙ c.frame.ensures.told m s))
+    (led-by-event e c.args.card.now c.frame.new.self c.now.result _ moves c.frame.ensures.called.after c.now.ensures
+    (λ m s. ap told (c.of.ensures ∙ ap (λ k. told_beside k report) lent) ∙ c.frame.ensures.called.answers m s))
     c.take.ensures.taken c.take.ensures.none_failed c.take.ensures.missed c.take.ensures.failed

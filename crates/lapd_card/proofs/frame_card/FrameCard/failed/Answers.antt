@@ -3,7 +3,7 @@ use Rattle.model_bits.specs.Stream as stream
 use Rattle.model_line.specs.Came.{cause_of}
 use Rattle.model_line.specs.Event as line_event
 use Rattle.lapd_card.proofs.OneLine.{few_line, line-there}
-use Rattle.lapd_card.proofs.OneEvent.{past_after, event_leads, event_told}
+use Rattle.lapd_card.proofs.OneEvent.{past_after, event_called, event_leads, told_unrefused}
 use Rattle.lapd_card.proofs.Served.{heard_takes}
 use Rattle.lapd_card.proofs.frame_card.FrameCard.failed.Goals as goal
 
@@ -13,11 +13,10 @@ index_mut-frame_line-requires g c = line-there g.S.Shelf.store _ c.args.self.now
 pub invariant_of-self : goal.invariant_of-self
 invariant_of-self g c = past_after g.S.Shelf.store c.self.view_is (event_leads g.S.Shelf.store (record { past = c.self.invariant; same = c.self.view_is; within = c.requires.within; is = c.index_mut-frame_line.ensures.value }) (line_event.hears (stream.dropped (cause_of c.args.fault))) (heard_takes (stream.dropped (cause_of c.args.fault))) (c.failed.ensures.after _) (record { told = c.has_next.result; says = c.has_next.ensures; sets = c.set.ensures })) c.self.invariant
 
-pub returns-clause-told : goal.returns-clause-told
-returns-clause-told g c = event_told g.S.Shelf.store (record { past = c.self.invariant; same = c.self.view_is; within = c.requires.within; is = c.index_mut-frame_line.ensures.value }) (line_event.hears (stream.dropped (cause_of c.args.fault))) (heard_takes (stream.dropped (cause_of c.args.fault))) (λ others l stands. c.failed.ensures.told l)
-
-pub returns-clause-after : goal.returns-clause-after
-returns-clause-after g c = event_leads g.S.Shelf.store (record { past = c.self.invariant; same = c.self.view_is; within = c.requires.within; is = c.index_mut-frame_line.ensures.value }) (line_event.hears (stream.dropped (cause_of c.args.fault))) (heard_takes (stream.dropped (cause_of c.args.fault))) (c.failed.ensures.after _) (record { told = c.has_next.result; says = c.has_next.ensures; sets = c.set.ensures })
+pub returns : goal.returns
+returns g c = record {
+  called = event_called g.S.Shelf.store (record { past = c.self.invariant; same = c.self.view_is; within = c.requires.within; is = c.index_mut-frame_line.ensures.value }) (line_event.hears (stream.dropped (cause_of c.args.fault))) (heard_takes (stream.dropped (cause_of c.args.fault))) told_unrefused (λ others l stands. c.failed.ensures.told l) (c.failed.ensures.after _) (record { told = c.has_next.result; says = c.has_next.ensures; sets = c.set.ensures });
+}
 
 pub set-requires : goal.set-requires
 set-requires g c = few_line g.S.Shelf.store c.self.invariant c.self.view_is c.requires.within

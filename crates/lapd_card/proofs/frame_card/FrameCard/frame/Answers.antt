@@ -7,7 +7,7 @@ use Rattle.model_line.specs.Event.{told, hears}
 use Rattle.model_line.specs.Line as machine
 use Rattle.model_line.specs.Machine.{answer}
 use Rattle.lapd_card.proofs.OneLine.{few_line, line-there, one_serves, has_config}
-use Rattle.lapd_card.proofs.OneEvent.{past_after, event_leads, event_told}
+use Rattle.lapd_card.proofs.OneEvent.{past_after, event_called, event_leads, told_unrefused}
 use Rattle.lapd_card.proofs.Served.{heard_takes}
 use Rattle.lapd_card.proofs.Headline.{at_line}
 use Rattle.lapd_card.proofs.frame_card.FrameCard.frame.Goals as goal
@@ -21,11 +21,12 @@ frame-is_quiet-requires-clause-stands g c = one_serves g.S.Shelf.store (record {
 pub invariant_of-self : goal.invariant_of-self
 invariant_of-self g c = past_after g.S.Shelf.store c.self.view_is (event_leads g.S.Shelf.store (record { past = c.self.invariant; same = c.self.view_is; within = c.requires.within; is = c.index_mut-frame_line.ensures.value }) (hears (came c.args.self.now.config.n201 c.args.octets.now)) (heard_takes (came c.args.self.now.config.n201 c.args.octets.now)) (subst (λ n. line.Leads (hears (came n c.args.octets.now)) c.index_mut-frame_line.result.now (g.S.Shelf.store c.self.inside.shelf) c.frame-is_quiet.new.self (g.S.Shelf.store c.frame-is_quiet.new.shelf)) (ap (λ d. d.n201) (has_config g.S.Shelf.store (record { past = c.self.invariant; same = c.self.view_is; within = c.requires.within; is = c.index_mut-frame_line.ensures.value }))) c.frame-is_quiet.ensures.after) (record { told = c.has_next.result; says = c.has_next.ensures; sets = c.set.ensures })) c.self.invariant
 
-pub returns-clause-told : goal.returns-clause-told
-returns-clause-told g c = event_told g.S.Shelf.store (record { past = c.self.invariant; same = c.self.view_is; within = c.requires.within; is = c.index_mut-frame_line.ensures.value }) (hears (came c.args.self.now.config.n201 c.args.octets.now)) (heard_takes (came c.args.self.now.config.n201 c.args.octets.now)) (subst (λ n. (others : List Owned) (l : machine.Line) → line.LineStands c.index_mut-frame_line.result.now (g.S.Shelf.store c.self.inside.shelf) others l → told (told_in (octets_of (Some (came n c.args.octets.now))) c.frame-is_quiet.new.report) ≡ answer (config_of c.index_mut-frame_line.result.now) (hears (came n c.args.octets.now)) l) (ap (λ d. d.n201) (has_config g.S.Shelf.store (record { past = c.self.invariant; same = c.self.view_is; within = c.requires.within; is = c.index_mut-frame_line.ensures.value }))) c.frame-is_quiet.ensures.told)
-
-pub returns-clause-after : goal.returns-clause-after
-returns-clause-after g c = event_leads g.S.Shelf.store (record { past = c.self.invariant; same = c.self.view_is; within = c.requires.within; is = c.index_mut-frame_line.ensures.value }) (hears (came c.args.self.now.config.n201 c.args.octets.now)) (heard_takes (came c.args.self.now.config.n201 c.args.octets.now)) (subst (λ n. line.Leads (hears (came n c.args.octets.now)) c.index_mut-frame_line.result.now (g.S.Shelf.store c.self.inside.shelf) c.frame-is_quiet.new.self (g.S.Shelf.store c.frame-is_quiet.new.shelf)) (ap (λ d. d.n201) (has_config g.S.Shelf.store (record { past = c.self.invariant; same = c.self.view_is; within = c.requires.within; is = c.index_mut-frame_line.ensures.value }))) c.frame-is_quiet.ensures.after) (record { told = c.has_next.result; says = c.has_next.ensures; sets = c.set.ensures })
+pub returns-clause-called : goal.returns-clause-called
+returns-clause-called g c =
+    event_called g.S.Shelf.store (record { past = c.self.invariant; same = c.self.view_is; within = c.requires.within; is = c.index_mut-frame_line.ensures.value }) (hears (came c.args.self.now.config.n201 c.args.octets.now)) (heard_takes (came c.args.self.now.config.n201 c.args.octets.now)) told_unrefused
+    (subst (λ n. (others : List Owned) (l : machine.Line) → line.LineStands c.index_mut-frame_line.result.now (g.S.Shelf.store c.self.inside.shelf) others l → told (told_in (octets_of (Some (came n c.args.octets.now))) c.frame-is_quiet.new.report) ≡ answer (config_of c.index_mut-frame_line.result.now) (hears (came n c.args.octets.now)) l) (ap (λ d. d.n201) (has_config g.S.Shelf.store (record { past = c.self.invariant; same = c.self.view_is; within = c.requires.within; is = c.index_mut-frame_line.ensures.value }))) c.frame-is_quiet.ensures.told)
+    (subst (λ n. line.Leads (hears (came n c.args.octets.now)) c.index_mut-frame_line.result.now (g.S.Shelf.store c.self.inside.shelf) c.frame-is_quiet.new.self (g.S.Shelf.store c.frame-is_quiet.new.shelf)) (ap (λ d. d.n201) (has_config g.S.Shelf.store (record { past = c.self.invariant; same = c.self.view_is; within = c.requires.within; is = c.index_mut-frame_line.ensures.value }))) c.frame-is_quiet.ensures.after)
+    (record { told = c.has_next.result; says = c.has_next.ensures; sets = c.set.ensures })
 
 pub set-requires : goal.set-requires
 set-requires g c = few_line g.S.Shelf.store c.self.invariant c.self.view_is c.requires.within

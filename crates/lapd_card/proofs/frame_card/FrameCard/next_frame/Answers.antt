@@ -2,7 +2,7 @@
 use Rattle.lapd_card.proofs.Vocabulary.{arith, ◌+◌, ◌≤◌, length, sym, subst, frames_by_event}
 use Rattle.model_line.specs.Event.{next}
 use Rattle.lapd_card.proofs.OneLine.{few_line, line-there, one_serves, has_config}
-use Rattle.lapd_card.proofs.OneEvent.{past_after, event_leads, event_told}
+use Rattle.lapd_card.proofs.OneEvent.{past_after, event_called, event_leads, gave_unrefused}
 use Rattle.lapd_card.proofs.Served.{next_takes}
 use Rattle.lapd_card.proofs.Headline.{at_line}
 use Rattle.lapd_card.proofs.frame_card.FrameCard.next_frame.Goals as goal
@@ -20,11 +20,8 @@ next_frame-given-requires-clause-room g c = subst (λ d. d.n201 + 4 ≤ length c
 pub invariant_of-self : goal.invariant_of-self
 invariant_of-self g c = past_after g.S.Shelf.store c.self.view_is (event_leads g.S.Shelf.store (record { past = c.self.invariant; same = c.self.view_is; within = c.requires; is = c.index_mut-frame_line.ensures.value }) next next_takes c.next_frame-given.ensures.after (record { told = c.has_next.result; says = c.has_next.ensures; sets = c.set.ensures })) c.self.invariant
 
-pub returns-clause-gave : goal.returns-clause-gave
-returns-clause-gave g c = event_told g.S.Shelf.store (record { past = c.self.invariant; same = c.self.view_is; within = c.requires; is = c.index_mut-frame_line.ensures.value }) next next_takes c.next_frame-given.ensures.gave
-
-pub returns-clause-after : goal.returns-clause-after
-returns-clause-after g c = event_leads g.S.Shelf.store (record { past = c.self.invariant; same = c.self.view_is; within = c.requires; is = c.index_mut-frame_line.ensures.value }) next next_takes c.next_frame-given.ensures.after (record { told = c.has_next.result; says = c.has_next.ensures; sets = c.set.ensures })
+pub returns-clause-called : goal.returns-clause-called
+returns-clause-called g c = event_called g.S.Shelf.store (record { past = c.self.invariant; same = c.self.view_is; within = c.requires; is = c.index_mut-frame_line.ensures.value }) next next_takes gave_unrefused c.next_frame-given.ensures.gave c.next_frame-given.ensures.after (record { told = c.has_next.result; says = c.has_next.ensures; sets = c.set.ensures })
 
 pub set-requires : goal.set-requires
 set-requires g c = few_line g.S.Shelf.store c.self.invariant c.self.view_is c.requires

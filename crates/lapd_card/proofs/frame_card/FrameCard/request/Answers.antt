@@ -1,8 +1,8 @@
 -- Hand-written answers for `FrameCard::request`.
 use Rattle.lapd_card.proofs.Vocabulary.{Ok, Err, refl, frames_by_event}
 use Rattle.model_line.specs.Request.{request_of}
-use Rattle.lapd_card.proofs.OneLine.{Called, few_line, line-there, one_serves}
-use Rattle.lapd_card.proofs.OneEvent.{Requested, past_after, request_refused, request_accepted, request_unchanged, request_told, request_leads}
+use Rattle.lapd_card.proofs.OneLine.{Found, few_line, line-there, one_serves}
+use Rattle.lapd_card.proofs.OneEvent.{Requested, past_after, request_called, request_leads}
 use Rattle.lapd_card.proofs.Headline.{at_line}
 use Rattle.lapd_card.proofs.frame_card.FrameCard.request.Goals as goal
 
@@ -19,21 +19,17 @@ pub invariant_of-self : goal.invariant_of-self
 invariant_of-self g c =
     let asked : Requested g.S.Shelf.store (request_of c.args.request) _ c.args.line c.from.result c.index_mut-frame_line.result.now (Ok tt) c.request.new.report c.request.new.self c.request.new.shelf c.set.new.self =
     record { most = c.from.ensures; refused = tt; accepted = c.in-Ok.ensures.accepted; unchanged = tt; kept = tt; unmarked = tt; told = c.in-Ok.ensures.told; leads = c.in-Ok.ensures.after; looked = record { told = c.has_next.result; says = c.has_next.ensures; sets = c.set.ensures } } in
-    let call : Called g.S.Shelf.store _ c.args.self.now c.args.line c.index_mut-frame_line.result.now = record { past = c.self.invariant; same = c.self.view_is; within = c.requires.within; is = c.index_mut-frame_line.ensures.value } in
+    let call : Found g.S.Shelf.store _ c.args.self.now c.args.line c.index_mut-frame_line.result.now = record { past = c.self.invariant; same = c.self.view_is; within = c.requires.within; is = c.index_mut-frame_line.ensures.value } in
     past_after g.S.Shelf.store c.self.view_is (request_leads g.S.Shelf.store call (Ok tt) asked) c.self.invariant
 
 pub returns-in-Ok : goal.returns-in-Ok
 returns-in-Ok g c =
     let asked : Requested g.S.Shelf.store (request_of c.args.request) _ c.args.line c.from.result c.index_mut-frame_line.result.now (Ok tt) c.request.new.report c.request.new.self c.request.new.shelf c.set.new.self =
     record { most = c.from.ensures; refused = tt; accepted = c.in-Ok.ensures.accepted; unchanged = tt; kept = tt; unmarked = tt; told = c.in-Ok.ensures.told; leads = c.in-Ok.ensures.after; looked = record { told = c.has_next.result; says = c.has_next.ensures; sets = c.set.ensures } } in
-    let call : Called g.S.Shelf.store _ c.args.self.now c.args.line c.index_mut-frame_line.result.now = record { past = c.self.invariant; same = c.self.view_is; within = c.requires.within; is = c.index_mut-frame_line.ensures.value } in
+    let call : Found g.S.Shelf.store _ c.args.self.now c.args.line c.index_mut-frame_line.result.now = record { past = c.self.invariant; same = c.self.view_is; within = c.requires.within; is = c.index_mut-frame_line.ensures.value } in
     record {
-      refused = request_refused g.S.Shelf.store call (Ok tt) asked;
-      unchanged = request_unchanged g.S.Shelf.store call (Ok tt) asked;
+      called = request_called g.S.Shelf.store call (Ok tt) asked;
       untold = tt;
-      accepted = request_accepted g.S.Shelf.store call (Ok tt) asked;
-      told = request_told g.S.Shelf.store call (Ok tt) asked;
-      after = request_leads g.S.Shelf.store call (Ok tt) asked;
       frames = at_line g.S.Shelf.store c.requires.within (λ m s w. frames_by_event.requests m c.args.line (request_of c.args.request) s w);
     }
 
@@ -41,20 +37,16 @@ pub invariant_of-self-in-Err : goal.invariant_of-self-in-Err
 invariant_of-self-in-Err g c =
     let asked : Requested g.S.Shelf.store (request_of c.args.request) _ c.args.line c.from.result c.index_mut-frame_line.result.now (Err c.in-Err.why) c.request.new.report c.request.new.self c.request.new.shelf c.self.inside.waiting =
     record { most = c.from.ensures; refused = c.in-Err.ensures.refused; accepted = tt; unchanged = c.in-Err.ensures.unchanged; kept = c.in-Err.ensures.kept; unmarked = refl; told = tt; leads = tt; looked = tt } in
-    let call : Called g.S.Shelf.store _ c.args.self.now c.args.line c.index_mut-frame_line.result.now = record { past = c.self.invariant; same = c.self.view_is; within = c.requires.within; is = c.index_mut-frame_line.ensures.value } in
+    let call : Found g.S.Shelf.store _ c.args.self.now c.args.line c.index_mut-frame_line.result.now = record { past = c.self.invariant; same = c.self.view_is; within = c.requires.within; is = c.index_mut-frame_line.ensures.value } in
     past_after g.S.Shelf.store c.self.view_is (request_leads g.S.Shelf.store call (Err c.in-Err.why) asked) c.self.invariant
 
 pub returns-in-Err : goal.returns-in-Err
 returns-in-Err g c =
     let asked : Requested g.S.Shelf.store (request_of c.args.request) _ c.args.line c.from.result c.index_mut-frame_line.result.now (Err c.in-Err.why) c.request.new.report c.request.new.self c.request.new.shelf c.self.inside.waiting =
     record { most = c.from.ensures; refused = c.in-Err.ensures.refused; accepted = tt; unchanged = c.in-Err.ensures.unchanged; kept = c.in-Err.ensures.kept; unmarked = refl; told = tt; leads = tt; looked = tt } in
-    let call : Called g.S.Shelf.store _ c.args.self.now c.args.line c.index_mut-frame_line.result.now = record { past = c.self.invariant; same = c.self.view_is; within = c.requires.within; is = c.index_mut-frame_line.ensures.value } in
+    let call : Found g.S.Shelf.store _ c.args.self.now c.args.line c.index_mut-frame_line.result.now = record { past = c.self.invariant; same = c.self.view_is; within = c.requires.within; is = c.index_mut-frame_line.ensures.value } in
     record {
-      refused = request_refused g.S.Shelf.store call (Err c.in-Err.why) asked;
-      unchanged = request_unchanged g.S.Shelf.store call (Err c.in-Err.why) asked;
+      called = request_called g.S.Shelf.store call (Err c.in-Err.why) asked;
       untold = c.in-Err.ensures.untold;
-      accepted = request_accepted g.S.Shelf.store call (Err c.in-Err.why) asked;
-      told = request_told g.S.Shelf.store call (Err c.in-Err.why) asked;
-      after = request_leads g.S.Shelf.store call (Err c.in-Err.why) asked;
       frames = at_line g.S.Shelf.store c.requires.within (λ m s w. frames_by_event.requests m c.args.line (request_of c.args.request) s w);
     }

@@ -8,16 +8,16 @@ pub returns-in-Ok-clause-told : goal.returns-in-Ok-clause-told
 returns-in-Ok-clause-told g c = λ m h.
     let s = c.args.self.now in
     let r = request_of c.args.request in
-    told_on (at c.args.line (request r)) s _ (lead_on (request_of_both r) c.args.line s.timed.card c.request.new.self.card c.request.ensures.card) refl refl refl m (else_of s m h)
+    told_on (at c.args.line (request r)) s _ (lead_on (request_of_both r) c.args.line s.timed.card c.request.new.self.card c.request.ensures.called.leads) refl refl refl m (else_of s m h)
     c.tell.result _ _ (told (told_beside None c.request.new.report))
-    (says_on (request_of_both r) c.args.line s.timed.card m.board h.board (line_event.told (told_beside None c.request.new.report)) refl c.in-Ok.ensures.told)
-    (timed_both (request_of_both r) c.args.line s.timed c.request.new.self c.request.ensures.after m.board h.board m.clock h.timers) c.tell.ensures
+    (says_on (request_of_both r) c.args.line s.timed.card m.board h.board (line_event.told (told_beside None c.request.new.report)) refl c.in-Ok.ensures.called.answers)
+    (timed_both (request_of_both r) c.args.line s.timed c.request.new.self c.request.ensures.called.after m.board h.board m.clock h.timers) c.tell.ensures
 
 pub returns-in-Err-clause-told : goal.returns-in-Err-clause-told
 returns-in-Err-clause-told g c = λ m h.
     let s = c.args.self.now in
     let r = request_of c.args.request in
-    told_on (at c.args.line (request r)) s _ (lead_on (request_of_both r) c.args.line s.timed.card c.request.new.self.card c.request.ensures.card) refl refl refl m (else_of s m h)
+    told_on (at c.args.line (request r)) s _ (lead_on (request_of_both r) c.args.line s.timed.card c.request.new.self.card c.request.ensures.called.leads) refl refl refl m (else_of s m h)
     c.put_refused.result _ _ (refused c.in-Err.refusal)
-    (says_on (request_of_both r) c.args.line s.timed.card m.board h.board (line_event.refused c.in-Err.refusal) refl c.in-Err.ensures.told)
-    (timed_both (request_of_both r) c.args.line s.timed c.request.new.self c.request.ensures.after m.board h.board m.clock h.timers) c.put_refused.ensures
+    (says_on (request_of_both r) c.args.line s.timed.card m.board h.board (line_event.refused c.in-Err.refusal) refl c.in-Err.ensures.called.answers)
+    (timed_both (request_of_both r) c.args.line s.timed c.request.new.self c.request.ensures.called.after m.board h.board m.clock h.timers) c.put_refused.ensures

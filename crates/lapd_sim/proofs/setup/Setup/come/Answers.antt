@@ -17,15 +17,15 @@ returns-in-Frames g c = λ m h.
     let of_frames : kind_of s.timed.card ≡ kind.Frames = ap kind_of (sym c.card.ensures ∙ c.in-Frames.is) in
     let same : config_of s.timed.card ≡ m.board.config = s.same_config ∙ sym h.config in
     let lent = c.contents-contents.ensures ∙ ap (λ f. delivered_in (octets_of (Some (came f.config.n201 frame))) report) (c.frames.ensures.card ∙ ap frames_of c.card-in-Frames.ensures)
-    ∙ ap (λ (d : Config). delivered_in (octets_of (Some (came d.n201 frame))) report) (frames_config line (line_event.hears e) s.timed.card c.frame.new.self.card c.frame.ensures.card) in
+    ∙ ap (λ (d : Config). delivered_in (octets_of (Some (came d.n201 frame))) report) (frames_config line (line_event.hears e) s.timed.card c.frame.new.self.card c.frame.ensures.called.leads) in
     obeyed c.tell.result _ c.written.ensures _ _ (SetupStands _) _ _
     (moved_to _ _ _ (into_is s m h c.in_ok-line.ensures.0 c.in_ok-line.ensures.1 kind.Frames frame of_frames refl)
     (ap (λ (d : Config). with_event (scene m) (at line (hears (came d.n201 frame)))) (sym same)))
-    (told_on (at line (hears e)) s _ (led_frames line (hears e) (line_event.hears e) refl s.timed.card c.frame.new.self.card c.frame.ensures.card) refl refl refl m (else_of s m h)
+    (told_on (at line (hears e)) s _ (led_frames line (hears e) (line_event.hears e) refl s.timed.card c.frame.new.self.card c.frame.ensures.called.leads) refl refl refl m (else_of s m h)
     c.tell.result _ _ (told (told_beside (option_copied c.contents-contents.result) report))
     (told_frames line (hears e) (line_event.hears e) refl s.timed.card m.board h.board of_frames (line_event.told (told_beside (option_copied c.contents-contents.result) report))
-    (λ n k. ap (λ x. line_event.told (told_beside x report)) lent ∙ c.frame.ensures.told n k))
-    (timed_frames line (hears e) (line_event.hears e) refl s.timed c.frame.new.self c.frame.ensures.after of_frames m.board h.board m.clock h.timers) c.tell.ensures)
+    (λ n k. ap (λ x. line_event.told (told_beside x report)) lent ∙ c.frame.ensures.called.answers n k))
+    (timed_frames line (hears e) (line_event.hears e) refl s.timed c.frame.new.self c.frame.ensures.called.after of_frames m.board h.board m.clock h.timers) c.tell.ensures)
 
 pub returns-else-frame-gt-LONGEST_FRAME : goal.returns-else-frame-gt-LONGEST_FRAME
 returns-else-frame-gt-LONGEST_FRAME g c = λ m h.

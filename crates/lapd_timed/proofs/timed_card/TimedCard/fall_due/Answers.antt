@@ -31,9 +31,9 @@ returns-clause-after c =
     let within = subst (λ n. line < n) c.args.self.now.same_lines c.in-Some.ensures.line in
     record {
       octets = λ t s. fell octets (AreOctets _ _) t (line, c.in-Some.timer) (c.in-Some.ensures.due t.card.card t.clock s.timers_stand)
-          (both-octets passes line c.args.self.now.card c.expire.new.self c.carry_out.new.self.card c.carry_out.ensures.card c.expire.ensures.after within c.due.new.self c.carry_out.new.self.timers c.orders.result.now c.carry_out.ensures.carried
-          (λ m on. c.orders.ensures ∙ ap orders_in (c.expire.ensures.told m on)) t.card (without_first t.clock) s.card_stands (c.in-Some.ensures.left t.card.card t.clock s.timers_stand));
+          (both-octets passes line c.args.self.now.card c.expire.new.self c.carry_out.new.self.card c.carry_out.ensures.card c.expire.ensures.called.leads within c.due.new.self c.carry_out.new.self.timers c.orders.result.now c.carry_out.ensures.carried
+          (λ m on. c.orders.ensures ∙ ap orders_in (c.expire.ensures.called.answers m on)) t.card (without_first t.clock) s.card_stands (c.in-Some.ensures.left t.card.card t.clock s.timers_stand));
       frames = λ t s. fell frames (AreFrames _ _) t (line, c.in-Some.timer) (c.in-Some.ensures.due t.card t.clock s.timers_stand)
-          (both-frames passes line c.args.self.now.card c.expire.new.self c.carry_out.new.self.card c.carry_out.ensures.card c.expire.ensures.after within c.due.new.self c.carry_out.new.self.timers c.orders.result.now c.carry_out.ensures.carried
-          (λ m on. c.orders.ensures ∙ ap orders_in (c.expire.ensures.told m on)) t.card (without_first t.clock) s.card_stands (c.in-Some.ensures.left t.card t.clock s.timers_stand));
+          (both-frames passes line c.args.self.now.card c.expire.new.self c.carry_out.new.self.card c.carry_out.ensures.card c.expire.ensures.called.leads within c.due.new.self c.carry_out.new.self.timers c.orders.result.now c.carry_out.ensures.carried
+          (λ m on. c.orders.ensures ∙ ap orders_in (c.expire.ensures.called.answers m on)) t.card (without_first t.clock) s.card_stands (c.in-Some.ensures.left t.card t.clock s.timers_stand));
     }

@@ -1,37 +1,30 @@
 -- A request is served, and its orders are carried out; or it is refused, and orders nothing.
-use Rattle.std.proofs.Common.{◌∙◌, ◌<◌, [], ap, refl, sym, subst}
-use Rattle.lapd_card.proofs.OneOctet.{request_passes}
-use Rattle.lapd_card.specs.Kinds.{frames_of}
-use Rattle.model_card.specs.Event.{at}
-use Rattle.model_line.specs.Event.{request}
-use Rattle.model_line.specs.Laws.{orders_in}
+use Rattle.std.proofs.Common.{◌≡◌, ◌<◌, [], ap, refl, sym, subst}
+use denote.Struct.Props.{props}
+use Rattle.lapd_card.proofs.OneOctet.{err_is, request_passes}
+use Rattle.lapd_card.specs.Kinds.{frames_of, line_count}
+use Rattle.lapd_card.specs.declared.kinds.AnyCard.{AnyCard}
+use Rattle.lapd_timed.specs.declared.timed_card.TimedCard.{TimedCard}
+use Rattle.lapd_card.specs.{answer_of_request}
 use Rattle.model_line.specs.Request.{request_of}
-use Rattle.lapd_timed.proofs.Events.{all-left, nothing-ordered}
-use Rattle.lapd_timed.proofs.Steps.{both-frames, both-octets}
+use Rattle.lapd_timed.proofs.Events.{nothing-ordered}
+use Rattle.lapd_timed.proofs.Steps.{both-as, both-called}
 use Rattle.lapd_timed.proofs.timed_card.TimedCard.request.Goals as goal
 
-pub returns-clause-after : goal.returns-clause-after
-returns-clause-after c =
-    let line = c.args.line in
-    let r = request_of c.args.request in
-    let passes = request_passes r in
-    record {
-      octets = λ t s. both-octets passes line c.args.self.now.card c.request.new.self c.carry_out.new.self.card c.carry_out.ensures.card c.in_ok-request.ensures.after c.requires.within c.args.self.now.timers c.carry_out.new.self.timers c.orders.result.now c.carry_out.ensures.carried
-          (λ m on. c.orders.ensures ∙ ap orders_in (c.in_ok-request.ensures.told m on)) t.card t.clock s.card_stands (all-left (at line (request r)) tt c.args.self.now.timers t.card.card t.clock s.timers_stand);
-      frames = λ t s. both-frames passes line c.args.self.now.card c.request.new.self c.carry_out.new.self.card c.carry_out.ensures.card c.in_ok-request.ensures.after c.requires.within c.args.self.now.timers c.carry_out.new.self.timers c.orders.result.now c.carry_out.ensures.carried
-          (λ m on. c.orders.ensures ∙ ap orders_in (c.in_ok-request.ensures.told m on)) t.card t.clock s.card_stands (all-left (at line (request r)) tt c.args.self.now.timers t.card t.clock s.timers_stand);
-    }
+-- with the same card and timers it is the same
+same-timed : (c : TimedCard) (k : AnyCard) (l : c.timers.lines ≡ line_count k) → k ≡ c.card → record { card = k; timers = c.timers; same_lines = l } ≡ c
+same-timed c k l same =
+    let one : IsProp (c.timers.lines ≡ line_count c.card) = hlevel props in
+    (subst (λ x. (l : c.timers.lines ≡ line_count x) → record { card = x; timers = c.timers; same_lines = l } ≡ c) (sym same) (λ l. ap (λ l. record { card = c.card; timers = c.timers; same_lines = l }) (one l c.same_lines))) l
 
-pub returns-in_err-request-clause-after : goal.returns-in_err-request-clause-after
-returns-in_err-request-clause-after c =
-    let line = c.args.line in
-    let r = request_of c.args.request in
-    let passes = request_passes r in
-    let timers = c.args.self.now.timers in
-    let within = subst (λ n. line < n) (sym c.args.self.now.same_lines) c.requires.within in
-    record {
-      octets = λ t s. both-octets passes line c.args.self.now.card c.request.new.self c.request.new.self refl c.request.ensures.after c.requires.within timers timers [] (nothing-ordered (frames_of c.request.new.self) line timers within)
-          (λ m on. ap orders_in (c.in_err-request.ensures.told m on)) t.card t.clock s.card_stands (all-left (at line (request r)) tt timers t.card.card t.clock s.timers_stand);
-      frames = λ t s. both-frames passes line c.args.self.now.card c.request.new.self c.request.new.self refl c.request.ensures.after c.requires.within timers timers [] (nothing-ordered (frames_of c.request.new.self) line timers within)
-          (λ m on. ap orders_in (c.in_err-request.ensures.told m on)) t.card t.clock s.card_stands (all-left (at line (request r)) tt timers t.card t.clock s.timers_stand);
-    }
+pub returns-clause-called : goal.returns-clause-called
+returns-clause-called c =
+    both-called (request_passes (request_of c.args.request)) c.args.line tt c.args.self.now c.carry_out.new.self c.request.new.self c.carry_out.ensures.card c.in_ok-request.ensures.called (λ why is. absurd (cc))
+    c.requires.within c.orders.result.now c.carry_out.ensures.carried c.orders.ensures
+
+pub returns-in_err-request-clause-called : goal.returns-in_err-request-clause-called
+returns-in_err-request-clause-called c =
+    let same = c.in_err-request.ensures.called.unchanged _ refl in
+    both-as (ap (λ r. answer_of_request r c.request.new.report) (err_is c.from_residual.result c.in_err-request.field-0.0 c.from_residual.ensures))
+    (both-called (request_passes (request_of c.args.request)) c.args.line tt c.args.self.now _ c.request.new.self refl c.in_err-request.ensures.called (λ why is. same-timed c.args.self.now c.request.new.self _ same)
+    c.requires.within [] (nothing-ordered (frames_of c.request.new.self) c.args.line c.args.self.now.timers (subst (λ n. c.args.line < n) (sym c.args.self.now.same_lines) c.requires.within)) refl)

@@ -1,0 +1,39 @@
+-- What a call of a card that keeps its own timers comes to: one event of the machine of its kind, whose orders have been carried
+-- out at the moment of the card.
+use Rattle.std.specs.Prelude.{◌≡◌}
+use Rattle.lapd_frame.specs.declared.refusals.Refusal.{Refusal}
+use Rattle.lapd_card.specs.Kinds.{alone, answer, with_ports, AnyLeads, AnyStands, Machine}
+use Rattle.model_card.specs.Card.{Card}
+use Rattle.model_card.specs.Event as frame
+use Rattle.model_card.specs.Machine as machine
+use Rattle.model_card.specs.ports.Card as ports
+use Rattle.model_card.specs.ports.Card.{OctetCard}
+use Rattle.model_card.specs.ports.Event as octet
+use Rattle.model_card.specs.ports.Port as port
+use Rattle.model_line.specs.Event as line
+use Rattle.model_timed.specs.Frames as of_frames
+use Rattle.model_timed.specs.Octets as of_octets
+use Rattle.model_timed.specs.Timed.{happens}
+use Rattle.lapd_timed.specs.Kinds.{LedByFrames, LedByOctets}
+use Rattle.lapd_timed.specs.TimedStands.{FramesStand, OctetsStand, Steps}
+use Rattle.lapd_timed.specs.declared.timed_card.TimedCard.{TimedCard}
+
+-- The arguments are this event at a line of a card of frames, and what the call answers and writes says this: it is the machine's
+-- answer. The card is the machine after the event, and its clock is that of the timed machine then.
+pub record CalledOfFrames (e : frame.Event) (answered : line.Answer) (old new : TimedCard) : Type 0 where
+  pub answers : (m : Card) → AnyStands old.card (alone m) → answered ≡ machine.answer e m
+  pub leads : LedByFrames e old.card new.card
+  pub after : (t : of_frames.TimedCard) → FramesStand old t → FramesStand new (of_frames.after (happens e) t)
+
+-- The same of a card of octets,
+pub record CalledOfOctets (e : octet.Event) (answered : port.Answer) (old new : TimedCard) : Type 0 where
+  pub answers : (m : OctetCard) → AnyStands old.card (with_ports m) → answered ≡ ports.answer e m
+  pub leads : LedByOctets e old.card new.card
+  pub after : (t : of_octets.TimedOctetCard) → OctetsStand old t → OctetsStand new (of_octets.after (happens e) t)
+
+-- and of a request at a card of either kind. If the machine refuses it, nothing has changed.
+pub record CalledOfBoth (o : octet.Event) (e : frame.Event) (answered : line.Answer) (old new : TimedCard) : Type 0 where
+  pub answers : (m : Machine) → AnyStands old.card m → answered ≡ answer e m
+  pub unchanged : (why : Refusal) → answered ≡ line.refused why → new ≡ old
+  pub leads : AnyLeads e old.card new.card
+  pub after : Steps (happens o) (happens e) old new

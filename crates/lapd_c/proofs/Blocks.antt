@@ -9,7 +9,8 @@ use Rattle.model_card.proofs.OfPorts.Fold.{run_is_moments}
 use Rattle.model_card.specs.ports.Event.{at}
 use Rattle.model_card.specs.ports.Port.{Answer, octet, pull, told, refused, pulled}
 use Rattle.lapd_c.specs.Answers.{octet_of}
-use Rattle.lapd_c.specs.Blocks.{BlocksAreCalls, IsEmpty}
+use Rattle.lapd_c.specs.BlockMade.{BlocksAreMade, IsEmpty}
+use Rattle.lapd_c.specs.Blocks.{BlocksAreCalls}
 use Rattle.lapd_c.proofs.Halves.{even, odd}
 
 -- which step is which
@@ -58,14 +59,14 @@ not_begun : (begun : Bool) → not begun ≡ true → begun ≡ false
 not_begun true is = absurd (false≢true is)
 not_begun false is = refl
 
-empty_if : (a : Answer) → tells_nothing a ≡ true → IsEmpty a
+pub empty_if : (a : Answer) → tells_nothing a ≡ true → IsEmpty a
 empty_if (told t) is = inl (told_empty t is)
 empty_if (refused why) is = absurd (false≢true is)
 empty_if (pulled value begun orders) is =
     let a = and_parts (not begun) _ is in
     inr (value, ap (λ b. pulled value b orders) (not_begun begun (a.0)) ∙ ap (λ os. pulled value false os) (nil_if orders (a.1)))
 
-quiet_at : (line from step : ℕ) (taken : List ℕ) (m : OctetCard) (n : ℕ) → AllQuiet line taken from n m → step < n → tells_nothing (answer_after line taken from step m) ≡ true
+pub quiet_at : (line from step : ℕ) (taken : List ℕ) (m : OctetCard) (n : ℕ) → AllQuiet line taken from n m → step < n → tells_nothing (answer_after line taken from step m) ≡ true
 unfolding AllQuiet
 quiet_at line from step taken m zero quiet less = absurd (omega (arith, less))
 quiet_at line from step taken m (suc n) quiet less = elim (cases_lt step n) [
@@ -73,9 +74,10 @@ quiet_at line from step taken m (suc n) quiet less = elim (cases_lt step n) [
   | inr after ↦ let it : n ≡ step = omega (arith, less, after) in subst (λ (k : ℕ). tells_nothing (answer_after line taken from k m) ≡ true) it (quiet.1)
 ]
 
-pub blocks_are_calls_by : BlocksAreCalls
+pub blocks_are_calls_by : BlocksAreMade → BlocksAreCalls
 unfolding steps_made given_after
-blocks_are_calls_by = record {
+blocks_are_calls_by made = record {
+  served = λ taken given from. refl;
   takes = λ line i taken. takes_is line i taken;
   pulls = λ line i taken. pulls_is line i taken;
   given = λ value begun orders. refl;
@@ -89,4 +91,5 @@ blocks_are_calls_by = record {
   all_given = λ line from n taken given m. refl;
   quiet = λ line from n step taken m quiet less. empty_if (answer_after line taken from step m) (quiet_at line from step taken m n quiet less);
   empty = λ a is. empty_if a is;
+  made = made;
 }

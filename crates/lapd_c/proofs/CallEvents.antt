@@ -1,6 +1,5 @@
 -- Which event a call is: each word of the contracts says it.
-use Rattle.lapd_c.proofs.Vocabulary.{◌≡◌, ℕ, ◌+◌, ◌≤◌, true, false, List, [], refl, ap, ◌∙◌, arith, Some, None, Ok}
-use Rattle.std.proofs.lemmas.Bool.{false≢true}
+use Rattle.lapd_c.proofs.Vocabulary.{◌≡◌, ℕ, ◌+◌, ◌≤◌, false, List, [], refl, ap, ◌∙◌, arith, Some, None, Ok}
 use Rattle.std.specs.Prelude.{Err, nat_lt, is_some, is_none, Option, if◌then◌else◌}
 use Rattle.lapd_frame.specs.declared.services.Service.{Service}
 use Rattle.lapd_frame.specs.declared.services.Service.TheVariants.{Call, Packet}
@@ -14,11 +13,13 @@ use Rattle.model_card.specs.Machine.{answer}
 use Rattle.lapd_c.specs.Asked.{next_with_room, if_ok, expiry_at, request_at}
 use Rattle.lapd_c.specs.CalledBy.{inside}
 use Rattle.lapd_c.specs.CallEvents.{CallsAreEvents}
+use Rattle.lapd_c.specs.Frames.{fails}
 use Rattle.lapd_c.specs.Numbers.{number_of}
 use Rattle.lapd_c.specs.Requests.{request_in, with_service, of_service}
 use Rattle.lapd_c.specs.Services.{service_in}
 use Rattle.lapd_c.specs.Statuses.{no_frame, wrong_length, wrong_tei}
 use Rattle.lapd_c.specs.Timers.{link_in, with_tei, timer_of_link}
+use Rattle.lapd_c.proofs.WrongCalls.{request_contents, request_service, request_wrong, timer_service, timer_tei, timer_wrong, wrong_fault}
 
 -- which of two numbers is less
 not-below : (a b : ℕ) → b ≤ a → nat_lt a b ≡ false
@@ -29,15 +30,15 @@ service-in : (service : Service) → service_in (number_of service) ≡ Ok servi
 service-in Call = refl
 service-in Packet = refl
 
--- The frame that waits is called for, with room for it.
-next-means : (line room : ℕ) (card : Card) → card.config.n201 + 4 ≤ room → is_some (given_in (answer (at line next) card)) ≡ true
-    → next_with_room line room card ≡ Ok (inside (at line next))
-next-means line room card fits waits = go (given_in (answer (at line next) card)) waits (not-below room (card.config.n201 + 4) fits)
+-- The frame that waits is called for, if there is room for it.
+next-means : (line room : ℕ) (card : Card) → next_with_room line room card
+    ≡ (if nat_lt room (card.config.n201 + 4) then Err 19 else if is_some (given_in (answer (at line next) card)) then Ok (inside (at line next)) else Err 28)
+next-means line room card = go (given_in (answer (at line next) card))
   where
-    go : {A : Type 0} (o : Option A) → is_some o ≡ true → nat_lt room (card.config.n201 + 4) ≡ false
-        → (if nat_lt room (card.config.n201 + 4) then Err wrong_length else if is_none o then Err no_frame else Ok (inside (at line next))) ≡ Ok (inside (at line next))
-    go None is short = absurd (false≢true is)
-    go (Some x) is short = ap (λ b. if b then Err wrong_length else Ok (inside (at line next))) short
+    go : {A : Type 0} (o : Option A) → (if nat_lt room (card.config.n201 + 4) then Err wrong_length else if is_none o then Err no_frame else Ok (inside (at line next)))
+        ≡ (if nat_lt room (card.config.n201 + 4) then Err 19 else if is_some o then Ok (inside (at line next)) else Err 28)
+    go None = refl
+    go (Some x) = refl
 
 -- A timer of a link has the link that its numbers name.
 linked : (which : Service → ℕ → Timer) (service : Service) (tei : ℕ) → tei ≤ 126 → timer_of_link which (link_in (number_of service) tei) ≡ Ok (which service tei)
@@ -81,4 +82,13 @@ calls_are_events_by = record {
   disown = λ line service tei. (refl, refl, λ card. asked line 12 tei [] service (Disown tei) refl refl);
   ask = λ line service tei. (refl, refl, λ card. asked line 13 tei [] service AskTei refl refl);
   verify = λ line service tei. (refl, refl, λ card. asked line 14 tei [] service (VerifyTei tei) refl refl);
+  no_fault = λ line number none card. ap (if_ok (λ fault. inside (fails line fault))) (wrong_fault number none);
+  no_timer = λ line service tei number none card. ap (if_ok (expiry_at line)) (timer_wrong number service tei none);
+  no_request = λ line service tei contents number none card. ap (if_ok (request_at line)) (request_wrong number service tei contents none);
+  no_timers_service = λ line tei number service first few no_call no_packet card. ap (if_ok (expiry_at line)) (timer_service number service tei first few no_call no_packet);
+  no_service = λ line tei contents number service first few no_call no_packet card. ap (if_ok (request_at line)) (request_service number service tei contents first few no_call no_packet);
+  no_tei = λ line number tei service first few past card. ap (if_ok (expiry_at line)) (timer_tei number tei service first few past);
+  no_contents = λ line number tei octet service octets first few no_data no_unit card.
+      ap (if_ok (request_at line)) (request_contents number tei octet service octets first few no_data no_unit);
+  waits = λ line number service tei status contents. refl;
 }

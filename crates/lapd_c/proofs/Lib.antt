@@ -19,8 +19,12 @@ pub mod Said
 pub mod Halves
 pub mod Waits
 pub mod Blocks
+pub mod BlockMade
 pub mod CarriedOut
 pub mod LinksTold
 pub mod BothKinds
+pub mod WrongCalls
 pub mod Numbers
+pub mod CallsServed
 pub mod CallEvents
+pub mod QuestionsAnswered

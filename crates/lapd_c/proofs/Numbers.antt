@@ -15,13 +15,14 @@ use Rattle.lapd_c.specs.Numbers.{AreServed, Asks, IsLength, NumbersAreGiven, not
 use Rattle.lapd_c.specs.Requests.{request_in}
 use Rattle.lapd_c.specs.Statuses.{wrong_tei}
 use Rattle.lapd_c.specs.Timers.{link_in, order_of_timer, timer_of_link}
+use Rattle.lapd_c.proofs.WrongCalls.{order_none, order_timer}
 
 -- a service has the number of its SAPI
 number-is : (s : Service) → sapi_of s ≡ number_of s
 number-is Call = refl
 number-is Packet = refl
 
--- a timer of a link
+-- a link, and a timer of it
 link_given : (s : Service) (tei : ℕ) → tei ≤ 126 → link_in (number_of s) tei ≡ Ok (s, tei)
 link_given Call tei few = ap (λ (b : Bool). if b then Err wrong_tei else Ok (Call, tei)) (le-ltb 126 tei few)
 link_given Packet tei few = ap (λ (b : Bool). if b then Err wrong_tei else Ok (Packet, tei)) (le-ltb 126 tei few)
@@ -161,6 +162,7 @@ numbers_are_given_by = record {
   t203 = λ s tei. ap (λ n. timed 2 n tei) (number-is s);
   t201 = refl;
   t202 = refl;
+  link = λ s tei few. link_given s tei few;
   t200_given = λ s tei few. timer_given T200 s tei few;
   t203_given = λ s tei few. timer_given T203 s tei few;
   t201_given = λ service tei. refl;
@@ -169,6 +171,8 @@ numbers_are_given_by = record {
   stop = λ timer. refl;
   start_given = λ p timer is. ap (order_of_timer Start) is;
   stop_given = λ p timer is. ap (order_of_timer Stop) is;
+  wrong_order = λ number p none. order_none number p none;
+  wrong_timer = λ number wrong p first few is. order_timer number wrong p first few is;
   due = λ line timer. refl;
   lengths = λ p. refl;
   lengths_set = λ t200 t203 t201 t202. refl;
@@ -210,8 +214,9 @@ numbers_are_given_by = record {
   bad_n201 = refl;
   bad_n200 = refl;
   bad_sapi = refl;
+  ok = refl;
+  others = refl;
   room = λ r. refl;
-  counters = λ c. refl;
   no_head = refl;
   head = λ h. refl;
 }

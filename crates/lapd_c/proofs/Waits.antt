@@ -1,7 +1,7 @@
 -- Which links wait for room, how long, and what is told of them.
-use Rattle.std.specs.Prelude.{◌≢◌, ◌⊎◌, ◌==◌, ◌||◌, Err, not}
-use Rattle.lapd_c.proofs.Vocabulary.{◌≡◌, ◌≤◌, ◌<◌, ◌+◌, ◌*◌, ◌&&◌, ℕ, Bool, true, false, Option, None, Some, List, [], length, Ok, Result, inl, inr, refl, sym, ap, subst, ◌∙◌, cond, arith, cases_lt, nat_lt, false≢true, Service, service_at, tei_at}
-use Rattle.std.proofs.lemmas.Bool.{eqb-false, eqb-true, lt-ltb, ltb-true}
+use Rattle.std.specs.Prelude.{◌≢◌, ◌⊎◌, ◌/◌, ◌%◌, ◌==◌, ◌||◌, Err, not, if◌then◌else◌}
+use Rattle.lapd_c.proofs.Vocabulary.{◌≡◌, ◌≤◌, ◌<◌, ◌+◌, ◌*◌, ◌&&◌, ℕ, Bool, true, false, Option, None, Some, List, [], length, Ok, Result, inl, inr, refl, sym, ap, subst, ◌∙◌, cond, and_parts, arith, cases_lt, nat_lt, false≢true, Service, service_at, tei_at}
+use Rattle.std.proofs.lemmas.Bool.{eq-eqb, eqb-false, eqb-true, lt-ltb, ltb-true}
 use Rattle.std.proofs.lemmas.List.{set_past, length-set, get_or-set_same, get_or-set_other}
 use Rattle.lapd_frame.specs.declared.refusals.Refusal.{Refusal}
 use Rattle.lapd_frame.specs.declared.services.Service.TheVariants.{Call, Packet}
@@ -10,9 +10,10 @@ use Rattle.model_card.specs.Card.{Card}
 use Rattle.model_card.specs.Room.{room}
 use Rattle.model_link.specs.declared.rooms.Room.{Room}
 use Rattle.lapd_c.specs.LinkMarks.{MarksBecome, is_marked, marks_of}
-use Rattle.lapd_c.specs.Reopened.{IsFirstOpen, ShowsReopened, WaitsFor, is_for_more, is_open, is_room, refused_place, waits_on}
-use Rattle.lapd_c.proofs.Halves.{even, odd}
-use Rattle.lapd_c.specs.Waits.{HasRoom, IsTold, LinksReopen, ToldOne, Waits}
+use Rattle.lapd_c.specs.LinkPlaces.{place_of}
+use Rattle.lapd_c.specs.Reopened.{IsFirstOpen, ShowsReopened, TellsReopened, WaitsFor, is_for_more, is_open, is_room, is_there, is_told, refused_place, waits_on, waits_there}
+use Rattle.lapd_c.proofs.Halves.{even, evenly, odd, oddly}
+use Rattle.lapd_c.specs.Waits.{HasRoom, IsTold, LinksReopen, ToldOne, Waits, WaitsMore, WaitsOn}
 use Rattle.lapd_c.specs.declared.link_marks.LinkMarks.{LinkMarks}
 use Rattle.lapd_c.specs.declared.plain.reports.PlainReport.{PlainReport}
 
@@ -146,15 +147,119 @@ told_has_room (Some place) old line m r first shown is =
       more = its.2;
     }
 
+-- ---- no other waits, and one that is told does no longer
+
+-- a place is that of its link, and no other
+place_is : (place : ℕ) → place_of (sapi_of (service_at place)) (tei_at place) ≡ place
+place_is place =
+    (elim (place % 2 == 0) as (λ b. (place % 2 == 0) ≡ b → place_of (sapi_of (cond b Call Packet)) (place / 2) ≡ place) [
+      | true ↦ λ is. evenly place (eqb-true (place % 2) 0 is)
+      | false ↦ λ is. oddly place (eqb-false (place % 2) 0 is)
+    ]) refl
+
+of_its_service : (sapi tei : ℕ) → service_at (place_of sapi tei) ≡ (if sapi == 0 then Call else Packet)
+of_its_service sapi tei = for (sapi == 0)
+  where
+    for : (b : Bool) → service_at (if b then 2 * tei else 2 * tei + 1) ≡ (if b then Call else Packet)
+    for true = ap (λ (n : ℕ). cond (n == 0) Call Packet) ((even tei).0)
+    for false = ap (λ (n : ℕ). cond (n == 0) Call Packet) ((odd tei).0)
+
+of_its_tei : (sapi tei : ℕ) → tei_at (place_of sapi tei) ≡ tei
+of_its_tei sapi tei = for (sapi == 0)
+  where
+    for : (b : Bool) → tei_at (if b then 2 * tei else 2 * tei + 1) ≡ tei
+    for true = (even tei).1
+    for false = (odd tei).1
+
+one_of : (b c : Bool) → (b || c) ≡ true → b ≡ false → c ≡ true
+one_of b c is out = grind arith
+
+-- the one more is at the place of a request for data that the queue has refused
+more_at : (place : ℕ) (old new : List LinkMarks) (line other tei : ℕ) (service : Service) → WaitsFor (Some place) line old new → Waits new other service tei
+    → Waits old other service tei ⊎ ((other ≡ line) × (service ≡ service_at place) × (tei ≡ tei_at place))
+more_at place old new line other tei service h w =
+    (elim (other == line) as (λ b. (other == line) ≡ b → Waits old other service tei ⊎ ((other ≡ line) × (service ≡ service_at place) × (tei ≡ tei_at place))) [
+      | true ↦ λ is. let same : other ≡ line = eqb-true other line is in
+          subst (λ (n : ℕ). Waits new n service tei → Waits old n service tei ⊎ ((n ≡ line) × (service ≡ service_at place) × (tei ≡ tei_at place))) (sym same) (λ v. elim (cases_lt line (length old)) [
+            | inl within ↦ let on = sym (now_marked old new line _ h v.place within v.within) ∙ v.marked in
+                (elim (place == v.place) as (λ b. (place == v.place) ≡ b → Waits old line service tei ⊎ ((line ≡ line) × (service ≡ service_at place) × (tei ≡ tei_at place))) [
+                  | true ↦ λ its. let it : place ≡ v.place = eqb-true place v.place its in
+                      inr (refl, sym v.of_service ∙ ap service_at (sym it), sym v.of_tei ∙ ap tei_at (sym it))
+                  | false ↦ λ its. inl (waits_if old new line tei service v (one_of (place == v.place) _ on its))
+                ]) refl
+            | inr past ↦ inl (subst (λ (all : List LinkMarks). Waits all line service tei) (behind old new line _ h past) v)
+          ]) w
+      | false ↦ λ is. inl (waits_if old new other tei service w (sym (ap (λ (m : LinkMarks). is_marked m w.place) (elsewhere old new line _ h other (eqb-false other line is))) ∙ w.marked))
+    ]) refl
+
+no_more_by : (status request sapi its line : ℕ) (old new : List LinkMarks) → WaitsFor (refused_place status request sapi its) line old new
+    → (other tei : ℕ) (service : Service) → Waits new other service tei
+    → Waits old other service tei ⊎ ((status ≡ 5) × (request ≡ 3) × (other ≡ line) × (service ≡ (if sapi == 0 then Call else Packet)) × (tei ≡ its))
+no_more_by status request sapi its line old new h other tei service w =
+    (elim ((status == 5) && (request == 3) && nat_lt its 127) as (λ b. ((status == 5) && (request == 3) && nat_lt its 127) ≡ b
+    → WaitsFor (cond b (Some (place_of sapi its)) None) line old new
+    → Waits old other service tei ⊎ ((status ≡ 5) × (request ≡ 3) × (other ≡ line) × (service ≡ (if sapi == 0 then Call else Packet)) × (tei ≡ its))) [
+      | true ↦ λ is those. let both = and_parts ((status == 5) && (request == 3)) (nat_lt its 127) is in let parts = and_parts (status == 5) (request == 3) (both.0) in
+          elim (more_at (place_of sapi its) old new line other tei service those w) [
+            | inl before ↦ inl before
+            | inr it ↦ inr (eqb-true status 5 (parts.0), eqb-true request 3 (parts.1), it.0, it.1 ∙ of_its_service sapi its, it.2 ∙ of_its_tei sapi its)
+          ]
+      | false ↦ λ is none. inl (subst (λ (all : List LinkMarks). Waits all other service tei) none w)
+    ]) refl h
+
+begins_by : (status request sapi its line : ℕ) (old new : List LinkMarks) → WaitsFor (refused_place status request sapi its) line old new
+    → (service : Service) → status ≡ 5 → request ≡ 3 → sapi ≡ sapi_of service → its ≤ 126 → line < length old → Waits new line service its
+begins_by status request sapi its line old new h service full more named few within =
+    refused_waits old new line its service (subst (λ (n : ℕ). WaitsFor (refused_place 5 3 n its) line old new) named
+    (subst (λ (n : ℕ). WaitsFor (refused_place 5 n sapi its) line old new) more (subst (λ (n : ℕ). WaitsFor (refused_place n request sapi its) line old new) full h))) few within
+
+module _ (told : Option ℕ) (old new : List LinkMarks) (line tei : ℕ) (service : Service) (m : Card) (h : MarksBecome line (waits_on told line m (marks_of old line)) old new)
+    (within : line < length old) (w : Waits new line service tei) where
+  on_there : (waits_there line m (marks_of old line) w.place ≡ true) × (not (is_told told w.place) ≡ true)
+  on_there = and_parts (waits_there line m (marks_of old line) w.place) (not (is_told told w.place)) (sym (now_marked old new line _ h w.place within w.within) ∙ w.marked)
+
+  stays_there_by : Waits old line service tei × ((left : Room) × HasRoom line service tei m left)
+  stays_there_by =
+      let both = and_parts (is_marked (marks_of old line) w.place) (is_there line m w.place) (on_there.0) in (
+        waits_if old new line tei service w (both.0),
+        left_of (room line service tei m) (subst (λ (s : Service). is_room (room line s tei m) ≡ true) w.of_service (subst (λ (t : ℕ). is_room (room line (service_at w.place) t m) ≡ true) w.of_tei (both.1))),
+      )
+    where
+      left_of : (r : Result Room Refusal) → is_room r ≡ true → (left : Room) × (r ≡ Ok left)
+      left_of (Ok left) is = (left, refl)
+      left_of (Err why) is = absurd (false≢true is)
+
+once_by : (told : Option ℕ) (old new : List LinkMarks) (line tei : ℕ) (service : Service) (m : Card) (r : PlainReport) → ShowsReopened r told
+    → MarksBecome line (waits_on told line m (marks_of old line)) old new → line < length old → IsTold r service tei → Waits new line service tei → ⊥
+once_by None old new line tei service m r shown h within is w = omega (arith, shown, is.reopened)
+once_by (Some place) old new line tei service m r shown h within is w =
+    let same : place ≡ w.place = sym (place_is place) ∙ ap (λ (n : ℕ). place_of n (tei_at place)) (sym (shown.1) ∙ is.of_service ∙ ap sapi_of (sym w.of_service))
+    ∙ ap (λ (n : ℕ). place_of (sapi_of (service_at w.place)) n) (sym (shown.2) ∙ is.of_tei ∙ sym w.of_tei) ∙ place_is w.place in
+    false≢true (subst (λ (b : Bool). not b ≡ true) (eq-eqb place w.place same) ((on_there (Some place) old new line tei service m h within w).1))
+
+more_by : (status request sapi its line : ℕ) (old new : List LinkMarks) → WaitsFor (refused_place status request sapi its) line old new → WaitsMore status request sapi its line old new
+more_by status request sapi its line old new h = record {
+  begins = begins_by status request sapi its line old new h;
+  stays = λ other tei service w. stays_by (refused_place status request sapi its) old new line other tei service h w;
+  no_other = no_more_by status request sapi its line old new h;
+  lines = same_lines_by (refused_place status request sapi its) old new line h;
+}
+
+on_by : (line : ℕ) (m : Card) (old new : List LinkMarks) (r : PlainReport) → TellsReopened line m old new r → WaitsOn line m old new r
+on_by line m old new r t = record {
+  stays = λ tei service left within w is. told_or_waits t.told old new line tei service m r left t.shown t.waits within w is;
+  no_other = λ tei service within w. stays_there_by t.told old new line tei service m t.waits within w;
+  once = λ tei service within is w. once_by t.told old new line tei service m r t.shown t.waits within is w;
+  one = λ tei service left w is more.
+      told-one t.told line w.place m (marks_of old line) r t.first t.shown w.within w.marked (ap is_for_more (there line tei service m left old w is) ∙ lt-ltb 0 left.queue more);
+  told = λ is. told_has_room t.told old line m r t.first t.shown is;
+  elsewhere = λ other tei service differs w. waits_elsewhere old new line other tei service _ t.waits differs w;
+  lines = same_count old new line _ t.waits;
+}
+
 pub links_reopen_by : LinksReopen
 links_reopen_by = record {
   begins = λ all lines line tei service none w. false≢true (sym (none.none line w.place w.within) ∙ w.marked);
-  refused = λ old new line tei service h few within. refused_waits old new line tei service h few within;
-  stay = λ old new status request sapi its line other tei service h w. stays_by (refused_place status request sapi its) old new line other tei service h w;
-  lines = λ old new status request sapi its line h. same_lines_by (refused_place status request sapi its) old new line h;
-  told = λ old new line tei service m r left t within w is. told_or_waits t.told old new line tei service m r left t.shown t.waits within w is;
-  one = λ old new line tei service m r left t w is more. told-one t.told line w.place m (marks_of old line) r t.first t.shown w.within w.marked (ap is_for_more (there line tei service m left old w is) ∙ lt-ltb 0 left.queue more);
-  no_other = λ old new line m r t is. told_has_room t.told old line m r t.first t.shown is;
-  others = λ old new line other tei service m r t differs w. waits_elsewhere old new line other tei service _ t.waits differs w;
-  same_lines = λ old new line m r t. same_count old new line _ t.waits;
+  refused = more_by;
+  called = on_by;
 }

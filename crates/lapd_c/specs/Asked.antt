@@ -15,12 +15,8 @@ use Rattle.lapd_c.specs.Reopened.{refused_place}
 use Rattle.lapd_c.specs.Requests.{request_in}
 use Rattle.lapd_c.specs.Statuses.{no_frame, wrong_length}
 use Rattle.lapd_c.specs.Timers.{timer_in}
+pub use Rattle.lapd_c.specs.Services.{if_ok}
 use Rattle.lapd_c.specs.Wanted.{of_any, of_octets, of_frames, of_untimed}
-
--- What numbers mean, if nothing is wrong with them.
-abbrev pub if_ok : {A B : Type 0} → (A → B) → Result A ℕ → Result B ℕ
-if_ok meant (Ok value) = Ok (meant value)
-if_ok meant (Err wrong) = Err wrong
 
 -- After it no link waits for room that did not before.
 abbrev pub none_waits : ℕ → Option ℕ

@@ -1,19 +1,17 @@
 -- A block of octets is so many calls, one after the other, in words of their own.
-use Rattle.std.specs.Prelude.{◌≡◌, ◌⊎◌, ◌<◌, ℕ, suc, ◌+◌, ◌*◌, Bool, true, false, List, [], ◌∷◌, ◌++◌, get_or, set}
+use Rattle.std.specs.Prelude.{◌≡◌, ◌<◌, ◌&&◌, ℕ, suc, ◌+◌, ◌*◌, nat_eq, nat_le, Bool, true, List, [], ◌∷◌, ◌++◌, length, get_or, set}
 use Rattle.lapd_frame.specs.declared.timers.Order.{Order}
-use Rattle.model_line.specs.Event.{nothing}
 use Rattle.model_card.specs.ports.Card.{OctetCard, answer}
 use Rattle.model_card.specs.ports.Event.{at}
-use Rattle.model_card.specs.ports.Port.{Answer, octet, pull, told, pulled}
+use Rattle.model_card.specs.ports.Port.{Answer, octet, pull, pulled}
 use Rattle.model_card.specs.ports.Run.{after_all}
 use Rattle.lapd_c.specs.Answers.{octet_of}
-use Rattle.lapd_c.specs.Exchange.{AllQuiet, answer_after, card_after, given_after, step_event, steps_made, tells_nothing, with_step}
-
--- An answer that tells nothing: to an octet, and to a pull.
-abbrev pub IsEmpty : Answer → Type 0
-IsEmpty a = (a ≡ told nothing) ⊎ ((value : ℕ) × (a ≡ pulled value false []))
+use Rattle.lapd_c.specs.BlockMade.{BlocksAreMade, IsEmpty}
+use Rattle.lapd_c.specs.Exchange.{AllQuiet, answer_after, card_after, given_after, is_exchange, step_event, steps_made, tells_nothing, with_step}
 
 pub record BlocksAreCalls : Type 0 where
+  -- Two blocks of one length are exchanged, from a step that they have, or from their end; and no others.
+  pub served : (taken given : List ℕ) (from : ℕ) → is_exchange taken given from ≡ (nat_eq (length taken) (length given) && nat_le from (2 * length taken))
   -- Step 2i takes octet i, and step 2i + 1 is a pull, whose octet is written at place i. Nothing else is written.
   pub takes : (line i : ℕ) (taken : List ℕ) → step_event line taken (2 * i) ≡ at line (octet (get_or taken i 0))
   pub pulls : (line i : ℕ) (taken : List ℕ) → step_event line taken (2 * i + 1) ≡ at line pull
@@ -31,3 +29,5 @@ pub record BlocksAreCalls : Type 0 where
   -- A block goes on after those steps alone that have nothing to tell.
   pub quiet : (line from n step : ℕ) (taken : List ℕ) (m : OctetCard) → AllQuiet line taken from n m → step < n → IsEmpty (answer_after line taken from step m)
   pub empty : (a : Answer) → tells_nothing a ≡ true → IsEmpty a
+  -- So many steps are what a call of a block comes to.
+  pub made : BlocksAreMade

@@ -1,6 +1,6 @@
 -- Which event of which line a call is, and of which cards, in words of their own: those of `lapd.h`, and not those that the
 -- contracts of the calls use.
-use Rattle.std.specs.Prelude.{◌≡◌, ℕ, ◌+◌, ◌≤◌, true, List, [], is_some, Ok}
+use Rattle.std.specs.Prelude.{◌≡◌, ◌≢◌, ◌⊎◌, ℕ, ◌+◌, ◌≤◌, ◌<◌, nat_lt, List, [], ◌∷◌, is_some, Ok, Err, if◌then◌else◌}
 use Rattle.model_bits.specs.Stream.{dropped}
 use Rattle.model_bits.specs.declared.heard.Cause.{Cause}
 use Rattle.model_bits.specs.declared.heard.Cause.TheVariants as cause
@@ -17,7 +17,8 @@ use Rattle.model_card.specs.ports.Event as octets
 use Rattle.model_card.specs.ports.Port as port
 use Rattle.lapd_c.specs.Asked.{octet_asked, pull_asked, frame_asked, failed_asked, next_frame_asked, expire_asked, request_asked}
 use Rattle.lapd_c.specs.CalledBy.{Asked, Happening, inside, at_port}
-use Rattle.lapd_c.specs.Numbers.{number_of}
+use Rattle.lapd_c.specs.Numbers.{number_of, timed}
+use Rattle.lapd_c.specs.Reopened.{refused_place}
 use Rattle.lapd_c.specs.Wanted.{Wanted, of_any, of_octets, of_frames, of_untimed}
 
 -- A call is of these cards, and this event of this line, whatever the card has.
@@ -40,14 +41,25 @@ abbrev pub IsSent : ℕ → (Service → ℕ → List ℕ → Request) → Type 
 IsSent number which = (line : ℕ) (service : Service) (tei : ℕ) (contents : List ℕ)
     → IsEvent of_any (request_asked line number (number_of service) tei contents) line (inside (at line (request (which service tei contents))))
 
+-- A call has something wrong with it, whatever the card has: its status says what. So if a number is none from 1 to the last; or if it is
+-- one, and is of a service, and that is none.
+abbrev pub IsWrong : Asked → ℕ → Type 0
+IsWrong asked status = (card : Card) → asked.event card ≡ Err status
+
+abbrev pub NamesNone : ℕ → (ℕ → Asked) → ℕ → Type 0
+NamesNone last asked status = (number : ℕ) → (number ≡ 0) ⊎ (last < number) → IsWrong (asked number) status
+
+abbrev pub NamesNoService : ℕ → (ℕ → ℕ → Asked) → Type 0
+NamesNoService last asked = (number service : ℕ) → 1 ≤ number → number ≤ last → service ≢ 0 → service ≢ 16 → IsWrong (asked number service) 15
+
 pub record CallsAreEvents : Type 0 where
   pub octet : (line value : ℕ) → IsEvent of_octets (octet_asked line value) line (at_port (octets.at line (port.octet value)))
   pub pull : (line : ℕ) → IsEvent of_octets (pull_asked line) line (at_port (octets.at line port.pull))
   pub frame_line : (line : ℕ) (taken : List ℕ) → ((frame_asked line taken).cards ≡ of_frames) × ((frame_asked line taken).line ≡ line)
   pub frame : (line : ℕ) (taken : List ℕ) (card : Card) → (frame_asked line taken).event card ≡ Ok (inside (at line (hears (came card.config.n201 taken))))
   pub next_line : (line room : ℕ) → ((next_frame_asked line room).cards ≡ of_frames) × ((next_frame_asked line room).line ≡ line)
-  pub next_frame : (line room : ℕ) (card : Card) → card.config.n201 + 4 ≤ room → is_some (given_in (answer (at line next) card)) ≡ true
-      → (next_frame_asked line room).event card ≡ Ok (inside (at line next))
+  pub next_frame : (line room : ℕ) (card : Card) → (next_frame_asked line room).event card
+      ≡ (if nat_lt room (card.config.n201 + 4) then Err 19 else if is_some (given_in (answer (at line next) card)) then Ok (inside (at line next)) else Err 28)
   pub abort : IsFault 1 cause.Abort
   pub ragged : IsFault 2 cause.Ragged
   pub short : IsFault 3 cause.Short
@@ -70,3 +82,14 @@ pub record CallsAreEvents : Type 0 where
   pub disown : IsRequest 12 (λ service tei. Disown tei)
   pub ask : IsRequest 13 (λ service tei. AskTei)
   pub verify : IsRequest 14 (λ service tei. VerifyTei tei)
+  -- What numbers do not name is wrong; and contents of a request that is not of data.
+  pub no_fault : (line : ℕ) → NamesNone 4 (failed_asked line) 27
+  pub no_timer : (line service tei : ℕ) → NamesNone 4 (λ number. expire_asked line (timed number service tei)) 17
+  pub no_request : (line service tei : ℕ) (contents : List ℕ) → NamesNone 14 (λ number. request_asked line number service tei contents) 18
+  pub no_timers_service : (line tei : ℕ) → NamesNoService 2 (λ number service. expire_asked line (timed number service tei))
+  pub no_service : (line tei : ℕ) (contents : List ℕ) → NamesNoService 14 (λ number service. request_asked line number service tei contents)
+  pub no_tei : (line number tei : ℕ) (service : Service) → 1 ≤ number → number ≤ 2 → 126 < tei → IsWrong (expire_asked line (timed number (number_of service) tei)) 16
+  pub no_contents : (line number tei octet : ℕ) (service : Service) (octets : List ℕ) → 1 ≤ number → number ≤ 14 → number ≢ 3 → number ≢ 4
+      → IsWrong (request_asked line number (number_of service) tei (octet ∷ octets)) 19
+  -- And which link waits after a request.
+  pub waits : (line number service tei status : ℕ) (contents : List ℕ) → (request_asked line number service tei contents).waits status ≡ refused_place status number service tei

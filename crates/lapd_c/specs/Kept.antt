@@ -98,12 +98,6 @@ abbrev pub reply_seen_by : Bool → port.Answer → port.Answer
 reply_seen_by false answer = answer
 reply_seen_by true answer = reply_without_orders answer
 
-abbrev pub seen : CardHandle → line.Answer → line.Answer
-seen h answer = seen_by (is_timed h) answer
-
-abbrev pub reply_seen : CardHandle → port.Answer → port.Answer
-reply_seen h answer = reply_seen_by (is_timed h) answer
-
 abbrev pub orders_seen : CardHandle → List Order → List Order
 orders_seen h orders = orders_by (is_timed h) orders
 

@@ -34,18 +34,22 @@ pub mod Calls
 pub mod Wanted
 pub mod CalledBy
 pub mod Asked
+pub mod QuestionWords
 pub mod Questions
 pub mod FallsDue
 pub mod Texts
 pub mod AsBefore
 pub mod Said
 pub mod Waits
+pub mod BlockMade
 pub mod Blocks
 pub mod CarriedOut
 pub mod LinksTold
 pub mod BothKinds
 pub mod Numbers
+pub mod CallsServed
 pub mod CallEvents
+pub mod QuestionsAnswered
 -- the words of the contracts, from where they are defined
 pub use Rattle.lapd_card.specs.Counted.{counters_in}
 pub use Rattle.lapd_card.specs.Kinds.{alone, card_in, CardStands, FrameCardStands, Machine, shelf_of, with_ports}
@@ -57,31 +61,29 @@ pub use Rattle.lapd_clock.specs.Timers.{after_due, due_at, idle, next_moment, wi
 pub use Rattle.lapd_count.specs.Counters.{none_counted}
 pub use Rattle.lapd_frame.specs.ShortLists.{listed}
 pub use Rattle.lapd_line.specs.Reports.{told_beside}
-pub use Rattle.lapd_text.specs.Told.{IsPutIn, told_text}
-pub use Rattle.model_card.specs.Counted.{all_counted, moment_counted, moment_of}
+pub use Rattle.lapd_text.specs.Told.{IsPutIn}
+pub use Rattle.model_card.specs.Counted.{all_counted}
 pub use Rattle.model_card.specs.Run.{moments}
-pub use Rattle.model_card.specs.ports.Begun.{head_begun_at}
-pub use Rattle.model_card.specs.ports.HeadHeard.{head_heard_at}
 pub use Rattle.model_card.specs.ports.Run.{meant_all}
 pub use Rattle.model_card.specs.ports.Stored.{limit}
 pub use Rattle.model_line.specs.Config.{first_fault}
 pub use Rattle.model_line.specs.Event.{nothing}
-pub use Rattle.lapd_c.specs.Answers.{octet_of, ShowsAnswer, ShowsReply}
+pub use Rattle.lapd_c.specs.Answers.{octet_of, ShowsReply}
 pub use Rattle.lapd_c.specs.Wanted.{FramesWithLine, of_any, of_frames, of_octets, of_untimed, OctetsWithLine, OfEach, WithLine}
-pub use Rattle.lapd_c.specs.Calls.{Begins, fresh, HasBegun, IsCardStart, IsTimedStart, refusal_at}
+pub use Rattle.lapd_c.specs.Calls.{Begins, fresh, IsCardStart, IsTimedStart, refusal_at}
 pub use Rattle.lapd_c.specs.Asked.{expire_asked, expiry_at, failed_asked, frame_asked, next_frame_asked, octet_asked, pull_asked, request_asked, request_at}
 pub use Rattle.lapd_c.specs.CalledBy.{at_port, Called, inside, IsCallOf, Served}
-pub use Rattle.lapd_c.specs.Questions.{begun_of, heard_of, IsQuestion, limit_of, lines_of, Questioned, room_of, state_of, stored_of, waiting_from}
+pub use Rattle.lapd_c.specs.Questions.{begun_frame_of, begun_of, heard_frame_of, heard_of, in_front, IsQuestion, limit_of, lines_of, Questioned, room_of, state_of, stored_of, waiting_from}
 pub use Rattle.lapd_c.specs.FallsDue.{AtMoment, FellDue, IsMomentCall, IsTimersCall, NoneDue, WithClock}
-pub use Rattle.lapd_c.specs.Starts.{IsFreed, IsStart}
-pub use Rattle.lapd_c.specs.Cards.{card_of, FramesStand, IsHandle, kind_in, marks_at, OctetsStand, served_card, HandleStands}
+pub use Rattle.lapd_c.specs.Starts.{IsFreed}
+pub use Rattle.lapd_c.specs.Cards.{card_of, FramesStand, IsHandle, kind_in, marks_at, served_card}
 pub use Rattle.lapd_c.specs.Config.{config_fault, config_in, reading_in, sapi_in, seed_in, side_in}
-pub use Rattle.lapd_c.specs.Counted.{counters_at, Counts, CountsMeaning}
+pub use Rattle.lapd_c.specs.Counted.{counters_at, Counts}
 pub use Rattle.lapd_c.specs.Counters.{plain_counters}
 pub use Rattle.lapd_c.specs.Exchange.{Exchanged, Exchanges, is_exchange, OrdersLast, tells_nothing, step_event, steps_made, with_step}
 pub use Rattle.lapd_c.specs.Frames.{frame_comes, fails, goes, IsGiven, next_at}
 pub use Rattle.lapd_c.specs.Heads.{plain_head}
-pub use Rattle.lapd_c.specs.Kept.{is_timed, Obeys, ObeysAll, ObeysMeaning, orders_seen, reply_seen, seen, timers_of, TimersStandIn}
+pub use Rattle.lapd_c.specs.Kept.{is_timed, Obeys, orders_seen, timers_of, TimersStandIn}
 pub use Rattle.lapd_c.specs.LinkMarks.{AreMarked, AreUnmarked, marks_of, MarksBecome}
 pub use Rattle.lapd_c.specs.Links.{FirstFrom, IsNext, NoneFrom}
 pub use Rattle.lapd_c.specs.Notes.{plain_note}

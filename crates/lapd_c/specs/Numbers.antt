@@ -1,11 +1,9 @@
 -- What numbers mean in C, each in words of its own: as `include/lapd.h` has them.
-use Rattle.std.specs.Prelude.{◌≡◌, ◌≤◌, ℕ, List, [], ◌∷◌, Some, None, Ok}
-use Rattle.lapd_count.specs.declared.counters.Counters.{Counters}
+use Rattle.std.specs.Prelude.{◌≡◌, ◌⊎◌, ◌≤◌, ◌<◌, ℕ, List, [], ◌∷◌, Some, None, Ok, Err}
 use Rattle.lapd_frame.specs.declared.notes.ErrorCode.TheVariants as code
 use Rattle.lapd_frame.specs.declared.notes.Note.TheVariants as note
 use Rattle.lapd_frame.specs.declared.refusals.Refusal.TheVariants as refusal
 use Rattle.lapd_frame.specs.declared.services.Service.{Service}
-use Rattle.lapd_frame.specs.declared.services.Service.TheVariants.{Call, Packet}
 use Rattle.lapd_frame.specs.declared.timers.Order.TheVariants.{Start, Stop}
 use Rattle.lapd_frame.specs.declared.timers.Timer.{Timer}
 use Rattle.lapd_frame.specs.declared.timers.Timer.TheVariants.{T200, T203, T201, T202}
@@ -17,23 +15,19 @@ use Rattle.model_line.specs.declared.faults.Fault.TheVariants as fault
 use Rattle.model_line.specs.Request.{Request, Establish, Release, Data, Unit, Assign, Remove, Check, Disown, AskTei, VerifyTei, SetBusy, ClearBusy, Deactivate, Down}
 use Rattle.model_link.specs.declared.rooms.Room.{Room}
 use Rattle.lapd_c.specs.Clocks.{lengths_given, plain_due}
-use Rattle.lapd_c.specs.Counters.{plain_counters}
 use Rattle.lapd_c.specs.Faults.{fault_in}
 use Rattle.lapd_c.specs.Heads.{plain_head}
 use Rattle.lapd_c.specs.Notes.{cause_number, plain_note}
 use Rattle.lapd_c.specs.Requests.{request_in}
 use Rattle.lapd_c.specs.Rooms.{plain_room}
+use Rattle.lapd_c.specs.Statuses as status
+pub use Rattle.lapd_c.specs.Services.{number_of}
 use Rattle.lapd_c.specs.Statuses.{field_status, refusal_status}
-use Rattle.lapd_c.specs.Timers.{lengths_in, order_in, plain_order, plain_timer, timer_in}
+use Rattle.lapd_c.specs.Timers.{lengths_in, link_in, order_in, plain_order, plain_timer, timer_in}
 use Rattle.lapd_c.specs.declared.plain.notes.PlainNote.{PlainNote}
 use Rattle.lapd_c.specs.declared.plain.timers.PlainLengths.{PlainLengths}
 use Rattle.lapd_c.specs.declared.plain.timers.PlainOrder.{PlainOrder}
 use Rattle.lapd_c.specs.declared.plain.timers.PlainTimer.{PlainTimer}
-
--- The number of a service.
-abbrev pub number_of : Service → ℕ
-number_of Call = 0
-number_of Packet = 16
 
 abbrev pub noted : ℕ → ℕ → ℕ → ℕ → PlainNote
 noted number service tei letter = record { note = number; service = service; tei = tei; error = letter }
@@ -98,11 +92,12 @@ pub record NumbersAreGiven : Type 0 where
   pub fault_ragged : fault_in 2 ≡ Ok fault.Ragged
   pub fault_short : fault_in 3 ≡ Ok fault.Short
   pub fault_fcs : fault_in 4 ≡ Ok fault.Fcs
-  -- Timers and orders, told and given; what falls due; and how long timers run.
+  -- Links and their timers, and orders, told and given; what falls due; and how long timers run.
   pub t200 : (s : Service) (tei : ℕ) → plain_timer (T200 s tei) ≡ timed 1 (number_of s) tei
   pub t203 : (s : Service) (tei : ℕ) → plain_timer (T203 s tei) ≡ timed 2 (number_of s) tei
   pub t201 : plain_timer T201 ≡ timed 3 0 0
   pub t202 : plain_timer T202 ≡ timed 4 0 0
+  pub link : (s : Service) (tei : ℕ) → tei ≤ 126 → link_in (number_of s) tei ≡ Ok (s, tei)
   pub t200_given : (s : Service) (tei : ℕ) → tei ≤ 126 → timer_in (timed 1 (number_of s) tei) ≡ Ok (T200 s tei)
   pub t203_given : (s : Service) (tei : ℕ) → tei ≤ 126 → timer_in (timed 2 (number_of s) tei) ≡ Ok (T203 s tei)
   pub t201_given : (service tei : ℕ) → timer_in (timed 3 service tei) ≡ Ok T201
@@ -111,6 +106,8 @@ pub record NumbersAreGiven : Type 0 where
   pub stop : (timer : Timer) → plain_order (Stop timer) ≡ ordered 2 (plain_timer timer)
   pub start_given : (p : PlainTimer) (timer : Timer) → timer_in p ≡ Ok timer → order_in (ordered 1 p) ≡ Ok (Start timer)
   pub stop_given : (p : PlainTimer) (timer : Timer) → timer_in p ≡ Ok timer → order_in (ordered 2 p) ≡ Ok (Stop timer)
+  pub wrong_order : (number : ℕ) (p : PlainTimer) → (number ≡ 0) ⊎ (2 < number) → order_in (ordered number p) ≡ Err 20
+  pub wrong_timer : (number wrong : ℕ) (p : PlainTimer) → 1 ≤ number → number ≤ 2 → timer_in p ≡ Err wrong → order_in (ordered number p) ≡ Err wrong
   pub due : (line : ℕ) (timer : Timer) → plain_due (line, timer) ≡ record { line = line; timer = plain_timer timer }
   pub lengths : (p : PlainLengths) → lengths_in p ≡ record { t200 = p.t200; t203 = p.t203; t201 = p.t201; t202 = p.t202 }
   pub lengths_set : (t200 t203 t201 t202 : ℕ) → lengths_given t200 t203 t201 t202 ≡ record { t200 = t200; t203 = t203; t201 = t201; t202 = t202 }
@@ -154,8 +151,13 @@ pub record NumbersAreGiven : Type 0 where
   pub bad_n201 : field_status field.N201 ≡ 41
   pub bad_n200 : field_status field.N200 ≡ 42
   pub bad_sapi : field_status field.Sapi ≡ 44
+  -- Other statuses: OK; and no card, no clock, a second start, a wrong line, service, TEI, timer, request, length, order and time, no
+  -- memory, timer, place, and no more links, a wrong card and cause, and no frame.
+  pub ok : status.ok ≡ 0
+  pub others : status.no_card ∷ status.no_clock ∷ status.second_start ∷ status.wrong_line ∷ status.wrong_service ∷ status.wrong_tei ∷ status.wrong_timer ∷ status.wrong_request
+      ∷ status.wrong_length ∷ status.wrong_order ∷ status.wrong_time ∷ status.no_memory ∷ status.no_timer ∷ status.no_place ∷ status.no_more_links ∷ status.wrong_card
+      ∷ status.wrong_cause ∷ status.no_frame ∷ [] ≡ 11 ∷ 12 ∷ 13 ∷ 14 ∷ 15 ∷ 16 ∷ 17 ∷ 18 ∷ 19 ∷ 20 ∷ 21 ∷ 22 ∷ 23 ∷ 24 ∷ 25 ∷ 26 ∷ 27 ∷ 28 ∷ []
   -- What a card tells of itself.
   pub room : (r : Room) → plain_room r ≡ record { pool = r.pool; queue = r.queue; va = r.va }
-  pub counters : (c : Counters) → plain_counters c ≡ record { values = c.values }
   pub no_head : plain_head None ≡ record { length = 0; octets = 0 ∷ 0 ∷ 0 ∷ 0 ∷ [] }
   pub head : (h : Head) → plain_head (Some h) ≡ record { length = h.length; octets = h.octets }

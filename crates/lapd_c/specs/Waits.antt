@@ -1,7 +1,8 @@
 -- Which links wait for room, how long, and what is told of them, in words of their own.
-use Rattle.std.specs.Prelude.{◌≡◌, ◌≢◌, ◌⊎◌, ◌≤◌, ◌<◌, ℕ, true, List, length, Ok}
+use Rattle.std.specs.Prelude.{◌≡◌, ◌≢◌, ◌⊎◌, ◌≤◌, ◌<◌, ◌==◌, ℕ, true, List, length, Ok, if◌then◌else◌}
 use Rattle.lapd_frame.specs.declared.refusals.Refusal.TheVariants.{QueueFull}
 use Rattle.lapd_frame.specs.declared.services.Service.{Service}
+use Rattle.lapd_frame.specs.declared.services.Service.TheVariants.{Call, Packet}
 use Rattle.lapd_frame.specs.Services.{sapi_of}
 use Rattle.model_card.specs.Card.{Card}
 use Rattle.model_card.specs.Room.{room}
@@ -41,21 +42,28 @@ pub record ToldOne (all : List LinkMarks) (line : ℕ) (m : Card) (r : PlainRepo
   pub has_room : HasRoom line service tei m left
   pub more : 0 < left.queue
 
--- No link waits as a card begins. One waits from a request for data on (3) that its queue has no room for; and that request leaves each
--- waiting that did. After a call of its line it waits on, if its TEI is on the line, or it is told; and one is told if one that waits has
--- room. The links of other lines wait on.
+-- Which links wait after a request is refused: each that did, and that of the request if it was for data (3), and if its queue had no
+-- room for them (5).
+pub record WaitsMore (status request sapi its line : ℕ) (old new : List LinkMarks) : Type 0 where
+  pub begins : (service : Service) → status ≡ refusal_status QueueFull → request ≡ 3 → sapi ≡ sapi_of service → its ≤ 126 → line < length old → Waits new line service its
+  pub stays : (other tei : ℕ) (service : Service) → Waits old other service tei → Waits new other service tei
+  pub no_other : (other tei : ℕ) (service : Service) → Waits new other service tei
+      → Waits old other service tei ⊎ ((status ≡ 5) × (request ≡ 3) × (other ≡ line) × (service ≡ (if sapi == 0 then Call else Packet)) × (tei ≡ its))
+  pub lines : length new ≡ length old
+
+-- Which wait after a call of a line: there each that did, if its TEI is on the line, and if it is not told; elsewhere all that did. One that
+-- waits and has room is told, if there is one.
+pub record WaitsOn (line : ℕ) (m : Card) (old new : List LinkMarks) (r : PlainReport) : Type 0 where
+  pub stays : (tei : ℕ) (service : Service) (left : Room) → line < length old → Waits old line service tei → HasRoom line service tei m left → IsTold r service tei ⊎ Waits new line service tei
+  pub no_other : (tei : ℕ) (service : Service) → line < length old → Waits new line service tei → Waits old line service tei × ((left : Room) × HasRoom line service tei m left)
+  pub once : (tei : ℕ) (service : Service) → line < length old → IsTold r service tei → Waits new line service tei → ⊥
+  pub one : (tei : ℕ) (service : Service) (left : Room) → Waits old line service tei → HasRoom line service tei m left → 0 < left.queue → r.reopened ≡ 1
+  pub told : r.reopened ≡ 1 → ToldOne old line m r
+  pub elsewhere : (other tei : ℕ) (service : Service) → other ≢ line → Waits old other service tei → Waits new other service tei
+  pub lines : length new ≡ length old
+
+-- No link waits as a card begins.
 pub record LinksReopen : Type 0 where
   pub begins : (all : List LinkMarks) (lines line tei : ℕ) (service : Service) → AreUnmarked lines all → Waits all line service tei → ⊥
-  pub refused : (old new : List LinkMarks) (line tei : ℕ) (service : Service) → WaitsFor (refused_place (refusal_status QueueFull) 3 (sapi_of service) tei) line old new
-      → tei ≤ 126 → line < length old → Waits new line service tei
-  pub stay : (old new : List LinkMarks) (status request sapi its line other tei : ℕ) (service : Service) → WaitsFor (refused_place status request sapi its) line old new
-      → Waits old other service tei → Waits new other service tei
-  pub lines : (old new : List LinkMarks) (status request sapi its line : ℕ) → WaitsFor (refused_place status request sapi its) line old new → length new ≡ length old
-  pub told : (old new : List LinkMarks) (line tei : ℕ) (service : Service) (m : Card) (r : PlainReport) (left : Room) → TellsReopened line m old new r
-      → line < length old → Waits old line service tei → HasRoom line service tei m left → IsTold r service tei ⊎ Waits new line service tei
-  pub one : (old new : List LinkMarks) (line tei : ℕ) (service : Service) (m : Card) (r : PlainReport) (left : Room) → TellsReopened line m old new r
-      → Waits old line service tei → HasRoom line service tei m left → 0 < left.queue → r.reopened ≡ 1
-  pub no_other : (old new : List LinkMarks) (line : ℕ) (m : Card) (r : PlainReport) → TellsReopened line m old new r → r.reopened ≡ 1 → ToldOne old line m r
-  pub others : (old new : List LinkMarks) (line other tei : ℕ) (service : Service) (m : Card) (r : PlainReport) → TellsReopened line m old new r
-      → other ≢ line → Waits old other service tei → Waits new other service tei
-  pub same_lines : (old new : List LinkMarks) (line : ℕ) (m : Card) (r : PlainReport) → TellsReopened line m old new r → length new ≡ length old
+  pub refused : (status request sapi its line : ℕ) (old new : List LinkMarks) → WaitsFor (refused_place status request sapi its) line old new → WaitsMore status request sapi its line old new
+  pub called : (line : ℕ) (m : Card) (old new : List LinkMarks) (r : PlainReport) → TellsReopened line m old new r → WaitsOn line m old new r

@@ -3,12 +3,14 @@
 ghost use Rattle.lapd_c.specs.AsBefore.{AsBefore};
 ghost use Rattle.lapd_c.specs.Laws.{ContentsFit};
 ghost use Rattle.lapd_c.specs.Said.{ConfigurationsAreGiven};
+ghost use Rattle.lapd_c.specs.CallsServed.{CallsAreServed};
 ghost use Rattle.lapd_c.specs.CallEvents.{CallsAreEvents};
 ghost use Rattle.lapd_c.specs.Blocks.{BlocksAreCalls};
 ghost use Rattle.lapd_c.specs.CarriedOut.{OrdersAreCarriedOut};
 ghost use Rattle.lapd_c.specs.LinksTold.{LinksAreTold};
 ghost use Rattle.lapd_c.specs.BothKinds.{BothKindsAreServed};
 ghost use Rattle.lapd_c.specs.Numbers.{NumbersAreGiven};
+ghost use Rattle.lapd_c.specs.QuestionsAnswered.{QuestionsAreAnswered};
 ghost use Rattle.lapd_c.specs.Waits.{LinksReopen};
 
 /// The contents that an answer delivers have at most N201 octets, whatever happens to whichever card: an I-frame with
@@ -30,8 +32,9 @@ pub fn configurations_are_given()
     ensures { ConfigurationsAreGiven }
 {}
 
-/// A link on which contents were refused, as its queue was full, is told once it has a place: after each call of its line the
-/// report tells of one such link, if there is any.
+/// A link on which contents were refused, as its queue was full, waits from then on. It waits on, whatever calls come, until it is
+/// told or its TEI leaves the line. After each call of its line the report tells of one that waits and has a place, if there is
+/// any, and of no other link.
 #[tactic(auto, using(crate::proofs::Waits::links_reopen_by))]
 pub fn links_reopen()
     ensures { LinksReopen }
@@ -66,10 +69,18 @@ pub fn both_kinds_are_served()
 {}
 
 /// Numbers mean what `include/lapd.h` says: those of notes, errors, causes, faults, timers, orders, requests, refusals and fields;
-/// and lengths, rooms, counters and heads are those of the card.
+/// and lengths, rooms and heads are those of the card.
 #[tactic(auto, using(crate::proofs::Numbers::numbers_are_given_by))]
 pub fn numbers_are_given()
     ensures { NumbersAreGiven }
+{}
+
+/// A call that is an event is served: the card stands for the machine after it, and the report tells the machine's answer, place by
+/// place; without orders if the card keeps its own timers, whose clock then has carried them out. If arguments are wrong, or the machine
+/// refuses the event, the status says so, and nothing changes. A card begins as the fresh machine of its configuration.
+#[tactic(auto, using(crate::proofs::CallsServed::calls_are_served_by))]
+pub fn calls_are_served()
+    ensures { CallsAreServed }
 {}
 
 /// A call is the event that `include/lapd.h` says, of the line that is given and of the cards that it is for: an octet, a pull, a
@@ -77,4 +88,12 @@ pub fn numbers_are_given()
 #[tactic(auto, using(crate::proofs::CallEvents::calls_are_events_by))]
 pub fn calls_are_events()
     ensures { CallsAreEvents }
+{}
+
+/// Questions are answered as `include/lapd.h` says: a link's state and room, the frames that have begun and that were heard, the first
+/// line on which a frame waits, counters, what is stored and may be, lines, and octets in words. If one has no answer, its status
+/// says why.
+#[tactic(auto, using(crate::proofs::QuestionsAnswered::questions_are_answered_by))]
+pub fn questions_are_answered()
+    ensures { QuestionsAreAnswered }
 {}

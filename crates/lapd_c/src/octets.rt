@@ -1,7 +1,8 @@
-//! What happens at a card of octets: one that comes, and one that goes; which frame a pull began, and which was heard last.
+//! What happens at a card of octets: one that comes, and one that goes; which frame a pull began, and which was heard last, whole
+//! or how it begins.
 
-ghost use Rattle.std.specs.Prelude.{◌≡◌, ◌≢◌, Some};
-ghost use Rattle.lapd_c.specs.{at_port, begun_of, card_of, heard_of, IsCallOf, IsHandle, octet_asked, octet_of, OctetsWithLine, of_octets, pull_asked, Called, Questioned, Served, with_ports};
+ghost use Rattle.std.specs.Prelude.{◌≡◌, ◌≢◌, Some, IfOk, IfErr};
+ghost use Rattle.lapd_c.specs.{at_port, begun_frame_of, begun_of, card_of, heard_frame_of, heard_of, in_front, IsCallOf, IsHandle, octet_asked, octet_of, OctetsWithLine, of_octets, pull_asked, Called, Questioned, Served, with_ports};
 ghost use Rattle.model_card.specs.ports.Card.{answer};
 ghost use Rattle.model_card.specs.ports.Event.{at};
 ghost use Rattle.model_card.specs.ports.Port as port;
@@ -9,7 +10,8 @@ ghost use Rattle.lapd_c.specs.Statuses as status;
 
 use crate::card::CardHandle;
 use crate::lend::lend;
-use crate::plain::{OK, PlainHead, PlainReport};
+use crate::plain::{NO_FRAME, OK, PlainHead, PlainReport, WRONG_LENGTH};
+use model_bits::Heard;
 
 /// Takes an octet that came from a line, low bit first.
 #[unsafe(no_mangle)]
@@ -103,5 +105,65 @@ pub extern "C" fn lapd_heard(handle: &mut CardHandle, line: u32, head: &mut Plai
 {
     lend!(kept of handle, Octets(card), line);
     *head = PlainHead::of(card.latest_heard(line));
+    OK
+}
+
+/// Writes the frame that a pull of a line began last in front of `out`, from its address to its information, without its check,
+/// and tells how long it is.
+#[unsafe(no_mangle)]
+pub extern "C" fn lapd_begun_frame(
+    handle: &mut CardHandle,
+    line: u32,
+    out: &mut [u8],
+    count: &mut usize,
+) -> u32
+    requires { IsHandle handle.old }
+    ensures { Questioned of_octets (Some line) (begun_frame_of line out.old) handle.old handle.new result (out.old, count.old) (out.new, count.new) }
+{
+    lend!(kept of handle, Octets(card), line);
+    match card.write_begun(line, out) {
+        None => WRONG_LENGTH,
+        Some(0) => NO_FRAME,
+        Some(length) => {
+            *count = length;
+            OK
+        }
+    }
+}
+
+/// Writes the frame that the latest octet of a line has ended, as [`lapd_begun_frame`] does; of one that is too long to be kept,
+/// its first four octets.
+#[unsafe(no_mangle)]
+pub extern "C" fn lapd_heard_frame(
+    handle: &mut CardHandle,
+    line: u32,
+    out: &mut [u8],
+    count: &mut usize,
+) -> u32
+    requires { IsHandle handle.old }
+    ensures { Questioned of_octets (Some line) (heard_frame_of line out.old) handle.old handle.new result (out.old, count.old) (out.new, count.new) }
+{
+    lend!(kept of handle, Octets(card), line);
+    match card.ended(line) {
+        Heard::Frame(octets) => write_in_front(octets, out, count),
+        Heard::Overlong(octets) => write_in_front(&octets, out, count),
+        Heard::Nothing | Heard::Dropped(_) => NO_FRAME,
+    }
+}
+
+// Writes the octets of a frame in front of others, if there are any, and if there is room for them.
+fn write_in_front(octets: &[u8], out: &mut [u8], count: &mut usize) -> u32
+    ensures unwritten { result ≢ status.ok → (out.new ≡ out.old) × (count.new ≡ count.old) }
+    ensures wrong { IfErr (in_front out.old octets.now) (λ wrong. result ≡ wrong) }
+    ensures told { IfOk (in_front out.old octets.now) (λ is. (result ≡ status.ok) × (out.new ≡ is.0) × (count.new ≡ is.1)) }
+{
+    if octets.is_empty() {
+        return NO_FRAME;
+    }
+    if out.len() < octets.len() {
+        return WRONG_LENGTH;
+    }
+    out[..octets.len()].copy_from_slice(octets);
+    *count = octets.len();
     OK
 }

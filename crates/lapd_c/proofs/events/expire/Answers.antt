@@ -16,10 +16,10 @@ returns-clause-served c = λ m s w. if_ok _ _ c.in-Ok.value (sym c.timer.ensures
     let e = at c.args.line (expiry c.in-Ok.value) in
     let none = none_there (timers_held c.args.handle.now.slot.card) s.1 in record {
       ok = refl;
-      stands = still_stands (after e m) c.tell_reopened.ensures.card (c.expire.ensures.after.stands m t);
+      stands = still_stands (after e m) c.tell_reopened.ensures.card (c.expire.ensures.called.leads.stands m t);
       shown = shown_untimed _ s.1 c.tell_reopened.new.report _ (answer e m) (still_answered c.tell_reopened.new.report c.show.new.self _ c.tell_reopened.ensures.rest
-          (subst (ShowsAnswer c.show.new.self) (c.expire.ensures.told m t) (c.show.ensures (omega arith))));
+          (subst (ShowsAnswer c.show.new.self) (c.expire.ensures.called.answers m t) (c.show.ensures (omega arith))));
       obeyed = carried_untimed c.args.line (orders_at e (card_in m)) (card_in m) (machine.after e (card_in m)) (timers_held c.args.handle.now.slot.card) c.tell_reopened.new.self.timers
           none (c.tell_reopened.ensures.timers ∙ sym (ap timers_held c.in-Some.ensures.card) ∙ none);
-      counted = counts c.in-Some.ensures.card e (card_in m) c.expire.new.self c.tell_reopened.new.self.card c.tell_reopened.ensures.card (c.expire.ensures.after.counted m t);
+      counted = counts c.in-Some.ensures.card e (card_in m) c.expire.new.self c.tell_reopened.new.self.card c.tell_reopened.ensures.card (c.expire.ensures.called.leads.counted m t);
     })

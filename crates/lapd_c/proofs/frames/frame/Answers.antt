@@ -21,20 +21,20 @@ returns-clause-served c = λ m s w.
     let t = frames_there c.in-Some.ensures.card c.in-Frames.is m s in
     let is = comes_at c.args.line c.args.octets.now _ m t in
     let e = frame_comes c.args.line c.args.octets.now m in
-    let n201 = ap (λ (d : Config). d.n201) c.frame.ensures.after.config in
+    let n201 = ap (λ (d : Config). d.n201) c.frame.ensures.called.leads.config in
     let octets = λ (n : ℕ). octets_of (Some (came n c.args.octets.now)) in
-    let stands : FrameCardStands c.frame.new.self (after e m) = subst (λ (e : Event). FrameCardStands c.frame.new.self (after e m)) is (c.frame.ensures.after.stands m t) in record {
+    let stands : FrameCardStands c.frame.new.self (after e m) = subst (λ (e : Event). FrameCardStands c.frame.new.self (after e m)) is (c.frame.ensures.called.leads.stands m t) in record {
       ok = refl;
       stands = still_stands (alone (after e m)) c.settle.ensures.card stands;
       shown = shown_given _ c.settle.new.report _ (answer e m) (seen_there c.in-Some.ensures.card c.settle.new.report _ (settled_answered _ c.settle.new.report c.show_delivered.new.report _ c.settle.ensures.rest
-          (shown_told m e _ c.show_delivered.new.report t.reached.config (c.frame.ensures.told m t ∙ ap (λ (e : Event). answer e m) is)
+          (shown_told m e _ c.show_delivered.new.report t.reached.config (c.frame.ensures.called.answers m t ∙ ap (λ (e : Event). answer e m) is)
           (subst (λ (n : ℕ). length (contents_or_none (delivered_in (octets n) c.frame.new.report)) ≤ 260
           → Shows c.show_delivered.new.report (told_beside (delivered_in (octets n) c.frame.new.report) c.frame.new.report)) n201 c.show_delivered.ensures))));
       obeyed = carried-there c.in-Some.ensures.card c.args.line (orders_at e m) m (after e m) c.settle.new.self.timers
           (obeys (Frames c.frame.new.self) c.args.line _ _ c.settle.new.self.timers c.settle.ensures.timed c.settle.ensures.untimed e m
           (led_to c.args.line (hears (came m.config.n201 c.args.octets.now)) m c.frame.new.self w stands)
-          (c.orders.ensures ∙ ap orders_in (c.frame.ensures.told m t ∙ ap (λ (e : Event). answer e m) is)) tt);
-      counted = heard_count c.in-Some.ensures.card c.in-Frames.is is m c.frame.new.self c.settle.new.self.card c.settle.ensures.card (c.frame.ensures.after.counted m t);
+          (c.orders.ensures ∙ ap orders_in (c.frame.ensures.called.answers m t ∙ ap (λ (e : Event). answer e m) is)) tt);
+      counted = heard_count c.in-Some.ensures.card c.in-Frames.is is m c.frame.new.self c.settle.new.self.card c.settle.ensures.card (c.frame.ensures.called.leads.counted m t);
     }
 
 -- orders alone are
@@ -44,16 +44,16 @@ returns-then-frame-clause-served c = λ m s w.
     let is = comes_at c.args.line c.args.octets.now _ m t in
     let e = frame_comes c.args.line c.args.octets.now m in
     let octets = octets_of (Some (came _ c.args.octets.now)) in
-    let stands : FrameCardStands c.frame.new.self (after e m) = subst (λ (e : Event). FrameCardStands c.frame.new.self (after e m)) is (c.frame.ensures.after.stands m t) in record {
+    let stands : FrameCardStands c.frame.new.self (after e m) = subst (λ (e : Event). FrameCardStands c.frame.new.self (after e m)) is (c.frame.ensures.called.leads.stands m t) in record {
       ok = refl;
       stands = still_stands (alone (after e m)) c.settle_orders.ensures.card stands;
       shown = shown_given _ c.settle_orders.new.report _ (answer e m) (seen_there c.in-Some.ensures.card c.settle_orders.new.report _
           (orders_seen_by _ c.settle_orders.new.report _ _
-          (ap told (sym (quiet_told octets c.frame.new.report (c.frame.ensures.quiet c.if-frame.true))) ∙ c.frame.ensures.told m t ∙ ap (λ (e : Event). answer e m) is)
+          (ap told (sym (quiet_told octets c.frame.new.report (c.frame.ensures.quiet c.if-frame.true))) ∙ c.frame.ensures.called.answers m t ∙ ap (λ (e : Event). answer e m) is)
           c.settle_orders.ensures.shown));
       obeyed = carried-there c.in-Some.ensures.card c.args.line (orders_at e m) m (after e m) c.settle_orders.new.self.timers
           (obeys (Frames c.frame.new.self) c.args.line _ _ c.settle_orders.new.self.timers c.settle_orders.ensures.timed c.settle_orders.ensures.untimed e m
           (led_to c.args.line (hears (came m.config.n201 c.args.octets.now)) m c.frame.new.self w stands)
-          (ap orders_in (c.frame.ensures.told m t ∙ ap (λ (e : Event). answer e m) is)) tt);
-      counted = heard_count c.in-Some.ensures.card c.in-Frames.is is m c.frame.new.self c.settle_orders.new.self.card c.settle_orders.ensures.card (c.frame.ensures.after.counted m t);
+          (ap orders_in (c.frame.ensures.called.answers m t ∙ ap (λ (e : Event). answer e m) is)) tt);
+      counted = heard_count c.in-Some.ensures.card c.in-Frames.is is m c.frame.new.self c.settle_orders.new.self.card c.settle_orders.ensures.card (c.frame.ensures.called.leads.counted m t);
     }

@@ -17,14 +17,14 @@ pub returns-clause-served : goal.returns-clause-served
 returns-clause-served c = λ m s w. if_ok _ _ c.in-Ok.value (sym c.fault_in.ensures ∙ c.in-Ok.is) (
     let t = frames_there c.in-Some.ensures.card c.in-Frames.is m s in
     let e = fails c.args.line c.in-Ok.value in
-    let stands = c.failed.ensures.after.stands m t in record {
+    let stands = c.failed.ensures.called.leads.stands m t in record {
       ok = refl;
       stands = still_stands (alone (after e m)) c.settle.ensures.card stands;
       shown = shown_given _ c.settle.new.report _ (answer e m) (seen_there c.in-Some.ensures.card c.settle.new.report _ (settled_answered _ c.settle.new.report c.show.new.self _ c.settle.ensures.rest
-          (subst (ShowsAnswer c.show.new.self) (c.failed.ensures.told m t) (c.show.ensures (omega arith)))));
+          (subst (ShowsAnswer c.show.new.self) (c.failed.ensures.called.answers m t) (c.show.ensures (omega arith)))));
       obeyed = carried-there c.in-Some.ensures.card c.args.line (orders_at e m) m (after e m) c.settle.new.self.timers
           (obeys (Frames c.failed.new.self) c.args.line _ _ c.settle.new.self.timers c.settle.ensures.timed c.settle.ensures.untimed e m
           (led_to c.args.line (hears (stream.dropped (cause_of c.in-Ok.value))) m c.failed.new.self w stands)
-          (c.orders.ensures ∙ ap orders_in (c.failed.ensures.told m t)) tt);
-      counted = frames_count c.in-Some.ensures.card c.in-Frames.is e m c.failed.new.self c.settle.new.self.card c.settle.ensures.card (c.failed.ensures.after.counted m t);
+          (c.orders.ensures ∙ ap orders_in (c.failed.ensures.called.answers m t)) tt);
+      counted = frames_count c.in-Some.ensures.card c.in-Frames.is e m c.failed.new.self c.settle.new.self.card c.settle.ensures.card (c.failed.ensures.called.leads.counted m t);
     })

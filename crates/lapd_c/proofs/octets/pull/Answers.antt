@@ -15,17 +15,17 @@ pub returns-clause-served : goal.returns-clause-served
 returns-clause-served c = λ m s w.
     let t = octets_there c.in-Some.ensures.card c.in-Octets.is m s in
     let e = at c.args.line port.pull in
-    let stands = c.pull-pulled.ensures.after.stands m t in record {
+    let stands = c.pull-pulled.ensures.called.leads.stands m t in record {
       ok = refl;
       stands = still_stands (with_ports (after e m)) c.settle.ensures.card stands;
       shown = replied_there c.in-Some.ensures.card c.settle.new.report _ (settled_replied _ c.settle.new.report c.show_pull.new.self _ c.settle.ensures.rest
-          (subst (ShowsReply c.show_pull.new.self) (c.pull-pulled.ensures.told m t)
+          (subst (ShowsReply c.show_pull.new.self) (c.pull-pulled.ensures.called.answers m t)
           (subst (λ os. ShowsPull c.show_pull.new.self c.pull-pulled.result.begun false os) c.orders.ensures c.show_pull.ensures)));
       obeyed = carried-there c.in-Some.ensures.card c.args.line (orders_at e m) m.card (after e m).card c.settle.new.self.timers
           (obeys-meaning (Octets c.pull-pulled.new.self) c.args.line _ _ c.settle.new.self.timers c.settle.ensures.timed c.settle.ensures.untimed c.settle.ensures.none e m refl w
-          stands.frames (c.orders-2.ensures ∙ ap orders_in (c.pull-pulled.ensures.told m t)) tt);
-      counted = octets_count c.in-Some.ensures.card c.in-Octets.is e m c.pull-pulled.new.self c.settle.new.self.card c.settle.ensures.card (c.pull-pulled.ensures.after.counted m t);
+          stands.frames (c.orders-2.ensures ∙ ap orders_in (c.pull-pulled.ensures.called.answers m t)) tt);
+      counted = octets_count c.in-Some.ensures.card c.in-Octets.is e m c.pull-pulled.new.self c.settle.new.self.card c.settle.ensures.card (c.pull-pulled.ensures.called.leads.counted m t);
     }
 
 pub returns-clause-written : goal.returns-clause-written
-returns-clause-written c = λ m s w. ap octet_of (c.pull-pulled.ensures.told m (octets_there c.in-Some.ensures.card c.in-Octets.is m s))
+returns-clause-written c = λ m s w. ap octet_of (c.pull-pulled.ensures.called.answers m (octets_there c.in-Some.ensures.card c.in-Octets.is m s))

@@ -13,15 +13,15 @@ pub returns-in-Some-hear-clause-served : goal.returns-in-Some-hear-clause-served
 returns-in-Some-hear-clause-served c = λ m s w.
     let t = octets_there c.in-Some.ensures.card c.in-Octets.is m s in
     let e = at c.args.line (port.octet c.args.octet) in
-    let stands = c.hear.ensures.after.stands m t in record {
+    let stands = c.hear.ensures.called.leads.stands m t in record {
       ok = refl;
       stands = still_stands (with_ports (after e m)) c.settle.ensures.card stands;
       shown = replied_there c.in-Some.ensures.card c.settle.new.report _ (settled_replied _ c.settle.new.report c.show.new.self _ c.settle.ensures.rest
-          (shown_reply m e _ c.show.new.self t.reached.config (ap port.told c.contents.ensures ∙ c.in-Some-hear.ensures.told m t) c.show.ensures));
+          (shown_reply m e _ c.show.new.self t.reached.config (ap port.told c.contents.ensures ∙ c.in-Some-hear.ensures.called.answers m t) c.show.ensures));
       obeyed = carried-there c.in-Some.ensures.card c.args.line (orders_at e m) m.card (after e m).card c.settle.new.self.timers
           (obeys-meaning (Octets c.hear.new.self) c.args.line _ _ c.settle.new.self.timers c.settle.ensures.timed c.settle.ensures.untimed c.settle.ensures.none e m refl w
-          stands.frames (c.orders.ensures ∙ ap (λ (told : LineTold). told.orders) c.contents.ensures ∙ ap orders_in (c.in-Some-hear.ensures.told m t)) tt);
-      counted = octets_count c.in-Some.ensures.card c.in-Octets.is e m c.hear.new.self c.settle.new.self.card c.settle.ensures.card (c.hear.ensures.after.counted m t);
+          stands.frames (c.orders.ensures ∙ ap (λ (told : LineTold). told.orders) c.contents.ensures ∙ ap orders_in (c.in-Some-hear.ensures.called.answers m t)) tt);
+      counted = octets_count c.in-Some.ensures.card c.in-Octets.is e m c.hear.new.self c.settle.new.self.card c.settle.ensures.card (c.hear.ensures.called.leads.counted m t);
     }
 
 -- one that ended nothing tells nothing, and orders nothing
@@ -29,13 +29,13 @@ pub returns-in-None-hear-clause-served : goal.returns-in-None-hear-clause-served
 returns-in-None-hear-clause-served c = λ m s w.
     let t = octets_there c.in-Some.ensures.card c.in-Octets.is m s in
     let e = at c.args.line (port.octet c.args.octet) in
-    let stands = c.hear.ensures.after.stands m t in record {
+    let stands = c.hear.ensures.called.leads.stands m t in record {
       ok = refl;
       stands = still_stands (with_ports (after e m)) c.tell_reopened.ensures.card stands;
-      shown = nothing_there c.args.handle.now.slot.card c.tell_reopened.new.report _ (c.in-None-hear.ensures.told m t)
+      shown = nothing_there c.args.handle.now.slot.card c.tell_reopened.new.report _ (c.in-None-hear.ensures.called.answers m t)
           (still_replied c.tell_reopened.new.report c.show_nothing.new.self (port.told _) c.tell_reopened.ensures.rest c.show_nothing.ensures.told);
       obeyed = carried-there c.in-Some.ensures.card c.args.line (orders_at e m) m.card (after e m).card c.tell_reopened.new.self.timers
           (obeys-nothing (Octets c.hear.new.self) c.args.line _ c.tell_reopened.new.self.timers c.tell_reopened.ensures.timers e m refl w
-          stands.frames (ap orders_in (c.in-None-hear.ensures.told m t)) tt);
-      counted = octets_count c.in-Some.ensures.card c.in-Octets.is e m c.hear.new.self c.tell_reopened.new.self.card c.tell_reopened.ensures.card (c.hear.ensures.after.counted m t);
+          stands.frames (ap orders_in (c.in-None-hear.ensures.called.answers m t)) tt);
+      counted = octets_count c.in-Some.ensures.card c.in-Octets.is e m c.hear.new.self c.tell_reopened.new.self.card c.tell_reopened.ensures.card (c.hear.ensures.called.leads.counted m t);
     }

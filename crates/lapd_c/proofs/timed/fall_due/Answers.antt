@@ -56,7 +56,7 @@ returns-clause-due c = λ m clock s stood later before.
     let e = expires line timer in
     let within : line < (card_in m).config.lines = subst (λ n. line < n) (sym gone.clock_is.lines) c.in-Some-due.ensures.line in
     let stands = there c.in-Some.ensures.card m s in
-    let led = c.expire.ensures.after.stands m stands in
+    let led = c.expire.ensures.called.leads.stands m stands in
     let tells = c.settle.ensures.tells (after e m) led (still_within line e m within) in
     if_fell _ (due (at_moment c.args.now clock)) c.in-Some-due.value (sym c.in-Some-due.is ∙ c.due.ensures.due (card_in m) (at_moment c.args.now clock) gone) _ _ _ _ _ _ (record {
       ok = refl;
@@ -65,14 +65,14 @@ returns-clause-due c = λ m clock s stood later before.
       shown = subst (λ r. ShowsAnswer r (without_orders (answer e m))) (sym c.show_expired.ensures)
           (answered_still c.settle.new.report (plain_timer timer) (without_orders (answer e m))
           (settled_answered (Some c.due.new.self) c.settle.new.report c.show.new.self (answer e m) c.settle.ensures.rest
-          (subst (ShowsAnswer c.show.new.self) (c.expire.ensures.told m stands) (c.show.ensures (omega arith)))));
+          (subst (ShowsAnswer c.show.new.self) (c.expire.ensures.called.answers m stands) (c.show.ensures (omega arith)))));
       stands = still_stands (after e m) c.settle.ensures.card led;
       timers = timed_any line (expiry timer) m c.settle.new.self.timers (obeyed line (orders_at e (card_in m)) (without_first (at_moment c.args.now clock)))
           (c.settle.ensures.timed e (card_in m) (without_first (at_moment c.args.now clock))
           (led_any line (expiry timer) m c.expire.new.self within led)
-          (c.orders.ensures ∙ ap orders_in (c.expire.ensures.told m stands))
+          (c.orders.ensures ∙ ap orders_in (c.expire.ensures.called.answers m stands))
           (c.in-Some-due.ensures.left (card_in m) (at_moment c.args.now clock) gone));
-      counted = counts c.in-Some.ensures.card e (card_in m) c.expire.new.self c.settle.new.self.card c.settle.ensures.card (c.expire.ensures.after.counted m stands);
+      counted = counts c.in-Some.ensures.card e (card_in m) c.expire.new.self c.settle.new.self.card c.settle.ensures.card (c.expire.ensures.called.leads.counted m stands);
       reopened = subst (TellsReopened line (card_in (after e m)) (marks_held c.args.handle.now.slot.card) c.settle.new.self.refused) (sym c.show_expired.ensures)
           (reopened_still line (card_in (after e m)) (marks_held c.args.handle.now.slot.card) c.settle.new.self.refused c.settle.new.report (plain_timer timer)
           (subst (λ marks. TellsReopened line (card_in (after e m)) marks c.settle.new.self.refused c.settle.new.report) (sym (ap marks_held c.in-Some.ensures.card)) tells));

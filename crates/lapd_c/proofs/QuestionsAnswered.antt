@@ -1,0 +1,165 @@
+-- What questions are answered.
+use Rattle.std.specs.Prelude.{◌==◌, ◌+◌, ◌-◌, Result, Err, fold, find, flat_map, if◌then◌else◌}
+use Rattle.lapd_c.proofs.Vocabulary.{◌≡◌, ◌∷◌, ℕ, Bool, true, false, cond, Option, None, Some, IfSome, Ok, List, [], length, inl, inr, refl, sym, ap, ◌∙◌, arith, not, nat_lt, cases_lt, and_parts, false≢true, Card, Machine, with_ports, alone, card_in, OctetCard, Service, answer, at, next}
+use Rattle.std.proofs.lemmas.Bool.{ltb-true, ne_eqb}
+use Rattle.std.specs.Option.{unwrap_or}
+use Rattle.model_bits.specs.Heads.{head_of, or_later}
+use Rattle.model_bits.specs.Sent as item
+use Rattle.model_bits.specs.Sent.{Item, idle}
+use Rattle.model_bits.specs.Stream as stream
+use Rattle.model_bits.specs.Stream.{Event, dropped, heard_in, overlong}
+use Rattle.model_bits.specs.declared.heads.Head.{Head}
+use Rattle.lapd_frame.specs.declared.refusals.Refusal.TheVariants.{BadTei, NoLink}
+use Rattle.lapd_frame.specs.declared.services.Service.TheVariants.{Call, Packet}
+use Rattle.model_link.specs.Room as link
+use Rattle.model_line.specs.Counts.{is_given}
+use Rattle.model_line.specs.Line.{has_tei, link_of, terms}
+use Rattle.model_line.specs.Room.{unless}
+use Rattle.model_card.specs.Card.{line_at, state}
+use Rattle.model_card.specs.Room.{free}
+use Rattle.model_card.specs.ports.Card.{port_at}
+use Rattle.model_card.specs.ports.HeadHeard.{or_heard}
+use Rattle.model_card.specs.ports.Stored.{limit}
+use Rattle.lapd_card.proofs.Waiting.{first_waiting}
+use Rattle.lapd_card.specs.Waiting.{IsFirstWaiting, has_next, next_waiting, waits_on}
+use Rattle.std.specs.List.{range_with_len}
+use Rattle.lapd_c.specs.Heads.{plain_head}
+use Rattle.lapd_c.specs.QuestionWords.{begun_of, or_status, room_at, room_of, room_told, state_of, waiting_from}
+use Rattle.lapd_c.specs.QuestionsAnswered.{GivesNone, IsNoService, WaitsFirst, NoneWaits, QuestionsAreAnswered, beginning, beginning_in, frame_in, frames_in, last_or, room_beside}
+use Rattle.lapd_c.specs.Services.{if_ok, number_of, or_wrong_service}
+use Rattle.lapd_c.specs.Statuses.{wrong_tei}
+use Rattle.lapd_c.specs.Timers.{link_in, with_tei}
+use Rattle.lapd_c.specs.declared.plain.heads.PlainHead.{PlainHead}
+use Rattle.lapd_c.specs.declared.plain.rooms.PlainRoom.{PlainRoom}
+
+-- the card of frames
+inside : (m : Machine) → card_in m ≡ frames_in m
+inside (with_ports m) = refl
+inside (alone m) = refl
+
+-- ---- a link
+
+link_by : (s : Service) (tei : ℕ) → link_in (number_of s) tei ≡ (if nat_lt 126 tei then Err wrong_tei else Ok (s, tei))
+link_by Call tei = refl
+link_by Packet tei = refl
+
+state_told : (line tei : ℕ) (s : Service) (m : Machine) → state_of line (number_of s) tei m
+    ≡ (if nat_lt 126 tei then Err 16 else Ok (unwrap_or (state line s tei (frames_in m)) 0))
+state_told line tei s m =
+    let asked = λ (r : Result (Service × ℕ) ℕ). if_ok (λ (link : Service × ℕ). unwrap_or (state line link.0 link.1 (card_in m)) 0) r in
+    ap asked (link_by s tei) ∙ by_case (nat_lt 126 tei)
+    ∙ ap (λ (c : Card). if nat_lt 126 tei then Err 16 else Ok (unwrap_or (state line s tei c) 0)) (inside m)
+  where
+    by_case : (b : Bool) → if_ok (λ (link : Service × ℕ). unwrap_or (state line link.0 link.1 (card_in m)) 0) (if b then Err wrong_tei else Ok (s, tei))
+        ≡ (if b then Err 16 else Ok (unwrap_or (state line s tei (card_in m)) 0))
+    by_case true = refl
+    by_case false = refl
+
+-- a room by its two tests
+abbrev told_if : ℕ → ℕ → Service → Card → Bool → Bool → Result PlainRoom ℕ
+told_if line tei s c bad on =
+    room_told (unless (if bad then Some BadTei else if not on then Some NoLink else None) (link.room_of (terms c.config s tei) (free c) (link_of s tei (line_at line c))))
+
+abbrev room_if : ℕ → ℕ → Service → Card → Bool → Bool → Result PlainRoom ℕ
+room_if line tei s c high on = if high then Err 16 else if on then Ok (room_beside (link_of s tei (line_at line c)) c) else Err 2
+
+room_there : (line tei : ℕ) (s : Service) (m : Machine)
+    → room_of line (number_of s) tei m ≡ room_if line tei s (frames_in m) (nat_lt 126 tei) (has_tei tei (line_at line (frames_in m)))
+room_there line tei s m =
+    ap (λ (r : Result (Service × ℕ) ℕ). room_at line (card_in m) r) (link_by s tei)
+    ∙ by_case (card_in m) (nat_lt 126 tei) refl (has_tei tei (line_at line (card_in m))) refl
+    ∙ ap (λ (c : Card). room_if line tei s c (nat_lt 126 tei) (has_tei tei (line_at line c))) (inside m)
+  where
+    by_case : (c : Card) (b : Bool) → nat_lt 126 tei ≡ b → (t : Bool) → has_tei tei (line_at line c) ≡ t → room_at line c (if b then Err wrong_tei else Ok (s, tei)) ≡ room_if line tei s c b t
+    by_case c true is t on = refl
+    by_case c false is true on = ap (λ (x : Bool). told_if line tei s c x (has_tei tei (line_at line c))) is ∙ ap (λ (x : Bool). told_if line tei s c false x) on
+    by_case c false is false on = ap (λ (x : Bool). told_if line tei s c x (has_tei tei (line_at line c))) is ∙ ap (λ (x : Bool). told_if line tei s c false x) on
+
+-- a link that numbers do not name
+of_no_link : (line service tei status : ℕ) (m : Machine) → link_in service tei ≡ Err status → (state_of line service tei m ≡ Err status) × (room_of line service tei m ≡ Err status)
+of_no_link line service tei status m is = (
+  ap (λ (r : Result (Service × ℕ) ℕ). if_ok (λ (link : Service × ℕ). unwrap_or (state line link.0 link.1 (card_in m)) 0) r) is,
+  ap (λ (r : Result (Service × ℕ) ℕ). room_at line (card_in m) r) is,
+)
+
+service_other : (service tei : ℕ) → IsNoService service → link_in service tei ≡ Err 15
+service_other service tei none =
+    ap (λ (b : Bool). with_tei tei (or_wrong_service (if b then Some Call else if service == 16 then Some Packet else None))) (ne_eqb service 0 none.0)
+    ∙ ap (λ (b : Bool). with_tei tei (or_wrong_service (if b then Some Packet else None))) (ne_eqb service 16 none.1)
+
+-- ---- frames that begin and are heard
+
+begins : (octets : List ℕ) → plain_head (head_of octets) ≡ beginning octets
+begins [] = refl
+begins (a ∷ []) = refl
+begins (a ∷ b ∷ []) = refl
+begins (a ∷ b ∷ c ∷ []) = refl
+begins (a ∷ b ∷ c ∷ d ∷ more) = refl
+
+latest_is : (before : List ℕ) (items : List Item) → fold or_later before items ≡ last_or before (flat_map frame_in items)
+latest_is before [] = refl
+latest_is before (idle ∷ items) = latest_is before items
+latest_is before (item.frame octets ∷ items) = latest_is octets items
+
+begun_told : (line : ℕ) (m : OctetCard) → begun_of line (with_ports m) ≡ Ok (beginning (last_or [] (flat_map frame_in (port_at line m).items)))
+begun_told line m =
+    ap (λ (o : List ℕ). Ok (plain_head (head_of o))) (latest_is [] (port_at line m).items) ∙ ap Ok (begins (last_or [] (flat_map frame_in (port_at line m).items)))
+
+heard_last : (n201 : ℕ) (before : Option Head) (events : List Event) → plain_head (fold (or_heard n201) before events) ≡ last_or (plain_head before) (flat_map (beginning_in n201) events)
+heard_last n201 before [] = refl
+heard_last n201 before (stream.frame octets ∷ events) =
+    heard_last n201 (head_of octets) events ∙ ap (λ (h : PlainHead). last_or h (flat_map (beginning_in n201) events)) (begins octets)
+heard_last n201 before (overlong four ∷ events) = heard_last n201 (Some (record { octets = four; length = n201 + 5 })) events
+heard_last n201 before (dropped cause ∷ events) = heard_last n201 before events
+
+-- ---- frames that wait
+
+not_given : (line : ℕ) (m : Card) → GivesNone m line → is_given (answer (at line next) m) ≡ true → ⊥
+not_given line m none given = false≢true (sym (ap is_given none) ∙ given)
+
+waits_there : (from line : ℕ) (m : Card) → WaitsFirst m from line → waiting_from from (alone m) ≡ Ok line
+waits_there from line m is = go (next_waiting from m) (first_waiting from m)
+  where
+    go : (o : Option ℕ) → IsFirstWaiting from m o → or_status 28 o ≡ Ok line
+    go None h = absurd (not_given line m (h.others line is.after is.within) (ap is_given is.gives))
+    go (Some k) h = elim (cases_lt k line) [
+      | inl less ↦ absurd (not_given k m (is.before k h.gives.0 less) h.gives.1)
+      | inr past ↦ elim (cases_lt line k) [
+        | inl less ↦ absurd (not_given line m (h.others line is.after less) (ap is_given is.gives))
+        | inr there ↦ let same : k ≡ line = omega (arith, past, there) in ap (λ (n : ℕ). Ok n) same
+      ]
+    ]
+
+found : (test : ℕ → Bool) (all : List ℕ) → IfSome (find test all) (λ k. test k ≡ true)
+found test [] = tt
+found test (x ∷ all) = (elim (test x) as (λ b. test x ≡ b → IfSome (cond b (Some x) (find test all)) (λ k. test k ≡ true)) [
+  | true ↦ λ is. is
+  | false ↦ λ is. found test all
+]) refl
+
+none_waits_there : (from : ℕ) (m : Card) → NoneWaits m from → waiting_from from (alone m) ≡ Err 28
+none_waits_there from m none = go (next_waiting from m) (found (waits_on m) (range_with_len from (m.config.lines - from))) (first_waiting from m)
+  where
+    go : (o : Option ℕ) → IfSome o (λ k. has_next k m ≡ true) → IsFirstWaiting from m o → or_status 28 o ≡ Err 28
+    go None is h = refl
+    go (Some k) is h =
+        let within = ltb-true k m.config.lines (and_parts (nat_lt k m.config.lines) (is_given (answer (at k next) m)) is).0 in
+        absurd (not_given k m (none k h.gives.0 within) h.gives.1)
+
+pub questions_are_answered_by : QuestionsAreAnswered
+questions_are_answered_by = record {
+  state = state_told;
+  room = room_there;
+  no_service = λ line service tei m none. of_no_link line service tei 15 m (service_other service tei none);
+  begun = begun_told;
+  heard = λ line m. ap Ok (heard_last m.card.config.n201 None (heard_in m.card.config.n201 (port_at line m).received));
+  no_octets = λ line m. (refl, refl);
+  waits = waits_there;
+  none_waits = none_waits_there;
+  counters = λ c. refl;
+  stored = λ m. refl;
+  stored_alone = λ m. refl;
+  limit = λ m. ap (λ (c : Card). Ok (limit c.config)) (inside m);
+  lines = λ m. ap (λ (c : Card). Ok c.config.lines) (inside m);
+  text = λ octets side room. refl;
+}

@@ -78,6 +78,13 @@ void asks_octets(lapd::card &card, lapd::report &report) {
     wants(card.begun(1, head) == status::ok && head.length == 3 && head.octets[2] == 0x73, "a begun frame");
     wants(card.heard(1, head) == status::ok && head.length == 3 && head.octets[2] == 0x7F, "a frame that was heard");
     wants(card.heard(0, head) == status::ok && head.length == 0, "no frame that was heard");
+    uint8_t room[LAPD_MOST_FRAME];
+    lapd::octets whole;
+    wants(card.heard_frame(1, {room, 2}, whole) == status::wrong_length && whole.empty(), "a frame in a small room");
+    wants(card.heard_frame(1, room, whole) == status::ok && whole.size() == 3 && whole[0] == 0x00 && whole[1] == 0x81 && whole[2] == 0x7F, "a whole frame that was heard");
+    wants(card.begun_frame(1, room, whole) == status::ok && whole.size() == 3 && whole[0] == 0x00 && whole[1] == 0x81 && whole[2] == 0x73, "a whole frame that was begun");
+    wants(card.octet(1, 0x7E, report) == status::ok && card.heard_frame(1, room, whole) == status::no_frame, "a frame that has gone");
+    wants(card.begun_frame(0, room, whole) == status::no_frame, "no begun frame of the other line");
 }
 
 void asks_frames(lapd::frame_card &card, lapd::report &report) {

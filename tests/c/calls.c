@@ -84,6 +84,16 @@ static void wrong_calls(void) {
     wants(lapd_begun(&card, LINES, &head) == LAPD_WRONG_LINE, "a frame of no line");
     wants(lapd_heard(&none, 0, &head) == LAPD_NO_CARD, "a frame that no card heard");
     wants(lapd_heard(&card, LINES, &head) == LAPD_WRONG_LINE, "a frame that no line heard");
+    uint8_t out[LAPD_MOST_FRAME] = {9};
+    size_t length = 7;
+    wants(lapd_begun_frame(&none, 0, out, sizeof out, &length) == LAPD_NO_CARD, "a whole frame of no card");
+    wants(lapd_begun_frame(&card, LINES, out, sizeof out, &length) == LAPD_WRONG_LINE, "a whole frame of no line");
+    wants(lapd_begun_frame(&card, 1, out, sizeof out, &length) == LAPD_NO_FRAME, "a whole frame before the first");
+    wants(lapd_heard_frame(&none, 0, out, sizeof out, &length) == LAPD_NO_CARD, "a whole frame that no card heard");
+    wants(lapd_heard_frame(&card, LINES, out, sizeof out, &length) == LAPD_WRONG_LINE, "a whole frame that no line heard");
+    wants(lapd_heard_frame(&card, 1, out, sizeof out, &length) == LAPD_NO_FRAME, "a whole frame heard before the first");
+    wants(lapd_heard_frame(&card, 1, out, 0, &length) == LAPD_NO_FRAME, "no room for no frame");
+    wants(length == 7 && out[0] == 9, "a wrong call has written a frame");
     wants(head.length == 1 && memcmp(head.octets, "\x02\x03\x04\x05", 4) == 0, "a wrong call has told a frame");
     wants(lapd_begun(&card, 1, &head) == LAPD_OK && head.length == 0, "a frame before the first");
     head.length = 1;
@@ -123,10 +133,26 @@ static void send(uint8_t *octets, size_t length) {
         pull(&octets[i]);
 }
 
-/* The frame that a pull of line 0 began last has these octets first, and so many. */
+/* The frame that a pull of line 0 began last has these octets, and so many. */
 static bool has_begun(const uint8_t *octets, size_t length) {
     lapd_head head = {1, {2, 3, 4, 5}};
-    return lapd_begun(&card, 0, &head) == LAPD_OK && head.length == length && memcmp(head.octets, octets, 4) == 0;
+    uint8_t out[LAPD_MOST_FRAME];
+    size_t count = 0;
+    return lapd_begun(&card, 0, &head) == LAPD_OK && head.length == length && memcmp(head.octets, octets, 4) == 0
+           && lapd_begun_frame(&card, 0, out, sizeof out, &count) == LAPD_OK && count == length && memcmp(out, octets, length) == 0;
+}
+
+/* The latest octet of line 0 has ended a frame of these octets: they are written if there is room, and nothing after them. The
+ * next octet ends nothing. */
+static void has_ended(const uint8_t *octets, size_t length) {
+    uint8_t out[LAPD_MOST_FRAME] = {0};
+    size_t count = 777;
+    wants(lapd_heard_frame(&card, 0, out, length - 1, &count) == LAPD_WRONG_LENGTH && count == 777 && out[0] == 0, "a frame in too little room");
+    memset(out, 0xAB, sizeof out);
+    wants(lapd_heard_frame(&card, 0, out, length, &count) == LAPD_OK && count == length && memcmp(out, octets, length) == 0
+              && out[length] == 0xAB, "another frame was ended");
+    wants(lapd_octet(&card, 0, 0xFF, &report) == LAPD_OK, "no 1s are taken");
+    wants(lapd_heard_frame(&card, 0, out, sizeof out, &count) == LAPD_NO_FRAME && count == length && out[length] == 0xAB, "a frame that has gone");
 }
 
 /* Information that came goes back from where it stands in the report, acknowledged and not, whole and a part of it. */
@@ -143,6 +169,7 @@ static void echo(void) {
     hear(&sender, data, sizeof data, &told);
     wants(told.delivered && told.length == 4, "nothing was delivered");
     wants(lapd_heard(&card, 0, &head) == LAPD_OK && head.length == sizeof data && memcmp(head.octets, data, 4) == 0, "another frame was heard");
+    has_ended(data, sizeof data);
     wants(lapd_data(&card, 0, LAPD_CALL, 64, told.contents, told.length, &told) == LAPD_OK, "contents of a report");
     send(octets, sizeof octets);
     wants(memcmp(octets, whole, sizeof whole) == 0, "other contents went back");

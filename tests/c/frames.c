@@ -228,26 +228,44 @@ static void is_latest(pair *both, uint32_t line) {
           "another frame was heard last");
 }
 
+/* Whether these octets are long enough for a frame. */
+static bool is_frame(const uint8_t *frame, size_t count) {
+    return count > 3 || (count == 3 && frame[2] % 4 == 3);
+}
+
 static void was_heard(pair *both, uint32_t line, const uint8_t *frame, size_t count) {
     lapd_head *head = &both->heard[line];
-    if (count < 3 || (count == 3 && frame[2] % 4 != 3))
+    if (!is_frame(frame, count))
         return;
     memset(head, 0, sizeof *head);
     memcpy(head->octets, frame, count < 4 ? count : 4);
     head->length = (uint16_t)(count > config.n201 + 4u ? config.n201 + 5u : count);
 }
 
-/* The octets of a frame come on an idle line, and 1s after them: at most one octet has anything to tell. */
+/* Whether the latest octet has ended a frame: then it is this one, whole, or of one that is too long its first four octets. */
+static bool has_ended(pair *both, uint32_t line, const uint8_t *frame, size_t count) {
+    uint8_t whole[LAPD_MOST_FRAME];
+    size_t length = 777, known = count > config.n201 + 4u ? 4 : count;
+    uint32_t status = lapd_heard_frame(&both->octets, line, whole, sizeof whole, &length);
+    wants(status == LAPD_OK ? length == known && memcmp(whole, frame, known) == 0 : status == LAPD_NO_FRAME && length == 777,
+          "another frame was ended");
+    return status == LAPD_OK;
+}
+
+/* The octets of a frame come on an idle line, and 1s after them: at most one octet has anything to tell, and one ends it. */
 static void hear(pair *both, uint32_t line, const uint8_t *frame, size_t count, lapd_report *told) {
     static hdlc_sender sender;
     hdlc_begin(&sender);
     hdlc_load(&sender, frame, count);
     for (size_t ones = 14 - (hdlc_left(&sender) + 6) % 8; ones > 0; ones--)
         sender.bits[sender.to++] = 1;
-    unsigned tells = 0;
-    while (hdlc_busy(&sender))
+    unsigned tells = 0, ends = 0;
+    while (hdlc_busy(&sender)) {
         tells = hear_octet(both, line, hdlc_octet(&sender), tells, told);
+        ends += has_ended(both, line, frame, count);
+    }
     wants(tells <= 1, "two octets of a frame tell something");
+    wants(ends == is_frame(frame, count), "not one octet has ended a frame");
     was_heard(both, line, frame, count);
     is_latest(both, line);
 }
@@ -262,8 +280,10 @@ static void hear_fault(pair *both, uint32_t line, uint8_t cause, lapd_report *to
                   [LAPD_SHORT] = {4, {0x7E, 0x00, 0x7E, 0xFF}},
                   [LAPD_FCS] = {9, {0x7E, 0x00, 0x00, 0x00, 0x00, 0x00, 0x00, 0x7E, 0xFF}}};
     unsigned tells = 0;
-    for (size_t i = 0; i < faults[cause].count; i++)
+    for (size_t i = 0; i < faults[cause].count; i++) {
         tells = hear_octet(both, line, faults[cause].octets[i], tells, told);
+        wants(!has_ended(both, line, NULL, 0), "a fault has ended a frame");
+    }
     wants(tells == 1, "not one octet of a fault tells it");
     is_latest(both, line);
 }
@@ -291,7 +311,7 @@ static size_t any_frame(uint8_t *frame) {
 }
 
 static uint32_t ask(lapd_card *card, uint32_t line, uint8_t what, uint8_t tei, size_t count, lapd_report *told) {
-    static const uint8_t octets[8] = {1, 2, 3, 4, 5, 6, 7, 8};
+    static const uint8_t octets[8] = {0x01, 0x7E, 0xFF, 0xFF, 0xF8, 0x1F, 0x7D, 0x08};
     bool has_contents = what == LAPD_DATA || what == LAPD_UNIT;
     return lapd_request(card, line, what, what % 2 == 0 ? LAPD_CALL : LAPD_PACKET, tei, octets, has_contents ? count : 0, told);
 }
@@ -316,7 +336,8 @@ static bool is_waiting(lapd_card *card, uint32_t line) {
 static void take_next(pair *both, uint32_t line) {
     static lapd_report pulled;
     lapd_head head;
-    uint8_t octet;
+    uint8_t octet, whole[LAPD_MOST_FRAME];
+    size_t begun = 0;
     int pulls = 0;
     bool waits = is_waiting(&both->frames, line);
     uint32_t status = next(&both->frames, line);
@@ -331,6 +352,9 @@ static void take_next(pair *both, uint32_t line) {
     wants(lapd_begun(&both->octets, line, &head) == LAPD_OK, "no frame has begun");
     wants(is_same(&report, &pulled), "the next frame has other orders");
     wants(head.length == length && memcmp(head.octets, out, length < 4 ? length : 4) == 0, "another frame is next");
+    wants(lapd_begun_frame(&both->octets, line, whole, length - 1, &begun) == LAPD_WRONG_LENGTH && begun == 0, "too little room");
+    wants(lapd_begun_frame(&both->octets, line, whole, length, &begun) == LAPD_OK && begun == length
+              && memcmp(whole, out, length) == 0, "another frame is next, whole");
     wants(report.more == is_waiting(&both->frames, line), "more is told that does not wait, or none where one does");
 }
 

@@ -91,6 +91,8 @@ static void find_link(void) { status = lapd_next_link(&card, 0, &place, &link); 
 static void ask_room(void) { status = lapd_room(&card, 0, LAPD_CALL, 64, &room); }
 static void ask_begun(void) { status = lapd_begun(&card, 0, &head); }
 static void ask_heard(void) { status = lapd_heard(&card, 0, &head); }
+static void ask_begun_frame(void) { status = lapd_begun_frame(&card, 0, frame, sizeof frame, &length); }
+static void ask_heard_frame(void) { status = lapd_heard_frame(&card, 0, frame, sizeof frame, &length); }
 static void ask_counters(void) { status = lapd_counters(&card, 0, &counters); }
 static void ask_text(void) { status = lapd_frame_text(frame, sizeof frame, LAPD_USER, text, sizeof text); }
 static void exchange(void) { status = lapd_exchange(&card, 0, octets, sizeof octets, given, sizeof given, &steps, &report); }
@@ -183,6 +185,8 @@ int main(void) {
     show("lapd_room", most(0, ask_room));
     show("lapd_begun", most(0, ask_begun));
     show("lapd_heard", most(0, ask_heard));
+    show("lapd_begun_frame", most(0, ask_begun_frame));
+    show("lapd_heard_frame", most(0, ask_heard_frame));
     show("lapd_counters", most(0, ask_counters));
     frame[1] = 0x81; /* an I-frame */
     show("lapd_frame_text", within(MOST_OF_TEXT, ask_text));

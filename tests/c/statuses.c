@@ -165,6 +165,13 @@ static void requests(void) {
     }
 }
 
+/* The octets of a frame, the last of which ends it. */
+static void hear(uint32_t of) {
+    static const uint8_t octets[] = {0x7E, 0x00, 0x81, 0x73, 0xC4, 0x12, 0x7E};
+    for (size_t i = 0; i < sizeof octets; i++)
+        CALL(lapd_octet, &card, of, octets[i], &report);
+}
+
 static void questions(void) {
     uint8_t state, place = (uint8_t)below(256);
     uint32_t number;
@@ -181,7 +188,14 @@ static void questions(void) {
     const lapd_note note = {(uint8_t)(1 + at % LAPD_REMOVE_ALL), LAPD_PACKET, 64, 0};
     const lapd_config config = {.sapi = (uint16_t)(at % 63)};
     const lapd_lengths lengths = {below(4), 10, 10, 10};
-    switch (below(14)) {
+    uint8_t whole[LAPD_MOST_FRAME];
+    size_t count;
+    switch (below(16)) {
+    case 15: CALL(lapd_begun_frame, &card, line(), whole, below(3) ? sizeof whole : below(4), &count); break;
+    case 14:
+        hear(line());
+        CALL(lapd_heard_frame, &card, line(), whole, below(3) ? sizeof whole : below(4), &count);
+        break;
     case 13: CALL(lapd_card_set_lengths, &card, &lengths); break;
     case 12: CALL(lapd_note_text_of, &note, &config, text, below(30)); break;
     case 11: CALL(lapd_fall_due, &card, at += below(9), &report); break;

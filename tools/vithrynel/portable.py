@@ -32,7 +32,8 @@ AS_IT_LIES = ("lapd_report",)
 IN_OUT = {("lapd_next_link", "place")}
 # So many of the octets that are handed over say all that the call asks: one more than the longest that is served.
 MOST = {"lapd_frame": numbers()["LAPD_MOST_FRAME"] + 1, "lapd_request": numbers()["LAPD_MOST_OCTETS"] + 1,
-        "lapd_next_frame": numbers()["LAPD_MOST_FRAME"]}
+        "lapd_next_frame": numbers()["LAPD_MOST_FRAME"], "lapd_begun_frame": numbers()["LAPD_MOST_FRAME"],
+        "lapd_heard_frame": numbers()["LAPD_MOST_FRAME"]}
 # Octets of an exchange that are handed over at a time, and the room for a report.
 RUN, REPORT = 256, -(-structs()["lapd_report"].octets // 16) * 16
 WIDTH = {"uint8_t": 8, "uint16_t": 16, "uint32_t": 32, "uint64_t": 64, "size_t": 64}

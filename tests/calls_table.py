@@ -2,7 +2,9 @@
 
 Each is an export of crates/lapd_c. Its contract has the record of its kind (KINDS), which says what such a call comes to,
 and at most MOST clauses of its own; those of ALONE have only these. What a call asks for is the first argument of its
-record: of an event that is its word in specs/Asked.antt, of a question the machine's word in specs/Questions.antt."""
+record: of an event that is its word in specs/Asked.antt, of a question the machine's word in specs/QuestionWords.antt. That
+record must be the one that stands in RECORDS, applied to what the call was given and what it leaves. A call requires
+nothing but that its handle is one, and no two of its clauses have one name."""
 import re
 import sys
 
@@ -16,15 +18,64 @@ EXPORT = re.compile(r'^pub extern "C" fn (lapd_\w+)\((?:.|\n)*?\) -> u32\n((?:.*
 KINDS = {'Called': 'event', 'IsCallOf': 'several events', 'IsMomentCall': 'expiry of what is due first', 'Questioned': 'question',
          'IsQuestion': 'question', 'IsCardStart': 'start', 'IsTimedStart': 'start', 'IsClockStart': 'start of a clock',
          'IsFreed': 'end', 'IsTimersCall': 'lengths of timers', 'IsClockCall': 'event of a clock'}
+# The record of each call, up to the handle before and after it, its status, and what is written.
+RECORDS = {
+    'lapd_card_start': 'IsCardStart kinds.Octets config.now',
+    'lapd_card_start_frames': 'IsCardStart kinds.Frames config.now',
+    'lapd_card_start_timed': 'IsTimedStart kinds.Octets config.now lengths.now',
+    'lapd_card_start_frames_timed': 'IsTimedStart kinds.Frames config.now lengths.now',
+    'lapd_card_free': 'IsFreed IsHandle card_of status.no_card',
+    'lapd_card_set_lengths': 'IsTimersCall',
+    'lapd_octet': 'Called (octet_asked line octet)',
+    'lapd_pull': 'Called (pull_asked line)',
+    'lapd_frame': 'Called (frame_asked line octets.now)',
+    'lapd_frame_failed': 'Called (failed_asked line cause)',
+    'lapd_next_frame': 'Called (next_frame_asked line (length out.old))',
+    'lapd_expire': 'Called (expire_asked line timer.now)',
+    'lapd_request': 'Called (request_asked line request service tei contents.now)',
+    'lapd_exchange': 'IsCallOf of_octets line',
+    'lapd_fall_due': 'IsMomentCall',
+    'lapd_next_moment': 'IsQuestion of_any',
+    'lapd_next_link': 'IsQuestion of_any',
+    'lapd_counters': 'IsQuestion of_any',
+    'lapd_next_waiting': 'Questioned of_frames None (waiting_from from)',
+    'lapd_begun': 'Questioned of_octets (Some line) (begun_of line)',
+    'lapd_heard': 'Questioned of_octets (Some line) (heard_of line)',
+    'lapd_begun_frame': 'Questioned of_octets (Some line) (begun_frame_of line out.old)',
+    'lapd_heard_frame': 'Questioned of_octets (Some line) (heard_frame_of line out.old)',
+    'lapd_state': 'Questioned of_any (Some line) (state_of line service tei)',
+    'lapd_room': 'Questioned of_any (Some line) (room_of line service tei)',
+    'lapd_stored': 'Questioned of_any None stored_of',
+    'lapd_limit': 'Questioned of_any None limit_of',
+    'lapd_lines': 'Questioned of_any None lines_of',
+    'lapd_clock_start': 'IsClockStart config.now',
+    'lapd_clock_set_lengths': 'IsClockCall (lengths_status (lengths_given t200 t203 t201 t202))'
+                              ' (after_lengths (lengths_given t200 t203 t201 t202))',
+    'lapd_clock_apply': 'IsClockCall (λ c. apply_status c line (order_in order.now) now)'
+                        ' (λ c. after_apply c line (order_in order.now) now)',
+    'lapd_clock_apply_report': 'IsClockCall (λ c. report_status c line report.now now) (λ c. after_report c line report.now now)',
+    'lapd_clock_due': 'IsClockCall (λ c. timer_status (due_at c now)) (λ c. after_due c now)',
+    'lapd_clock_next': 'IsClockCall (λ c. timer_status (next_moment c)) (λ c. c)',
+    'lapd_clock_free': 'IsFreed IsHandle clock_of status.no_clock',
+}
+LEAVES = re.compile(r' handle\.old handle\.new result(?: (\w+)\.old \1\.new| \((\w+)\.old, (\w+)\.old\) \(\2\.new, \3\.new\))?')
 ALONE = 'lapd_version', 'lapd_frame_text'
+REQUIRES = {'{ IsHandle handle.old }'}
 MOST = 3
 ASKS = re.compile(r'\(?(?:of_\w+ )?(?:\(Some line\) |None )?\(?(\w+_(?:asked|of|from))\b')
 
 
 def exports():
     """The exports by name, each with its clauses."""
-    return {name: clauses_of(contract) for path in sorted((CRATES / 'lapd_c' / 'src').glob('*.rt'))
-            for name, contract in EXPORT.findall(path.read_text(encoding='utf-8'))}
+    found = {}
+    for path in sorted((CRATES / 'lapd_c' / 'src').glob('*.rt')):
+        for name, contract in EXPORT.findall(path.read_text(encoding='utf-8')):
+            found[name] = clauses_of(contract)
+            if len(found[name]) != contract.count('ensures'):
+                sys.exit('reading: %s has two clauses of one name' % name)
+            if set(re.findall(r'requires\*? ?(.*)', contract)) != (REQUIRES if name not in ALONE else set()):
+                sys.exit('reading: %s requires something else than that its handle is one' % name)
+    return found
 
 
 def row_of(name, clauses):
@@ -38,6 +89,9 @@ def row_of(name, clauses):
     if not records:
         return name, 'alone', '', '', own
     clause, record = records[0]
+    text = ' '.join(clauses[clause].split())
+    if not text.startswith(RECORDS.get(name, '-')) or not LEAVES.fullmatch(text[len(RECORDS[name]):]):
+        sys.exit('reading: %s has another record than RECORDS of tests/calls_table.py says: %s' % (name, text))
     asks = ASKS.match(clauses[clause].split(None, 1)[1])
     return name, KINDS[record], asks.group(1) if asks else '', record, own
 

@@ -18,9 +18,9 @@ RECORDS = 'Promises', 'PromisesOfOctets'
 # The clauses of `drive` that are a record, whose fields are its clauses: its file in specs/ of lapd_card, its name, and where
 # another file applies it, by which word.
 PARTS = {'run': ('Runs', 'Runs', ('Drive', 'HasRun')), 'laws': ('Drive', 'KeepsLaws', None)}
-# The record that the contracts of a crate's calls name: its file in specs/, its name, and the file of the words that it is applied
-# to, which end so.
-CALLED = {'lapd_c': ('CalledBy', 'Called', 'Asked', '_asked')}
+# The records that the contracts of a crate's calls name: the file of each in specs/, its name, and the file of the words that it is
+# applied to, which end so.
+CALLED = {'lapd_c': (('CalledBy', 'Called', 'Asked', '_asked'), ('Questions', 'Questioned', 'QuestionWords', ('_of', '_from')))}
 BINDERS = re.compile(r'\(((?:\w+ )+):')
 LAW_IN = re.compile(r'^((?:///.*\n)+)(?:#\[.*\n)*pub fn (\w+)\(\)\n((?:.*\n)*?)\{\}', re.MULTILINE)
 # Where laws of one card and of two stand: those that are not in the statement are printed beside it.
@@ -168,10 +168,12 @@ def laws_of(place):
 
 
 def records_of(place):
-    """The record that contracts of a crate name, as one promise: what it says is the comment above it."""
-    if place not in CALLED:
-        return []
-    file, record, other, end = CALLED[place]
+    """The records that contracts of a crate name, each as one promise."""
+    return [record_of(place, *it) for it in CALLED.get(place, ())]
+
+
+def record_of(place, file, record, other, end):
+    """A record as a promise: what it says is the comment above it."""
     path = CRATES / place / 'specs' / (file + '.antt')
     specs, asked = Specs(place, path), Specs(place, path.with_name(other + '.antt'))
     found = re.search(r'((?:^-- .*\n)+)pub record %s ' % record, path.read_text(encoding='utf-8'), re.MULTILINE)
@@ -179,7 +181,7 @@ def records_of(place):
         sys.exit('reading: %s: no sentence above the record %s' % (path.relative_to(ROOT), record))
     roots = [(place, file, record)] + [(place, other, it) for it in asked.definitions if it.endswith(end)]
     said = ' '.join(it[3:] for it in found.group(1).splitlines())
-    return [Row([record], said, roots, path, [(record, '', specs)])]
+    return Row([record], said, roots, path, [(record, '', specs)])
 
 
 def named_laws(name):

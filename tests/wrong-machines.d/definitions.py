@@ -22,6 +22,9 @@ PLAIN = re.compile(
 # What such a type may name: a constant of its file, and what that brings in of a library.
 CONSTANT = re.compile(r"^const (\w+): .*\n", re.MULTILINE)
 BROUGHT_IN = re.compile(r"^use ((?!crate\b)\w+)::(.*);", re.MULTILINE)
+# The full name of a module in held.text, before its text.
+HELD_TEXT = os.path.join(os.path.dirname(os.path.abspath(__file__)), "held.text")
+HELD = re.compile(r"^(Rattle\.\w+\.specs\.[\w.]+):\n", re.MULTILINE)
 # An import of a list of words.
 LIST = re.compile(r"((?:unfoldable )?(?:pub )?use )(Rattle\.[\w.]*\w)\.\{([^}]*)\}$", re.MULTILINE)
 # A module by its full name, or a word of it; and the words that an import takes of it.
@@ -52,6 +55,12 @@ def without_worked(text, name):
     return "\n\n".join(kept).rstrip("\n") + "\n"
 
 
+def held(name):
+    """Returns the handles of a crate as its definitions see them, by the full names of their modules."""
+    _, *parts = HELD.split(read(HELD_TEXT))
+    return {full: text for full, text in zip(parts[::2], parts[1::2]) if full.split(".")[1] == name}
+
+
 def modules_of(crates, name):
     """Returns the definitions of a crate: the texts of its modules without worked values, by their full names."""
     at, found = f"{crates}/{name}/specs", {}
@@ -60,6 +69,7 @@ def modules_of(crates, name):
         # (those that only name others are left out)
         if not re.search(r"^pub mod ", text, re.MULTILINE):
             found[".".join(["Rattle", name, "specs", *path])] = without_worked(text, path[-1])
+    found.update(held(name))
     return found
 
 

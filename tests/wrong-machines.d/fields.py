@@ -2,13 +2,13 @@
 import os
 import re
 
-from definitions import read
+from definitions import HELD_TEXT, read
 from rows import ROOT, SHARED, shared_part
 
 # Records and structs with their fields, and a record that is written.
 RECORD = r"^(?:abbrev )?(?:pub )?record [^\n]* where\n((?: .*\n|\n)*)"
 STRUCT = r"^ *pub(?:\([^)]*\))? struct \w+(?:<[^>]*>)? \{\n(.*?)^ *\}"
-FIELD = r"^ +(?:pub(?:\([^)]*\))? )?(\w+) ?:"
+FIELD = r"^ +(?:pub(?:\([^)]*\))? )?(?:ghost )?(\w+) ?:"
 WRITTEN = r"\brecord \{"
 
 
@@ -47,3 +47,10 @@ def unknown_records(row, there):
     own = there.union(*[declared(it, RECORD) for it in texts])
     wrong = {", ".join(sorted(it)) for text in texts for it in written(text) if it not in own}
     return [f"{row.name}: no record has these fields: {it}" for it in sorted(wrong)]
+
+
+def unlike_held(there):
+    """Returns which records of held.text have not the fields of a struct, without its address."""
+    plain = {it - {"at"} for it in there}
+    wrong = {", ".join(sorted(it)) for it in declared(read(HELD_TEXT), RECORD) if it not in plain}
+    return [f"held.text: no struct has these fields: {it}" for it in sorted(wrong)]

@@ -608,6 +608,16 @@ LAPD_STATUS lapd_begun(lapd_card *card, uint32_t line, lapd_head *head);
  * LAPD_HEARD_OVERLONG. LAPD_WRONG_CARD on a card of frames, whose caller has each frame that it hands over. */
 LAPD_STATUS lapd_heard(lapd_card *card, uint32_t line, lapd_head *head);
 
+/* The frame of lapd_begun, whole, also while its octets are still pulled: written in front of `out`, from the address to the
+ * information, without its check, and *length is how many octets it has. LAPD_NO_FRAME: no pull has begun one yet.
+ * LAPD_WRONG_LENGTH: `room` is less than it has; LAPD_MOST_FRAME is enough. After the frame nothing of `out` is written. */
+LAPD_STATUS lapd_begun_frame(lapd_card *card, uint32_t line, uint8_t *out, size_t room, size_t *length);
+
+/* In the same way the frame that the latest octet of the line has ended, even if it was dropped for its address; of one that is
+ * too long to be kept, its first four octets. Ask before the line's next octet: take octets one by one, by lapd_octet, or by
+ * lapd_exchange of one each way. LAPD_NO_FRAME: the latest octet has ended none. */
+LAPD_STATUS lapd_heard_frame(lapd_card *card, uint32_t line, uint8_t *out, size_t room, size_t *length);
+
 /*
  * What is counted of a line: the place of each number in lapd_counters.
  */

@@ -435,6 +435,23 @@ public:
     }
     status begun(uint32_t line, lapd_head &to) { return of(lapd_begun(&card_, line, &to)); }
     status heard(uint32_t line, lapd_head &to) { return of(lapd_heard(&card_, line, &to)); }
+    /// The frame that a pull began last, whole, in front of a room of LAPD_MOST_FRAME octets; status::no_frame if none was begun.
+    status begun_frame(uint32_t line, span<uint8_t> room, octets &begun) {
+        size_t length = 0;
+        const status is = of(lapd_begun_frame(&card_, line, at(room), room.size(), &length));
+        if (is == status::ok)
+            begun = octets(room.data(), length);
+        return is;
+    }
+    /// The frame that the latest octet has ended, or of one that is too long its first four octets; status::no_frame if it has
+    /// ended none.
+    status heard_frame(uint32_t line, span<uint8_t> room, octets &heard) {
+        size_t length = 0;
+        const status is = of(lapd_heard_frame(&card_, line, at(room), room.size(), &length));
+        if (is == status::ok)
+            heard = octets(room.data(), length);
+        return is;
+    }
 };
 
 /// A card of frames.

@@ -316,6 +316,7 @@ _TAKES: Dict[str, List[Any]] = {
     "lapd_request_with": [_AT, _U32, _U8, _U8, _U8, _AT, _SIZE, _AT], "lapd_line_down": [_AT, _U32, _AT, _AT],
     "lapd_state": [_AT, _U32, _U8, _U8, _AT], "lapd_next_link": [_AT, _U32, _AT, _AT],
     "lapd_room": [_AT, _U32, _U8, _U8, _AT], "lapd_begun": [_AT, _U32, _AT], "lapd_heard": [_AT, _U32, _AT],
+    "lapd_begun_frame": [_AT, _U32, _AT, _SIZE, _AT], "lapd_heard_frame": [_AT, _U32, _AT, _SIZE, _AT],
     "lapd_counters": [_AT, _U32, _AT], "lapd_stored": [_AT, _AT], "lapd_limit": [_AT, _AT], "lapd_lines": [_AT, _AT],
     "lapd_clock_start": [_AT, _AT], "lapd_clock_set_lengths": [_AT, _U32, _U32, _U32, _U32], "lapd_clock_free": [_AT],
     "lapd_clock_apply_report": [_AT, _U32, _AT, _U64], "lapd_clock_due": [_AT, _U64, _AT], "lapd_clock_next": [_AT, _AT],
@@ -744,6 +745,20 @@ class Card(AnyCard):
     def heard(self, line: int) -> Optional[Head]:
         """Which frame was heard last; None where none was. Of one that is too long the length is n201 and five."""
         return self._head("lapd_heard", line)
+
+    def begun_frame(self, line: int) -> Optional[bytes]:
+        """The frame that a pull began last, whole, without its check; None where none has begun one."""
+        return self._frame("lapd_begun_frame", line)
+
+    def heard_frame(self, line: int) -> Optional[bytes]:
+        """The frame that the latest octet has ended, without its check; None where it has ended none. Of one that is too long it
+        is the first four octets."""
+        return self._frame("lapd_heard_frame", line)
+
+    def _frame(self, function: str, line: int) -> Optional[bytes]:
+        length, room = ctypes.c_size_t(), (ctypes.c_uint8 * MOST_FRAME)()
+        is_there = _unless(Status.NO_FRAME, function, self._at, line, room, MOST_FRAME, ctypes.byref(length))
+        return bytes(room[: length.value]) if is_there else None
 
     def _head(self, function: str, line: int) -> Optional[Head]:
         head = _Head()

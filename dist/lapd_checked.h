@@ -176,6 +176,22 @@ LAPD_INLINE_STATUS lapd_checked_heard(lapd_card *card, uint32_t line, lapd_head 
 }
 #define lapd_heard lapd_checked_heard
 
+LAPD_INLINE_STATUS lapd_checked_begun_frame(lapd_card *card, uint32_t line, uint8_t *out, size_t room, size_t *length) {
+    static uint8_t no_octet = 0;
+    if (card == LAPD_NULL || (out == LAPD_NULL && room != 0) || length == LAPD_NULL)
+        return LAPD_WRONG_POINTER;
+    return lapd_begun_frame(card, line, out == LAPD_NULL ? &no_octet : out, room, length);
+}
+#define lapd_begun_frame lapd_checked_begun_frame
+
+LAPD_INLINE_STATUS lapd_checked_heard_frame(lapd_card *card, uint32_t line, uint8_t *out, size_t room, size_t *length) {
+    static uint8_t no_octet = 0;
+    if (card == LAPD_NULL || (out == LAPD_NULL && room != 0) || length == LAPD_NULL)
+        return LAPD_WRONG_POINTER;
+    return lapd_heard_frame(card, line, out == LAPD_NULL ? &no_octet : out, room, length);
+}
+#define lapd_heard_frame lapd_checked_heard_frame
+
 LAPD_INLINE_STATUS lapd_checked_counters(lapd_card *card, uint32_t line, struct lapd_counters *counters) {
     if (card == LAPD_NULL || counters == LAPD_NULL)
         return LAPD_WRONG_POINTER;

@@ -20,7 +20,7 @@
 #include "linecard.h"
 #include "pcap.h"
 
-enum { MOST_AT_A_TIME = 64, MOST_OF_HEADS = 4 };
+enum { MOST_AT_A_TIME = 64 };
 
 static const char usage[] = "usage: exchange [--trace] [RECORD [CAPTURE]] < OCTETS > OCTETS\n";
 static const char help[] =
@@ -84,7 +84,8 @@ static bool serve(void) {
     while (linecard_wait(&own, &line, -1)) {
         if (line.revents == 0)
             continue;
-        ssize_t length = read(STDIN_FILENO, in, capture != NULL || own.log != NULL ? MOST_OF_HEADS : sizeof in);
+        /* One octet at a time, so that frames are whole (pcap_heads, trace_heads). */
+        ssize_t length = read(STDIN_FILENO, in, capture != NULL || own.log != NULL ? 1 : sizeof in);
         if (length <= 0)
             return true;
         if (!exchange(in, out, (size_t)length))

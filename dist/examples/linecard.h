@@ -38,7 +38,7 @@ extern const lapd_lengths linecard_lengths;
 bool linecard_is_ok(const linecard *own, uint32_t status, const char *call);
 
 /* Whether the first word is --trace: then a log of all at a card of this side goes to standard error, and the word is taken off.
- * A card of octets is asked for no more than four octets each way in a call then (trace_heads). */
+ * A card of octets is asked for one octet each way in a call then (trace_heads). */
 bool linecard_traces(linecard *own, uint16_t side, int *words, char ***word);
 
 /* Hands the notes of a report to layer 3. */

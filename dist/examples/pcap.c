@@ -33,9 +33,14 @@ void pcap_frame(FILE *to, uint64_t milliseconds, bool is_sent, uint16_t side, co
     fwrite(octets, 1, captured, to);
 }
 
-static void put_head(FILE *to, uint64_t milliseconds, bool is_sent, uint16_t side, const lapd_head *head) {
+/* A frame of a line: whole, if the card still has it, or else how it begins. */
+static void put_known(FILE *to, uint64_t milliseconds, bool is_sent, uint16_t side, lapd_card *card, uint32_t line,
+                      const lapd_head *head) {
+    uint8_t octets[LAPD_MOST_FRAME];
     size_t captured = head->length < sizeof head->octets ? head->length : sizeof head->octets;
-    pcap_frame(to, milliseconds, is_sent, side, head->octets, captured, head->length);
+    uint32_t status = is_sent ? lapd_begun_frame(card, line, octets, sizeof octets, &captured)
+                              : lapd_heard_frame(card, line, octets, sizeof octets, &captured);
+    pcap_frame(to, milliseconds, is_sent, side, status == LAPD_OK ? octets : head->octets, captured, head->length);
 }
 
 bool pcap_begin_heads(lapd_card *card, uint32_t line, uint64_t *heard) {
@@ -56,8 +61,8 @@ bool pcap_heads(FILE *to, uint64_t milliseconds, uint16_t side, lapd_card *card,
     if (!pcap_begin_heads(card, line, heard))
         return false;
     if (*heard != before && lapd_heard(card, line, &head) == LAPD_OK)
-        put_head(to, milliseconds, false, side, &head);
+        put_known(to, milliseconds, false, side, card, line, &head);
     if (report->begun && lapd_begun(card, line, &head) == LAPD_OK)
-        put_head(to, milliseconds, true, side, &head);
+        put_known(to, milliseconds, true, side, card, line, &head);
     return *heard - before <= 1;
 }

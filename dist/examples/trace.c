@@ -19,9 +19,13 @@ void trace_frame(trace *log, uint64_t milliseconds, uint32_t line, bool is_sent,
         fprintf(log->to, "%s of %zu octets\n", text, length);
 }
 
-static void trace_head(trace *log, uint64_t milliseconds, uint32_t line, bool is_sent, const lapd_head *head) {
+/* A frame of a card of octets: whole, if the card still has it, or else how it begins. */
+static void trace_known(trace *log, uint64_t milliseconds, lapd_card *card, uint32_t line, bool is_sent, const lapd_head *head) {
+    uint8_t octets[LAPD_MOST_FRAME];
     size_t known = head->length < sizeof head->octets ? head->length : sizeof head->octets;
-    trace_frame(log, milliseconds, line, is_sent, head->octets, known, head->length);
+    uint32_t status = is_sent ? lapd_begun_frame(card, line, octets, sizeof octets, &known)
+                              : lapd_heard_frame(card, line, octets, sizeof octets, &known);
+    trace_frame(log, milliseconds, line, is_sent, status == LAPD_OK ? octets : head->octets, known, head->length);
 }
 
 /* How many frames a line has heard so far. */
@@ -40,9 +44,9 @@ void trace_heads(trace *log, uint64_t milliseconds, lapd_card *card, const lapd_
     uint32_t line = report->line;
     uint64_t heard = heard_at(card, line);
     if (heard != log->heard[line] && lapd_heard(card, line, &head) == LAPD_OK)
-        trace_head(log, milliseconds, line, false, &head);
+        trace_known(log, milliseconds, card, line, false, &head);
     if (report->begun != 0 && lapd_begun(card, line, &head) == LAPD_OK)
-        trace_head(log, milliseconds, line, true, &head);
+        trace_known(log, milliseconds, card, line, true, &head);
     log->heard[line] = heard;
 }
 

@@ -35,13 +35,14 @@ typedef struct {
 } trace;
 
 /* A frame that came or goes, without its check. Of its `length` octets the first `known` are there: all, or those that
- * lapd_heard and lapd_begun tell. */
+ * lapd_heard tells. */
 void trace_frame(trace *log, uint64_t milliseconds, uint32_t line, bool is_sent, const uint8_t *octets, size_t known,
                  size_t length);
 
-/* Of a card of octets: how the frame begins that was heard since the call before, if one was, and the one that a pull began, if
- * the report says so. To be called with each report, and with at most four octets each way between two calls: no two frames end
- * in so few. At a card of frames nothing is told. */
+/* Of a card of octets: the frame that was heard since the call before, if one was, and the one that a pull began, if the report
+ * says so. To be called with each report, and after each octet that comes: then frames are whole, except of one that is too long
+ * its first four octets. With up to four octets between two calls, a frame that came has its first four: no two end in so few.
+ * At a card of frames nothing is told. */
 void trace_heads(trace *log, uint64_t milliseconds, lapd_card *card, const lapd_report *report);
 
 /* Which timer expired: for a report of lapd_fall_due, before trace_report of it. */

@@ -219,6 +219,24 @@ void check_null(void) {
     wants(lapd_heard(&card, 0, NULL) == LAPD_WRONG_POINTER && memcmp(&own, &was, sizeof own) == 0,
           "lapd_heard with null for head");
     fresh();
+    wants(lapd_begun_frame(NULL, 0, &own.at_uint8_t, 1, &own.at_size_t) == LAPD_WRONG_POINTER && memcmp(&own, &was, sizeof own) == 0,
+          "lapd_begun_frame with null for card");
+    fresh();
+    wants(lapd_begun_frame(&card, 0, NULL, 1, &own.at_size_t) == LAPD_WRONG_POINTER && memcmp(&own, &was, sizeof own) == 0,
+          "lapd_begun_frame with null for out");
+    fresh();
+    wants(lapd_begun_frame(&card, 0, &own.at_uint8_t, 1, NULL) == LAPD_WRONG_POINTER && memcmp(&own, &was, sizeof own) == 0,
+          "lapd_begun_frame with null for length");
+    fresh();
+    wants(lapd_heard_frame(NULL, 0, &own.at_uint8_t, 1, &own.at_size_t) == LAPD_WRONG_POINTER && memcmp(&own, &was, sizeof own) == 0,
+          "lapd_heard_frame with null for card");
+    fresh();
+    wants(lapd_heard_frame(&card, 0, NULL, 1, &own.at_size_t) == LAPD_WRONG_POINTER && memcmp(&own, &was, sizeof own) == 0,
+          "lapd_heard_frame with null for out");
+    fresh();
+    wants(lapd_heard_frame(&card, 0, &own.at_uint8_t, 1, NULL) == LAPD_WRONG_POINTER && memcmp(&own, &was, sizeof own) == 0,
+          "lapd_heard_frame with null for length");
+    fresh();
     wants(lapd_counters(NULL, 0, &own.at_lapd_counters) == LAPD_WRONG_POINTER && memcmp(&own, &was, sizeof own) == 0,
           "lapd_counters with null for card");
     fresh();
@@ -462,6 +480,12 @@ void check_null(void) {
     fresh();
     wants(lapd_request(&card, 0, 0, 0, 64, NULL, 0, &own.at_lapd_report) == lapd_request(&card, 0, 0, 0, 64, &own.at_uint8_t, 0, &own.at_lapd_report),
           "lapd_request with null for no octets of contents");
+    fresh();
+    wants(lapd_begun_frame(&card, 0, NULL, 0, &own.at_size_t) == lapd_begun_frame(&card, 0, &own.at_uint8_t, 0, &own.at_size_t),
+          "lapd_begun_frame with null for no octets of out");
+    fresh();
+    wants(lapd_heard_frame(&card, 0, NULL, 0, &own.at_size_t) == lapd_heard_frame(&card, 0, &own.at_uint8_t, 0, &own.at_size_t),
+          "lapd_heard_frame with null for no octets of out");
     fresh();
     wants(lapd_frame_text(NULL, 0, 0, &own.at_char, 0) == lapd_frame_text(&own.at_uint8_t, 0, 0, &own.at_char, 0),
           "lapd_frame_text with null for no octets of octets");

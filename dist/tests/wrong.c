@@ -96,6 +96,8 @@ static void no_card(void) {
     ANSWERS(LAPD_NO_CARD, lapd_room(&none, 0, LAPD_CALL, 64, &own.room));
     ANSWERS(LAPD_NO_CARD, lapd_begun(&none, 0, &own.head));
     ANSWERS(LAPD_NO_CARD, lapd_heard(&none, 0, &own.head));
+    ANSWERS(LAPD_NO_CARD, lapd_begun_frame(&none, 0, own.out, sizeof own.out, &own.length));
+    ANSWERS(LAPD_NO_CARD, lapd_heard_frame(&none, 0, own.out, sizeof own.out, &own.length));
     ANSWERS(LAPD_NO_CARD, lapd_counters(&none, 0, &own.counters));
     ANSWERS(LAPD_NO_CARD, lapd_stored(&none, &own.number));
     ANSWERS(LAPD_NO_CARD, lapd_limit(&none, &own.number));
@@ -118,6 +120,8 @@ static void wrong_line(void) {
     ANSWERS(LAPD_WRONG_LINE, lapd_room(&card, 2, LAPD_CALL, 64, &own.room));
     ANSWERS(LAPD_WRONG_LINE, lapd_begun(&card, 2, &own.head));
     ANSWERS(LAPD_WRONG_LINE, lapd_heard(&card, 2, &own.head));
+    ANSWERS(LAPD_WRONG_LINE, lapd_begun_frame(&card, 2, own.out, sizeof own.out, &own.length));
+    ANSWERS(LAPD_WRONG_LINE, lapd_heard_frame(&card, 2, own.out, sizeof own.out, &own.length));
     ANSWERS(LAPD_WRONG_LINE, lapd_counters(&card, 2, &own.counters));
 }
 
@@ -128,6 +132,8 @@ static void wrong_card(void) {
     ANSWERS(LAPD_WRONG_CARD, lapd_pull(&timed, 0, &own.octet, &own.report));
     ANSWERS(LAPD_WRONG_CARD, lapd_exchange(&timed, 0, octets, 1, own.out, 1, &own.length, &own.report));
     ANSWERS(LAPD_WRONG_CARD, lapd_begun(&timed, 0, &own.head));
+    ANSWERS(LAPD_WRONG_CARD, lapd_begun_frame(&timed, 0, own.out, sizeof own.out, &own.length));
+    ANSWERS(LAPD_WRONG_CARD, lapd_heard_frame(&timed, 0, own.out, sizeof own.out, &own.length));
     ANSWERS(LAPD_WRONG_CARD, lapd_expire(&timed, 0, &timer, &own.report));
     ANSWERS(LAPD_WRONG_CARD, lapd_frame(&card, 0, octets, 3, &own.report));
     ANSWERS(LAPD_WRONG_CARD, lapd_frame_failed(&card, 0, LAPD_FCS, &own.report));

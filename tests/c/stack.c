@@ -32,7 +32,7 @@ static const lapd_lengths lengths = {1000, 10000, 1000, 2000};
 
 /* What is called, and what it is called with. */
 static void (*called)(void);
-static uint8_t octet, octets[32], given[32], frame[LAPD_MOST_FRAME];
+static uint8_t octet, octets[32], given[32], frame[LAPD_MOST_FRAME], whole[LAPD_MOST_FRAME];
 static size_t length;
 static lapd_due due;
 static size_t steps;
@@ -91,8 +91,8 @@ static void find_link(void) { status = lapd_next_link(&card, 0, &place, &link); 
 static void ask_room(void) { status = lapd_room(&card, 0, LAPD_CALL, 64, &room); }
 static void ask_begun(void) { status = lapd_begun(&card, 0, &head); }
 static void ask_heard(void) { status = lapd_heard(&card, 0, &head); }
-static void ask_begun_frame(void) { status = lapd_begun_frame(&card, 0, frame, sizeof frame, &length); }
-static void ask_heard_frame(void) { status = lapd_heard_frame(&card, 0, frame, sizeof frame, &length); }
+static void ask_begun_frame(void) { status = lapd_begun_frame(&card, 0, whole, sizeof whole, &length); }
+static void ask_heard_frame(void) { status = lapd_heard_frame(&card, 0, whole, sizeof whole, &length); }
 static void ask_counters(void) { status = lapd_counters(&card, 0, &counters); }
 static void ask_text(void) { status = lapd_frame_text(frame, sizeof frame, LAPD_USER, text, sizeof text); }
 static void exchange(void) { status = lapd_exchange(&card, 0, octets, sizeof octets, given, sizeof given, &steps, &report); }
@@ -170,6 +170,7 @@ int main(void) {
     hear(&sender, sabme, sizeof sabme, &takes, &gives, &applies);
     hear(&sender, data, sizeof data, &takes, &gives, &applies);
     hear(&sender, twice, sizeof twice, &takes, &gives, &applies);
+    size_t heard = most(0, ask_heard_frame);
     show("lapd_request, data", most(0, ask_data));
     for (int i = 0; i < 64; i++)
         gives = most(gives, give);
@@ -186,7 +187,7 @@ int main(void) {
     show("lapd_begun", most(0, ask_begun));
     show("lapd_heard", most(0, ask_heard));
     show("lapd_begun_frame", most(0, ask_begun_frame));
-    show("lapd_heard_frame", most(0, ask_heard_frame));
+    show("lapd_heard_frame", heard);
     show("lapd_counters", most(0, ask_counters));
     frame[1] = 0x81; /* an I-frame */
     show("lapd_frame_text", within(MOST_OF_TEXT, ask_text));

@@ -8,4 +8,5 @@ pub mod Linear
 pub mod TimedRunning
 pub mod TimedLines
 pub mod TimedServing
+pub mod TimedKinds
 pub mod TimedLaws

@@ -1,6 +1,6 @@
 -- The answer to a pull says that a frame was begun exactly where fewer than eight bits were left, and a frame waited.
 use Rattle.laws_promises.proofs.Vocabulary.{arith, ◌≡◌, ℕ, true, List, [], ◌∷◌, length, All, option_map, All-nil, All-cons, Order, OctetCard, Port, left_of, pulled, asked_at, said_is}
-use Rattle.std.specs.Prelude.{nat_lt, Bool, false, ◌&&◌, Option, Some, None, is_some, if◌then◌else◌, refl}
+use Rattle.std.specs.Prelude.{nat_lt, Bool, false, ◌&&◌, Some, None, is_some, if◌then◌else◌, refl}
 use Rattle.model_line.specs.Event as line
 use Rattle.model_line.specs.Event.{given_in}
 unfoldable use Rattle.model_card.specs.ports.Card.{meant, after, answer}

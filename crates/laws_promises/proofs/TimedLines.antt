@@ -17,7 +17,7 @@ use Rattle.model_timed.proofs.Orders.{all-run}
 use Rattle.lapd_timed.specs.Stands.{TimersStand}
 use Rattle.lapd_timed.specs.declared.card_timers.CardTimers.{CardTimers}
 use Rattle.laws_promises.specs.TimedRun.{is_wrong, served}
-unfoldable use Rattle.laws_promises.specs.TimedRun.{served_all, events_in}
+unfoldable use Rattle.laws_promises.specs.TimedRun.{events_in}
 
 -- Timers that stand for a clock run at lines that the card has.
 pub run-at-lines : (timers : CardTimers) (m : Card) (c : Clock) → TimersStand timers m c → AllByRecursion (λ (x : Expiry). x.line < m.config.lines) c.running

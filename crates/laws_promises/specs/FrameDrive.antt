@@ -49,12 +49,12 @@ line_of (rust.TheVariants.Request line request) = line
 abbrev pub events_of : ℕ → List rust.FrameEvent → List Event
 events_of n201 events = map (event_of n201) events
 
--- A list of events was run at a card of frames.
-abbrev pub HasRun : {S K : Type 0} → (S → Store) → (K → ℕ → line_event.Answer → K → Type 0) → (K → ℕ → line_event.Answer → K → Type 0) → (K → ℕ) → Held S → Held S
-    → List Event → K → K → Result ℕ SinkFault → Type 0
-HasRun store takes misses failures old new =
-    Runs takes misses failures (FrameStands store old) (FrameStands store new) (λ m es. (run m es).card) (λ m es. (run m es).replies)
-    (λ m es. counters_in new.lines ≡ all_counted (counters_in old.lines) (moments m es))
+-- A list of events was run at a card of frames, which keeps its configuration.
+pub record HasRun {S K : Type 0} (store : S → Store) (takes misses : K → ℕ → line_event.Answer → K → Type 0) (failures : K → ℕ) (old new : Held S)
+    (events : List Event) (before then : K) (result : Result ℕ SinkFault) : Type 0 where
+  pub config : new.config ≡ old.config
+  pub runs : Runs takes misses failures (FrameStands store old) (FrameStands store new) (λ m es. (run m es).card) (λ m es. (run m es).replies)
+      (λ m es. counters_in new.lines ≡ all_counted (counters_in old.lines) (moments m es)) events before then result
 
 -- The laws that hold of each list of events at a card, for the machines for which it stood, as `KeepsLaws` of `lapd_card` has
 -- them of what octets mean: of the list, of each front of it, and of each front from a card that has just begun.

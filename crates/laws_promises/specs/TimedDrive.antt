@@ -1,87 +1,117 @@
--- Whole lists of events at a card of frames that keeps its own timers.
-use Rattle.std.specs.Prelude.{◌≡◌, ℕ, ◌<◌, List, map, option_to_list, Result, OnOk, OnErr}
+-- Whole lists of events at a card that keeps its own timers, of either kind.
+use Rattle.std.specs.Prelude.{◌≡◌, ℕ, ◌<◌, List, map, Result}
 use Rattle.model_bits.specs.Stream.{dropped}
 use Rattle.model_line.specs.Came.{came, cause_of}
 use Rattle.model_line.specs.Event as line_event
 use Rattle.model_line.specs.Request.{request_of}
 use Rattle.model_card.specs.Card.{Card}
-use Rattle.model_card.specs.Counted.{all_counted}
 use Rattle.model_card.specs.Event.{Event, at}
 use Rattle.model_card.specs.Machine as machine
-use Rattle.model_card.specs.Run.{moments, after_all}
-use Rattle.model_timed.specs.Frames as of_frames
+use Rattle.model_card.specs.Run.{Moment, moments, after_all}
+use Rattle.model_card.specs.declared.kinds.CardKind.{CardKind}
+use Rattle.model_card.specs.declared.kinds.CardKind.TheVariants as kinds
+use Rattle.model_card.specs.ports.Card as ports
+use Rattle.model_card.specs.ports.Card.{OctetCard}
+use Rattle.model_card.specs.ports.Event as octet
+use Rattle.model_card.specs.ports.Port as port
+use Rattle.model_card.specs.ports.Run as octets_run
+use Rattle.model_card.specs.ports.Run.{meant_all}
+use Rattle.model_timed.specs.Frames as timed
 use Rattle.model_timed.specs.Frames.{frames}
-use Rattle.model_timed.specs.RunTheSame.{TimersRunTheSame}
-use Rattle.model_timed.specs.Timed.{Step, happens, time, falls_due, event_of}
-use Rattle.model_timed.specs.TimersAreTrue.{TimersAreTrue}
-use Rattle.lapd_card.specs.Kinds.{config_of, counters_of, frames_of, kind_of, shelf_of}
-use Rattle.lapd_card.specs.Runs.{Runs}
-use Rattle.lapd_card.specs.Sink.{one_failure_more}
+use Rattle.model_timed.specs.Octets.{octets, TimedOctetCard}
+use Rattle.model_timed.specs.RunTheSame.{TimersRunTheSame, OctetTimersRunTheSame}
+use Rattle.model_timed.specs.Timed.{Step, happens, time, falls_due}
+use Rattle.lapd_card.specs.Drive.{KeepsLaws}
+use Rattle.lapd_card.specs.Kinds.{config_of, frames_of, kind_of, shelf_of}
+use Rattle.lapd_card.specs.Stands.{OctetCardStands}
+use Rattle.lapd_card.specs.declared.kinds.AnyCard.{AnyCard}
+use Rattle.lapd_card.specs.declared.kinds.AnyCard.TheVariants.{Octets, Frames}
 use Rattle.lapd_card.specs.declared.sink.SinkFault.{SinkFault}
-use Rattle.lapd_timed.specs.TimedStands.{FramesStand}
+use Rattle.lapd_timed.specs.TimedStands.{FramesStand, OctetsStand}
 use Rattle.lapd_timed.specs.declared.timed_card.TimedCard.{TimedCard}
 use Rattle.laws_promises.specs.FrameDrive.{FramesKeepLaws}
-use Rattle.laws_promises.specs.TimedReply.{Answer, answered}
-use Rattle.laws_promises.specs.TimedRun.{AreSteps, answer, served}
-unfoldable use Rattle.laws_promises.specs.TimedRun.{served_all, replies, events_in}
+use Rattle.laws_promises.specs.Promises.{Promises}
+use Rattle.laws_promises.specs.PromisesOfOctets.{PromisesOfOctets}
+use Rattle.laws_promises.specs.TimedReply.{Answer, answered, by_port}
+use Rattle.laws_promises.specs.TimedRun.{DrivenKind, HasRunAs, KeepsTime}
+unfoldable use Rattle.laws_promises.specs.TimedRun.{events_in}
 use Rattle.laws_promises.specs.declared.timed_events.TimedEvent as rust
 
--- What happens at such a card as a step of the timed machine, its octets and contents seen without references. Information
--- fields have at most `n201` octets.
-abbrev pub step_of : ℕ → rust.TimedEvent → Step Event
-step_of n201 (rust.TheVariants.Time moment) = time moment
-step_of n201 rust.TheVariants.FallDue = falls_due
-step_of n201 (rust.TheVariants.Frame line octets) = happens (at line (line_event.hears (came n201 octets.now)))
-step_of n201 (rust.TheVariants.Failed line fault) = happens (at line (line_event.hears (dropped (cause_of fault))))
-step_of n201 (rust.TheVariants.Next line) = happens (at line line_event.next)
-step_of n201 (rust.TheVariants.Request line request) = happens (at line (line_event.request (request_of request)))
+-- What may happen at a card of this kind with so many lines: at one of them, what such a card takes. A moment, and what falls due,
+-- is at no line that a caller names.
+abbrev pub MayHappen : CardKind → ℕ → rust.TimedEvent → Type 0
+MayHappen kind lines (rust.TheVariants.Time moment) = Unit {0}
+MayHappen kind lines rust.TheVariants.FallDue = Unit {0}
+MayHappen kind lines (rust.TheVariants.Request line request) = line < lines
+MayHappen kind lines (rust.TheVariants.Frame line frame) = (kind ≡ kinds.Frames) × (line < lines)
+MayHappen kind lines (rust.TheVariants.Failed line fault) = (kind ≡ kinds.Frames) × (line < lines)
+MayHappen kind lines (rust.TheVariants.Next line) = (kind ≡ kinds.Frames) × (line < lines)
+MayHappen kind lines (rust.TheVariants.Octet line value) = (kind ≡ kinds.Octets) × (line < lines)
+MayHappen kind lines (rust.TheVariants.Pull line) = (kind ≡ kinds.Octets) × (line < lines)
 
-abbrev pub steps_of : ℕ → List rust.TimedEvent → List (Step Event)
-steps_of n201 events = map (step_of n201) events
+-- What may happen, as a step of the timed machine, its octets and contents seen without references: of frames, of which information
+-- fields have at most `n201` octets, and of octets. The last line of each is of what falls due, as the rest may not happen there.
+abbrev pub frame_step : ℕ → rust.TimedEvent → Step Event
+frame_step n201 (rust.TheVariants.Time moment) = time moment
+frame_step n201 (rust.TheVariants.Request line request) = happens (at line (line_event.request (request_of request)))
+frame_step n201 (rust.TheVariants.Frame line frame) = happens (at line (line_event.hears (came n201 frame.now)))
+frame_step n201 (rust.TheVariants.Failed line fault) = happens (at line (line_event.hears (dropped (cause_of fault))))
+frame_step n201 (rust.TheVariants.Next line) = happens (at line line_event.next)
+frame_step n201 other = falls_due
 
--- What happens at a line happens at one of so many. A moment, and what falls due, is at none that a caller names.
-abbrev pub IsAtLine : ℕ → rust.TimedEvent → Type 0
-IsAtLine lines (rust.TheVariants.Time moment) = Unit {0}
-IsAtLine lines rust.TheVariants.FallDue = Unit {0}
-IsAtLine lines (rust.TheVariants.Frame line octets) = line < lines
-IsAtLine lines (rust.TheVariants.Failed line fault) = line < lines
-IsAtLine lines (rust.TheVariants.Next line) = line < lines
-IsAtLine lines (rust.TheVariants.Request line request) = line < lines
+abbrev pub octet_step : rust.TimedEvent → Step octet.Event
+octet_step (rust.TheVariants.Time moment) = time moment
+octet_step (rust.TheVariants.Request line request) = happens (octet.at line (port.request (request_of request)))
+octet_step (rust.TheVariants.Octet line value) = happens (octet.at line (port.octet value))
+octet_step (rust.TheVariants.Pull line) = happens (octet.at line port.pull)
+octet_step other = falls_due
+
+abbrev pub frame_steps : TimedCard → List rust.TimedEvent → List (Step Event)
+frame_steps c events = map (frame_step (config_of c.card).n201) events
+
+abbrev pub octet_steps : List rust.TimedEvent → List (Step octet.Event)
+octet_steps events = map octet_step events
 
 -- An event is answered as by a card without timers of its own.
-abbrev pub says : Event → Card → Answer
-says e card = answered e.line (machine.answer e card)
+abbrev pub frames_say : Event → Card → Answer
+frames_say e card = answered e.line (machine.answer e card)
 
--- A list of events was run at a card of frames that keeps its own timers. In place of the line of an event, a reply has its
--- moment. The events that the steps mean are counted.
-abbrev pub HasRun : {K : Type 0} → (K → ℕ → Answer → K → Type 0) → (K → ℕ → Answer → K → Type 0) → (K → ℕ) → TimedCard → TimedCard
-    → List (Step Event) → K → K → Result ℕ SinkFault → Type 0
-HasRun takes misses failures old new =
-    Runs takes misses failures (FramesStand old) (FramesStand new) (λ t steps. served_all frames steps t) (λ t steps. replies frames says steps t)
-    (λ t steps. counters_of new.card ≡ all_counted (counters_of old.card) (moments t.card (events_in frames steps t)))
+abbrev pub octets_say : octet.Event → OctetCard → Answer
+octets_say e m = by_port e.line (ports.answer e m)
 
--- The laws that hold of each list of events at such a card, for the timed machines for which it stood.
-pub record TimedKeepLaws (card : TimedCard) (steps : List (Step Event)) : Type 0 where
-  -- The card is where the timed machine is after the steps that are not refused, and they mean these events.
-  pub machine : AreSteps frames
-  -- The card of frames inside is where the events lead it.
-  pub leads : (t : of_frames.TimedCard) (some : List (Step Event)) → (served_all frames some t).card ≡ after_all t.card (events_in frames some t)
-  -- So all laws of lists of events hold of them, and all promises.
-  pub keeps : (t : of_frames.TimedCard) → FramesStand card t → FramesKeepLaws shelf_of (frames_of card.card) (events_in frames steps t)
-  -- Its timers are true, and those that run are those that its lines run.
-  pub timers_are_true : TimersAreTrue frames
-  pub timers_run_the_same : TimersRunTheSame
+-- Of octets the counters count what events mean.
+abbrev pub octets_count : OctetCard → List octet.Event → List Moment
+octets_count m events = moments m.card (meant_all m events)
 
--- One step: it leads a card from one value to another of its kind, and what it means is counted. A sink was handed its reply with
--- its moment, or missed it and counts one failure more.
-pub record Serves {K : Type 0} (takes misses : K → ℕ → Answer → K → Type 0) (failures : K → ℕ) (s : Step Event) (old new : TimedCard) (before then : K)
-    {E : Type 0} (result : Result Unit E) : Type 0 where
+-- The two kinds.
+abbrev pub of_frames : DrivenKind Card Event
+of_frames = record { kind = frames; Stand = FramesStand; says = frames_say; leads = after_all; counts = moments }
+
+abbrev pub of_octets : DrivenKind OctetCard octet.Event
+of_octets = record { kind = octets; Stand = OctetsStand; says = octets_say; leads = octets_run.after_all; counts = octets_count }
+
+-- A list of events was run at a card, which stays of its kind and keeps its configuration. It stands for no machine of the other
+-- kind, so of that nothing is said.
+pub record HasRun {K : Type 0} (takes misses : K → ℕ → Answer → K → Type 0) (failures : K → ℕ) (old new : TimedCard) (events : List rust.TimedEvent) (before later : K)
+    (result : Result ℕ SinkFault) : Type 0 where
   pub kind : kind_of new.card ≡ kind_of old.card
   pub config : config_of new.card ≡ config_of old.card
-  pub stands : (t : of_frames.TimedCard) → FramesStand old t → FramesStand new (served frames s t)
-  pub counted : (t : of_frames.TimedCard) → FramesStand old t
-      → counters_of new.card ≡ all_counted (counters_of old.card) (moments t.card (option_to_list (event_of frames s t)))
-  pub failed : OnErr result (failures then ≡ one_failure_more (failures before))
-  pub not_failed : OnOk result (failures then ≡ failures before)
-  pub taken : OnOk result ((t : of_frames.TimedCard) → FramesStand old t → takes before (served frames s t).clock.now (answer frames says s t) then)
-  pub not_taken : OnErr result ((t : of_frames.TimedCard) → FramesStand old t → misses before (served frames s t).clock.now (answer frames says s t) then)
+  pub frames : HasRunAs of_frames takes misses failures old new (frame_steps old events) before later result
+  pub octets : HasRunAs of_octets takes misses failures old new (octet_steps events) before later result
+
+-- All that is promised of a list of events at a card of octets, by the clauses of `drive`.
+abbrev pub OctetsKeepLaws : AnyCard → List octet.Event → Type 0
+OctetsKeepLaws (Octets card) events =
+    KeepsLaws shelf_of card events × ((m : OctetCard) → OctetCardStands shelf_of card m → (Promises m.card (meant_all m events) × PromisesOfOctets m events))
+OctetsKeepLaws (Frames card) events = ⊥
+
+-- The laws that hold of each list of events at a card, for the timed machines for which it stood.
+pub record TimedKeepLaws (card : TimedCard) (events : List rust.TimedEvent) : Type 0 where
+  pub frames : KeepsTime of_frames
+  pub octets : KeepsTime of_octets
+  -- The timers that run are those that its lines run.
+  pub timers_run_the_same : TimersRunTheSame
+  pub octet_timers_run_the_same : OctetTimersRunTheSame
+  -- All laws of lists of events hold of those that the steps mean, and all promises.
+  pub frames_keep : (t : timed.TimedCard) → FramesStand card t → FramesKeepLaws shelf_of (frames_of card.card) (events_in of_frames.kind (frame_steps card events) t)
+  pub octets_keep : (t : TimedOctetCard) → OctetsStand card t → OctetsKeepLaws card.card (events_in of_octets.kind (octet_steps events) t)

@@ -25,7 +25,7 @@ const LONGEST: usize = MOST_N201 as usize + 4;
 /// Its clauses are those of [`lapd_card::Card::drive`] with the same names, of a frame that came or a fault in place of an
 /// octet, and of a call for the next frame in place of a pull.
 ///
-/// - `config`, `run`: the card keeps its configuration. If the sink takes every reply, the card is where the machine is after
+/// - `run`: the card keeps its configuration. If the sink takes every reply, the card is where the machine is after
 ///   all events. The sink was handed the machine's reply to each, once and in order, and the counters of each line have counted
 ///   what the run shows at it. If the sink missed a reply, all this is so up to that event.
 /// - `laws`: the laws of every run say of frames what those say of what octets mean. In `rejects_are_long` each REJ with a valid
@@ -41,7 +41,6 @@ pub fn drive_frames<S: Shelf, K: FrameSink>(
     sink: &mut K,
 ) -> Result<usize, SinkFault>
     requires { All (λ event. line_of event < line_count card.old) events.now }
-    ensures config { card.new.config ≡ card.old.config }
     ensures run { HasRun S.store K.takes K.misses K.failures card.old card.new (events_of card.old.config.n201 events.now) sink.old sink.new result }
     ensures laws { FramesKeepLaws S.store card.old (events_of card.old.config.n201 events.now) }
 {

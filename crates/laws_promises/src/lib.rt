@@ -9,8 +9,8 @@
 //! - `frame_call` with `frame_events`, `frame_sink` and `frame_replies`: `drive_frames`, which runs a whole list of events
 //!   at a card of frames, with what a run is, the laws of every run, and the promises. A caller that needs no proof calls
 //!   the card itself.
-//! - `timed_call` with `timed_events`, `timed_sink` and `timed_replies`: `drive_timed`, the same of a card of frames that keeps
-//!   its own timers. `specs/TimedRun` has what its run is, of whichever kind the card is; `specs/TimedDrive` its clauses.
+//! - `timed_call` with `timed_events`, `timed_sink` and `timed_replies`: `drive_timed`, the same of a card of either kind that
+//!   keeps its own timers. `specs/TimedRun` has what is said of a kind, and `specs/TimedDrive` the two kinds.
 //! - `call`: `drive`, the same of a card of octets.
 //! - `laws`: the promises of every machine of a card that is reached, as calls without effect.
 #![tactic(auto)]

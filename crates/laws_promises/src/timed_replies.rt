@@ -1,7 +1,7 @@
 //! What events at a card that keeps its own timers are answered with.
 
 use crate::frame_replies::FrameReply;
-use lapd_card::Report;
+use lapd_card::{Pulled, Report};
 use lapd_frame::Timer;
 
 /// The answer to an event. What it orders of timers has been carried out.
@@ -15,6 +15,8 @@ pub enum TimedReply<'a> {
     NoneDue,
     /// This timer of this line fell due, and so its expiry was answered.
     FellDue(usize, Timer, Report<'a>),
-    /// To what else happens at this line.
+    /// To what else happens at this line. An octet and a request are answered by a report, or refused, as at a card of frames.
     At(usize, FrameReply<'a>),
+    /// To a pull of this line.
+    Pulled(usize, Pulled),
 }

@@ -1,15 +1,16 @@
-//! The call of a card of frames that keeps its own timers runs: a list of events, and a sink that fails.
+//! The call of a card that keeps its own timers runs: lists of events at a card of frames and at one of octets, and a sink that
+//! fails.
 
 ghost use Rattle.std.specs.Prelude.{◌≡◌, ⊤, IfOk};
 ghost use Rattle.lapd_card.specs.Kinds.{kind_of, line_count};
-ghost use Rattle.model_card.specs.declared.kinds.CardKind.TheVariants.{Frames};
+ghost use Rattle.model_card.specs.declared.kinds.CardKind.TheVariants.{Frames, Octets};
 
 use crate::frame_replies::FrameReply;
 use crate::timed_call::drive_timed;
 use crate::timed_events::TimedEvent;
 use crate::timed_replies::TimedReply;
 use crate::timed_sink::TimedSink;
-use lapd_card::{AnyCard, Config, FrameCard, Request, SinkFailed, SinkFault};
+use lapd_card::{AnyCard, Card, Config, FrameCard, Request, SinkFailed, SinkFault};
 use lapd_clock::Lengths;
 use lapd_frame::{Service, Timer};
 use lapd_store::RawShelf;
@@ -20,13 +21,23 @@ use std::test::Fail;
 const CALL: Service = Service::Call;
 
 /// A card of frames of the usual sizes, whose timers run as long as is usual.
-fn timed_card(alloc: Global) -> Result<TimedCard, Fail>
+fn frame_card(alloc: Global) -> Result<TimedCard, Fail>
     ensures kind { IfOk result (λ card. kind_of card.card ≡ Frames) }
     ensures lines { IfOk result (λ card. line_count card.card ≡ 1) }
 {
     let card = FrameCard::start(alloc, Config::USUAL, RawShelf::start(alloc, 64, 260)?)?;
     let timers = CardTimers::start(alloc, 1, 8, Lengths::standard())?;
     Ok(TimedCard::new(AnyCard::Frames(card), timers))
+}
+
+/// The same of octets.
+fn octet_card(alloc: Global) -> Result<TimedCard, Fail>
+    ensures kind { IfOk result (λ card. kind_of card.card ≡ Octets) }
+    ensures lines { IfOk result (λ card. line_count card.card ≡ 1) }
+{
+    let card = Card::start(alloc, Config::USUAL, RawShelf::start(alloc, 64, 260)?)?;
+    let timers = CardTimers::start(alloc, 1, 8, Lengths::standard())?;
+    Ok(TimedCard::new(AnyCard::Octets(card), timers))
 }
 
 /// What a reply says, in short.
@@ -44,6 +55,8 @@ enum Kind {
     Silent,
     /// The next frame, or none.
     Next(Option<&'static [u8]>),
+    /// The next octet, and whether a frame begins.
+    Pulled(u8, bool),
 }
 
 impl Kind {
@@ -64,19 +77,32 @@ impl Kind {
                 .octets
                 .get(..sent.next.length)
                 == Some(octets),
+            (Kind::Pulled(octet, begun), TimedReply::Pulled(0, pulled)) => pulled.octet == octet
+                && pulled.begun == begun,
             _ => false,
         }
     }
 }
 
-/// A sink that takes a reply if it is the next of `KINDS`, at its moment.
+/// A sink that takes a reply if it is the next of these, at its moment.
 #[derive(Drop)]
-struct Expecting {
+struct Expecting<'a> {
+    kinds: &'a [(u64, Kind)],
     at: usize,
     failures: u64,
 }
 
-impl TimedSink for Expecting {
+impl<'a> Expecting<'a> {
+    fn start(kinds: &'a [(u64, Kind)]) -> Expecting<'a> {
+        Expecting {
+            kinds,
+            at: 0,
+            failures: 0,
+        }
+    }
+}
+
+impl TimedSink for Expecting<'_> {
     ghost takes = { λ old moment answer new. ⊤ };
 
     ghost misses = { λ old moment answer new. ⊤ };
@@ -84,7 +110,7 @@ impl TimedSink for Expecting {
     ghost failures = { λ s. s.failures };
 
     fn take(&mut self, moment: u64, reply: &TimedReply<'_>) -> Result<(), SinkFailed> {
-        if let Some((its, kind)) = KINDS.get(self.at) {
+        if let Some((its, kind)) = self.kinds.get(self.at) {
             if moment == *its && kind.is_of(reply) {
                 self.at += 1;
                 return Ok(());
@@ -129,14 +155,55 @@ const KINDS: [(u64, Kind); 11] = [
     (1005, Kind::Next(None)),
 ];
 
+/// The same at a card of octets. Pulls give the opening flag, and then begin the SABME; and an octet comes.
+const EVENTS_OF_OCTETS: [TimedEvent<'static>; 11] = [
+    TimedEvent::Time(5),
+    TimedEvent::Request(0, Request::Assign(64)),
+    TimedEvent::Request(0, Request::Establish(CALL, 64)),
+    TimedEvent::Pull(0),
+    TimedEvent::Pull(0),
+    TimedEvent::Pull(0),
+    TimedEvent::Octet(0, 0x7E),
+    TimedEvent::FallDue,
+    TimedEvent::Time(4),
+    TimedEvent::Time(1005),
+    TimedEvent::FallDue,
+];
+
+const KINDS_OF_OCTETS: [(u64, Kind); 11] = [
+    (5, Kind::Went),
+    (5, Kind::Silent),
+    (5, Kind::Silent),
+    (5, Kind::Pulled(0x7E, false)),
+    (5, Kind::Pulled(0x02, true)),
+    (5, Kind::Pulled(0x81, false)),
+    (5, Kind::Silent),
+    (5, Kind::NoneDue),
+    (5, Kind::WrongTime),
+    (1005, Kind::Went),
+    (1005, Kind::FellDue(Timer::T200(CALL, 64))),
+];
+
 #[test]
 fn events_are_answered_in_time(rt: HostRuntime) -> Result<(), Fail> {
-    let mut card = timed_card(rt.alloc())?;
-    let mut sink = Expecting { at: 0, failures: 0 };
+    let mut card = frame_card(rt.alloc())?;
+    let mut sink = Expecting::start(&KINDS);
     assert!(rt; drive_timed(&mut card, &EVENTS, &mut sink) == Ok(11));
     assert!(rt; sink.at == 11 && sink.failures == 0);
     assert!(rt; card.now() == 1005);
     assert!(rt; drive_timed(&mut card, &EVENTS, &mut sink) == Err(SinkFault { at: 0 }));
+    assert!(rt; sink.at == 11 && sink.failures == 1);
+    Ok(())
+}
+
+#[test]
+fn events_of_octets_are_answered_in_time(rt: HostRuntime) -> Result<(), Fail> {
+    let mut card = octet_card(rt.alloc())?;
+    let mut sink = Expecting::start(&KINDS_OF_OCTETS);
+    assert!(rt; drive_timed(&mut card, &EVENTS_OF_OCTETS, &mut sink) == Ok(11));
+    assert!(rt; sink.at == 11 && sink.failures == 0);
+    assert!(rt; card.now() == 1005);
+    assert!(rt; drive_timed(&mut card, &EVENTS_OF_OCTETS, &mut sink) == Err(SinkFault { at: 0 }));
     assert!(rt; sink.at == 11 && sink.failures == 1);
     Ok(())
 }

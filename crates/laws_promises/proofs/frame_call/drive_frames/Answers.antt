@@ -1,5 +1,5 @@
 -- Hand-written answers for `drive_frames`.
-use Rattle.laws_promises.proofs.Vocabulary.{◌≡◌, ◌+◌, ◌<◌, length, [], Card, rules, refl, sym, ap, subst, arith, ◌∙◌, take, get_or, take_all, length-map, slice_get-get_or, one_more, run, moments, moment_of, moment_counted, all_counted, counters_in, FrameStands, Leads, Taken}
+use Rattle.laws_promises.proofs.Vocabulary.{◌≡◌, ◌+◌, ◌<◌, length, [], Card, refl, sym, ap, subst, arith, ◌∙◌, take, get_or, take_all, length-map, slice_get-get_or, one_more, run, moments, moment_of, moment_counted, all_counted, counters_in, FrameStands, Leads, Taken}
 use Rattle.model_card.specs.Machine.{answer}
 use Rattle.lapd_card.proofs.Taken.{Taken-more, one-further, run-more, moments-count, at_ok, at_err, missed_one}
 use Rattle.laws_promises.specs.FrameDrive.{event_of, events_of}
@@ -39,8 +39,7 @@ returns-then-is_err g c =
     let before : c.loop-at.at < length (events_of c.args.card.now.config.n201 c.args.events.now) = omega (arith, c.loop-at-test.true, length-map c.args.events.now (event_of c.args.card.now.config.n201)) in
     let failed : g.K.FrameSink.failures c.answer.new.sink ≡ one_failure_more (g.K.FrameSink.failures c.args.sink.now) = at_err c.answer.result _ yes c.answer.ensures.hands.failed ∙ ap one_failure_more c.loop-at.invariant.none_failed in
     record {
-      config = leads.config ∙ c.loop-at.invariant.config;
-      run = missed_one (record { at = c.loop-at.at }) before failed stopped missed counters;
+      run = record { config = leads.config ∙ c.loop-at.invariant.config; runs = missed_one (record { at = c.loop-at.at }) before failed stopped missed counters };
       laws = laws_of g.S.Shelf.store c.args.card.now c.args.events.now c.requires;
     }
 
@@ -50,4 +49,21 @@ returns g c =
     let ran : (m : Card) → FrameStands g.S.Shelf.store c.args.card.now m → FrameStands g.S.Shelf.store c.loop-at.card (run m (events_of c.args.card.now.config.n201 c.args.events.now)).card = λ m s. subst (λ es. FrameStands g.S.Shelf.store c.loop-at.card (run m es).card) all (c.loop-at.invariant.ran m s) in
     let taken : (m : Card) → FrameStands g.S.Shelf.store c.args.card.now m → Taken g.K.FrameSink.takes c.args.sink.now (run m (events_of c.args.card.now.config.n201 c.args.events.now)).replies c.loop-at.sink = λ m s. subst (λ es. Taken g.K.FrameSink.takes c.args.sink.now (run m es).replies c.loop-at.sink) all (c.loop-at.invariant.taken m s) in
     let counters : (m : Card) → FrameStands g.S.Shelf.store c.args.card.now m → counters_in c.loop-at.card.lines ≡ all_counted (counters_in c.args.card.now.lines) (moments m (events_of c.args.card.now.config.n201 c.args.events.now)) = λ m s. c.loop-at.invariant.counted m s ∙ ap (λ es. all_counted (counters_in c.args.card.now.lines) (moments m es)) all in
-    search (rules, laws_of g.S.Shelf.store c.args.card.now c.args.events.now c.requires, ran, taken, counters, sym (length-map c.args.events.now (event_of c.args.card.now.config.n201)))
+    record {
+      run = record {
+        config = c.loop-at.invariant.config;
+        runs = record {
+          ok = sym (length-map c.args.events.now (event_of c.args.card.now.config.n201));
+          at = _;
+          failed = _;
+          not_failed = c.loop-at.invariant.none_failed;
+          ran = ran;
+          taken = taken;
+          counters = counters;
+          stopped = _;
+          taken_before = _;
+          counters_before = _;
+        };
+      };
+      laws = laws_of g.S.Shelf.store c.args.card.now c.args.events.now c.requires;
+    }

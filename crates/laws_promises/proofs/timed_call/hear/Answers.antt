@@ -6,18 +6,20 @@ use Rattle.model_card.specs.Event.{at}
 use Rattle.model_line.specs.Came.{came}
 use Rattle.model_line.specs.Event.{hears, told}
 use Rattle.model_timed.specs.Timed.{happens}
+use Rattle.laws_promises.specs.TimedDrive.{of_frames}
 use Rattle.laws_promises.specs.TimedReply.{answered}
-use Rattle.laws_promises.proofs.TimedServing.{led-by-event, moves-frames, serves}
+use Rattle.laws_promises.proofs.TimedKinds.{frame-happened, frames-driven, frames-move}
+use Rattle.laws_promises.proofs.TimedServing.{led-by-event, serves}
 use Rattle.laws_promises.proofs.timed_call.hear.Goals as goal
 
 pub returns : goal.returns
 returns g c =
     let e = at c.args.line (hears (came (config_of c.args.card.now.card).n201 c.args.octets.now)) in
-    let moves = moves-frames e c.args.card.now.card c.frame.new.self.card c.frame.ensures.called.leads in
+    let moves = frames-move e c.args.card.now.card c.frame.new.self.card c.frame.ensures.called.leads in
     let report = c.frame.new.report in
-    let same = ap (λ h. h.config.n201) c.frames.ensures.card ∙ ap (λ k. (config_of k).n201) c.card.ensures ∙ ap (λ d. d.n201) moves.config in
+    let same = ap (λ h. h.config.n201) c.frames.ensures.card ∙ ap (λ k. (config_of k).n201) c.card.ensures ∙ ap (λ d. d.n201) moves.1 in
     let lent = c.contents-contents.ensures ∙ ap (λ n. delivered_in (octets_of (Some (came n c.args.octets.now))) report) same in
-    serves (happens e) c.args.card.now c.frame.new.self c.args.sink.now c.take.new.self c.take.result c.now.result (answered c.args.line (told _))
-    (led-by-event e c.args.card.now c.frame.new.self c.now.result _ moves c.frame.ensures.called.after c.now.ensures
-    (λ m s. ap told (c.of.ensures ∙ ap (λ k. told_beside k report) lent) ∙ c.frame.ensures.called.answers m s))
+    serves of_frames frames-driven (happens e) c.args.card.now c.frame.new.self c.args.sink.now c.take.new.self c.take.result c.now.result (answered c.args.line (told _))
+    (led-by-event of_frames e _ c.args.card.now c.frame.new.self c.now.result
+    (frame-happened e _ _ c.args.card.now c.frame.new.self (ap told (c.of.ensures ∙ ap (λ k. told_beside k report) lent)) c.frame.ensures.called) c.frame.ensures.called.after c.now.ensures)
     c.take.ensures.taken c.take.ensures.none_failed c.take.ensures.missed c.take.ensures.failed

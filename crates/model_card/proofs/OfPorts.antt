@@ -3,6 +3,7 @@ pub mod Vocabulary
 mod FramesIdle
 mod FramesJudged
 pub mod Gains
+pub mod Gaps
 pub mod HeardOctets
 pub mod TextGoesOn
 pub mod Steps

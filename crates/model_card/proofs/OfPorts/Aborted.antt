@@ -44,13 +44,16 @@ module _ (room : ℕ) (past part : List Bool) (p : NoSix 0 part) where
   gap : open_gap there ≡ Some (reverse_aux (part ++ six_ones) [])
   gap = (quiet room 0 (part ++ six_ones) place refl (ends_nothing 0 part (omega arith) p)).gap
 
+  -- up to there nothing is heard
+  pub none_yet : hears room place (part ++ six_ones) ≡ []
+  none_yet =
+      append_cancel_left (heard_until room place) (hears room place (part ++ six_ones)) []
+      (sym (heard_until-onto room (part ++ six_ones) place) ∙ (quiet room 0 (part ++ six_ones) place refl (ends_nothing 0 part (omega arith) p)).heard ∙ sym (append-nil (heard_until room place)))
+
   pub hears_abort : hears room place ((part ++ six_ones) ++ true ∷ []) ≡ dropped cause.Abort ∷ []
   hears_abort =
-      let none : hears room place (part ++ six_ones) ≡ [] =
-      append_cancel_left (heard_until room place) (hears room place (part ++ six_ones)) []
-      (sym (heard_until-onto room (part ++ six_ones) place) ∙ (quiet room 0 (part ++ six_ones) place refl (ends_nothing 0 part (omega arith) p)).heard ∙ sym (append-nil (heard_until room place))) in
       hears-append room (part ++ six_ones) (true ∷ []) place
-      ∙ ap (λ l. l ++ hears room there (true ∷ [])) none
+      ∙ ap (λ l. l ++ hears room there (true ∷ [])) none_yet
       ∙ ap (λ o. option_to_list o ++ []) (heard_at-abort room there (omega (arith, six)) ∙ ap given_up_event gap ∙ gives_up (reverse_aux (part ++ six_ones) []) (long_enough part []))
 
   pub given_up_then : open_gap (true ∷ there) ≡ None

@@ -4,19 +4,23 @@ use Rattle.model_card.proofs.OfPorts.Vocabulary.{◌++◌, length, replicate, re
 use Rattle.model_card.proofs.OfPorts.Vocabulary.{after_text, reverse_aux-append, Fault, IsIdle, line_octets, came, fault_octets, cause_of, AreHeardAs, FramesAreHeard, hears, hears-append, reverse_aux, some_text, append_assoc, ◌<◌, get_or-replicate, Config, Port, after_all, fresh, fresh_port, meant_all, octets_come, port_at, Event as CardEvent, lt-ltb, le-ltb, false}
 use Rattle.model_bits.specs.Bits.{octets_of}
 use Rattle.model_bits.proofs.StuffingCounted.{NoSix}
+use Rattle.std.proofs.Common.{append-nil, drop, length-drop, take-append-drop}
+use Rattle.std.proofs.lemmas.List.{length-take-le, take_at}
+use Rattle.model_bits.proofs.BitLemmas.{length-bits}
 use Rattle.std.proofs.lemmas.Option.{same_Some}
-use Rattle.std.specs.Prelude.{◌≢◌, ◌||◌, ◌&&◌, nat_eq, slice_index, cond, nat_lt, option_to_list, option_map, option_and_then, Option, Some, None}
+use Rattle.std.specs.Prelude.{◌≢◌, ◌⊎◌, ◌||◌, ◌&&◌, nat_eq, slice_index, cond, nat_lt, option_to_list, option_map, option_and_then, Option, Some, None}
 use Rattle.model_bits.specs.Stream.{Event, dropped, ends_flag, since_flag, has_abort, gap_event, closed_by_flag, given_up, heard_at as heard_bit}
 use Rattle.model_line.specs.declared.faults.Fault.TheVariants.{Fcs, Abort, Ragged, Short}
 use Rattle.model_card.specs.ports.Codec.{heard_at}
 use Rattle.model_card.proofs.OfPorts.Codec.{run_goes_on}
+use Rattle.lapd_frame.specs.Faults as without_check
 use Rattle.model_bits.specs.Stream as stream
 use Rattle.model_bits.specs.Stream.{is_short, judged, text_event}
 use Rattle.model_bits.specs.Stuffing.{octets_sent, stuffed}
 use Rattle.model_bits.specs.Check.{is_good}
 use Rattle.model_bits.specs.declared.heard.Cause.TheVariants as cause
-use Rattle.model_card.specs.ports.WholeLaws.{AreBetween, AreEnough, AreFew, HaveNoCheck, IsAborted, IsBetween, IsHeardLast, IsRagged, StandsIn}
-use Rattle.model_card.proofs.OfPorts.Aborted.{six_ones, hears_abort, given_up_then, seven_then, nothing_after}
+use Rattle.model_card.specs.ports.WholeLaws.{AreWhole, AreBetween, AreEnough, AreFew, HaveNoCheck, IsAborted, IsBetween, IsHeardNow, IsRagged, StandsIn}
+use Rattle.model_card.proofs.OfPorts.Aborted.{six_ones, none_yet, hears_abort, given_up_then, seven_then, nothing_after}
 use Rattle.model_card.proofs.OfPorts.FramesThere.{checked, frames_there}
 use Rattle.model_card.proofs.OfPorts.FramesIdle.{IdleAt, hears_first_flag, idle_again}
 use Rattle.model_card.proofs.OfPorts.FramesJudged.{gap_event_came}
@@ -134,10 +138,87 @@ quiet room past g (b ∷ rest) since few =
     ap (λ o. option_to_list o ++ hears room (b ∷ past) rest) (brings_none room b past g since (omega (arith, few)))
     ∙ quiet room (b ∷ past) then.0 rest then.1 (omega (arith, few, then.2))
 
--- what stands between two flags is judged
-part_heard : (n201 : ℕ) (octets : List ℕ) (part : List Bool) → 0 < length part → NoSix 0 part → IsBetween (bits octets) part
-    → (earlier : List Event) × (heard_in n201 octets ≡ earlier ++ gap_event (room_for n201) part ∷ [])
-part_heard n201 octets part some few h =
+-- the bits of all octets but the last
+front_bits : (octets : List ℕ) (a b : List Bool) → bits octets ≡ a ++ b → length b ≡ 8 → bits (take (length octets - 1) octets) ≡ a
+front_bits octets a b is eight =
+    let k = length octets - 1 in
+    let front = take k octets in
+    let last = drop k octets in
+    let both : bits octets ≡ bits front ++ bits last = ap bits (sym (take-append-drop k octets)) ∙ bits-append front last in
+    let size : length (bits octets) ≡ length a + 8 = ap (λ (l : List Bool). length l) is ∙ length-append a b ∙ ap (λ n. length a + n) eight in
+    let lengths : length (bits front) ≡ length a = omega (arith, size, length-bits octets, length-bits front, length-take-le k octets (omega arith)) in
+    sym (take_at (bits front) (bits last) (length a) lengths) ∙ ap (take (length a)) (sym both ∙ is) ∙ take_at a b (length a) refl
+
+-- so many bits of what begins with nothing heard
+none_of_front : (room n : ℕ) (place text : List Bool) → hears room place text ≡ [] → hears room place (take n text) ≡ []
+none_of_front room n place text none =
+    none_before (hears room place (take n text)) (hears room (reverse_aux (take n text) place) (drop n text))
+    (sym (hears-append room (take n text) (drop n text) place) ∙ ap (hears room place) (take-append-drop n text) ∙ none)
+  where
+    none_before : (a b : List Event) → a ++ b ≡ [] → a ≡ []
+    none_before [] b is = refl
+    none_before (x ∷ a) b is = absurd (cc is)
+
+-- a front of two lists, one after the other
+within_first : (a b : List Bool) (n : ℕ) → n ≤ length a → take n (a ++ b) ≡ take n a
+within_first a b zero few = refl
+within_first [] b (suc n) few = absurd (omega (arith, few))
+within_first (x ∷ a) b (suc n) few = ap (λ l. x ∷ l) (within_first a b n (omega (arith, few)))
+
+past_first : (a b : List Bool) (n : ℕ) → take (length a + n) (a ++ b) ≡ a ++ take n b
+past_first [] b n = ap (λ k. take k b) (omega arith)
+past_first (x ∷ a) b n =
+    let more : suc (length a) + n ≡ suc (length a + n) = omega arith in
+    ap (λ k. take k (x ∷ (a ++ b))) more ∙ ap (λ l. x ∷ l) (past_first a b n)
+
+-- What came before the last octet, if in it the eight bits end that a 0 and six 1s begin.
+module _ (n201 : ℕ) (octets : List ℕ) (before part after : List Bool) (x : Bool)
+    (is : bits octets ≡ before ++ (flag ++ (part ++ ((six_ones ++ x ∷ []) ++ after)))) (late : length after < 8) (few : NoSix 0 part) where
+  abbrev tail : List Bool
+  tail = six_ones ++ x ∷ []
+
+  abbrev room : ℕ
+  room = room_for n201
+
+  abbrev first : List Bool
+  first = reverse_aux before []
+
+  abbrev cut : List Bool
+  cut = before ++ (flag ++ (part ++ take (length after) tail))
+
+  whole : bits octets ≡ cut ++ (drop (length after) tail ++ after)
+  whole =
+      let n = length after in
+      is ∙ ap (λ t. before ++ (flag ++ (part ++ (t ++ after)))) (sym (take-append-drop n tail))
+      ∙ ap (λ t. before ++ (flag ++ (part ++ t))) (append_assoc (take n tail) (drop n tail) after)
+      ∙ ap (λ t. before ++ (flag ++ t)) (sym (append_assoc part (take n tail) (drop n tail ++ after)))
+      ∙ ap (λ t. before ++ t) (sym (append_assoc flag (part ++ take n tail) (drop n tail ++ after)))
+      ∙ sym (append_assoc before (flag ++ (part ++ take n tail)) (drop n tail ++ after))
+
+  front : bits (take (length octets - 1) octets) ≡ cut
+  front =
+      let n = length after in
+      front_bits octets cut (drop n tail ++ after) whole (omega (arith, late, length-drop n tail, length-append (drop n tail) after))
+
+  nothing_then : hears room (after_flag first) (part ++ take (length after) tail) ≡ []
+  nothing_then =
+      let n = length after in
+      let text = part ++ six_ones in
+      ap (λ t. hears room (after_flag first) (part ++ t)) (within_first six_ones (x ∷ []) n (omega (arith, late)))
+      ∙ ap (hears room (after_flag first)) (sym (past_first part six_ones n))
+      ∙ none_of_front room (length part + n) (after_flag first) text (none_yet room first part few)
+
+  pub came_before : heard_in n201 (take (length octets - 1) octets) ≡ hears room [] before ++ hears room first flag
+  came_before =
+      by_bits n201 (take (length octets - 1) octets) ∙ ap (hears room []) front
+      ∙ hears-append room before (flag ++ (part ++ take (length after) tail)) []
+      ∙ ap (λ l. hears room [] before ++ l)
+      (hears-append room flag (part ++ take (length after) tail) first ∙ ap (λ l. hears room first flag ++ l) nothing_then ∙ append-nil (hears room first flag))
+
+-- what stands between two flags is judged as the second one ends
+heard_now : (n201 : ℕ) (octets : List ℕ) (part : List Bool) (event : Event) → 0 < length part → NoSix 0 part → IsBetween (bits octets) part → gap_event (room_for n201) part ≡ event
+    → IsHeardNow n201 octets event
+heard_now n201 octets part event some few h is =
     let room = room_for n201 in
     let first = reverse_aux h.before [] in
     let place = after_flag first in
@@ -145,23 +226,18 @@ part_heard n201 octets part some few h =
     let rest : hears room place (part ++ (flag ++ h.after)) ≡ gap_event room part ∷ hears room end h.after =
     ap (hears room place) (sym (append_assoc part flag h.after)) ∙ hears-append room (part ++ flag) h.after place ∙ ap (λ l. l ++ hears room end h.after) (hears_text room first part some few) in
     let none : hears room end h.after ≡ [] =
-    ap (λ p. hears room p h.after) (after_text part place) ∙ quiet room (after_flag (reverse_aux part place)) [] h.after refl (omega (arith, h.late)) in (
-      hears room [] h.before ++ hears room first flag,
-      by_bits n201 octets ∙ ap (hears room []) h.is
-          ∙ hears-append room h.before (flag ++ (part ++ (flag ++ h.after))) []
-          ∙ ap (λ l. hears room [] h.before ++ l) (hears-append room flag (part ++ (flag ++ h.after)) first ∙ ap (λ l. hears room first flag ++ l) rest)
-          ∙ sym (append_assoc (hears room [] h.before) (hears room first flag) (gap_event room part ∷ hears room end h.after))
-          ∙ ap (λ l. (hears room [] h.before ++ hears room first flag) ++ gap_event room part ∷ l) none,
-    )
+    ap (λ p. hears room p h.after) (after_text part place) ∙ quiet room (after_flag (reverse_aux part place)) [] h.after refl (omega (arith, h.late)) in
+    by_bits n201 octets ∙ ap (hears room []) h.is
+    ∙ hears-append room h.before (flag ++ (part ++ (flag ++ h.after))) []
+    ∙ ap (λ l. hears room [] h.before ++ l) (hears-append room flag (part ++ (flag ++ h.after)) first ∙ ap (λ l. hears room first flag ++ l) rest)
+    ∙ sym (append_assoc (hears room [] h.before) (hears room first flag) (gap_event room part ∷ hears room end h.after))
+    ∙ ap (λ l. (hears room [] h.before ++ hears room first flag) ++ gap_event room part ∷ l) none
+    ∙ ap (λ e. (hears room [] h.before ++ hears room first flag) ++ e ∷ []) is
+    ∙ ap (λ l. l ++ event ∷ []) (sym (came_before n201 octets h.before part h.after false h.is h.late few))
 
-heard_last : (n201 : ℕ) (octets : List ℕ) (part : List Bool) (event : Event) → 0 < length part → NoSix 0 part → IsBetween (bits octets) part → gap_event (room_for n201) part ≡ event
-    → IsHeardLast n201 octets event
-heard_last n201 octets part event some few h is = let p = part_heard n201 octets part some few h in (p.0, p.1 ∙ ap (λ e. p.0 ++ e ∷ []) is)
-
-all_heard : (n201 : ℕ) (octets frame : List ℕ) → AreOctets frame → StandsIn (bits octets) frame
-    → (earlier : List Event) × (heard_in n201 octets ≡ earlier ++ came n201 frame ∷ [])
+all_heard : (n201 : ℕ) (octets frame : List ℕ) → AreOctets frame → StandsIn (bits octets) frame → IsHeardNow n201 octets (came n201 frame)
 all_heard n201 octets frame are h =
-    heard_last n201 octets (frame_text frame) (came n201 frame) (some_text frame) (NoSix-stuffed (bits frame ++ check (bits frame)))
+    heard_now n201 octets (frame_text frame) (came n201 frame) (some_text frame) (NoSix-stuffed (bits frame ++ check (bits frame)))
     (record { before = h.before; after = h.after; is = h.is; late = h.late }) (gap_event_came n201 frame are)
 
 -- ---- what is no frame
@@ -187,11 +263,11 @@ enough_long : (stretch : List ℕ) → AreEnough stretch → is_short stretch �
 enough_long stretch (inl more) = grind (arith, le-ltb, ne_eqb)
 enough_long stretch (inr five) = grind (arith, five, eq-eqb, le-ltb)
 
-short_heard : (n201 : ℕ) (octets stretch : List ℕ) → AreBetween octets stretch → AreFew stretch → IsHeardLast n201 octets (dropped cause.Short)
+short_heard : (n201 : ℕ) (octets stretch : List ℕ) → AreBetween octets stretch → AreFew stretch → IsHeardNow n201 octets (dropped cause.Short)
 short_heard n201 octets stretch h few =
     let whole = cond (nat_lt (room_for n201) (length stretch)) (stream.overlong (take 4 stretch)) (stream.frame (take (length stretch - 2) stretch)) in
     let rest = cond (not (is_good (bits stretch))) (dropped cause.Fcs) whole in
-    heard_last n201 octets (stuffed (bits stretch)) (dropped cause.Short) (some_stuffed stretch h.are h.some) (NoSix-stuffed (bits stretch)) h.between
+    heard_now n201 octets (stuffed (bits stretch)) (dropped cause.Short) (some_stuffed stretch h.are h.some) (NoSix-stuffed (bits stretch)) h.between
     (judged_is n201 stretch h.are ∙ ap (λ (b : Bool). cond b (dropped cause.Short) rest) (few_short stretch few))
 
 -- octets that end in no check have no good one
@@ -205,10 +281,10 @@ two_of : (stretch : List ℕ) → AreEnough stretch → 2 ≤ length stretch
 two_of stretch (inl more) = omega (arith, more)
 two_of stretch (inr five) = let is = five.0 in omega (arith, is)
 
-fcs_heard : (n201 : ℕ) (octets stretch : List ℕ) → AreBetween octets stretch → AreEnough stretch → HaveNoCheck stretch → IsHeardLast n201 octets (dropped cause.Fcs)
+fcs_heard : (n201 : ℕ) (octets stretch : List ℕ) → AreBetween octets stretch → AreEnough stretch → HaveNoCheck stretch → IsHeardNow n201 octets (dropped cause.Fcs)
 fcs_heard n201 octets stretch h enough none =
     let rest = cond (nat_lt (room_for n201) (length stretch)) (stream.overlong (take 4 stretch)) (stream.frame (take (length stretch - 2) stretch)) in
-    heard_last n201 octets (stuffed (bits stretch)) (dropped cause.Fcs) (some_stuffed stretch h.are h.some) (NoSix-stuffed (bits stretch)) h.between
+    heard_now n201 octets (stuffed (bits stretch)) (dropped cause.Fcs) (some_stuffed stretch h.are h.some) (NoSix-stuffed (bits stretch)) h.between
     (judged_is n201 stretch h.are
     ∙ ap (λ b. cond b (dropped cause.Short) (cond (not (is_good (bits stretch))) (dropped cause.Fcs) rest)) (enough_long stretch enough)
     ∙ ap (λ b. cond (not b) (dropped cause.Fcs) rest) (no_good stretch (two_of stretch enough) none))
@@ -233,13 +309,13 @@ none_sent : (part : List Bool) (o : Option (List ℕ)) → octets_sent part ≡ 
 none_sent part None is none = is
 none_sent part (Some octets) is none = absurd (none octets (((octets_are_those_sent part octets).0 is).0))
 
-ragged_heard : (n201 : ℕ) (octets : List ℕ) (part : List Bool) → IsBetween (bits octets) part → IsRagged part → IsHeardLast n201 octets (dropped cause.Ragged)
+ragged_heard : (n201 : ℕ) (octets : List ℕ) (part : List Bool) → IsBetween (bits octets) part → IsRagged part → IsHeardNow n201 octets (dropped cause.Ragged)
 ragged_heard n201 octets part h is =
-    heard_last n201 octets part (dropped cause.Ragged) is.some (no_six 0 part (omega arith) is.few) h
+    heard_now n201 octets part (dropped cause.Ragged) is.some (no_six 0 part (omega arith) is.few) h
     (ap (text_event (room_for n201)) (none_sent part (octets_sent part) refl is.unsent))
 
 -- seven contiguous 1s
-abort_heard : (n201 : ℕ) (octets : List ℕ) (part : List Bool) → IsAborted (bits octets) part → IsHeardLast n201 octets (dropped cause.Abort)
+abort_heard : (n201 : ℕ) (octets : List ℕ) (part : List Bool) → IsAborted (bits octets) part → IsHeardNow n201 octets (dropped cause.Abort)
 abort_heard n201 octets part h =
     let room = room_for n201 in
     let first = reverse_aux h.before [] in
@@ -251,13 +327,12 @@ abort_heard n201 octets part h =
     ∙ hears-append room ((part ++ six_ones) ++ true ∷ []) h.after place
     ∙ ap (λ l. l ++ hears room (reverse_aux ((part ++ six_ones) ++ true ∷ []) place) h.after) (hears_abort room first part some)
     ∙ ap (λ q. dropped cause.Abort ∷ hears room q h.after) (reverse_aux-append (part ++ six_ones) (true ∷ []) place)
-    ∙ ap (λ l. dropped cause.Abort ∷ l) (nothing_after room h.after (true ∷ there) (omega (arith, h.late)) (given_up_then room first part some) (inl (seven_then room first part some))) in (
-      hears room [] h.before ++ hears room first flag,
-      by_bits n201 octets ∙ ap (hears room []) h.is
-          ∙ hears-append room h.before (flag ++ (part ++ (six_ones ++ true ∷ h.after))) []
-          ∙ ap (λ l. hears room [] h.before ++ l) (hears-append room flag (part ++ (six_ones ++ true ∷ h.after)) first ∙ ap (λ l. hears room first flag ++ l) rest)
-          ∙ sym (append_assoc (hears room [] h.before) (hears room first flag) (dropped cause.Abort ∷ [])),
-    )
+    ∙ ap (λ l. dropped cause.Abort ∷ l) (nothing_after room h.after (true ∷ there) (omega (arith, h.late)) (given_up_then room first part some) (inl (seven_then room first part some))) in
+    by_bits n201 octets ∙ ap (hears room []) h.is
+    ∙ hears-append room h.before (flag ++ (part ++ (six_ones ++ true ∷ h.after))) []
+    ∙ ap (λ l. hears room [] h.before ++ l) (hears-append room flag (part ++ (six_ones ++ true ∷ h.after)) first ∙ ap (λ l. hears room first flag ++ l) rest)
+    ∙ sym (append_assoc (hears room [] h.before) (hears room first flag) (dropped cause.Abort ∷ []))
+    ∙ ap (λ l. l ++ dropped cause.Abort ∷ []) (sym (came_before n201 octets h.before part h.after true h.is h.late some))
 
 -- ---- a fault
 
@@ -299,11 +374,46 @@ card_heard c events number within =
     goes.received ∙ ap (λ (p : Port). p.received ++ octets_come number events) fresh_is in
     sym (sym (ap (heard_in c.n201) came) ∙ goes.heard ∙ ap (λ (p : Port). heard_in c.n201 p.received ++ heard_at number (meant_all (fresh c) events)) fresh_is)
 
+-- ---- whole octets
+
+short_is : (octets : List ℕ) → (length octets < 3) ⊎ ((length octets ≡ 3) × (slice_index octets 2 % 4 ≢ 3)) → without_check.is_short octets ≡ true
+short_is [] few = refl
+short_is (a ∷ []) few = refl
+short_is (a ∷ b ∷ []) few = refl
+short_is (a ∷ b ∷ c ∷ []) (inl less) = absurd (omega (arith, less))
+short_is (a ∷ b ∷ c ∷ []) (inr three) = ap not (ne_eqb (c % 4) 3 three.1)
+short_is (a ∷ b ∷ c ∷ d ∷ more) (inl less) = absurd (omega (arith, less))
+short_is (a ∷ b ∷ c ∷ d ∷ more) (inr three) = let is = three.0 in absurd (omega (arith, is))
+
+not_short : (octets : List ℕ) → (4 ≤ length octets) ⊎ ((length octets ≡ 3) × (slice_index octets 2 % 4 ≡ 3)) → without_check.is_short octets ≡ false
+not_short (a ∷ b ∷ c ∷ d ∷ more) some = refl
+not_short (a ∷ b ∷ c ∷ []) (inl more) = absurd (omega (arith, more))
+not_short (a ∷ b ∷ c ∷ []) (inr three) = ap not (eq-eqb (c % 4) 3 three.1)
+not_short [] (inl more) = absurd (omega (arith, more))
+not_short [] (inr three) = let is = three.0 in absurd (omega (arith, is))
+not_short (a ∷ []) (inl more) = absurd (omega (arith, more))
+not_short (a ∷ []) (inr three) = let is = three.0 in absurd (omega (arith, is))
+not_short (a ∷ b ∷ []) (inl more) = absurd (omega (arith, more))
+not_short (a ∷ b ∷ []) (inr three) = let is = three.0 in absurd (omega (arith, is))
+
+are_whole : (n201 : ℕ) (octets : List ℕ) → AreWhole n201 octets
+are_whole n201 octets =
+    let long = nat_lt (n201 + 4) (length octets) in
+    let rest = cond long (stream.overlong (take 4 octets)) (stream.frame octets) in
+    record {
+      short = λ few. ap (λ b. cond b (dropped cause.Short) rest) (short_is octets few);
+      long = λ many some. ap (λ b. cond b (dropped cause.Short) rest) (not_short octets (inl some))
+          ∙ ap (λ b. cond b (stream.overlong (take 4 octets)) (stream.frame octets)) (lt-ltb (n201 + 4) (length octets) many);
+      whole = λ some fits. ap (λ b. cond b (dropped cause.Short) rest) (not_short octets some)
+          ∙ ap (λ b. cond b (stream.overlong (take 4 octets)) (stream.frame octets)) (le-ltb (n201 + 4) (length octets) fits);
+    }
+
 pub frames_are_heard : FramesAreHeard
 frames_are_heard = record {
   card = card_heard;
   there = frames_there;
   all = all_heard;
+  whole = are_whole;
   begins = record { ones = refl; no_gap = refl };
   frames = frame_heard;
   faults = fault_heard;

@@ -1,12 +1,13 @@
 -- What a card of octets hears is what stands in the octets that come; and what stands in those of whole frames and of faults is
 -- what `Came` of `model_line` says of them.
-use Rattle.std.specs.Prelude.{◌≡◌, ◌≢◌, ◌⊎◌, ℕ, ◌<◌, ◌%◌, Bool, true, false, List, [], ◌∷◌, ◌++◌, length, take, slice_index, All, Option, option_to_list}
+use Rattle.std.specs.Prelude.{◌≡◌, ◌≢◌, ◌⊎◌, ℕ, ◌≤◌, ◌<◌, ◌+◌, ◌-◌, ◌%◌, Bool, true, false, List, [], ◌∷◌, ◌++◌, length, take, slice_index, All, Option, option_to_list}
 use Rattle.model_bits.specs.Bits.{bits, flag}
 use Rattle.model_bits.specs.Check.{check}
 use Rattle.model_bits.specs.Sent.{frame_text}
 use Rattle.model_bits.specs.Stuffing.{stuffed}
 use Rattle.model_bits.specs.StuffingLaws.{AreOctets}
 use Rattle.model_bits.specs.Stream.{Event, frame, overlong, dropped, heard_in}
+use Rattle.model_bits.specs.declared.heard.Cause.{Cause}
 use Rattle.model_bits.specs.declared.heard.Cause.TheVariants as cause
 use Rattle.model_line.specs.Came.{came, cause_of}
 use Rattle.model_line.specs.declared.config.Config.{Config}
@@ -28,18 +29,6 @@ pub record StandsIn (text : List Bool) (octets : List ℕ) : Type 0 where
   pub after : List Bool
   pub is : text ≡ before ++ (flag ++ (frame_text octets ++ (flag ++ after)))
   pub late : length after < 8
-
--- So does one that is heard as too long, of which the first four octets are told.
-abbrev pub IsThere : List Bool → Event → Type 0
-IsThere text (frame octets) = StandsIn text octets
-IsThere text (overlong head) = (octets : List ℕ) × (head ≡ take 4 octets) × StandsIn text octets
-IsThere text (dropped cause) = Unit {0}
-
--- One more octet brings one event at most; and a frame, or one that is too long, ends with it.
-pub record Brings (n201 : ℕ) (octets : List ℕ) (value : ℕ) : Type 0 where
-  pub event : Option Event
-  pub is : heard_in n201 (octets ++ value ∷ []) ≡ heard_in n201 octets ++ option_to_list event
-  pub there : All (IsThere (bits (octets ++ value ∷ []))) (option_to_list event)
 
 -- Bits stand in a text between two flags, of which the second ends with its last octet; and so do octets.
 pub record IsBetween (text part : List Bool) : Type 0 where
@@ -65,6 +54,23 @@ pub record IsAborted (text part : List Bool) : Type 0 where
   pub late : length after < 8
   pub few : HasNoSix part
 
+-- One that is heard as too long stands there, too, of which the first four octets are told; and so do some bits that are dropped,
+-- between two flags or as an abort gives them up.
+abbrev pub IsGivenUp : List Bool → Cause → Type 0
+IsGivenUp text cause.Abort = (part : List Bool) × IsAborted text part
+IsGivenUp text other = (part : List Bool) × (0 < length part) × HasNoSix part × IsBetween text part
+
+abbrev pub IsThere : List Bool → Event → Type 0
+IsThere text (frame octets) = StandsIn text octets
+IsThere text (overlong head) = (octets : List ℕ) × (head ≡ take 4 octets) × StandsIn text octets
+IsThere text (dropped why) = IsGivenUp text why
+
+-- One more octet brings one event at most, and what is heard ends with it.
+pub record Brings (n201 : ℕ) (octets : List ℕ) (value : ℕ) : Type 0 where
+  pub event : Option Event
+  pub is : heard_in n201 (octets ++ value ∷ []) ≡ heard_in n201 octets ++ option_to_list event
+  pub there : All (IsThere (bits (octets ++ value ∷ []))) (option_to_list event)
+
 -- Octets are too few for a frame with its check: fewer than five; or five, of which the third begins a control field of two. Or
 -- they are enough (clause 2.9). They end in no check; and bits are those of no octets that a sender makes.
 abbrev pub AreFew : List ℕ → Type 0
@@ -81,8 +87,15 @@ pub record IsRagged (part : List Bool) : Type 0 where
   pub few : HasNoSix part
   pub unsent : (octets : List ℕ) → part ≢ stuffed (bits octets)
 
-abbrev pub IsHeardLast : ℕ → List ℕ → Event → Type 0
-IsHeardLast n201 octets event = (earlier : List Event) × (heard_in n201 octets ≡ earlier ++ event ∷ [])
+-- The last of some octets brings this, after what the others brought.
+abbrev pub IsHeardNow : ℕ → List ℕ → Event → Type 0
+IsHeardNow n201 octets event = heard_in n201 octets ≡ heard_in n201 (take (length octets - 1) octets) ++ event ∷ []
+
+-- What whole octets are heard as, without their check: a frame, if they are enough for one, and as many as there is room for.
+pub record AreWhole (n201 : ℕ) (octets : List ℕ) : Type 0 where
+  pub short : (length octets < 3) ⊎ ((length octets ≡ 3) × (slice_index octets 2 % 4 ≢ 3)) → came n201 octets ≡ dropped cause.Short
+  pub long : n201 + 4 < length octets → 4 ≤ length octets → came n201 octets ≡ overlong (take 4 octets)
+  pub whole : (4 ≤ length octets) ⊎ ((length octets ≡ 3) × (slice_index octets 2 % 4 ≡ 3)) → length octets ≤ n201 + 4 → came n201 octets ≡ frame octets
 
 pub record FramesAreHeard : Type 0 where
   -- A card, from its start on: after any events, what its card of frames has heard at a line is exactly what stands in all
@@ -90,11 +103,12 @@ pub record FramesAreHeard : Type 0 where
   -- is heard with the octet that ends it.
   pub card : (c : Config) (events : List octets.Event) (number : ℕ) → number < c.lines →
       heard_at number (meant_all (fresh c) events) ≡ heard_in c.n201 (octets_come number events)
-  -- What stands in octets: each frame that is heard does, where it ends; and each that does is heard there, so once, whatever came
-  -- before it; and on an idle line each frame and each fault that stands there is heard as itself and nothing else.
+  -- What stands in octets: each frame that is heard does, where it ends, and what is dropped; and each frame that does is heard there,
+  -- so once, whatever came before it; and on an idle line each frame and each fault that stands there is heard as itself and nothing else.
   pub there : (n201 : ℕ) (octets : List ℕ) (value : ℕ) → Brings n201 octets value
   pub all : (n201 : ℕ) (octets frame : List ℕ) → AreOctets frame → StandsIn (bits octets) frame
-      → (earlier : List Event) × (heard_in n201 octets ≡ earlier ++ came n201 frame ∷ [])
+      → IsHeardNow n201 octets (came n201 frame)
+  pub whole : (n201 : ℕ) (octets : List ℕ) → AreWhole n201 octets
   pub begins : IsIdle []
   pub frames : (n201 : ℕ) (before octets : List ℕ) → IsIdle before → AreOctets octets →
       AreHeardAs n201 before (line_octets octets) (came n201 octets)
@@ -102,8 +116,8 @@ pub record FramesAreHeard : Type 0 where
       AreHeardAs n201 before (fault_octets fault) (dropped (cause_of fault))
   -- Whatever came before it, what else stands between two flags is dropped, and told why: octets that are too few; those that end in
   -- no check; and bits of which a sender makes no octets.
-  pub short : (n201 : ℕ) (octets stretch : List ℕ) → AreBetween octets stretch → AreFew stretch → IsHeardLast n201 octets (dropped cause.Short)
-  pub fcs : (n201 : ℕ) (octets stretch : List ℕ) → AreBetween octets stretch → AreEnough stretch → HaveNoCheck stretch → IsHeardLast n201 octets (dropped cause.Fcs)
-  pub ragged : (n201 : ℕ) (octets : List ℕ) (part : List Bool) → IsBetween (bits octets) part → IsRagged part → IsHeardLast n201 octets (dropped cause.Ragged)
+  pub short : (n201 : ℕ) (octets stretch : List ℕ) → AreBetween octets stretch → AreFew stretch → IsHeardNow n201 octets (dropped cause.Short)
+  pub fcs : (n201 : ℕ) (octets stretch : List ℕ) → AreBetween octets stretch → AreEnough stretch → HaveNoCheck stretch → IsHeardNow n201 octets (dropped cause.Fcs)
+  pub ragged : (n201 : ℕ) (octets : List ℕ) (part : List Bool) → IsBetween (bits octets) part → IsRagged part → IsHeardNow n201 octets (dropped cause.Ragged)
   -- So is what seven contiguous 1s give up.
-  pub abort : (n201 : ℕ) (octets : List ℕ) (part : List Bool) → IsAborted (bits octets) part → IsHeardLast n201 octets (dropped cause.Abort)
+  pub abort : (n201 : ℕ) (octets : List ℕ) (part : List Bool) → IsAborted (bits octets) part → IsHeardNow n201 octets (dropped cause.Abort)

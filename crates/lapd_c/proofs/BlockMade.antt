@@ -1,6 +1,6 @@
 -- What a call that exchanges a block of octets comes to.
 use Rattle.std.specs.Prelude.{◌≢◌, ◌⊎◌, ◌-◌}
-use Rattle.lapd_c.proofs.Vocabulary.{◌≡◌, ◌<◌, ◌+◌, ◌*◌, ℕ, Bool, true, false, Option, None, Some, List, [], length, inl, inr, refl, sym, ap, subst, ◌∙◌, arith, OctetCard, LineTold, nothing, AnyCard, Octets, Frames, AnyStands, HeldCard, with_ports, answer_after, card_after, tells_nothing, false≢true}
+use Rattle.lapd_c.proofs.Vocabulary.{◌≡◌, ◌≤◌, ◌<◌, ◌+◌, ◌*◌, ℕ, Bool, true, false, Option, None, Some, List, [], length, inl, inr, refl, sym, ap, subst, ◌∙◌, arith, OctetCard, LineTold, nothing, AnyCard, Octets, Frames, AnyStands, HeldCard, with_ports, answer_after, card_after, tells_nothing, false≢true}
 unfoldable use Rattle.lapd_c.proofs.Vocabulary.{given_after, steps_made}
 use Rattle.lapd_frame.specs.declared.timers.Order.{Order}
 use Rattle.lapd_timed.specs.declared.card_timers.CardTimers.{CardTimers}
@@ -91,12 +91,13 @@ module _ (timed : Bool) (line from to : ℕ) (taken given given' : List ℕ) (m 
   -- what is known of the steps
   record Made (stands : OctetCard → Type 0) : Type 0 where
     n : ℕ
+    within : to ≤ 2 * length taken
     there : stands (card_after line taken from n m)
     octets : given' ≡ given_after line taken from n m given
     ended : IsThrough line taken from n m to r ⊎ TellsAtLast timed line taken from n m to r
 
   made_by : (card : AnyCard) → ExchangedBy timed line taken from m card given given' to r → Made (λ (y : OctetCard). AnyStands card (with_ports y))
-  made_by (Octets c) x = record { n = x.n; there = x.stands; octets = x.octets; ended = x.ended }
+  made_by (Octets c) x = record { n = x.n; within = x.within; there = x.stands; octets = x.octets; ended = x.ended }
   made_by (Frames c) x = absurd x
 
   made_in : (held : HeldCard) → ExchangedIn timed line taken from m held given given' to r → Made (standing held)
@@ -156,6 +157,7 @@ blocks_are_made line taken from to m old new result given given' r x =
     let made = made_in (is_timed old) line from to taken given given' m r (card_of new) x.exchanged in
     let many = counted (is_timed old) line from to taken given given' m r (standing (card_of new)) made in record {
       ok = x.ok;
+      within = made.within;
       stands = subst (standing (card_of new)) (run_is_moments.card m (steps_made line taken from (to - from)))
           (subst (λ (k : ℕ). standing (card_of new) (card_after line taken from k m)) many made.there);
       timers = all_carried (steps_made line taken from (to - from)) m (timers_of old) (timers_of new) x.obeyed;

@@ -90,5 +90,13 @@ calls_are_events_by = record {
   no_tei = λ line number tei service first few past card. ap (if_ok (expiry_at line)) (timer_tei number tei service first few past);
   no_contents = λ line number tei octet service octets first few no_data no_unit card.
       ap (if_ok (request_at line)) (request_contents number tei octet service octets first few no_data no_unit);
+  t201_alone = λ line service tei. (refl, refl, λ card. refl);
+  t202_alone = λ line service tei. (refl, refl, λ card. refl);
+  octet_waits = λ line value status. refl;
+  pull_waits = λ line status. refl;
+  frame_waits = λ line status taken. refl;
+  fault_waits = λ line number status. refl;
+  next_waits = λ line room status. refl;
+  expiry_waits = λ line number service tei status. refl;
   waits = λ line number service tei status contents. refl;
 }

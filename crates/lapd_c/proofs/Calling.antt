@@ -1,5 +1,5 @@
 -- A call comes to what `Called` says, by what is known of it.
-use Rattle.lapd_c.proofs.Vocabulary.{◌≡◌, ◌<◌, ◌≤◌, ◌+◌, ℕ, Bool, true, false, cond, List, [], Counters, option_map, Option, None, Some, IfSome, Result, Ok, IfOk, refl, sym, ap, ◌∙◌, subst, arith, nat_lt, ltb-false, false≢true}
+use Rattle.lapd_c.proofs.Vocabulary.{◌≡◌, ◌<◌, ◌≤◌, ◌+◌, ℕ, Bool, true, false, cond, List, [], Counters, option_map, Option, None, Some, IfSome, Result, Ok, IfOk, refl, sym, ap, ◌∙◌, subst, nat_lt, ltb-false, false≢true}
 use Rattle.std.proofs.Common.{Err, is_none, is_some}
 use Rattle.std.proofs.lemmas.Bool.{ltb-true}
 use Rattle.std.specs.Result.{IfErr}

@@ -5,7 +5,6 @@ use Rattle.std.specs.Result.{IfErr}
 use Rattle.std.proofs.lemmas.Bool.{false≢true, lt-ltb}
 use Rattle.std.proofs.lemmas.Option.{same_Some}
 use Rattle.lapd_frame.specs.declared.refusals.Refusal.{Refusal}
-use Rattle.lapd_frame.specs.declared.refusals.Refusal.TheVariants.{BadTei, NoLink, WrongState, TooLong, QueueFull, PoolFull, TeiTaken, TableFull, CheckRunning, ControlFull, WrongSide}
 use Rattle.lapd_frame.specs.declared.timers.Order.{Order}
 use Rattle.lapd_frame.specs.declared.timers.Timer.{Timer}
 use Rattle.lapd_timed.specs.declared.card_timers.CardTimers.{CardTimers}
@@ -40,8 +39,12 @@ use Rattle.lapd_c.specs.Kept.{CarryOut, TimersStandIn, is_timed, orders_by, repl
 use Rattle.lapd_c.specs.Reports.{Shows, ShowsPull, contents_in, contents_or_none, mark_of}
 use Rattle.lapd_c.specs.Statuses.{refusal_status}
 use Rattle.lapd_c.specs.Wanted.{IsOther, OfEach, Wanted, of_any, of_octets, of_frames, of_untimed}
+use Rattle.lapd_c.proofs.BothKinds.{both_kinds_are_served_by}
+use Rattle.lapd_c.proofs.CallsWrite.{calls_write_by}
+use Rattle.lapd_c.proofs.CallEvents.{calls_are_events_by}
 use Rattle.lapd_c.proofs.Calling.{octets_held}
 use Rattle.lapd_c.proofs.Served.{still_within}
+use Rattle.lapd_c.proofs.WrongStatuses.{refused_not_ok}
 
 -- of which cards a call is
 not_true : (b : Bool) → not b ≡ true → b ≡ false
@@ -75,20 +78,6 @@ is_other of_octets old (alone m) s is = frames_held (card_of old) m s
 is_other of_frames old (with_ports m) s is = octets_held (card_of old) m s
 is_other of_frames old (alone m) s is = absurd (false≢true (sym is))
 is_other of_untimed old m s is = not_false (is_timed old) is
-
--- a refusal has a status of its own
-refused_not_ok : (why : Refusal) → 0 < refusal_status why
-refused_not_ok BadTei = omega arith
-refused_not_ok NoLink = omega arith
-refused_not_ok WrongState = omega arith
-refused_not_ok TooLong = omega arith
-refused_not_ok QueueFull = omega arith
-refused_not_ok PoolFull = omega arith
-refused_not_ok TeiTaken = omega arith
-refused_not_ok TableFull = omega arith
-refused_not_ok CheckRunning = omega arith
-refused_not_ok ControlFull = omega arith
-refused_not_ok WrongSide = omega arith
 
 -- a clock beside the card of frames of either kind
 carried : (number : ℕ) (orders : List Order) (m m' : Card) (o n : Option CardTimers) → CarryOut number orders m m' o n
@@ -125,6 +114,11 @@ module _ (asked : Asked) (old new : CardHandle) (result : ℕ) (before r : Plain
   is_wrong m status a is =
       subst (λ e. IfErr e (λ wrong. result ≡ wrong)) is
       (each_card asked.cards old m (λ m. asked.line < (card_in m).config.lines → IfErr (asked.event (card_in m)) (λ wrong. result ≡ wrong)) a.stands a.of_card c.wrong a.has_line)
+
+  is_not_ok : (m : Machine) (status : ℕ) → IsAt asked old m → asked.event (card_in m) ≡ Err status → status ≢ 0
+  is_not_ok m status a is =
+      subst (λ e. IfErr e (λ wrong. wrong ≢ 0)) is
+      (each_card asked.cards old m (λ m. asked.line < (card_in m).config.lines → IfErr (asked.event (card_in m)) (λ wrong. wrong ≢ 0)) a.stands a.of_card c.not_ok a.has_line)
 
   why_is : (m : Machine) (e : Event) (why : Refusal) → IsAt asked old m → asked.event (card_in m) ≡ Ok (inside e) → machine.answer e (card_in m) ≡ line.refused why → result ≡ refusal_status why
   why_is m e why a is refuses =
@@ -175,8 +169,8 @@ module _ (asked : Asked) (old new : CardHandle) (result : ℕ) (before r : Plain
     no_card = λ none. ((c.call.no_card none).0, (c.call.no_card none).1, c.call.unwritten (λ ok. omega (arith, ok, (c.call.no_card none).0)));
     other_card = λ m s is. is_refused 26 m s (c.call.wrong_card (is_other asked.cards old m s is)) (λ e. omega (arith, e));
     no_line = λ m s is past. is_refused 14 m s (each_card asked.cards old m (λ m. (card_in m).config.lines ≤ asked.line → result ≡ 14) s is c.call.wrong_line past) (λ e. omega (arith, e));
-    wrong = λ m status a is not_ok. is_refused status m a.stands (is_wrong m status a is) not_ok;
-    refused = λ m what why a is refuses. is_refused (refusal_status why) m a.stands (why_is m (at asked.line what) why a is refuses) (λ e. omega (arith, e, refused_not_ok why));
+    wrong = λ m status a is. is_refused status m a.stands (is_wrong m status a is) (is_not_ok m status a is);
+    refused = λ m what why a is refuses. is_refused (refusal_status why) m a.stands (why_is m (at asked.line what) why a is refuses) (refused_not_ok why);
     waits = λ bad. (c.unchanged bad).marks;
     reopened = λ m s within ok. c.call.reopened m s within ok;
     told = λ m what t a is answered.
@@ -247,9 +241,12 @@ fall_is_served now number timer m c old new result r fell = record {
 
 pub calls_are_served_by : CallsAreServed
 calls_are_served_by = record {
+  events = calls_are_events_by;
+  both_kinds = both_kinds_are_served_by;
+  writes = calls_write_by;
   calls = λ asked old new result before r c. call_is_served asked old new result before r c;
   falls_due = fall_is_served;
-  none_due = λ now m c old new result none. (none.none, none.stands, none.timers);
+  none_due = λ now m c old new result none. (none.none, none.stands, none.timers, none.marks, none.counters);
   starts = λ kind config old new s. (begun_stands (fresh kind (config_in config)) (card_of new) (s.begun refl), s.timed refl);
   timed_starts = λ kind config lengths old new s. (begun_stands (fresh kind (config_in config)) (card_of new) (s.begun refl), s.timed refl);
   shows = λ r t s. tells_shown r t s;

@@ -1,5 +1,5 @@
 -- Lemmas: where cards and clocks lie; what is served at them; two cards that exchange frames; which links wait for room; what becomes
--- of a card's own timers.
+-- of a card's own timers; what statuses tell.
 pub mod Vocabulary
 pub mod Machine
 pub mod Places
@@ -14,6 +14,7 @@ pub mod Linking
 pub mod Reopening
 pub mod Timing
 pub mod Ordering
+pub mod WrongStatuses
 pub mod Calling
 pub mod Said
 pub mod Halves
@@ -25,6 +26,7 @@ pub mod LinksTold
 pub mod BothKinds
 pub mod WrongCalls
 pub mod Numbers
+pub mod CallsWrite
 pub mod CallsServed
 pub mod CallEvents
 pub mod QuestionsAnswered

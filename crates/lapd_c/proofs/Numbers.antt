@@ -15,6 +15,7 @@ use Rattle.lapd_c.specs.Numbers.{AreServed, Asks, IsLength, NumbersAreGiven, not
 use Rattle.lapd_c.specs.Requests.{request_in}
 use Rattle.lapd_c.specs.Statuses.{wrong_tei}
 use Rattle.lapd_c.specs.Timers.{link_in, order_of_timer, timer_of_link}
+use Rattle.lapd_c.proofs.Said.{configurations_are_given_by}
 use Rattle.lapd_c.proofs.WrongCalls.{order_none, order_timer}
 
 -- a service has the number of its SAPI
@@ -178,6 +179,7 @@ numbers_are_given_by = record {
   lengths_set = λ t200 t203 t201 t202. refl;
   lengths_served = λ l h. lengths_in_range l h;
   lengths_refused = λ l is. lengths_all l is;
+  configurations = configurations_are_given_by;
   establish = λ s tei. case_establish s tei;
   release = λ s tei. case_release s tei;
   assign = λ s tei. case_assign s tei;

@@ -1,8 +1,8 @@
 -- What questions are answered.
-use Rattle.std.specs.Prelude.{◌==◌, ◌+◌, ◌-◌, Result, Err, fold, find, flat_map, if◌then◌else◌}
+use Rattle.std.specs.Prelude.{◌==◌, ◌+◌, ◌-◌, ◌++◌, Result, Err, slice_get, fold, find, flat_map, if◌then◌else◌}
 use Rattle.lapd_c.proofs.Vocabulary.{◌≡◌, ◌∷◌, ℕ, Bool, true, false, cond, Option, None, Some, IfSome, Ok, List, [], length, inl, inr, refl, sym, ap, ◌∙◌, arith, not, nat_lt, cases_lt, and_parts, false≢true, Card, Machine, with_ports, alone, card_in, OctetCard, Service, answer, at, next}
 use Rattle.std.proofs.lemmas.Bool.{ltb-true, ne_eqb}
-use Rattle.std.specs.Option.{unwrap_or}
+use Rattle.std.specs.Option.{option_map_or, unwrap_or}
 use Rattle.model_bits.specs.Heads.{head_of, or_later}
 use Rattle.model_bits.specs.Sent as item
 use Rattle.model_bits.specs.Sent.{Item, idle}
@@ -18,14 +18,16 @@ use Rattle.model_line.specs.Room.{unless}
 use Rattle.model_card.specs.Card.{line_at, state}
 use Rattle.model_card.specs.Room.{free}
 use Rattle.model_card.specs.ports.Card.{port_at}
+use Rattle.model_card.specs.ports.FrameHeard.{before_latest, octets_in}
 use Rattle.model_card.specs.ports.HeadHeard.{or_heard}
 use Rattle.model_card.specs.ports.Stored.{limit}
 use Rattle.lapd_card.proofs.Waiting.{first_waiting}
+use Rattle.lapd_c.proofs.LinksTold.{links_are_told_by}
 use Rattle.lapd_card.specs.Waiting.{IsFirstWaiting, has_next, next_waiting, waits_on}
 use Rattle.std.specs.List.{range_with_len}
 use Rattle.lapd_c.specs.Heads.{plain_head}
-use Rattle.lapd_c.specs.QuestionWords.{begun_of, or_status, room_at, room_of, room_told, state_of, waiting_from}
-use Rattle.lapd_c.specs.QuestionsAnswered.{GivesNone, IsNoService, WaitsFirst, NoneWaits, QuestionsAreAnswered, beginning, beginning_in, frame_in, frames_in, last_or, room_beside}
+use Rattle.lapd_c.specs.QuestionWords.{begun_frame_of, begun_of, heard_frame_of, in_front, or_status, room_at, room_of, room_told, state_of, waiting_from}
+use Rattle.lapd_c.specs.QuestionsAnswered.{GivesNone, HasEnded, IsNoService, WaitsFirst, NoneWaits, QuestionsAreAnswered, beginning, beginning_in, frame_in, frames_in, last_or, octets_heard, room_beside, whole_in}
 use Rattle.lapd_c.specs.Services.{if_ok, number_of, or_wrong_service}
 use Rattle.lapd_c.specs.Statuses.{wrong_tei}
 use Rattle.lapd_c.specs.Timers.{link_in, with_tei}
@@ -112,6 +114,38 @@ heard_last n201 before (stream.frame octets ∷ events) =
 heard_last n201 before (overlong four ∷ events) = heard_last n201 (Some (record { octets = four; length = n201 + 5 })) events
 heard_last n201 before (dropped cause ∷ events) = heard_last n201 before events
 
+-- ---- whole frames
+
+begun_whole : (line : ℕ) (out : List ℕ) (m : OctetCard) → begun_frame_of line out (with_ports m) ≡ whole_in out (last_or [] (flat_map frame_in (port_at line m).items))
+begun_whole line out m = ap (whole_in out) (latest_is [] (port_at line m).items)
+
+at_end : {X : Type 0} (xs : List X) (x : X) → slice_get (xs ++ x ∷ []) (length xs) ≡ Some x
+at_end [] x = refl
+at_end (y ∷ xs) x = at_end xs x
+
+past_end : {X : Type 0} (xs : List X) → slice_get (xs ++ []) (length xs) ≡ None
+past_end [] = refl
+past_end (x ∷ xs) = past_end xs
+
+octets_are : (e : Event) → octets_in e ≡ octets_heard e
+octets_are (stream.frame octets) = refl
+octets_are (overlong four) = refl
+octets_are (dropped cause) = refl
+
+-- what is heard after some others, if anything is
+abbrev whole_of : List ℕ → List Event → List Event → Result (List ℕ × ℕ) ℕ
+whole_of out before heard = in_front out (option_map_or octets_in (slice_get heard (length before)) [])
+
+heard_whole : (line : ℕ) (out : List ℕ) (m : OctetCard) (e : Event) → HasEnded line m (e ∷ []) → heard_frame_of line out (with_ports m) ≡ whole_in out (octets_heard e)
+heard_whole line out m e is =
+    let before = heard_in m.card.config.n201 (before_latest (port_at line m).received) in
+    ap (whole_of out before) is ∙ ap (λ (o : Option Event). in_front out (option_map_or octets_in o [])) (at_end before e) ∙ ap (whole_in out) (octets_are e)
+
+none_whole : (line : ℕ) (out : List ℕ) (m : OctetCard) → HasEnded line m [] → heard_frame_of line out (with_ports m) ≡ Err 28
+none_whole line out m is =
+    let before = heard_in m.card.config.n201 (before_latest (port_at line m).received) in
+    ap (whole_of out before) is ∙ ap (λ (o : Option Event). in_front out (option_map_or octets_in o [])) (past_end before)
+
 -- ---- frames that wait
 
 not_given : (line : ℕ) (m : Card) → GivesNone m line → is_given (answer (at line next) m) ≡ true → ⊥
@@ -148,12 +182,20 @@ none_waits_there from m none = go (next_waiting from m) (found (waits_on m) (ran
 
 pub questions_are_answered_by : QuestionsAreAnswered
 questions_are_answered_by = record {
+  has = λ line m within. within;
+  has_any = λ m. tt;
+  lacks = λ line m past. past;
   state = state_told;
   room = room_there;
   no_service = λ line service tei m none. of_no_link line service tei 15 m (service_other service tei none);
+  links = links_are_told_by;
   begun = begun_told;
   heard = λ line m. ap Ok (heard_last m.card.config.n201 None (heard_in m.card.config.n201 (port_at line m).received));
   no_octets = λ line m. (refl, refl);
+  begun_frame = begun_whole;
+  heard_frame = heard_whole;
+  none_ended = none_whole;
+  no_whole = λ line out m. (refl, refl);
   waits = waits_there;
   none_waits = none_waits_there;
   counters = λ c. refl;

@@ -157,6 +157,7 @@ pub settled_exchanged : (timers : Option CardTimers) (line from : ℕ) (taken : 
     → new ≡ settled timers new old → Exchanged false line taken from m card given given' to old → Exchanged (is_some timers) line taken from m card given given' to new
 settled_exchanged timers line from taken m card given given' to new old is x = record {
   n = x.n;
+  within = x.within;
   stands = x.stands;
   octets = x.octets;
   ended = elim x.ended [

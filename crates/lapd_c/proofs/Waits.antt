@@ -11,7 +11,7 @@ use Rattle.model_card.specs.Room.{room}
 use Rattle.model_link.specs.declared.rooms.Room.{Room}
 use Rattle.lapd_c.specs.LinkMarks.{MarksBecome, is_marked, marks_of}
 use Rattle.lapd_c.specs.LinkPlaces.{place_of}
-use Rattle.lapd_c.specs.Reopened.{IsFirstOpen, ShowsReopened, TellsReopened, WaitsFor, is_for_more, is_open, is_room, is_there, is_told, refused_place, waits_on, waits_there}
+use Rattle.lapd_c.specs.Reopened.{AreShutBelow, IsFirstOpen, ShowsReopened, TellsReopened, WaitsFor, is_for_more, is_open, is_room, is_there, is_told, refused_place, waits_on, waits_there}
 use Rattle.lapd_c.proofs.Halves.{even, evenly, odd, oddly}
 use Rattle.lapd_c.specs.Waits.{HasRoom, IsTold, LinksReopen, ToldOne, Waits, WaitsMore, WaitsOn}
 use Rattle.lapd_c.specs.declared.link_marks.LinkMarks.{LinkMarks}
@@ -133,6 +133,25 @@ open_of : (r : Result Room Refusal) → is_for_more r ≡ true → (left : Room)
 open_of (Ok left) is = (left, refl, ltb-true 0 left.queue is)
 open_of (Err why) is = absurd (false≢true is)
 
+-- one that waits and has room is at no place before the first such
+not_before : (place line tei : ℕ) (its : Service) (m : Card) (left : Room) (all : List LinkMarks) (w : Waits all line its tei) → AreShutBelow place line m (marks_of all line)
+    → HasRoom line its tei m left → 0 < left.queue → place ≤ w.place
+not_before place line tei its m left all w shut is more = elim (cases_lt w.place place) [
+  | inl less ↦ absurd (false≢true (sym (shut w.place less w.marked) ∙ ap is_for_more (there line tei its m left all w is) ∙ lt-ltb 0 left.queue more))
+  | inr not_less ↦ omega (arith, not_less)
+]
+
+-- of two places of one TEI the first is that of call control
+call_before : (a b : ℕ) → a ≤ b → a / 2 ≡ b / 2 → (service_at a ≡ Call) ⊎ (service_at b ≡ Packet)
+call_before a b less same = (elim (a % 2 == 0) as (λ x. (a % 2 == 0) ≡ x → (cond x Call Packet ≡ Call) ⊎ (service_at b ≡ Packet)) [
+  | true ↦ λ is. inl refl
+  | false ↦ λ is. inr (odd_there (b % 2 == 0) refl (eqb-false (a % 2) 0 is))
+]) refl
+  where
+    odd_there : (x : Bool) → (b % 2 == 0) ≡ x → a % 2 ≢ 0 → cond x Call Packet ≡ Packet
+    odd_there true is odd = absurd (odd (omega (arith, less, same, eqb-true (b % 2) 0 is)))
+    odd_there false is odd = refl
+
 told_has_room : (told : Option ℕ) (old : List LinkMarks) (line : ℕ) (m : Card) (r : PlainReport) → IsFirstOpen told line m (marks_of old line) → ShowsReopened r told → r.reopened ≡ 1 → ToldOne old line m r
 told_has_room None old line m r first shown is = absurd (omega (arith, shown, is))
 told_has_room (Some place) old line m r first shown is =
@@ -145,6 +164,10 @@ told_has_room (Some place) old line m r first shown is =
       left = its.0;
       has_room = its.1;
       more = its.2;
+      lowest = λ other its_service left w is more. omega (arith, not_before place line other its_service m left old w first.below is more, w.of_tei);
+      call_first = λ its_service left w is more.
+          subst (λ s. (service_at place ≡ Call) ⊎ (s ≡ Packet)) w.of_service
+          (call_before place w.place (not_before place line (tei_at place) its_service m left old w first.below is more) (sym w.of_tei));
     }
 
 -- ---- no other waits, and one that is told does no longer
@@ -253,7 +276,10 @@ on_by line m old new r t = record {
   one = λ tei service left w is more.
       told-one t.told line w.place m (marks_of old line) r t.first t.shown w.within w.marked (ap is_for_more (there line tei service m left old w is) ∙ lt-ltb 0 left.queue more);
   told = λ is. told_has_room t.told old line m r t.first t.shown is;
-  elsewhere = λ other tei service differs w. waits_elsewhere old new line other tei service _ t.waits differs w;
+  elsewhere = λ other tei service differs. (
+    λ w. waits_elsewhere old new line other tei service _ t.waits differs w,
+    λ w. waits_if old new other tei service w (sym (ap (λ (m : LinkMarks). is_marked m w.place) (elsewhere old new line _ t.waits other differs)) ∙ w.marked),
+  );
   lines = same_count old new line _ t.waits;
 }
 

@@ -1,5 +1,5 @@
 -- What a call that exchanges a block of octets comes to, in words of the machine.
-use Rattle.std.specs.Prelude.{◌≡◌, ◌≢◌, ◌⊎◌, ◌<◌, ℕ, ◌+◌, ◌-◌, ◌*◌, Bool, false, List, [], length, map}
+use Rattle.std.specs.Prelude.{◌≡◌, ◌≢◌, ◌⊎◌, ◌≤◌, ◌<◌, ℕ, ◌+◌, ◌-◌, ◌*◌, Bool, false, List, [], length, map}
 use Rattle.lapd_frame.specs.declared.timers.Order.{Order}
 use Rattle.model_line.specs.Event.{LineTold, nothing}
 use Rattle.model_card.specs.Counted.{all_counted}
@@ -30,6 +30,7 @@ timed_through line taken from n m c = timed.after_all (map happens (steps_made l
 -- So many steps were made, from one up to another: the card, its timers, the octets given and the counters are as after these.
 pub record BlockIsMade (line : ℕ) (taken : List ℕ) (from to : ℕ) (m : OctetCard) (old new : CardHandle) (result : ℕ) (given given' : List ℕ) (r : PlainReport) : Type 0 where
   pub ok : result ≡ 0
+  pub within : to ≤ 2 * length taken
   pub stands : OctetsStand new (after_all m (steps_made line taken from (to - from)))
   pub timers : (c : Clock) → TimersStandIn (timers_of old) m.card c
       → TimersStandIn (timers_of new) (timed_through line taken from (to - from) m c).card.card (timed_through line taken from (to - from) m c).clock

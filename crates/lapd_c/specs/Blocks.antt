@@ -26,7 +26,7 @@ pub record BlocksAreCalls : Type 0 where
   pub nothing_given : (line from : ℕ) (taken given : List ℕ) (m : OctetCard) → given_after line taken from 0 m given ≡ given
   pub all_given : (line from n : ℕ) (taken given : List ℕ) (m : OctetCard)
       → given_after line taken from (suc n) m given ≡ with_step (from + n) (answer_after line taken from n m) (given_after line taken from n m given)
-  -- A block goes on after those steps alone that have nothing to tell.
+  -- A block goes on only after steps that have nothing to tell.
   pub quiet : (line from n step : ℕ) (taken : List ℕ) (m : OctetCard) → AllQuiet line taken from n m → step < n → IsEmpty (answer_after line taken from step m)
   pub empty : (a : Answer) → tells_nothing a ≡ true → IsEmpty a
   -- So many steps are what a call of a block comes to.

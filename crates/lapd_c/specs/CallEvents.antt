@@ -1,6 +1,6 @@
 -- Which event of which line a call is, and of which cards, in words of their own: those of `lapd.h`, and not those that the
 -- contracts of the calls use.
-use Rattle.std.specs.Prelude.{◌≡◌, ◌≢◌, ◌⊎◌, ℕ, ◌+◌, ◌≤◌, ◌<◌, nat_lt, List, [], ◌∷◌, is_some, Ok, Err, if◌then◌else◌}
+use Rattle.std.specs.Prelude.{◌≡◌, ◌≢◌, ◌⊎◌, ℕ, ◌+◌, ◌≤◌, ◌<◌, nat_lt, List, [], ◌∷◌, is_some, Ok, Err, if◌then◌else◌, None}
 use Rattle.model_bits.specs.Stream.{dropped}
 use Rattle.model_bits.specs.declared.heard.Cause.{Cause}
 use Rattle.model_bits.specs.declared.heard.Cause.TheVariants as cause
@@ -41,8 +41,8 @@ abbrev pub IsSent : ℕ → (Service → ℕ → List ℕ → Request) → Type 
 IsSent number which = (line : ℕ) (service : Service) (tei : ℕ) (contents : List ℕ)
     → IsEvent of_any (request_asked line number (number_of service) tei contents) line (inside (at line (request (which service tei contents))))
 
--- A call has something wrong with it, whatever the card has: its status says what. So if a number is none from 1 to the last; or if it is
--- one, and is of a service, and that is none.
+-- Something is wrong with a call, whatever the card has, and its status says what. So it is with a number that names nothing, from 1
+-- to the last; and with one that names something of a service, if no service has that number.
 abbrev pub IsWrong : Asked → ℕ → Type 0
 IsWrong asked status = (card : Card) → asked.event card ≡ Err status
 
@@ -91,5 +91,15 @@ pub record CallsAreEvents : Type 0 where
   pub no_tei : (line number tei : ℕ) (service : Service) → 1 ≤ number → number ≤ 2 → 126 < tei → IsWrong (expire_asked line (timed number (number_of service) tei)) 16
   pub no_contents : (line number tei octet : ℕ) (service : Service) (octets : List ℕ) → 1 ≤ number → number ≤ 14 → number ≢ 3 → number ≢ 4
       → IsWrong (request_asked line number (number_of service) tei (octet ∷ octets)) 19
+  -- T201 and T202 are of no link: nothing else of the timer is read.
+  pub t201_alone : (line service tei : ℕ) → IsEvent of_untimed (expire_asked line (timed 3 service tei)) line (inside (at line (expiry T201)))
+  pub t202_alone : (line service tei : ℕ) → IsEvent of_untimed (expire_asked line (timed 4 service tei)) line (inside (at line (expiry T202)))
+  -- No other call has a link wait.
+  pub octet_waits : (line value status : ℕ) → (octet_asked line value).waits status ≡ None
+  pub pull_waits : (line status : ℕ) → (pull_asked line).waits status ≡ None
+  pub frame_waits : (line status : ℕ) (taken : List ℕ) → (frame_asked line taken).waits status ≡ None
+  pub fault_waits : (line number status : ℕ) → (failed_asked line number).waits status ≡ None
+  pub next_waits : (line room status : ℕ) → (next_frame_asked line room).waits status ≡ None
+  pub expiry_waits : (line number service tei status : ℕ) → (expire_asked line (timed number service tei)).waits status ≡ None
   -- And which link waits after a request.
   pub waits : (line number service tei status : ℕ) (contents : List ℕ) → (request_asked line number service tei contents).waits status ≡ refused_place status number service tei

@@ -74,7 +74,7 @@ pub record Served (e : Happening) (m : Machine) (old new : CardHandle) (result :
   pub obeyed : Obeyed e m old new
   pub counted : IsCounted e m (counters_at old) (counters_at new)
 
--- What every call of a line comes to, whatever happens.
+-- This holds of every call of a line, whatever happens.
 pub record IsCallOf (cards : Wanted) (line : ℕ) (old new : CardHandle) (result : ℕ) (before r : PlainReport) : Type 0 where
   pub handle : IsHandle new
   -- The card is of the same kind, and keeps its own timers if it did.
@@ -105,11 +105,12 @@ pub record Asked : Type 0 where
   pub event : Card → Result Happening ℕ
   pub waits : ℕ → Option ℕ
 
--- So a call that is an event of a line.
+-- A call is one event of a line.
 pub record Called (asked : Asked) (old new : CardHandle) (result : ℕ) (before r : PlainReport) : Type 0 where
   pub call : IsCallOf asked.cards asked.line old new result before r
-  -- If something is wrong, or if the machine refuses the event, the status says so, and nothing changes.
+  -- If something is wrong, or if the machine refuses the event, the status says so, is not OK, and nothing changes.
   pub wrong : WithLine asked.cards asked.line old (λ m. IfErr (asked.event (card_in m)) (λ wrong. result ≡ wrong))
+  pub not_ok : WithLine asked.cards asked.line old (λ m. IfErr (asked.event (card_in m)) (λ wrong. wrong ≢ status.ok))
   pub refused : WithLine asked.cards asked.line old (λ m.
       IfOk (asked.event (card_in m)) (λ e. IfSome (why_refused e m) (λ why. result ≡ refusal_status why)))
   pub unchanged : result ≢ status.ok → Unchanged asked.line (asked.waits result) old new

@@ -23,6 +23,9 @@ use Rattle.lapd_c.specs.declared.card.CardHandle.{CardHandle}
 use Rattle.lapd_c.specs.declared.plain.config.PlainConfig.{PlainConfig}
 use Rattle.lapd_c.specs.declared.plain.reports.PlainReport.{PlainReport}
 use Rattle.lapd_c.specs.declared.plain.timers.PlainLengths.{PlainLengths}
+use Rattle.lapd_c.specs.BothKinds.{BothKindsAreServed}
+use Rattle.lapd_c.specs.CallEvents.{CallsAreEvents}
+use Rattle.lapd_c.specs.CallsWrite.{CallsWrite}
 use Rattle.lapd_c.specs.CalledBy.{Asked, Called, inside, at_port}
 use Rattle.lapd_c.specs.Calls.{IsCardStart, IsTimedStart, fresh}
 use Rattle.lapd_c.specs.Cards.{card_of, marks_at, HandleStands}
@@ -87,7 +90,7 @@ pub record CallIsServed (asked : Asked) (old new : CardHandle) (result : ℕ) (b
   pub no_line : (m : Machine) → HandleStands old m → is_of asked.cards (is_timed old) m ≡ true → (card_in m).config.lines ≤ asked.line
       → IsRefused 14 m old new result before r
   -- Nor does it if its arguments are wrong, or if the machine refuses what they ask for.
-  pub wrong : (m : Machine) (status : ℕ) → IsAt asked old m → asked.event (card_in m) ≡ Err status → status ≢ 0 → IsRefused status m old new result before r
+  pub wrong : (m : Machine) (status : ℕ) → IsAt asked old m → asked.event (card_in m) ≡ Err status → IsRefused status m old new result before r
   pub refused : (m : Machine) (what : line.Event) (why : Refusal) → IsAt asked old m → asked.event (card_in m) ≡ Ok (inside (at asked.line what))
       → answer (at asked.line what) (card_in m) ≡ line.refused why → IsRefused (refusal_status why) m old new result before r
   -- Which links wait then is what the call asks for; and after one that is done, what its report tells of them.
@@ -113,8 +116,8 @@ pub record CallIsServed (asked : Asked) (old new : CardHandle) (result : ℕ) (b
       (with_ports (octets.after (octet.at asked.line what) m)) old new result
       × ShowsPull r begun false (orders_by (is_timed old) orders)
 
--- A timer of a line has fallen due first: the card stands for the machine after its expiry, and its timers for the clock that no longer has
--- it and has carried out the orders; and the report tells the timer, the line and the answer.
+-- A timer of a line has fallen due first. The card stands for the machine after its expiry. Its timers stand for the clock that no longer
+-- has it, and has carried out the orders. The report tells the timer, the line and the answer.
 pub record FallIsServed (now number : ℕ) (timer : Timer) (m : Machine) (c : Clock) (old new : CardHandle) (result : ℕ) (r : PlainReport) : Type 0 where
   pub ok : result ≡ 0
   pub stands : HandleStands new (after (at number (line.expiry timer)) m)
@@ -125,14 +128,19 @@ pub record FallIsServed (now number : ℕ) (timer : Timer) (m : Machine) (c : Cl
   pub shown : (t : LineTold) → answer (at number (line.expiry timer)) (card_in m) ≡ line.told t → Shows r (record t { orders = [] })
   pub reopened : TellsReopened number (card_in (after (at number (line.expiry timer)) m)) (marks_at old) (marks_at new) r
 
--- So each call, and what falls due at a card with its own timers; and a start begins the machine of its configuration, whose timers are
--- the caller's, or its own and none runs. What a report shows it tells, without orders if the card keeps its own timers.
+-- Each call is the event that `lapd.h` says, and is served so, at a machine of either kind. So is what falls due at a card with its
+-- own timers. A start begins the machine of its configuration; if the card keeps its own timers, none runs. What a report shows it
+-- tells, without orders if the card keeps its own timers.
 pub record CallsAreServed : Type 0 where
+  pub events : CallsAreEvents
+  pub both_kinds : BothKindsAreServed
+  pub writes : CallsWrite
   pub calls : (asked : Asked) (old new : CardHandle) (result : ℕ) (before r : PlainReport) → Called asked old new result before r → CallIsServed asked old new result before r
   pub falls_due : (now number : ℕ) (timer : Timer) (m : Machine) (c : Clock) (old new : CardHandle) (result : ℕ) (r : PlainReport) → FellDue now number timer m c old new result r
       → FallIsServed now number timer m c old new result r
   pub none_due : (now : ℕ) (m : Machine) (c : Clock) (old new : CardHandle) (result : ℕ) → NoneDue now m c old new result
       → (result ≡ 23) × HandleStands new m × TimersStandIn (timers_of new) (card_in m) (at_moment now c)
+      × (marks_at new ≡ marks_at old) × (counters_at new ≡ counters_at old)
   pub starts : (kind : CardKind) (config : PlainConfig) (old new : CardHandle) → IsCardStart kind config old new 0
       → HandleStands new (fresh kind (config_in config)) × (is_timed new ≡ false)
   pub timed_starts : (kind : CardKind) (config : PlainConfig) (lengths : PlainLengths) (old new : CardHandle) → IsTimedStart kind config lengths old new 0

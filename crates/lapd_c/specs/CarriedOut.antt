@@ -36,7 +36,7 @@ abbrev pub find_places : Timers → ℕ → ℕ → List Order → Bool
 find_places c line now [] = true
 find_places c line now (order ∷ orders) = finds_place c line order && find_places (with_order c line order now) line now orders
 
--- One of them is none: the first such.
+-- One of a report's orders names none; this is the first such.
 pub record NamesNone (r : PlainReport) (wrong : ℕ) : Type 0 where
   pub before : List PlainOrder
   pub orders : List Order

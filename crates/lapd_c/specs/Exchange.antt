@@ -1,5 +1,5 @@
 -- Octets taken and given in turn.
-use Rattle.std.specs.Prelude.{◌≡◌, ◌⊎◌, ℕ, zero, suc, ◌+◌, ◌-◌, ◌*◌, ◌/◌, ◌%◌, ◌==◌, nat_le, Bool, true, false, not, ◌&&◌, List, [], ◌∷◌, ◌++◌, length, get_or, set, is_none, None, Some, if◌then◌else◌}
+use Rattle.std.specs.Prelude.{◌≡◌, ◌≤◌, ◌⊎◌, ℕ, zero, suc, ◌+◌, ◌-◌, ◌*◌, ◌/◌, ◌%◌, ◌==◌, nat_le, Bool, true, false, not, ◌&&◌, List, [], ◌∷◌, ◌++◌, length, get_or, set, is_none, None, Some, if◌then◌else◌}
 use Rattle.model_line.specs.Event.{nothing}
 use Rattle.model_card.specs.ports.Card.{OctetCard, answer}
 use Rattle.model_card.specs.ports.Event.{Event, at}
@@ -90,6 +90,7 @@ pub record OrdersLast (line : ℕ) (taken : List ℕ) (from : ℕ) (m : OctetCar
 -- So many steps were made of the machine, and the card stands for it after them.
 pub record Exchanged (timed : Bool) (line : ℕ) (taken : List ℕ) (from : ℕ) (m : OctetCard) (card : Held Store) (given given' : List ℕ) (to : ℕ) (r : PlainReport) : Type 0 where
   pub n : ℕ
+  pub within : to ≤ 2 * length taken
   pub stands : CardStands card (card_after line taken from n m)
   pub octets : given' ≡ given_after line taken from n m given
   pub ended : IsThrough line taken from n m to r ⊎ TellsAtLast timed line taken from n m to r

@@ -17,7 +17,7 @@ use Rattle.lapd_c.specs.Statuses as status
 use Rattle.lapd_c.specs.Timers.{plain_timer}
 
 -- What holds of each machine, and clock beside it, that stand for a card; and of each whose time can be a moment: one that is not
--- before the last, nor after the latest.
+-- before the last, and is before 2^63.
 abbrev pub WithClock : CardHandle → (Machine → Clock → Type 0) → Type 0
 WithClock h holds = (m : Machine) (c : Clock) → HandleStands h m → TimersStandIn (timers_of h) (card_in m) c → holds m c
 

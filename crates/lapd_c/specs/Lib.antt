@@ -47,6 +47,7 @@ pub mod CarriedOut
 pub mod LinksTold
 pub mod BothKinds
 pub mod Numbers
+pub mod CallsWrite
 pub mod CallsServed
 pub mod CallEvents
 pub mod QuestionsAnswered

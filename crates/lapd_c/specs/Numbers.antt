@@ -20,6 +20,7 @@ use Rattle.lapd_c.specs.Heads.{plain_head}
 use Rattle.lapd_c.specs.Notes.{cause_number, plain_note}
 use Rattle.lapd_c.specs.Requests.{request_in}
 use Rattle.lapd_c.specs.Rooms.{plain_room}
+use Rattle.lapd_c.specs.Said.{ConfigurationsAreGiven}
 use Rattle.lapd_c.specs.Statuses as status
 pub use Rattle.lapd_c.specs.Services.{number_of}
 use Rattle.lapd_c.specs.Statuses.{field_status, refusal_status}
@@ -113,6 +114,8 @@ pub record NumbersAreGiven : Type 0 where
   pub lengths_set : (t200 t203 t201 t202 : ℕ) → lengths_given t200 t203 t201 t202 ≡ record { t200 = t200; t203 = t203; t201 = t201; t202 = t202 }
   pub lengths_served : (l : Lengths) → AreServed l → first_out_of_range l ≡ None
   pub lengths_refused : (l : Lengths) → first_out_of_range l ≡ None → AreServed l
+  -- What a start is given.
+  pub configurations : ConfigurationsAreGiven
   -- Requests; of data and of unit data also the contents.
   pub establish : Asks 1 Establish
   pub release : Asks 2 Release
@@ -151,8 +154,7 @@ pub record NumbersAreGiven : Type 0 where
   pub bad_n201 : field_status field.N201 ≡ 41
   pub bad_n200 : field_status field.N200 ≡ 42
   pub bad_sapi : field_status field.Sapi ≡ 44
-  -- Other statuses: OK; and no card, no clock, a second start, a wrong line, service, TEI, timer, request, length, order and time, no
-  -- memory, timer, place, and no more links, a wrong card and cause, and no frame.
+  -- Other statuses, in the order of their numbers.
   pub ok : status.ok ≡ 0
   pub others : status.no_card ∷ status.no_clock ∷ status.second_start ∷ status.wrong_line ∷ status.wrong_service ∷ status.wrong_tei ∷ status.wrong_timer ∷ status.wrong_request
       ∷ status.wrong_length ∷ status.wrong_order ∷ status.wrong_time ∷ status.no_memory ∷ status.no_timer ∷ status.no_place ∷ status.no_more_links ∷ status.wrong_card

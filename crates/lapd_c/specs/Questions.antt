@@ -25,10 +25,11 @@ abbrev pub Has : Option ℕ → Machine → Type 0
 Has None m = Unit {0}
 Has (Some line) m = line < (card_in m).config.lines
 
--- What is asked of a machine that stands for the card: its word is written, or the status says why it has none.
+-- What is asked of a machine that stands for the card: its word is written, or the status says why it has none, and is not OK.
 pub record Questioned {A : Type 0} (cards : Wanted) (line : Option ℕ) (word : Machine → Result A ℕ) (old new : CardHandle) (result : ℕ)
     (before after : A) : Type 0 where
   pub question : IsQuestion cards old new result before after
   pub wrong_line : OfEach cards old (λ m. Lacks line m → result ≡ status.wrong_line)
   pub wrong : OfEach cards old (λ m. Has line m → IfErr (word m) (λ wrong. result ≡ wrong))
+  pub not_ok : OfEach cards old (λ m. Has line m → IfErr (word m) (λ wrong. wrong ≢ status.ok))
   pub told : OfEach cards old (λ m. Has line m → IfOk (word m) (λ is. (result ≡ status.ok) × (after ≡ is)))

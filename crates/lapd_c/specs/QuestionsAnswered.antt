@@ -1,5 +1,5 @@
 -- What questions are answered, in words of their own: those of `lapd.h` and of the machine.
-use Rattle.std.specs.Prelude.{◌≡◌, ◌≢◌, ◌≤◌, ◌<◌, ◌==◌, ℕ, ◌+◌, ◌-◌, ◌*◌, ◌%◌, nat_lt, List, [], ◌∷◌, ◌++◌, length, take, drop, flat_map, replicate, Some, None, Ok, Err, codes, refl, if◌then◌else◌}
+use Rattle.std.specs.Prelude.{◌≡◌, ◌≢◌, ◌≤◌, ◌<◌, ◌==◌, ℕ, ◌+◌, ◌-◌, ◌*◌, ◌%◌, nat_lt, List, [], ◌∷◌, ◌++◌, length, take, drop, flat_map, replicate, Some, None, Result, Ok, Err, codes, refl, if◌then◌else◌}
 use Rattle.std.specs.Option.{unwrap_or}
 use Rattle.model_bits.specs.Sent as item
 use Rattle.model_bits.specs.Sent.{Item, idle}
@@ -24,10 +24,12 @@ use Rattle.model_card.specs.Machine.{after, answer}
 use Rattle.model_card.specs.Stored as of_frames
 use Rattle.model_card.specs.ports.Card.{OctetCard, port_at}
 use Rattle.model_card.specs.ports.Stored as of_octets
-use Rattle.lapd_card.specs.Kinds.{Machine, with_ports, alone}
+use Rattle.lapd_card.specs.Kinds.{Machine, with_ports, alone, card_in}
 use Rattle.lapd_c.specs.Counters.{plain_counters}
+use Rattle.lapd_c.specs.LinksTold.{LinksAreTold}
 use Rattle.lapd_c.specs.Services.{number_of}
-use Rattle.lapd_c.specs.QuestionWords.{begun_of, heard_of, limit_of, lines_of, room_of, state_of, stored_of, waiting_from}
+use Rattle.lapd_c.specs.Questions.{Has, Lacks}
+use Rattle.lapd_c.specs.QuestionWords.{begun_frame_of, begun_of, heard_frame_of, heard_of, limit_of, lines_of, room_of, state_of, stored_of, waiting_from}
 use Rattle.lapd_c.specs.Texts.{text_of}
 use Rattle.lapd_count.specs.declared.counters.Counters.{Counters}
 use Rattle.lapd_c.specs.declared.plain.heads.PlainHead.{PlainHead}
@@ -50,7 +52,7 @@ room_beside l card = record { pool = card.config.slots - used card; queue = card
 abbrev pub beginning : List ℕ → PlainHead
 beginning octets = record { length = length octets; octets = take 4 (octets ++ replicate 4 0) }
 
--- The last of some, or another if there is none.
+-- The last of a list, or another value if the list is empty.
 abbrev pub last_or : {A : Type 0} → A → List A → A
 last_or other [] = other
 last_or other (first ∷ rest) = last_or first rest
@@ -65,6 +67,23 @@ abbrev pub beginning_in : ℕ → Event → List PlainHead
 beginning_in n201 (stream.frame octets) = beginning octets ∷ []
 beginning_in n201 (overlong four) = record { length = n201 + 5; octets = four } ∷ []
 beginning_in n201 (dropped cause) = []
+
+-- A whole frame, in front of other octets, if there is one and if it has room there; and of what was heard, the octets.
+abbrev pub whole_in : List ℕ → List ℕ → Result (List ℕ × ℕ) ℕ
+whole_in out octets =
+    if length octets == 0 then Err 28 else if nat_lt (length out) (length octets) then Err 19
+    else Ok (octets ++ drop (length octets) out, length octets)
+
+abbrev pub octets_heard : Event → List ℕ
+octets_heard (stream.frame octets) = octets
+octets_heard (overlong four) = four
+octets_heard (dropped cause) = []
+
+-- The latest octet of a line has ended these: they are heard in all octets, behind what is heard in those before it.
+abbrev pub HasEnded : ℕ → OctetCard → List Event → Type 0
+HasEnded line m ended =
+    let received = (port_at line m).received in
+    heard_in m.card.config.n201 received ≡ heard_in m.card.config.n201 (take (length received - 1) received) ++ ended
 
 -- A frame waits first on the first line, from one on, of which a call for the next frame gives one; or none waits on any.
 abbrev pub GivesNone : Card → ℕ → Type 0
@@ -89,6 +108,10 @@ abbrev pub said_of : ℕ → List ℕ → List ℕ
 said_of side octets = told_text (if side == 0 then Network else User) octets
 
 pub record QuestionsAreAnswered : Type 0 where
+  -- A question of a line is asked if the card has that line. One of the whole card is always asked.
+  pub has : (line : ℕ) (m : Machine) → line < (card_in m).config.lines → Has (Some line) m
+  pub has_any : (m : Machine) → Has None m
+  pub lacks : (line : ℕ) (m : Machine) → (card_in m).config.lines ≤ line → Lacks (Some line) m
   -- A link's state is told by its number, and 0 if its TEI is not on the line; its room, if it is. No TEI of a
   -- terminal is over 126.
   pub state : (line tei : ℕ) (s : Service) (m : Machine) → state_of line (number_of s) tei m
@@ -96,12 +119,19 @@ pub record QuestionsAreAnswered : Type 0 where
   pub room : (line tei : ℕ) (s : Service) (m : Machine) → let l = line_at line (frames_in m) in room_of line (number_of s) tei m
       ≡ (if nat_lt 126 tei then Err 16 else if has_tei tei l then Ok (room_beside (link_of s tei l) (frames_in m)) else Err 2)
   pub no_service : (line service tei : ℕ) (m : Machine) → IsNoService service → (state_of line service tei m ≡ Err 15) × (room_of line service tei m ≡ Err 15)
+  -- So is which links a line has.
+  pub links : LinksAreTold
   -- The frame that has begun is the last one that was put on the line; and of those that were heard the last is told. A card of frames
   -- has neither.
   pub begun : (line : ℕ) (m : OctetCard) → begun_of line (with_ports m) ≡ Ok (beginning (last_or [] (flat_map frame_in (port_at line m).items)))
   pub heard : (line : ℕ) (m : OctetCard) → let n201 = m.card.config.n201 in heard_of line (with_ports m)
       ≡ Ok (last_or (beginning []) (flat_map (beginning_in n201) (heard_in n201 (port_at line m).received)))
   pub no_octets : (line : ℕ) (m : Card) → (begun_of line (alone m) ≡ Err 26) × (heard_of line (alone m) ≡ Err 26)
+  -- The same frame that has begun, whole; and that which the latest octet has ended, if it has ended any.
+  pub begun_frame : (line : ℕ) (out : List ℕ) (m : OctetCard) → begun_frame_of line out (with_ports m) ≡ whole_in out (last_or [] (flat_map frame_in (port_at line m).items))
+  pub heard_frame : (line : ℕ) (out : List ℕ) (m : OctetCard) (e : Event) → HasEnded line m (e ∷ []) → heard_frame_of line out (with_ports m) ≡ whole_in out (octets_heard e)
+  pub none_ended : (line : ℕ) (out : List ℕ) (m : OctetCard) → HasEnded line m [] → heard_frame_of line out (with_ports m) ≡ Err 28
+  pub no_whole : (line : ℕ) (out : List ℕ) (m : Card) → (begun_frame_of line out (alone m) ≡ Err 26) × (heard_frame_of line out (alone m) ≡ Err 26)
   -- Where a frame waits first is told.
   pub waits : (from line : ℕ) (m : Card) → WaitsFirst m from line → waiting_from from (alone m) ≡ Ok line
   pub none_waits : (from : ℕ) (m : Card) → NoneWaits m from → waiting_from from (alone m) ≡ Err 28

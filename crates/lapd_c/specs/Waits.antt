@@ -41,9 +41,12 @@ pub record ToldOne (all : List LinkMarks) (line : ℕ) (m : Card) (r : PlainRepo
   pub left : Room
   pub has_room : HasRoom line service tei m left
   pub more : 0 < left.queue
+  -- It is the first such: the lowest TEI, and of both services of one TEI call control.
+  pub lowest : (other : ℕ) (its : Service) (room_there : Room) → Waits all line its other → HasRoom line its other m room_there → 0 < room_there.queue → tei ≤ other
+  pub call_first : (its : Service) (room_there : Room) → Waits all line its tei → HasRoom line its tei m room_there → 0 < room_there.queue → (service ≡ Call) ⊎ (its ≡ Packet)
 
--- Which links wait after a request is refused: each that did, and that of the request if it was for data (3), and if its queue had no
--- room for them (5).
+-- After a request is refused, each link waits that did. The request's own link waits, too, if it asked to send data (3) and its queue
+-- had no room (5).
 pub record WaitsMore (status request sapi its line : ℕ) (old new : List LinkMarks) : Type 0 where
   pub begins : (service : Service) → status ≡ refusal_status QueueFull → request ≡ 3 → sapi ≡ sapi_of service → its ≤ 126 → line < length old → Waits new line service its
   pub stays : (other tei : ℕ) (service : Service) → Waits old other service tei → Waits new other service tei
@@ -51,15 +54,15 @@ pub record WaitsMore (status request sapi its line : ℕ) (old new : List LinkMa
       → Waits old other service tei ⊎ ((status ≡ 5) × (request ≡ 3) × (other ≡ line) × (service ≡ (if sapi == 0 then Call else Packet)) × (tei ≡ its))
   pub lines : length new ≡ length old
 
--- Which wait after a call of a line: there each that did, if its TEI is on the line, and if it is not told; elsewhere all that did. One that
--- waits and has room is told, if there is one.
+-- Which wait after a call of a line: there each that did, if its TEI is on the line, and if it is not told; elsewhere all that did, and no
+-- others. One that waits and has room is told, if there is one.
 pub record WaitsOn (line : ℕ) (m : Card) (old new : List LinkMarks) (r : PlainReport) : Type 0 where
   pub stays : (tei : ℕ) (service : Service) (left : Room) → line < length old → Waits old line service tei → HasRoom line service tei m left → IsTold r service tei ⊎ Waits new line service tei
   pub no_other : (tei : ℕ) (service : Service) → line < length old → Waits new line service tei → Waits old line service tei × ((left : Room) × HasRoom line service tei m left)
   pub once : (tei : ℕ) (service : Service) → line < length old → IsTold r service tei → Waits new line service tei → ⊥
   pub one : (tei : ℕ) (service : Service) (left : Room) → Waits old line service tei → HasRoom line service tei m left → 0 < left.queue → r.reopened ≡ 1
   pub told : r.reopened ≡ 1 → ToldOne old line m r
-  pub elsewhere : (other tei : ℕ) (service : Service) → other ≢ line → Waits old other service tei → Waits new other service tei
+  pub elsewhere : (other tei : ℕ) (service : Service) → other ≢ line → (Waits old other service tei → Waits new other service tei) × (Waits new other service tei → Waits old other service tei)
   pub lines : length new ≡ length old
 
 -- No link waits as a card begins.

@@ -2,13 +2,9 @@
 
 ghost use Rattle.lapd_c.specs.AsBefore.{AsBefore};
 ghost use Rattle.lapd_c.specs.Laws.{ContentsFit};
-ghost use Rattle.lapd_c.specs.Said.{ConfigurationsAreGiven};
 ghost use Rattle.lapd_c.specs.CallsServed.{CallsAreServed};
-ghost use Rattle.lapd_c.specs.CallEvents.{CallsAreEvents};
 ghost use Rattle.lapd_c.specs.Blocks.{BlocksAreCalls};
 ghost use Rattle.lapd_c.specs.CarriedOut.{OrdersAreCarriedOut};
-ghost use Rattle.lapd_c.specs.LinksTold.{LinksAreTold};
-ghost use Rattle.lapd_c.specs.BothKinds.{BothKindsAreServed};
 ghost use Rattle.lapd_c.specs.Numbers.{NumbersAreGiven};
 ghost use Rattle.lapd_c.specs.QuestionsAnswered.{QuestionsAreAnswered};
 ghost use Rattle.lapd_c.specs.Waits.{LinksReopen};
@@ -23,13 +19,6 @@ pub fn contents_fit()
 /// between: all that `Called` says of an expiry holds of it, and of whose timers they are nothing is asked.
 pub fn as_before()
     ensures { AsBefore }
-{}
-
-/// A card has the configuration that its start was given, field by field. The side is 0 for the network's, 1 for a trunk's end
-/// and 2 for a terminal, which alone has a first reference number. A SAPI of 0 stands for 16.
-#[tactic(auto, using(crate::proofs::Said::configurations_are_given_by))]
-pub fn configurations_are_given()
-    ensures { ConfigurationsAreGiven }
 {}
 
 /// A link on which contents were refused, as its queue was full, waits from then on. It waits on, whatever calls come, until it is
@@ -54,27 +43,19 @@ pub fn orders_are_carried_out()
     ensures { OrdersAreCarriedOut }
 {}
 
-/// Links are told one after the other: each that is on the line from a place on, by TEI, call control before packet, with its
-/// state; and that there is no more, only if no TEI that a terminal can have has one.
-#[tactic(auto, using(crate::proofs::LinksTold::links_are_told_by))]
-pub fn links_are_told()
-    ensures { LinksAreTold }
-{}
-
-/// Both kinds of cards are served. At a card of octets a request and an expiry are those events of its machine, of which the laws
-/// of octets speak, and at a card of frames each event is itself.
-#[tactic(auto, using(crate::proofs::BothKinds::both_kinds_are_served_by))]
-pub fn both_kinds_are_served()
-    ensures { BothKindsAreServed }
-{}
-
 /// Numbers mean what `include/lapd.h` says: those of notes, errors, causes, faults, timers, orders, requests, refusals and fields;
-/// and lengths, rooms and heads are those of the card.
+/// and lengths, rooms and heads are those of the card. A card has the configuration that its start was given, field by field. The
+/// side is 0 for the network's, 1 for a trunk's end and 2 for a terminal, which alone has a first reference number. A SAPI of 0 stands
+/// for 16.
 #[tactic(auto, using(crate::proofs::Numbers::numbers_are_given_by))]
 pub fn numbers_are_given()
     ensures { NumbersAreGiven }
 {}
 
+/// A call is the event that `include/lapd.h` says, of the line that is given and of the cards that it is for: an octet, a pull, a
+/// frame, a fault, a call for the next frame, the expiry of each timer, and each request. At a card of octets a request and an expiry
+/// are those events of its machine, of which the laws of octets speak, and at a card of frames each event is itself.
+///
 /// A call that is an event is served: the card stands for the machine after it, and the report tells the machine's answer, place by
 /// place; without orders if the card keeps its own timers, whose clock then has carried them out. If arguments are wrong, or the machine
 /// refuses the event, the status says so, and nothing changes. A card begins as the fresh machine of its configuration.
@@ -83,16 +64,10 @@ pub fn calls_are_served()
     ensures { CallsAreServed }
 {}
 
-/// A call is the event that `include/lapd.h` says, of the line that is given and of the cards that it is for: an octet, a pull, a
-/// frame, a fault, a call for the next frame, the expiry of each timer, and each request.
-#[tactic(auto, using(crate::proofs::CallEvents::calls_are_events_by))]
-pub fn calls_are_events()
-    ensures { CallsAreEvents }
-{}
-
 /// Questions are answered as `include/lapd.h` says: a link's state and room, the frames that have begun and that were heard, the first
 /// line on which a frame waits, counters, what is stored and may be, lines, and octets in words. If one has no answer, its status
-/// says why.
+/// says why. Links are told one after the other: each that is on the line from a place on, by TEI, call control before packet, with
+/// its state; and that there is no more, only if no TEI that a terminal can have has one.
 #[tactic(auto, using(crate::proofs::QuestionsAnswered::questions_are_answered_by))]
 pub fn questions_are_answered()
     ensures { QuestionsAreAnswered }

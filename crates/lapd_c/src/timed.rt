@@ -19,7 +19,7 @@ use lapd_card::BareReport;
 pub extern "C" fn lapd_fall_due(handle: &mut CardHandle, now: u64, report: &mut PlainReport) -> u32
     requires { IsHandle handle.old }
     ensures call { IsMomentCall handle.old handle.new result report.old report.new }
-    // A moment before the last one, or after the latest, is refused, and nothing changes.
+    // A moment before the last one, or from 2^63 on, is refused, and nothing changes.
     ensures wrong_time { WithClock handle.old (λ m c. (now < c.now) ⊎ (2 ^ 63 ≤ now)
         → (result ≡ status.wrong_time) × (card_of handle.new ≡ card_of handle.old)) }
     ensures none { AtMoment now handle.old (λ m c. due (at_moment now c) ≡ None → NoneDue now m c handle.old handle.new result) }
@@ -41,7 +41,7 @@ pub extern "C" fn lapd_fall_due(handle: &mut CardHandle, now: u64, report: &mut 
 fn fall_due(handle: &mut CardHandle, now: u64, report: &mut PlainReport) -> u32
     requires { IsHandle handle.old }
     ensures call { IsMomentCall handle.old handle.new result report.old report.new }
-    // A moment before the last one, or after the latest, is refused, and nothing changes.
+    // A moment before the last one, or from 2^63 on, is refused, and nothing changes.
     ensures wrong_time { WithClock handle.old (λ m c. (now < c.now) ⊎ (2 ^ 63 ≤ now)
         → (result ≡ status.wrong_time) × (card_of handle.new ≡ card_of handle.old)) }
     ensures none { AtMoment now handle.old (λ m c. due (at_moment now c) ≡ None → NoneDue now m c handle.old handle.new result) }

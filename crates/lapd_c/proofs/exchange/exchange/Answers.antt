@@ -42,6 +42,7 @@ returns-in-Some-clause-made c =
     let made = made-more line taken from m _ n step _ _ _ _ _ at t.0 e.leads (e.given there t.0.stands) in
     record {
       n = suc n;
+      within = omega (arith, c.loop-step.near-step, c.loop-step.far-step);
       stands = made.stands;
       octets = made.octets;
       ended = inr (record {
@@ -75,6 +76,7 @@ returns-clause-made c =
     let t = i.made.2 m s in
     record {
       n = i.made.0;
+      within = omega arith;
       stands = t.0.stands;
       octets = t.0.octets;
       ended = inl (record { end = omega arith; made = omega (arith, at); quiet = t.1; report = c.show_nothing.ensures.told });

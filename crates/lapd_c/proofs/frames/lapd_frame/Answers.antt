@@ -7,6 +7,7 @@ pub returns-clause-called : goal.returns-clause-called
 returns-clause-called c = record {
   call = c.frame.ensures.call;
   wrong = λ m s w. tt;
+  not_ok = λ m s w. tt;
   refused = λ m s w. nothing_refused _ _ (never_refused_heard c.args.line (came m.config.n201 c.args.octets.now) m);
   unchanged = λ not_ok. as_it_was c.args.line c.args.handle.now c.frame.new.handle (c.frame.ensures.unchanged not_ok);
   served = λ m s w none. c.frame.ensures.served m s w;

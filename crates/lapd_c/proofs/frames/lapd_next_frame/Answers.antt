@@ -5,12 +5,14 @@ use Rattle.lapd_c.specs.Cards.{HandleStands, StandsIn}
 use Rattle.lapd_c.specs.Counted.{counters_at, counters_held}
 use Rattle.lapd_c.specs.Statuses as status
 use Rattle.lapd_c.proofs.Calling.{any_some, at_some, never_refused_next, next_served, next_wrong, nothing_refused, octets_held, shown_next}
+use Rattle.lapd_c.proofs.WrongStatuses.{next_not_ok}
 use Rattle.lapd_c.proofs.frames.lapd_next_frame.Goals as goal
 
 pub returns-clause-called : goal.returns-clause-called
 returns-clause-called c = let room = length c.args.out.now in record {
   call = c.next_frame.ensures.call;
   wrong = λ m s w. next_wrong c.args.line room m _ (c.next_frame.ensures.wrong_length m s w) (c.next_frame.ensures.none m s w);
+  not_ok = λ m s w. next_not_ok c.args.line room m;
   refused = λ m s w. next_served c.args.line room m _ (λ fits sent is. nothing_refused _ _ (never_refused_next c.args.line m));
   unchanged = λ not_ok. record {
     stands = λ m s. stays m s not_ok;

@@ -21,6 +21,7 @@ returns c = record {
       expired = it.call.expired;
     };
     wrong = λ m s w. it.wrong m (s, untimed) w;
+    not_ok = λ m s w. it.not_ok m (s, untimed) w;
     refused = λ m s w. it.refused m (s, untimed) w;
     unchanged = it.unchanged;
     served = λ m s w. it.served m (s, untimed) w;

@@ -1,0 +1,138 @@
+-- What calls write, and what is there after a start.
+use Rattle.std.specs.Prelude.{replicate, get_or, cond, is_some, option_map, IfSome, zero, suc}
+use Rattle.std.proofs.lemmas.Option.{none-some, same_Some}
+use Rattle.lapd_clock.specs.Timer.{first_out_of_range}
+use Rattle.lapd_clock.specs.Timers.{Timers, with_lengths}
+use Rattle.lapd_c.specs.Clocks.{clock_of}
+use Rattle.lapd_c.specs.Cards.{without_marks}
+use Rattle.std.proofs.Common.{⊎_elim}
+use Rattle.lapd_c.proofs.Vocabulary.{◌≡◌, ◌≤◌, ◌<◌, ◌++◌, ℕ, Option, None, Some, List, length, drop, refl, sym, ap, subst, ◌∙◌, false≢true, Machine, card_in}
+use Rattle.std.proofs.lemmas.List.{take-append-drop}
+use Rattle.lapd_count.specs.Counters.{count, none_counted, place, value_in}
+use Rattle.lapd_count.specs.declared.counter.Counter.{Counter}
+use Rattle.lapd_count.specs.declared.counters.Counters.{Counters}
+use Rattle.lapd_frame.specs.declared.services.Service.{Service}
+use Rattle.model_line.specs.Event.{NextFrame, given_in}
+use Rattle.model_timed.specs.Clock.{at_moment, due}
+use Rattle.lapd_card.specs.Kinds.{AnyStands, counters_of, line_count}
+use Rattle.lapd_card.specs.declared.kinds.AnyCard.{AnyCard}
+use Rattle.lapd_c.specs.CallsWrite.{CallsWrite, HasNothing}
+use Rattle.lapd_c.specs.Answers.{octet_of}
+use Rattle.lapd_c.specs.CardSlots.{HeldCard}
+use Rattle.lapd_c.specs.Cards.{card_of, marks_held, served_card, StandsIn}
+use Rattle.lapd_c.specs.Calls.{HasBegun}
+use Rattle.lapd_c.specs.Config.{config_fault}
+use Rattle.lapd_c.specs.Counted.{counters_held}
+use Rattle.lapd_c.specs.Counters.{plain_counters}
+use Rattle.lapd_c.specs.Frames.{IsGiven, next_at}
+use Rattle.lapd_c.specs.Waits.{Waits}
+use Rattle.lapd_c.specs.FallsDue.{FellDue}
+use Rattle.lapd_c.specs.declared.card.CardHandle.{CardHandle}
+
+-- what holds of what is there
+there : {A : Type 0} (holds : A → Type 0) (o : Option A) (x : A) → IfSome o holds → o ≡ Some x → holds x
+there holds o x h is = subst (λ o. IfSome o holds) is h
+
+-- a frame is written
+frame_written : (long : ℕ) (out out' : List ℕ) (given : NextFrame) → IsGiven given out out' long → (long ≡ length given.octets) × (out' ≡ given.octets ++ drop (length given.octets) out)
+frame_written long out out' given h = (
+  h.whole,
+  sym (take-append-drop long out') ∙ ap (λ l. l ++ drop long out') h.octets ∙ ap (λ l. given.octets ++ l) h.rest
+      ∙ ap (λ n. given.octets ++ drop n out) h.whole,
+)
+
+-- nothing is there after a start
+none_marked : (h : HeldCard) (m : Machine) → HasBegun m h → (line tei : ℕ) (service : Service) → Waits (marks_held h) line service tei → ⊥
+none_marked None m begun line tei service w = absurd begun
+none_marked (Some kept) m begun line tei service w = false≢true (sym (begun.marks.none line w.place w.within) ∙ w.marked)
+
+same : (k n : ℕ) → get_or {A = ℕ} (replicate k 0) n 0 ≡ 0
+same zero n = refl
+same (suc k) zero = refl
+same (suc k) (suc n) = same k n
+
+no_value : (counter : Counter) → value_in none_counted counter ≡ 0
+no_value counter = same count (place counter)
+
+all_the_same : (k n : ℕ) (x : Counters) → get_or (replicate k x) n x ≡ x
+all_the_same zero n x = refl
+all_the_same (suc k) zero x = refl
+all_the_same (suc k) (suc n) x = all_the_same k n x
+
+none_there : (h : HeldCard) (m : Machine) → HasBegun m h → (line : ℕ) → get_or (counters_held h) line none_counted ≡ none_counted
+none_there None m begun line = absurd begun
+none_there (Some kept) m begun line =
+    ap (λ all. get_or all line none_counted) begun.counters ∙ all_the_same (card_in m).config.lines line none_counted
+
+nothing_there : (h : CardHandle) (m : Machine) → HasBegun m (card_of h) → HasNothing h
+nothing_there h m begun = record {
+  no_waits = none_marked (card_of h) m begun;
+  no_counts = λ line counter. ap (λ k. value_in k counter) (none_there (card_of h) m begun line) ∙ no_value counter;
+}
+
+-- counters of the card that is there
+same_counters : (h : HeldCard) (card : AnyCard) → option_map without_marks h ≡ Some card → counters_held h ≡ counters_of card
+same_counters None card is = absurd (none-some card is)
+same_counters (Some kept) card is = ap counters_of (same_Some kept.card card is)
+
+-- one that is the same but for what waits
+same_stands : (old new : HeldCard) (m : Machine) → option_map without_marks new ≡ option_map without_marks old → StandsIn old m → StandsIn new m
+same_stands None new m is stands = absurd stands
+same_stands (Some kept) None m is stands = absurd (none-some kept.card is)
+same_stands (Some kept) (Some then) m is stands = subst (λ card. AnyStands card m) (sym (same_Some then.card kept.card is)) stands
+
+same_kept : (old new : HeldCard) → option_map without_marks new ≡ option_map without_marks old → counters_held new ≡ counters_held old
+same_kept None None is = refl
+same_kept None (Some then) is = absurd (none-some then.card (sym is))
+same_kept (Some kept) None is = absurd (none-some kept.card is)
+same_kept (Some kept) (Some then) is = ap counters_of (same_Some then.card kept.card is)
+
+-- if something is out of range
+out_of_range : {A : Type 0} (o : Option A) (c d : Timers) → IfSome o (λ _. (cond {A = ℕ} (is_some o) 21 0 ≡ 21) × (cond (is_some o) c d ≡ c))
+out_of_range None c d = tt
+out_of_range (Some x) c d = (refl, refl)
+
+pub calls_write_by : CallsWrite
+calls_write_by = record {
+  octet = λ line written value begun orders h m said stands within is. said m stands within ∙ ap octet_of is;
+  frame = λ line long out out' given h m said stands within room is.
+      frame_written long out out' given (there (λ x. IsGiven x out out' long) (next_at line m) given (said m stands within room) (ap given_in is));
+  named = λ asked old new result before r m called stands within ok.
+      let it = called.call in ((it.reopened m stands within ok).of_line, ap (λ t. t.timer) (it.expired ok));
+  timed = λ asked old new result before r called. called.call.timed;
+  refused = λ now result old new m c said stands timers early. said m c stands timers early;
+  fell_due = λ now result x old new m c r said it is.
+      there (λ x. FellDue now x.line x.timer m c old new result r) (due (at_moment now c)) x (said m c it.stands it.timers it.not_before it.not_after) is;
+  none_due = λ now result old new m c said it is. said m c it.stands it.timers it.not_before it.not_after is;
+  untimed = λ old new result before r called some untimed. ⊎_elim (λ none. absurd (some none)) (λ wrong. wrong.0) (called.wrong_card untimed);
+  no_moment_card = λ old new result before r called. called.no_card;
+  unwritten = λ old new result before r called. called.unwritten;
+  lengths_alone = λ old new result m called stands.
+      (same_stands (card_of old) (card_of new) m called.card stands, same_kept (card_of old) (card_of new) called.card, called.marks);
+  no_lengths_card = λ old new result called. called.no_card;
+  lengths_of_another = λ old new result called some untimed. ⊎_elim (λ none. absurd (some none)) (λ wrong. wrong) (called.wrong_card untimed);
+  second_start = λ kind config old new result kept h is. there (λ _. (result ≡ 13) × (new ≡ old)) (card_of old) kept h.start.second is;
+  wrong_start = λ kind config old new result wrong h none is. there (λ wrong. (result ≡ wrong) × (new ≡ old)) (config_fault config) wrong (h.start.fault none) is;
+  second_timed_start = λ kind config lengths old new result kept h is. there (λ _. (result ≡ 13) × (new ≡ old)) (card_of old) kept h.second is;
+  wrong_timed_start = λ kind config lengths old new result wrong h none is. there (λ wrong. (result ≡ wrong) × (new ≡ old)) (config_fault config) wrong (h.fault none) is;
+  wrong_lengths = λ kind config lengths old new result h. h.wrong_time;
+  second_clock = λ config old new result clock h is. there (λ _. (result ≡ 13) × (new ≡ old)) (clock_of old) clock h.start.second is;
+  wrong_clock = λ config old new result wrong h none is. there (λ wrong. (result ≡ wrong) × (new ≡ old)) (config_fault config) wrong (h.start.fault none) is;
+  card_ends = λ old new result kept h is. there (λ _. (result ≡ 0) × (card_of new ≡ None)) (card_of old) kept h.freed is;
+  clock_ends = λ old new result clock h is. there (λ _. (result ≡ 0) × (clock_of new ≡ None)) (clock_of old) clock h.freed is;
+  no_card_ends = λ old new result h. h.empty;
+  no_clock_ends = λ old new result h. h.empty;
+  starts = λ kind config old new h. nothing_there new _ (h.begun refl);
+  timed_starts = λ kind config lengths old new h. nothing_there new _ (h.begun refl);
+  no_card = λ h none no. no ∙ sym (ap is_some none);
+  no_clock = λ h none no. record { said = no ∙ sym (ap is_some none); lines = subst (λ o. IfSome o (λ c. c.lines ≤ 64)) (sym none) tt };
+  counters = λ line result h card written said is within.
+      let told = there (λ card. line < line_count card → (result ≡ 0) × (written ≡ plain_counters (get_or (counters_of card) line none_counted))) (served_card h) card said is within in
+      (told.0, told.1 ∙ ap (λ all. plain_counters (get_or all line none_counted)) (sym (same_counters (card_of h) card is)));
+  lengths = λ l c none. (ap (λ o. cond (is_some o) 21 0) none, ap (λ o. cond (is_some o) c (with_lengths l c)) none);
+  wrong_length = λ l c. out_of_range (first_out_of_range l) c (with_lengths l c);
+  timer_there = λ due moment. (refl, refl);
+  no_timer_there = (refl, refl);
+  without_clock = λ tells leaves old new result called none. called.none none;
+  text = λ text old new h. h.1;
+}

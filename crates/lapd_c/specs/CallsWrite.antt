@@ -1,0 +1,139 @@
+-- What a call writes beside its report, what it says of moments, and what is there after a start, in words of their own: those of `lapd.h`.
+use Rattle.std.specs.Prelude.{◌≡◌, ◌≢◌, ◌⊎◌, ◌≤◌, ◌<◌, ◌^◌, ℕ, ◌+◌, ◌-◌, Bool, true, false, List, [], ◌∷◌, ◌++◌, length, take, drop, get_or, None, Some, IfSome, codes, refl}
+use Rattle.std.proofs.Common.{arith}
+use Rattle.lapd_clock.specs.Timer.{Lengths, first_out_of_range}
+use Rattle.lapd_clock.specs.Timers.{Expiry, Timers}
+use Rattle.lapd_count.specs.Counters.{none_counted, value_in}
+use Rattle.lapd_count.specs.declared.counter.Counter.{Counter}
+use Rattle.lapd_frame.specs.declared.services.Service.{Service}
+use Rattle.lapd_frame.specs.declared.timers.Order.{Order}
+use Rattle.lapd_frame.specs.declared.timers.Timer.{Timer}
+use Rattle.lapd_text.specs.Told.{IsPutIn}
+use Rattle.model_line.specs.Event as event
+use Rattle.model_line.specs.Event.{NextFrame}
+use Rattle.model_card.specs.Card.{Card}
+use Rattle.model_card.specs.Event.{at}
+use Rattle.model_card.specs.Machine.{answer}
+use Rattle.model_card.specs.declared.kinds.CardKind.{CardKind}
+use Rattle.model_card.specs.ports.Card as octets
+use Rattle.model_card.specs.ports.Card.{OctetCard}
+use Rattle.model_card.specs.ports.Event as octet
+use Rattle.model_card.specs.ports.Port as port
+use Rattle.model_timed.specs.Clock.{Clock, at_moment, due}
+use Rattle.lapd_card.specs.Kinds.{Machine, with_ports, alone, card_in, counters_of, line_count}
+use Rattle.lapd_card.specs.declared.kinds.AnyCard.{AnyCard}
+use Rattle.lapd_c.specs.declared.card.CardHandle.{CardHandle}
+use Rattle.lapd_c.specs.declared.clock.ClockHandle.{ClockHandle}
+use Rattle.lapd_c.specs.declared.kept.KeptCard.{KeptCard}
+use Rattle.lapd_c.specs.declared.plain.config.PlainConfig.{PlainConfig}
+use Rattle.lapd_c.specs.declared.plain.counters.PlainCounters.{PlainCounters}
+use Rattle.lapd_c.specs.declared.plain.reports.PlainReport.{PlainReport}
+use Rattle.lapd_c.specs.declared.plain.timers.PlainLengths.{PlainLengths}
+use Rattle.lapd_c.specs.Answers.{octet_of}
+use Rattle.lapd_c.specs.CalledBy.{Asked, Called}
+use Rattle.lapd_c.specs.Calls.{IsCardStart, IsTimedStart}
+use Rattle.lapd_c.specs.Cards.{card_of, marks_at, served_card, IsHandle, HandleStands}
+use Rattle.lapd_c.specs.Clocks as clocks
+use Rattle.lapd_c.specs.Clocks.{IsClockCall, IsClockStart, after_lengths, clock_of, lengths_status, timer_status}
+use Rattle.lapd_c.specs.Config.{config_fault}
+use Rattle.lapd_c.specs.Counted.{counters_at}
+use Rattle.lapd_c.specs.Counters.{plain_counters}
+use Rattle.lapd_c.specs.FallsDue.{AtMoment, FellDue, IsMomentCall, IsTimersCall, NoneDue, WithClock}
+use Rattle.lapd_c.specs.Frames.{IsGiven, next_at}
+use Rattle.lapd_c.specs.Kept.{TimersStandIn, is_timed, timers_of}
+use Rattle.lapd_c.specs.Starts.{IsFreed}
+use Rattle.lapd_c.specs.Timers.{lengths_in}
+use Rattle.lapd_c.specs.Waits.{Waits}
+use Rattle.lapd_c.specs.Wanted.{FramesWithLine, OctetsWithLine}
+
+-- A moment is not before the clock's, and before 2^63.
+pub record IsOnTime (now : ℕ) (h : CardHandle) (m : Machine) (c : Clock) : Type 0 where
+  pub stands : HandleStands h m
+  pub timers : TimersStandIn (timers_of h) (card_in m) c
+  pub not_before : c.now ≤ now
+  pub not_after : now < 2 ^ 63
+
+-- No link waits for room, and nothing is counted.
+pub record HasNothing (h : CardHandle) : Type 0 where
+  pub no_waits : (line tei : ℕ) (service : Service) → Waits (marks_at h) line service tei → ⊥
+  pub no_counts : (line : ℕ) (counter : Counter) → value_in (get_or (counters_at h) line none_counted) counter ≡ 0
+
+pub record CallsWrite : Type 0 where
+  -- A pull writes the octet that the machine gives. A call for the next frame writes the frame, and its length; after it the room is as it was.
+  pub octet : (line written value : ℕ) (begun : Bool) (orders : List Order) (h : CardHandle) (m : OctetCard)
+      → OctetsWithLine line h (λ m. written ≡ octet_of (octets.answer (octet.at line port.pull) m))
+      → HandleStands h (with_ports m) → line < m.card.config.lines → octets.answer (octet.at line port.pull) m ≡ port.pulled value begun orders → written ≡ value
+  pub frame : (line count : ℕ) (out out' : List ℕ) (given : NextFrame) (h : CardHandle) (m : Card)
+      → FramesWithLine line h (λ m. m.config.n201 + 4 ≤ length out → IfSome (next_at line m) (λ next. IsGiven next out out' count))
+      → HandleStands h (alone m) → line < m.config.lines → m.config.n201 + 4 ≤ length out → answer (at line event.next) m ≡ event.gave (Some given)
+      → (count ≡ length given.octets) × (out' ≡ given.octets ++ drop (length given.octets) out)
+  -- The report of a call names its line, and no timer.
+  pub named : (asked : Asked) (old new : CardHandle) (result : ℕ) (before r : PlainReport) (m : Machine) → Called asked old new result before r
+      → HandleStands new m → asked.line < (card_in m).config.lines → result ≡ 0 → (r.line ≡ asked.line) × (r.expired.timer ≡ 0)
+  -- A call leaves a card's kind of timers as it was.
+  pub timed : (asked : Asked) (old new : CardHandle) (result : ℕ) (before r : PlainReport) → Called asked old new result before r → is_timed new ≡ is_timed old
+  -- A moment before the clock's is refused, and one from 2^63 on. Else the first timer that is due falls due, or none is. A card
+  -- whose timers are the caller's is another.
+  pub refused : (now result : ℕ) (old new : CardHandle) (m : Machine) (c : Clock)
+      → WithClock old (λ m c. (now < c.now) ⊎ (2 ^ 63 ≤ now) → (result ≡ 21) × (card_of new ≡ card_of old))
+      → HandleStands old m → TimersStandIn (timers_of old) (card_in m) c → (now < c.now) ⊎ (2 ^ 63 ≤ now) → (result ≡ 21) × (card_of new ≡ card_of old)
+  pub fell_due : (now result : ℕ) (x : Expiry) (old new : CardHandle) (m : Machine) (c : Clock) (r : PlainReport)
+      → AtMoment now old (λ m c. IfSome (due (at_moment now c)) (λ x. FellDue now x.line x.timer m c old new result r))
+      → IsOnTime now old m c → due (at_moment now c) ≡ Some x → FellDue now x.line x.timer m c old new result r
+  pub none_due : (now result : ℕ) (old new : CardHandle) (m : Machine) (c : Clock)
+      → AtMoment now old (λ m c. due (at_moment now c) ≡ None → NoneDue now m c old new result)
+      → IsOnTime now old m c → due (at_moment now c) ≡ None → NoneDue now m c old new result
+  pub untimed : (old new : CardHandle) (result : ℕ) (before r : PlainReport) → IsMomentCall old new result before r → card_of old ≢ None → is_timed old ≡ false → result ≡ 26
+  pub no_moment_card : (old new : CardHandle) (result : ℕ) (before r : PlainReport) → IsMomentCall old new result before r → card_of old ≡ None → (result ≡ 11) × (new ≡ old)
+  pub unwritten : (old new : CardHandle) (result : ℕ) (before r : PlainReport) → IsMomentCall old new result before r → result ≢ 0 → r ≡ before
+  -- New lengths of timers leave all else.
+  pub lengths_alone : (old new : CardHandle) (result : ℕ) (m : Machine) → IsTimersCall old new result → HandleStands old m
+      → HandleStands new m × (counters_at new ≡ counters_at old) × (marks_at new ≡ marks_at old)
+  pub no_lengths_card : (old new : CardHandle) (result : ℕ) → IsTimersCall old new result → card_of old ≡ None → (result ≡ 11) × (new ≡ old)
+  pub lengths_of_another : (old new : CardHandle) (result : ℕ) → IsTimersCall old new result → card_of old ≢ None → is_timed old ≡ false
+      → (result ≡ 26) × (card_of new ≡ card_of old)
+  -- A second start, and one with a wrong configuration or length, change nothing, and say so.
+  pub second_start : (kind : CardKind) (config : PlainConfig) (old new : CardHandle) (result : ℕ) (kept : KeptCard) → IsCardStart kind config old new result
+      → card_of old ≡ Some kept → (result ≡ 13) × (new ≡ old)
+  pub wrong_start : (kind : CardKind) (config : PlainConfig) (old new : CardHandle) (result wrong : ℕ) → IsCardStart kind config old new result
+      → card_of old ≡ None → config_fault config ≡ Some wrong → (result ≡ wrong) × (new ≡ old)
+  pub second_timed_start : (kind : CardKind) (config : PlainConfig) (lengths : PlainLengths) (old new : CardHandle) (result : ℕ) (kept : KeptCard)
+      → IsTimedStart kind config lengths old new result → card_of old ≡ Some kept → (result ≡ 13) × (new ≡ old)
+  pub wrong_timed_start : (kind : CardKind) (config : PlainConfig) (lengths : PlainLengths) (old new : CardHandle) (result wrong : ℕ)
+      → IsTimedStart kind config lengths old new result → card_of old ≡ None → config_fault config ≡ Some wrong → (result ≡ wrong) × (new ≡ old)
+  pub wrong_lengths : (kind : CardKind) (config : PlainConfig) (lengths : PlainLengths) (old new : CardHandle) (result : ℕ)
+      → IsTimedStart kind config lengths old new result → card_of old ≡ None → config_fault config ≡ None
+      → IfSome (first_out_of_range (lengths_in lengths)) (λ _. (result ≡ 21) × (new ≡ old))
+  pub second_clock : (config : PlainConfig) (old new : ClockHandle) (result : ℕ) (clock : Timers) → IsClockStart config old new result
+      → clock_of old ≡ Some clock → (result ≡ 13) × (new ≡ old)
+  pub wrong_clock : (config : PlainConfig) (old new : ClockHandle) (result wrong : ℕ) → IsClockStart config old new result
+      → clock_of old ≡ None → config_fault config ≡ Some wrong → (result ≡ wrong) × (new ≡ old)
+  -- An end leaves none, and says if none was there.
+  pub card_ends : (old new : CardHandle) (result : ℕ) (kept : KeptCard) → IsFreed IsHandle card_of 11 old new result → card_of old ≡ Some kept → (result ≡ 0) × (card_of new ≡ None)
+  pub clock_ends : (old new : ClockHandle) (result : ℕ) (clock : Timers) → IsFreed clocks.IsHandle clock_of 12 old new result → clock_of old ≡ Some clock
+      → (result ≡ 0) × (clock_of new ≡ None)
+  pub no_card_ends : (old new : CardHandle) (result : ℕ) → IsFreed IsHandle card_of 11 old new result → card_of old ≡ None → (result ≡ 11) × (new ≡ old)
+  pub no_clock_ends : (old new : ClockHandle) (result : ℕ) → IsFreed clocks.IsHandle clock_of 12 old new result → clock_of old ≡ None → (result ≡ 12) × (new ≡ old)
+  -- A card begins with nothing. What holds no card, and no clock, may be given to a call.
+  pub starts : (kind : CardKind) (config : PlainConfig) (old new : CardHandle) → IsCardStart kind config old new 0 → HasNothing new
+  pub timed_starts : (kind : CardKind) (config : PlainConfig) (lengths : PlainLengths) (old new : CardHandle) → IsTimedStart kind config lengths old new 0 → HasNothing new
+  pub no_card : (h : CardHandle) → card_of h ≡ None → h.started ≡ false → IsHandle h
+  pub no_clock : (h : ClockHandle) → clock_of h ≡ None → h.started ≡ false → clocks.IsHandle h
+  -- Counters are those of the line.
+  pub counters : (line result : ℕ) (h : CardHandle) (card : AnyCard) (written : PlainCounters)
+      → IfSome (served_card h) (λ card. line < line_count card → (result ≡ 0) × (written ≡ plain_counters (get_or (counters_of card) line none_counted)))
+      → served_card h ≡ Some card → line < line_count card → (result ≡ 0) × (written ≡ plain_counters (get_or (counters_at h) line none_counted))
+  -- A clock takes lengths, if each is in its range, for timers that are started from then on; says whether a timer is there; and if
+  -- there is no clock, says so.
+  pub lengths : (l : Lengths) (c : Timers) → first_out_of_range l ≡ None → (lengths_status l c ≡ 0) × (after_lengths l c ≡ record c { lengths = l })
+  pub wrong_length : (l : Lengths) (c : Timers) → IfSome (first_out_of_range l) (λ _. (lengths_status l c ≡ 21) × (after_lengths l c ≡ c))
+  pub timer_there : (due : ℕ × Timer) (moment : ℕ) → (timer_status (Some due) ≡ 0) × (timer_status (Some moment) ≡ 0)
+  pub no_timer_there : (timer_status {A = ℕ × Timer} None ≡ 23) × (timer_status {A = ℕ} None ≡ 23)
+  pub without_clock : (tells : Timers → ℕ) (leaves : Timers → Timers) (old new : ClockHandle) (result : ℕ) → IsClockCall tells leaves old new result
+      → clock_of old ≡ None → (result ≡ 12) × (new ≡ old)
+  -- A text stands in front of its room, with a 0 in place of its line feed.
+  pub text : (text old new : List ℕ) → IsPutIn true text old new → new ≡ take (length text - 1) text ++ 0 ∷ drop (length text) old
+
+-- Worked value: a text of two letters, in a room of four octets.
+worked_text : IsPutIn true (codes "RR\n") (1 ∷ 2 ∷ 3 ∷ 4 ∷ []) (codes "RR" ++ 0 ∷ 4 ∷ [])
+worked_text = (omega arith, refl)

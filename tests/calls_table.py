@@ -3,8 +3,9 @@
 Each is an export of crates/lapd_c. Its contract has the record of its kind (KINDS), which says what such a call comes to,
 and at most MOST clauses of its own; those of ALONE have only these. What a call asks for is the first argument of its
 record: of an event that is its word in specs/Asked.antt, of a question the machine's word in specs/QuestionWords.antt. That
-record must be the one that stands in RECORDS, applied to what the call was given and what it leaves. A call requires
-nothing but that its handle is one, and no two of its clauses have one name."""
+record must be the one that stands in RECORDS, applied to what the call was given and what it leaves. Its own clauses must be
+those in tests/calls.txt, word for word: a call and a clause on a line, and below it what the clause says. A call requires nothing
+but that its handle is one, and no two of its clauses have one name."""
 import re
 import sys
 
@@ -12,6 +13,7 @@ from promised import clauses_of
 from specs import CRATES, ROOT
 
 HEADER = ROOT / 'include' / 'lapd.h'
+OWN_CLAUSES = ROOT / 'tests' / 'calls.txt'
 PROTOTYPE = re.compile(r'^(?:LAPD_STATUS|uint32_t) (lapd_\w+)\(', re.MULTILINE)
 EXPORT = re.compile(r'^pub extern "C" fn (lapd_\w+)\((?:.|\n)*?\) -> u32\n((?:.*\n)*?)\{\n', re.MULTILINE)
 # The records, and what a call is that has one.
@@ -78,6 +80,24 @@ def exports():
     return found
 
 
+def own_clauses():
+    """What tests/calls.txt says of each call: its own clauses, by their names."""
+    found, text = {}, OWN_CLAUSES.read_text(encoding='utf-8')
+    for head, body in re.findall(r'^(lapd_\w+ \w+)\n((?:    .*\n)+)', text, re.MULTILINE):
+        found[tuple(head.split())] = ' '.join(body.split())
+    return found
+
+
+def check_own(there):
+    """Stops unless the own clauses of all calls are those of tests/calls.txt."""
+    said, written = own_clauses(), {}
+    for name, clauses in there.items():
+        written.update({(name, clause or 'it'): ' '.join(text.split()) for clause, text in clauses.items() if text.split()[0] not in KINDS})
+    for name, clause in sorted(said.keys() | written.keys()):
+        if said.get((name, clause)) != written.get((name, clause)):
+            sys.exit('reading: tests/calls.txt: %s has another clause %s: %s' % (name, clause, written.get((name, clause), 'none')))
+
+
 def row_of(name, clauses):
     """A call: what it is, what it asks for, its record, and its other clauses."""
     records = [(clause, text.split()[0]) for clause, text in clauses.items() if text.split()[0] in KINDS]
@@ -102,6 +122,7 @@ def calls():
     for name in sorted(set(named) ^ set(there)):
         sys.exit('reading: %s is %s' % (name, 'no export of lapd_c' if name in named else 'not in include/lapd.h'))
     rows = [row_of(name, there[name]) for name in named]
+    check_own(there)
     return ['|Call|What it is|What it asks for|Record|Other clauses|', '|---|---|---|---|---|'] + [
         '|`%s`|%s|%s|%s|%s|' % (name, kind, '`%s`' % asks if asks else '', '`%s`' % record if record else '',
                                 ', '.join('`%s`' % it for it in own)) for name, kind, asks, record, own in rows]

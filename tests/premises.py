@@ -48,21 +48,29 @@ def of_statement(text):
     return [it for it in map(without_lets, before) if it and not is_binders(it)]
 
 
-def of_record(lines):
-    """The premises of the fields of a record that is a statement, by their names."""
-    found, name = {}, None
+def of_record(lines, specs, files):
+    """The premises of the fields of a record that is a statement, by their names; of a field that is such a record of another file,
+    those of its fields."""
+    found, texts, name = {}, {}, None
     for line in lines:
         field = FIELD.match(line)
         name, text = field.groups() if field else (name, line)
         if name:
-            found[name] = found.get(name, '') + ' ' + text
-    return {name: of_statement(text) for name, text in found.items()}
+            texts[name] = texts.get(name, '') + ' ' + text
+    for name, text in texts.items():
+        inner = HEAD.fullmatch(text.strip()) and specs.meaning(text.strip())
+        at = files.get(inner[:2]) if inner else None
+        if at not in (None, specs) and 'record ' in at.definitions.get(inner[2], [''])[0]:
+            found.update({'%s.%s' % (name, it): them for it, them in of_record(at.definitions[inner[2]], at, files).items()})
+        else:
+            found[name] = of_statement(text)
+    return found
 
 
-def of_definition(lines):
+def of_definition(lines, specs, files):
     """The premises of a statement that has a name: by its fields if it is a record, and else under ''."""
     if 'record ' in lines[0]:
-        return of_record(lines)
+        return of_record(lines, specs, files)
     equation = ' '.join(' '.join(it.split(' -- ')[0].split()) for it in lines if not it.startswith(('abbrev ', 'unfoldable ', 'pub ')))
     _, sign, right = equation.partition(' = ')
     return {'': of_statement(right)} if sign else {}
@@ -81,7 +89,7 @@ def of_claim(text, specs, files):
         if word == ALWAYS:
             shared.append(ALWAYS)
         elif at is not None and key[2] in at.definitions and key[2][0].isupper():
-            found = of_definition(at.definitions[key[2]])
+            found = of_definition(at.definitions[key[2]], at, files)
             them = list(found.values())
             if them and all(it == them[0] for it in them):
                 shared += [it for it in them[0] if it not in shared]

@@ -25,6 +25,8 @@ from rows import rows_of
 from tried import refused_as_they_are
 from vithrynel.crates import uses
 
+# Of more words than so many a reader finds the premises at the statement's fields.
+MOST_OF_PREMISES, MANY_PREMISES = 35, 'at each of its fields'
 MACHINE = [('model_card', 'Run', 'moments'), ('model_card', 'Run', 'after_all'), ('model_card', 'Card', 'fresh')]
 PORTS = [('model_card', 'ports.Run', 'moments'), ('model_card', 'ports.Run', 'after_all'),
          ('model_card', 'ports.Run', 'meant_all'), ('model_card', 'ports.Card', 'fresh'), ('lapd_card', 'Drive', 'events_of')]
@@ -166,7 +168,8 @@ class Statement:
         for them, names in alike.items():
             parts += ['%s: %s' % (', '.join('*%s*' % it for it in names), shortest(them, said))] * bool(them)
             said[names[0]] = them
-        return '. '.join(parts)
+        text = '. '.join(parts)
+        return text if len(text.split()) <= MOST_OF_PREMISES else MANY_PREMISES
 
     def sentence_of(self, place, row):
         """The words of a promise. Each must have some."""
@@ -221,7 +224,8 @@ def title(place):
 def page():
     """The printed part of docs/PROMISES.md."""
     it, lines = Statement(), []
-    always = of_definition(it.files[('laws_trace', 'Trace')].definitions[ALWAYS])['']
+    trace = it.files[('laws_trace', 'Trace')]
+    always = of_definition(trace.definitions[ALWAYS], trace, it.files)['']
     lines += ['', '`%s`: %s.' % (ALWAYS, quoted(always))]
     told = ['%s%s: %s.' % (name.capitalize(), ' (%s)' % IN_WORDS[name] if name in IN_WORDS else '', '; '.join('`%s`' % it for it in them))
             for name, them in SHARED.items()]

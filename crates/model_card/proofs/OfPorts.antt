@@ -4,6 +4,7 @@ mod FramesIdle
 mod FramesJudged
 pub mod Gains
 pub mod Gaps
+pub mod WholeOctets
 pub mod HeardOctets
 pub mod TextGoesOn
 pub mod Steps

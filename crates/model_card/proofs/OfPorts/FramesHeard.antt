@@ -13,17 +13,17 @@ use Rattle.model_bits.specs.Stream.{Event, dropped, ends_flag, since_flag, has_a
 use Rattle.model_line.specs.declared.faults.Fault.TheVariants.{Fcs, Abort, Ragged, Short}
 use Rattle.model_card.specs.ports.Codec.{heard_at}
 use Rattle.model_card.proofs.OfPorts.Codec.{run_goes_on}
-use Rattle.lapd_frame.specs.Faults as without_check
 use Rattle.model_bits.specs.Stream as stream
 use Rattle.model_bits.specs.Stream.{is_short, judged, text_event}
 use Rattle.model_bits.specs.Stuffing.{octets_sent, stuffed}
 use Rattle.model_bits.specs.Check.{is_good}
 use Rattle.model_bits.specs.declared.heard.Cause.TheVariants as cause
-use Rattle.model_card.specs.ports.WholeLaws.{AreWhole, AreBetween, AreEnough, AreFew, HaveNoCheck, IsAborted, IsBetween, IsHeardNow, IsRagged, StandsIn}
+use Rattle.model_card.specs.ports.WholeLaws.{AreBetween, AreEnough, AreFew, HaveNoCheck, IsAborted, IsBetween, IsHeardNow, IsRagged, StandsIn}
 use Rattle.model_card.proofs.OfPorts.Aborted.{six_ones, none_yet, hears_abort, given_up_then, seven_then, nothing_after}
 use Rattle.model_card.proofs.OfPorts.FramesThere.{checked, frames_there}
 use Rattle.model_card.proofs.OfPorts.FramesIdle.{IdleAt, hears_first_flag, idle_again}
 use Rattle.model_card.proofs.OfPorts.FramesJudged.{gap_event_came}
+use Rattle.model_card.proofs.OfPorts.WholeOctets.{are_whole}
 
 -- ---- octets of bits
 
@@ -373,40 +373,6 @@ card_heard c events number within =
     let came : (port_at number (after_all (fresh c) events)).received ≡ octets_come number events =
     goes.received ∙ ap (λ (p : Port). p.received ++ octets_come number events) fresh_is in
     sym (sym (ap (heard_in c.n201) came) ∙ goes.heard ∙ ap (λ (p : Port). heard_in c.n201 p.received ++ heard_at number (meant_all (fresh c) events)) fresh_is)
-
--- ---- whole octets
-
-short_is : (octets : List ℕ) → (length octets < 3) ⊎ ((length octets ≡ 3) × (slice_index octets 2 % 4 ≢ 3)) → without_check.is_short octets ≡ true
-short_is [] few = refl
-short_is (a ∷ []) few = refl
-short_is (a ∷ b ∷ []) few = refl
-short_is (a ∷ b ∷ c ∷ []) (inl less) = absurd (omega (arith, less))
-short_is (a ∷ b ∷ c ∷ []) (inr three) = ap not (ne_eqb (c % 4) 3 three.1)
-short_is (a ∷ b ∷ c ∷ d ∷ more) (inl less) = absurd (omega (arith, less))
-short_is (a ∷ b ∷ c ∷ d ∷ more) (inr three) = let is = three.0 in absurd (omega (arith, is))
-
-not_short : (octets : List ℕ) → (4 ≤ length octets) ⊎ ((length octets ≡ 3) × (slice_index octets 2 % 4 ≡ 3)) → without_check.is_short octets ≡ false
-not_short (a ∷ b ∷ c ∷ d ∷ more) some = refl
-not_short (a ∷ b ∷ c ∷ []) (inl more) = absurd (omega (arith, more))
-not_short (a ∷ b ∷ c ∷ []) (inr three) = ap not (eq-eqb (c % 4) 3 three.1)
-not_short [] (inl more) = absurd (omega (arith, more))
-not_short [] (inr three) = let is = three.0 in absurd (omega (arith, is))
-not_short (a ∷ []) (inl more) = absurd (omega (arith, more))
-not_short (a ∷ []) (inr three) = let is = three.0 in absurd (omega (arith, is))
-not_short (a ∷ b ∷ []) (inl more) = absurd (omega (arith, more))
-not_short (a ∷ b ∷ []) (inr three) = let is = three.0 in absurd (omega (arith, is))
-
-are_whole : (n201 : ℕ) (octets : List ℕ) → AreWhole n201 octets
-are_whole n201 octets =
-    let long = nat_lt (n201 + 4) (length octets) in
-    let rest = cond long (stream.overlong (take 4 octets)) (stream.frame octets) in
-    record {
-      short = λ few. ap (λ b. cond b (dropped cause.Short) rest) (short_is octets few);
-      long = λ many some. ap (λ b. cond b (dropped cause.Short) rest) (not_short octets (inl some))
-          ∙ ap (λ b. cond b (stream.overlong (take 4 octets)) (stream.frame octets)) (lt-ltb (n201 + 4) (length octets) many);
-      whole = λ some fits. ap (λ b. cond b (dropped cause.Short) rest) (not_short octets some)
-          ∙ ap (λ b. cond b (stream.overlong (take 4 octets)) (stream.frame octets)) (le-ltb (n201 + 4) (length octets) fits);
-    }
 
 pub frames_are_heard : FramesAreHeard
 frames_are_heard = record {

@@ -10,3 +10,4 @@ pub mod TimedLines
 pub mod TimedServing
 pub mod TimedKinds
 pub mod TimedLaws
+pub mod CallsMean

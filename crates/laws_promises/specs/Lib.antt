@@ -7,3 +7,6 @@ pub mod FrameDrive
 pub mod TimedReply
 pub mod TimedRun
 pub mod TimedDrive
+pub mod RequestsMean
+pub mod EventsMean
+pub mod RepliesMean

@@ -9,8 +9,11 @@ ghost use Rattle.model_card.specs.ports.Card.{OctetCard};
 ghost use Rattle.model_card.specs.ports.Event as octets;
 ghost use Rattle.model_card.specs.ports.Reached as octets_reached;
 ghost use Rattle.model_card.specs.ports.Run as octets_run;
+ghost use Rattle.laws_promises.specs.EventsMean.{EventsMeanThis};
 ghost use Rattle.laws_promises.specs.Promises.{Promises};
 ghost use Rattle.laws_promises.specs.PromisesOfOctets.{PromisesOfOctets};
+ghost use Rattle.laws_promises.specs.RepliesMean.{RepliesMeanThis};
+ghost use Rattle.laws_promises.specs.RequestsMean.{RequestsMeanThis};
 
 /// Every machine of a card that is reached keeps all promises, of every list of events at its lines.
 pub fn promises_are_kept()
@@ -20,4 +23,15 @@ pub fn promises_are_kept()
 /// Every card of octets that is reached keeps all promises of its octets, of every list of events at its lines.
 pub fn promises_of_octets_are_kept()
     ensures { (m : OctetCard) (events : List octets.Event) → octets_reached.IsReached m → octets_run.AreAtLines m events → PromisesOfOctets m events }
+{}
+
+/// Calls of Rattle mean what they say. A request asks the machine for what its name says, of the same link or TEI and with
+/// the same contents (`requests`). An event of a list is that event of its line; a fault is heard as what is dropped for
+/// its cause (`events`). A reply has the notes, contents, cause, orders and number of lost frames of the answer, or the
+/// octet or the frame (`replies`).
+#[tactic(auto, using(crate::proofs::CallsMean::requests_mean_this, crate::proofs::CallsMean::events_mean_this, crate::proofs::CallsMean::replies_mean_this))]
+pub fn calls_mean_this()
+    ensures requests { RequestsMeanThis }
+    ensures events { EventsMeanThis }
+    ensures replies { RepliesMeanThis }
 {}

@@ -37,7 +37,7 @@ pub use frame_call::drive_frames;
 pub use frame_events::FrameEvent;
 pub use frame_replies::{FrameReply, SentFrame};
 pub use frame_sink::FrameSink;
-pub use laws::{promises_are_kept, promises_of_octets_are_kept};
+pub use laws::{calls_mean_this, promises_are_kept, promises_of_octets_are_kept};
 pub use timed_call::drive_timed;
 pub use timed_events::TimedEvent;
 pub use timed_replies::TimedReply;

@@ -1,5 +1,5 @@
 -- A clock that a caller keeps is as that of a card: the law.
-use Rattle.lapd_clock.proofs.Vocabulary.{◌≡◌, ℕ, ◌+◌, Bool, true, false, cond, List, [], ◌∷◌, Some, None, refl, sym, ap, nat_le, false≢true, Timer, Order, Start, Stop, duration, Expiry, Timers, without}
+use Rattle.lapd_clock.proofs.Vocabulary.{◌≡◌, ℕ, ◌+◌, Bool, true, false, cond, List, [], ◌∷◌, Some, None, refl, nat_le, Timer, Order, Start, Stop, duration, Expiry, Timers, without}
 use Rattle.std.proofs.Common.{Option, option_map}
 use Rattle.std.specs.Option.{option_map_or}
 use Rattle.lapd_clock.specs.Timers as callers
@@ -10,20 +10,16 @@ use Rattle.model_timed.specs.Clock.{Clock, obey, without_first}
 use Rattle.laws_time.specs.CallersClocks.{CallersClocksAreClocks, IsAsLarge, clock_of}
 
 module _ (c : Timers) (now : ℕ) where
-  obeys : (line : ℕ) (order : Order) → finds_place c line order ≡ true → clock_of (with_order c line order now) now ≡ obey line (clock_of c now) order
-  unfolding with_order
-  obeys line (Start timer) found =
-      let started = record c { running = with_expiry (record { moment = now + duration c.lengths timer; line = line; timer = timer }) (without line timer c.running) } in
-      ap (λ b. clock_of (cond {A = Timers} b started c) now) found
-  obeys line (Stop timer) found = refl
-
-  -- if it finds no place, it is none of a timer that is stopped
-  refused : (line : ℕ) (order : Order) → finds_place c line order ≡ false → with_order c line order now ≡ c
+  obeys : (line : ℕ) (order : Order) → clock_of (with_order c line order now) now ≡ cond (finds_place c line order) (obey line (clock_of c now) order) (clock_of c now)
   unfolding with_order finds_place
-  refused line (Start timer) none =
+  obeys line (Start timer) =
       let started = record c { running = with_expiry (record { moment = now + duration c.lengths timer; line = line; timer = timer }) (without line timer c.running) } in
-      ap (λ b. cond {A = Timers} b started c) none
-  refused line (Stop timer) none = absurd (false≢true (sym none))
+      by started (finds_place c line (Start timer))
+    where
+      by : (started : Timers) (b : Bool) → clock_of (cond b started c) now ≡ cond b (clock_of started now) (clock_of c now)
+      by started true = refl
+      by started false = refl
+  obeys line (Stop timer) = refl
 
   -- its size stays
   as_large : (line : ℕ) (order : Order) → IsAsLarge c (with_order c line order now)
@@ -71,7 +67,6 @@ callers-clocks-are-clocks = record {
   found = λ c line timer. refl;
   stops = λ c line timer. refl;
   obeys = λ c line order now. obeys c now line order;
-  refused = λ c line order now. refused c now line order;
   due = λ c now. due-is c now c.running;
   taken = λ c now. taken-is c now c.running;
   next = λ c now. next-is c.running;

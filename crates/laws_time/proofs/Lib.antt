@@ -2,6 +2,9 @@
 pub mod TimedCards
 pub mod DueFirst
 pub mod CallersClocks
+pub mod FewStarts
+pub mod FewRun
+pub mod BesideACard
 pub mod FallingDue
 pub mod TimedFrames
 pub mod Moments

@@ -1,5 +1,5 @@
 -- A clock that a caller keeps beside a card is as the clock of a card that keeps its own timers.
-use Rattle.std.specs.Prelude.{◌≡◌, ℕ, ◌+◌, ◌*◌, ◌==◌, ◌&&◌, ◌||◌, nat_lt, true, false, count_by, option_map}
+use Rattle.std.specs.Prelude.{◌≡◌, ℕ, ◌+◌, ◌*◌, ◌==◌, ◌&&◌, ◌||◌, nat_lt, true, count_by, option_map, if◌then◌else◌}
 use Rattle.std.specs.List.{list_any}
 use Rattle.std.specs.Option.{option_map_or}
 use Rattle.lapd_clock.specs.Timer.{Timer, Order, Start, Stop, Lengths, is_same, standard}
@@ -23,13 +23,13 @@ pub record CallersClocksAreClocks : Type 0 where
   pub lines : (lengths : Lengths) (lines terminals : ℕ) → (callers.idle_with lengths lines terminals).lines ≡ lines
   pub places : (lengths : Lengths) (lines terminals : ℕ) → (callers.idle_with lengths lines terminals).places ≡ 4 * terminals + 1
   pub usual : (lines terminals : ℕ) → callers.idle lines terminals ≡ callers.idle_with standard lines terminals
-  -- An order is carried out if it finds a place: a timer that runs has one, and another where fewer of its line run than there are.
+  -- An order that finds a place is carried out, and another changes nothing. A timer that runs has a place, and another finds one if fewer
+  -- of its line run than there are. (Beside a card each order finds one: `BesideACard`.)
   pub found : (c : Timers) (line : ℕ) (timer : Timer)
       → callers.finds_place c line (Start timer) ≡ (list_any (λ (e : Expiry). e.line == line && is_same e.timer timer) c.running || nat_lt (count_by (λ (e : Expiry). e.line == line) c.running) c.places)
   pub stops : (c : Timers) (line : ℕ) (timer : Timer) → callers.finds_place c line (Stop timer) ≡ true
-  pub obeys : (c : Timers) (line : ℕ) (order : Order) (now : ℕ) → callers.finds_place c line order ≡ true
-      → clock_of (callers.with_order c line order now) now ≡ obey line (clock_of c now) order
-  pub refused : (c : Timers) (line : ℕ) (order : Order) (now : ℕ) → callers.finds_place c line order ≡ false → callers.with_order c line order now ≡ c
+  pub obeys : (c : Timers) (line : ℕ) (order : Order) (now : ℕ)
+      → clock_of (callers.with_order c line order now) now ≡ (if callers.finds_place c line order then obey line (clock_of c now) order else clock_of c now)
   -- The same is due, and taken out; the same falls due next; and new lengths are the same.
   pub due : (c : Timers) (now : ℕ) → callers.due_at c now ≡ option_map (λ (x : Expiry). (x.line, x.timer)) (own.due (clock_of c now))
   pub taken : (c : Timers) (now : ℕ)

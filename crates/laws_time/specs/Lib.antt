@@ -2,6 +2,8 @@
 pub mod Cards
 pub mod DueFirst
 pub mod CallersClocks
+pub mod BesideACard
+pub mod WorkedBeside
 pub mod FallingDue
 pub mod Watched
 pub mod Silence

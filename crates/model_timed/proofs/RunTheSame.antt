@@ -31,12 +31,12 @@ use Rattle.model_timed.proofs.Orders.{one-each, all-run}
 use Rattle.model_timed.proofs.Running.{AreTimed, timed-then, timed-fresh, run-on, run-fresh, taken-left}
 
 -- What holds of a card of frames, alone or inside one of octets, and of a clock beside it.
-record Stands (card : Card) (clock : Clock) : Type 0 where
-  sound : IsSound card
-  are_timed : AreTimed card
-  one_each : IsOneEach clock.running
-  on_lines : AllByRecursion (λ (x : Expiry). x.line < card.config.lines) clock.running
-  run : RunAs as_they_are card clock
+pub record Stands (card : Card) (clock : Clock) : Type 0 where
+  pub sound : IsSound card
+  pub are_timed : AreTimed card
+  pub one_each : IsOneEach clock.running
+  pub on_lines : AllByRecursion (λ (x : Expiry). x.line < card.config.lines) clock.running
+  pub run : RunAs as_they_are card clock
 
 happened : (e : Event) (card : Card) (clock : Clock) → IsSound card → AreTimed card → IsOneEach clock.running → AllByRecursion (λ (x : Expiry). x.line < card.config.lines) clock.running
     → e.line < card.config.lines → RunAs (left_by e) card clock → Stands (after e card) (obeyed e.line (orders_at e card) clock)
@@ -83,7 +83,7 @@ falls x card clock h is =
 at-moment : (moment : ℕ) (card : Card) (clock : Clock) → Stands card clock → Stands card (at_moment moment clock)
 at-moment moment card clock h = record { sound = h.sound; are_timed = h.are_timed; one_each = h.one_each; on_lines = h.on_lines; run = h.run }
 
-begins : (c : Config) (lengths : Lengths) → IsInRange c → Stands (cards.fresh c) (stopped lengths)
+pub begins : (c : Config) (lengths : Lengths) → IsInRange c → Stands (cards.fresh c) (stopped lengths)
 begins c lengths ranged = record {
   sound = fresh_is_sound c ranged;
   are_timed = timed-fresh c;
@@ -97,7 +97,7 @@ fell : (t : TimedCard) → Stands t.card t.clock → (o : Option Expiry) → due
 fell t h None is = h
 fell t h (Some x) is = falls x t.card t.clock h is
 
-stepped : (late : ℕ) (s : Step Event) (t : TimedCard) → Stands t.card t.clock → IsPrompt frames late s t → let u = timed.after frames s t in Stands u.card u.clock
+pub stepped : (late : ℕ) (s : Step Event) (t : TimedCard) → Stands t.card t.clock → IsPrompt frames late s t → let u = timed.after frames s t in Stands u.card u.clock
 stepped late (happens e) t h prompt = may-happen e t.card t.clock h prompt.0 prompt.1
 stepped late (time moment) t h prompt = at-moment moment t.card t.clock h
 stepped late falls_due t h prompt = fell t h (due t.clock) refl
@@ -146,7 +146,7 @@ octet-fell : (t : TimedOctetCard) → Stands t.card.card t.clock → (o : Option
 octet-fell t h None is = h
 octet-fell t h (Some x) is = octet-falls x t.card t.clock h is
 
-octet-stepped : (late : ℕ) (s : Step OctetEvent) (t : TimedOctetCard) → Stands t.card.card t.clock → IsPrompt octets late s t
+pub octet-stepped : (late : ℕ) (s : Step OctetEvent) (t : TimedOctetCard) → Stands t.card.card t.clock → IsPrompt octets late s t
     → let u = timed.after octets s t in Stands u.card.card u.clock
 octet-stepped late (happens e) t h prompt = octet-happens e t.card t.clock h prompt.0 prompt.1
 octet-stepped late (time moment) t h prompt = at-moment moment t.card.card t.clock h

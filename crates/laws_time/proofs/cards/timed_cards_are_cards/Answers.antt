@@ -1,4 +1,5 @@
 -- Hand-written answers for `timed_cards_are_cards`.
+use Rattle.laws_time.proofs.BesideACard.{keeps-up-with-frames, keeps-up-with-octets}
 use Rattle.laws_time.proofs.CallersClocks.{callers-clocks-are-clocks}
 use Rattle.laws_time.proofs.TimedCards.{timed-cards-are-cards}
 use Rattle.laws_time.proofs.DueFirst.{the-first-falls-due}
@@ -17,3 +18,9 @@ returns-clause-first_of_octets c = the-first-falls-due octets
 
 pub returns-clause-callers : goal.returns-clause-callers
 returns-clause-callers c = callers-clocks-are-clocks
+
+pub returns-clause-beside_frames : goal.returns-clause-beside_frames
+returns-clause-beside_frames c = keeps-up-with-frames
+
+pub returns-clause-beside_octets : goal.returns-clause-beside_octets
+returns-clause-beside_octets c = keeps-up-with-octets

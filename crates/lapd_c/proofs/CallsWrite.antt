@@ -28,6 +28,7 @@ use Rattle.lapd_c.specs.Frames.{IsGiven, next_at}
 use Rattle.lapd_c.specs.Waits.{Waits}
 use Rattle.lapd_c.specs.FallsDue.{FellDue}
 use Rattle.lapd_c.specs.declared.card.CardHandle.{CardHandle}
+use Rattle.lapd_c.proofs.Moments.{first_told, none_runs}
 
 -- what holds of what is there
 there : {A : Type 0} (holds : A → Type 0) (o : Option A) (x : A) → IfSome o holds → o ≡ Some x → holds x
@@ -107,6 +108,8 @@ calls_write_by = record {
   untimed = λ old new result before r called some untimed. ⊎_elim (λ none. absurd (some none)) (λ wrong. wrong.0) (called.wrong_card untimed);
   no_moment_card = λ old new result before r called. called.no_card;
   unwritten = λ old new result before r called. called.unwritten;
+  moment = λ c. first_told c.running;
+  no_moment = λ c. none_runs c.running;
   lengths_alone = λ old new result m called stands.
       (same_stands (card_of old) (card_of new) m called.card stands, same_kept (card_of old) (card_of new) called.card, called.marks);
   no_lengths_card = λ old new result called. called.no_card;

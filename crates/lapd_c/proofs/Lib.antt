@@ -13,6 +13,7 @@ pub mod Exchanging
 pub mod Linking
 pub mod Reopening
 pub mod Timing
+pub mod Moments
 pub mod Ordering
 pub mod WrongStatuses
 pub mod Calling

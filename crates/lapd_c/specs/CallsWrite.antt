@@ -1,5 +1,5 @@
 -- What a call writes beside its report, what it says of moments, and what is there after a start, in words of their own: those of `lapd.h`.
-use Rattle.std.specs.Prelude.{◌≡◌, ◌≢◌, ◌⊎◌, ◌≤◌, ◌<◌, ◌^◌, ℕ, ◌+◌, ◌-◌, Bool, true, false, List, [], ◌∷◌, ◌++◌, length, take, drop, get_or, None, Some, IfSome, codes, refl}
+use Rattle.std.specs.Prelude.{◌≡◌, ◌≢◌, ◌⊎◌, ◌≤◌, ◌<◌, ◌^◌, ℕ, ◌+◌, ◌-◌, Bool, true, false, List, [], ◌∷◌, ◌++◌, length, take, drop, get_or, None, Some, IfSome, IsSome, codes, refl}
 use Rattle.std.proofs.Common.{arith}
 use Rattle.lapd_clock.specs.Timer.{Lengths, first_out_of_range}
 use Rattle.lapd_clock.specs.Timers.{Expiry, Timers}
@@ -19,7 +19,7 @@ use Rattle.model_card.specs.ports.Card as octets
 use Rattle.model_card.specs.ports.Card.{OctetCard}
 use Rattle.model_card.specs.ports.Event as octet
 use Rattle.model_card.specs.ports.Port as port
-use Rattle.model_timed.specs.Clock.{Clock, at_moment, due}
+use Rattle.model_timed.specs.Clock.{Clock, at_moment, due, next_moment}
 use Rattle.lapd_card.specs.Kinds.{Machine, with_ports, alone, card_in, counters_of, line_count}
 use Rattle.lapd_card.specs.declared.kinds.AnyCard.{AnyCard}
 use Rattle.lapd_c.specs.declared.card.CardHandle.{CardHandle}
@@ -38,7 +38,7 @@ use Rattle.lapd_c.specs.Clocks.{IsClockCall, IsClockStart, after_lengths, clock_
 use Rattle.lapd_c.specs.Config.{config_fault}
 use Rattle.lapd_c.specs.Counted.{counters_at}
 use Rattle.lapd_c.specs.Counters.{plain_counters}
-use Rattle.lapd_c.specs.FallsDue.{AtMoment, FellDue, IsMomentCall, IsTimersCall, NoneDue, WithClock}
+use Rattle.lapd_c.specs.FallsDue.{AtMoment, FellDue, IsMomentCall, IsTimersCall, NoneDue, TellsMoment, WithClock}
 use Rattle.lapd_c.specs.Frames.{IsGiven, next_at}
 use Rattle.lapd_c.specs.Kept.{TimersStandIn, is_timed, timers_of}
 use Rattle.lapd_c.specs.Starts.{IsFreed}
@@ -86,6 +86,11 @@ pub record CallsWrite : Type 0 where
   pub untimed : (old new : CardHandle) (result : ℕ) (before r : PlainReport) → IsMomentCall old new result before r → card_of old ≢ None → is_timed old ≡ false → result ≡ 26
   pub no_moment_card : (old new : CardHandle) (result : ℕ) (before r : PlainReport) → IsMomentCall old new result before r → card_of old ≡ None → (result ≡ 11) × (new ≡ old)
   pub unwritten : (old new : CardHandle) (result : ℕ) (before r : PlainReport) → IsMomentCall old new result before r → result ≢ 0 → r ≡ before
+  -- The moment that is told is the first at which a timer is due; and if none runs, there is none, and the status says so.
+  pub moment : (c : Clock) (result moment : ℕ) → TellsMoment (next_moment c) result moment → result ≡ 0
+      → IsSome (due (at_moment moment c)) × ((now : ℕ) → now < moment → due (at_moment now c) ≡ None)
+  pub no_moment : (c : Clock) (result moment : ℕ) → TellsMoment (next_moment c) result moment → result ≢ 0
+      → (result ≡ 23) × ((now : ℕ) → due (at_moment now c) ≡ None)
   -- New lengths of timers leave all else.
   pub lengths_alone : (old new : CardHandle) (result : ℕ) (m : Machine) → IsTimersCall old new result → HandleStands old m
       → HandleStands new m × (counters_at new ≡ counters_at old) × (marks_at new ≡ marks_at old)

@@ -1,5 +1,5 @@
 -- What falls due at a card that keeps its own timers.
-use Rattle.std.specs.Prelude.{◌≡◌, ◌≢◌, ◌⊎◌, ◌≤◌, ◌<◌, ◌^◌, ℕ, false, None, IfSome}
+use Rattle.std.specs.Prelude.{◌≡◌, ◌≢◌, ◌⊎◌, ◌≤◌, ◌<◌, ◌^◌, ℕ, false, Option, None, Some, IfSome}
 use Rattle.lapd_frame.specs.declared.timers.Timer.{Timer}
 use Rattle.lapd_card.specs.Kinds.{Machine, after, answer, card_in}
 use Rattle.model_card.specs.Event.{Event, at}
@@ -41,6 +41,11 @@ pub record IsTimersCall (old new : CardHandle) (result : ℕ) : Type 0 where
   pub timed : is_timed new ≡ is_timed old
   pub no_card : card_of old ≡ None → (result ≡ status.no_card) × (new ≡ old)
   pub wrong_card : is_timed old ≡ false → (card_of old ≡ None) ⊎ ((result ≡ status.wrong_card) × (card_of new ≡ card_of old))
+
+-- What is told of the moment at which a timer falls due first; or that none runs.
+abbrev pub TellsMoment : Option ℕ → ℕ → ℕ → Type 0
+TellsMoment None result moment = result ≡ status.no_timer
+TellsMoment (Some first) result moment = (result ≡ status.ok) × (moment ≡ first)
 
 -- Nothing is due: the time is now, and the first timer that runs falls due later.
 pub record NoneDue (now : ℕ) (m : Machine) (c : Clock) (old new : CardHandle) (result : ℕ) : Type 0 where

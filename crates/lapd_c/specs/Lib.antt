@@ -75,7 +75,7 @@ pub use Rattle.lapd_c.specs.Calls.{Begins, fresh, IsCardStart, IsTimedStart, ref
 pub use Rattle.lapd_c.specs.Asked.{expire_asked, expiry_at, failed_asked, frame_asked, next_frame_asked, octet_asked, pull_asked, request_asked, request_at}
 pub use Rattle.lapd_c.specs.CalledBy.{at_port, Called, inside, IsCallOf, Served}
 pub use Rattle.lapd_c.specs.Questions.{begun_frame_of, begun_of, heard_frame_of, heard_of, in_front, IsQuestion, limit_of, lines_of, Questioned, room_of, state_of, stored_of, waiting_from}
-pub use Rattle.lapd_c.specs.FallsDue.{AtMoment, FellDue, IsMomentCall, IsTimersCall, NoneDue, WithClock}
+pub use Rattle.lapd_c.specs.FallsDue.{AtMoment, FellDue, IsMomentCall, IsTimersCall, NoneDue, TellsMoment, WithClock}
 pub use Rattle.lapd_c.specs.Starts.{IsFreed}
 pub use Rattle.lapd_c.specs.Cards.{card_of, FramesStand, IsHandle, kind_in, marks_at, served_card}
 pub use Rattle.lapd_c.specs.Config.{config_fault, config_in, reading_in, sapi_in, seed_in, side_in}

@@ -4,7 +4,7 @@ ghost use Rattle.std.specs.Prelude.{◌≡◌, ◌≤◌, ◌<◌, ◌^◌, ◌�
 ghost use Rattle.model_card.specs.Card as machine;
 ghost use Rattle.lapd_clock.specs.Timer.{first_out_of_range};
 ghost use Rattle.model_timed.specs.Clock.{Clock, at_moment, due, next_moment, with_lengths};
-ghost use Rattle.lapd_c.specs.{AtMoment, FellDue, IsHandle, IsMomentCall, IsQuestion, IsTimersCall, NoneDue, TimersStandIn, WithClock, card_of, is_timed, of_any, timers_of};
+ghost use Rattle.lapd_c.specs.{AtMoment, FellDue, IsHandle, IsMomentCall, IsQuestion, IsTimersCall, NoneDue, TellsMoment, TimersStandIn, WithClock, card_of, is_timed, of_any, timers_of};
 ghost use Rattle.lapd_c.specs.Timers.{lengths_in};
 ghost use Rattle.lapd_c.specs.Statuses as status;
 
@@ -75,9 +75,7 @@ pub extern "C" fn lapd_next_moment(handle: &mut CardHandle, moment: &mut u64) ->
     requires { IsHandle handle.old }
     ensures question { IsQuestion of_any handle.old handle.new result moment.old moment.new }
     ensures wrong_card { is_timed handle.old ≡ false → (card_of handle.old ≡ None) ⊎ (result ≡ status.wrong_card) }
-    ensures none { (m : machine.Card) (c : Clock) → TimersStandIn (timers_of handle.old) m c → next_moment c ≡ None → result ≡ status.no_timer }
-    ensures next { (m : machine.Card) (c : Clock) → TimersStandIn (timers_of handle.old) m c
-        → IfSome (next_moment c) (λ first. (result ≡ status.ok) × (moment.new ≡ first)) }
+    ensures told { (m : machine.Card) (c : Clock) → TimersStandIn (timers_of handle.old) m c → TellsMoment (next_moment c) result moment.new }
 {
     lend!(kept of handle);
     let Some(timers) = &mut kept.timers else {

@@ -1,5 +1,5 @@
 -- The moment at which a timer falls due first.
-use Rattle.lapd_c.proofs.Vocabulary.{◌≡◌, ℕ, ◌<◌, List, [], ◌∷◌, Option, None, Some, IsSome, refl, sym, ap, subst, ◌∙◌, arith, none-some}
+use Rattle.lapd_c.proofs.Vocabulary.{◌≡◌, ℕ, ◌<◌, List, [], ◌∷◌, Option, None, Some, IsSome, refl, sym, ap, subst, arith, none-some}
 use Rattle.std.proofs.Common.{◌≢◌, cond, nat_le}
 use Rattle.std.proofs.lemmas.Bool.{le-leb, lt-leb}
 use Rattle.lapd_clock.specs.Timers.{Expiry}
@@ -16,7 +16,7 @@ one_told o first is = subst (λ o. TellsMoment o 0 first) (sym is) (refl, refl)
 
 -- a timer is due exactly from its moment on
 due_then : (e : Expiry) (es : List Expiry) (now : ℕ) → e.moment ≡ now → IsSome (first_due (e ∷ es) now)
-due_then e es now is = subst (λ (o : Option Expiry). IsSome o) (sym (ap (λ b. cond b (Some e) None) (le-leb e.moment now (omega (arith, is))))) tt
+due_then e es now is = subst (λ (o : Option Expiry). IsSome o) (sym (ap (λ b. cond b (Some e) None) (le-leb e.moment now (omega (arith, is))))) refl
 
 not_before : (e : Expiry) (es : List Expiry) (now : ℕ) → now < e.moment → first_due (e ∷ es) now ≡ None
 not_before e es now early = ap (λ b. cond b (Some e) None) (lt-leb e.moment now early)

@@ -34,7 +34,7 @@ octet_asked line octet = record {
 abbrev pub pull_asked : ℕ → Asked
 pull_asked line = record { cards = of_octets; line = line; event = λ card. Ok (at_port (octets.at line port.pull)); waits = none_waits }
 
--- At a card of frames: a frame comes; the controller tells a fault in place of one; the next frame is called for, with room for
+-- At a card of frames: a frame comes; the controller tells a fault in place of one. And the next frame is called for, with room for
 -- the longest.
 abbrev pub frame_asked : ℕ → List ℕ → Asked
 frame_asked line octets = record {
@@ -61,7 +61,7 @@ next_with_room line room card =
 abbrev pub next_frame_asked : ℕ → ℕ → Asked
 next_frame_asked line room = record { cards = of_frames; line = line; event = next_with_room line room; waits = none_waits }
 
--- At a card of either kind: a timer expires, if its timers are the caller's; layer 3 or management asks for something, and a link
+-- At a card of either kind a timer expires, if its timers are the caller's. Layer 3 or management asks for something there. A link
 -- that has no place for its contents waits for room.
 abbrev pub expiry_at : ℕ → Timer → Happening
 expiry_at line timer = inside (at line (expiry timer))

@@ -97,8 +97,8 @@ pub record Unchanged (line : ℕ) (waiting : Option ℕ) (old new : CardHandle) 
   pub timers : timers_of new ≡ timers_of old
   pub marks : WaitsFor waiting line (marks_at old) (marks_at new)
 
--- What a call asks: of which cards, of which line, and what happens there, or which status says what is wrong with its arguments;
--- and which link waits for room after it, by its status.
+-- What a call asks: of which cards, of which line, and what happens there, or which status says what is wrong with its arguments.
+-- And which link waits for room after it, by its status.
 pub record Asked : Type 0 where
   pub cards : Wanted
   pub line : ℕ

@@ -128,8 +128,8 @@ pub record CallsWrite : Type 0 where
   pub counters : (line result : ℕ) (h : CardHandle) (card : AnyCard) (written : PlainCounters)
       → IfSome (served_card h) (λ card. line < line_count card → (result ≡ 0) × (written ≡ plain_counters (get_or (counters_of card) line none_counted)))
       → served_card h ≡ Some card → line < line_count card → (result ≡ 0) × (written ≡ plain_counters (get_or (counters_at h) line none_counted))
-  -- A clock takes lengths, if each is in its range, for timers that are started from then on; says whether a timer is there; and if
-  -- there is no clock, says so.
+  -- A clock takes lengths, if each is in its range, for timers that are started from then on. It says whether a timer is there. If
+  -- there is no clock, the status says so.
   pub lengths : (l : Lengths) (c : Timers) → first_out_of_range l ≡ None → (lengths_status l c ≡ 0) × (after_lengths l c ≡ record c { lengths = l })
   pub wrong_length : (l : Lengths) (c : Timers) → IfSome (first_out_of_range l) (λ _. (lengths_status l c ≡ 21) × (after_lengths l c ≡ c))
   pub timer_there : (due : ℕ × Timer) (moment : ℕ) → (timer_status (Some due) ≡ 0) × (timer_status (Some moment) ≡ 0)

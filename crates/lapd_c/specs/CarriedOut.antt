@@ -53,8 +53,8 @@ IsLeft c line order now status = (apply_status c line order now ≡ status) × (
 abbrev pub AreLeft : Timers → ℕ → PlainReport → ℕ → ℕ → Type 0
 AreLeft c line r now status = (report_status c line r now ≡ status) × (after_report c line r now ≡ c)
 
--- Nothing is carried out if there is no such line, if an order is none, or if the moment comes after the latest; and of a report if it has
--- more than four orders.
+-- Nothing is carried out if there is no such line, if an order is none, or if the moment comes after the latest. And nothing of a
+-- report that has more than four orders.
 pub record OneIsRefused (c : Timers) (line : ℕ) (order : Result Order ℕ) (now : ℕ) : Type 0 where
   pub no_line : c.lines ≤ line → IsLeft c line order now 14
   pub wrong : (status : ℕ) → line < c.lines → order ≡ Err status → IsLeft c line order now status

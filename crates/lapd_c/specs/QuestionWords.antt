@@ -30,8 +30,8 @@ abbrev pub heard_of : ℕ → Machine → Result PlainHead ℕ
 heard_of line (with_ports m) = Ok (plain_head (head_heard_at line m))
 heard_of line (alone m) = Err status.wrong_card
 
--- The same two frames whole, but of frames heard that which the latest octet has ended: in front of other octets, if it has room
--- there, and how many octets it has.
+-- The same two frames whole, but of frames heard that which the latest octet has ended. Each stands in front of other octets, if it
+-- has room there. So many octets it has.
 abbrev pub in_front : List ℕ → List ℕ → Result (List ℕ × ℕ) ℕ
 in_front out octets =
     if length octets == 0 then Err status.no_frame else if nat_lt (length out) (length octets) then Err status.wrong_length

@@ -8,8 +8,8 @@ use Rattle.lapd_c.specs.Config.{config_fault, config_in}
 use Rattle.lapd_c.specs.Statuses.{field_status}
 use Rattle.lapd_c.specs.declared.plain.config.PlainConfig.{PlainConfig}
 
--- The configuration of a card has each size and limit as C gives it; the side, of which 1 is a trunk's end and 2 a terminal with
--- its first reference number; the SAPI, 16 if that is 0; and the reading.
+-- The configuration of a card has each size and limit as C gives it, the side, the SAPI and the reading. Side 1 is a trunk's end,
+-- and side 2 a terminal with its first reference number. SAPI 0 stands for 16.
 pub record ConfigurationIsGiven (p : PlainConfig) : Type 0 where
   pub lines : (config_in p).lines ≡ p.lines
   pub terminals : (config_in p).terminals ≡ p.terminals
@@ -29,7 +29,7 @@ pub record ConfigurationIsGiven (p : PlainConfig) : Type 0 where
   pub profile : p.reading ≡ 0 → (config_in p).reading ≡ Profile
   pub annex_b : p.reading ≡ 1 → (config_in p).reading ≡ AnnexB
 
--- A start tells the first of these that is out of range, and after them a side over 2, and then a reading over 1; and nothing else.
+-- A start tells the first of these that is out of range, after them a side over 2, and then a reading over 1. It tells nothing else.
 pub record ConfigurationIsServed (p : PlainConfig) : Type 0 where
   pub bad_field : (f : Field) → first_fault (config_in p) ≡ Some f → config_fault p ≡ Some (field_status f)
   pub bad_side : first_fault (config_in p) ≡ None → 2 < p.side → config_fault p ≡ Some 43

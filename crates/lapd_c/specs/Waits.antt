@@ -54,8 +54,8 @@ pub record WaitsMore (status request sapi its line : ℕ) (old new : List LinkMa
       → Waits old other service tei ⊎ ((status ≡ 5) × (request ≡ 3) × (other ≡ line) × (service ≡ (if sapi == 0 then Call else Packet)) × (tei ≡ its))
   pub lines : length new ≡ length old
 
--- Which wait after a call of a line: there each that did, if its TEI is on the line, and if it is not told; elsewhere all that did, and no
--- others. One that waits and has room is told, if there is one.
+-- Which wait after a call of a line: there each that did, if its TEI is on the line, and if it is not told. Elsewhere all wait that did,
+-- and no others. One that waits and has room is told, if there is one.
 pub record WaitsOn (line : ℕ) (m : Card) (old new : List LinkMarks) (r : PlainReport) : Type 0 where
   pub stays : (tei : ℕ) (service : Service) (left : Room) → line < length old → Waits old line service tei → HasRoom line service tei m left → IsTold r service tei ⊎ Waits new line service tei
   pub no_other : (tei : ℕ) (service : Service) → line < length old → Waits new line service tei → Waits old line service tei × ((left : Room) × HasRoom line service tei m left)

@@ -1,11 +1,13 @@
 -- Whole lists of events at a card of frames.
 --
--- `drive_frames` comes to its clauses in four steps. One line: its contract speaks of every past and of every list of what
--- others own on the shelf, so it is taken out of the list of lines, changed, and put back (`OneLine` of `lapd_card`).
--- One event: it is one of its line; where it finds the pool full, the slots in use on the shelf are those that the
--- machine counts (`OneEvent` there). A list: the loop keeps that the configuration stays, that the sink has
--- not failed, that the card stands for the machine of the run so far, and that the sink has taken the replies of
--- that run. The laws: they speak of the machine alone, and the card stands for it.
+-- `drive_frames` comes to its clauses in four steps.
+-- One line: its contract speaks of every past, and of every list of what others own on the shelf. So it is taken out of the
+-- list of lines, changed, and put back (`OneLine` of `lapd_card`).
+-- One event: it is one of its line. If it finds the pool full, the slots in use on the shelf are those that the machine counts
+-- (`OneEvent` there).
+-- A list: the loop keeps the configuration. The card stands for the machine of the run so far. The sink has not failed, and
+-- has taken the replies of that run.
+-- The laws: they speak of the machine alone, and the card stands for it.
 use Rattle.std.specs.Prelude.{◌≡◌, ℕ, List, map, take, Result}
 use Rattle.model_bits.specs.Stream.{dropped}
 use Rattle.model_line.specs.Came.{came, cause_of}
@@ -29,8 +31,8 @@ use Rattle.laws_promises.specs.Linear.{IsLinear}
 use Rattle.laws_promises.specs.Promises.{Promises}
 use Rattle.laws_promises.specs.declared.frame_events.FrameEvent as rust
 
--- What happens at a card of frames, its octets and contents seen without references: a frame that comes, and a
--- fault in place of one, are heard as `Came` of `model_line` has it, where information fields have at most `n201` octets.
+-- What happens at a card of frames. Its octets and contents are seen without references. `Came` of `model_line` says as what a
+-- frame that comes is heard, and a fault in place of one. Information fields have at most `n201` octets.
 abbrev pub event_of : ℕ → rust.FrameEvent → Event
 event_of n201 (rust.TheVariants.Frame line octets) = at line (line_event.hears (came n201 octets.now))
 event_of n201 (rust.TheVariants.Failed line fault) = at line (line_event.hears (dropped (cause_of fault)))
@@ -56,8 +58,8 @@ pub record HasRun {S K : Type 0} (store : S → Store) (takes misses : K → ℕ
   pub runs : Runs takes misses failures (FrameStands store old) (FrameStands store new) (λ m es. (run m es).card) (λ m es. (run m es).replies)
       (λ m es. counters_in new.lines ≡ all_counted (counters_in old.lines) (moments m es)) events before then result
 
--- The laws that hold of each list of events at a card, for the machines for which it stood, as `KeepsLaws` of `lapd_card` has
--- them of what octets mean: of the list, of each front of it, and of each front from a card that has just begun.
+-- The laws that hold of each list of events at a card, for the machines for which it stood. They hold of the list, of each front
+-- of it, and of each front from a card that has just begun. `KeepsLaws` of `lapd_card` has them of what octets mean.
 pub record FramesKeepLaws {S : Type 0} (store : S → Store) (card : Held S) (events : List Event) : Type 0 where
   pub moments : RunIsMoments
   pub refused : RefusedByTheTable

@@ -14,4 +14,6 @@ quiet_told octets r quiet = λ i. record {
   cause = option_or (unserved_cause (quiet.unserved i)) (quiet.cause i);
   orders = listed r.orders;
   lost = quiet.lost i;
+  given_up = quiet.given_up i;
+  given_up_16 = quiet.given_up_16 i;
 }

@@ -12,6 +12,8 @@ cause_alone {r} octets cause clear = λ i. record {
   cause = option_or (unserved_cause (clear.unserved i)) cause;
   orders = clear.orders i;
   lost = clear.lost i;
+  given_up = clear.given_up i;
+  given_up_16 = clear.given_up_16 i;
 }
 
 -- or not even that,

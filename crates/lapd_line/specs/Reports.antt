@@ -19,7 +19,7 @@ use Rattle.lapd_line.specs.declared.pulled.Pulled.{Pulled}
 
 abbrev pub report_told : Report → LineTold
 report_told r =
-    record { notes = listed r.notes; contents = option_copied r.delivered; cause = r.cause; orders = listed r.orders; lost = r.lost }
+    record { notes = listed r.notes; contents = option_copied r.delivered; cause = r.cause; orders = listed r.orders; lost = r.lost; given_up = r.given_up; given_up_16 = r.given_up_16 }
 
 -- What is left of it without the contents.
 abbrev pub without_contents : LineTold → LineTold
@@ -28,7 +28,7 @@ without_contents t = record t { contents = None }
 -- What a report without references tells, with these contents beside it,
 abbrev pub told_beside : Option (List ℕ) → BareReport → LineTold
 told_beside contents o =
-    record { notes = listed o.notes; contents = contents; cause = cause_in o; orders = listed o.orders; lost = o.lost }
+    record { notes = listed o.notes; contents = contents; cause = cause_in o; orders = listed o.orders; lost = o.lost; given_up = o.given_up; given_up_16 = o.given_up_16 }
 
 -- or with those that it names in these octets.
 abbrev pub told_in : List ℕ → BareReport → LineTold

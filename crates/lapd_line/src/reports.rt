@@ -20,6 +20,10 @@ pub struct Report<'a> {
     pub cause: Option<Cause>,
     /// How many control frames and messages of TEI management found no room to wait: they are lost, as if on the line.
     pub lost: u8,
+    /// How many contents that were granted on the link of call control are given up: the latest of them, sent or not.
+    pub given_up: u8,
+    /// The same of the second service.
+    pub given_up_16: u8,
 }
 
 impl Report<'_> {
@@ -33,6 +37,8 @@ impl Report<'_> {
             delivered: None,
             cause: None,
             lost: 0,
+            given_up: 0,
+            given_up_16: 0,
         }
     }
 
@@ -54,6 +60,8 @@ impl Report<'_> {
             delivered: None,
             cause: self.cause,
             lost: self.lost,
+            given_up: self.given_up,
+            given_up_16: self.given_up_16,
         }
     }
 
@@ -76,6 +84,8 @@ impl<'a> Report<'a> {
             delivered,
             cause: bare.cause(),
             lost: bare.lost,
+            given_up: bare.given_up,
+            given_up_16: bare.given_up_16,
         }
     }
 }

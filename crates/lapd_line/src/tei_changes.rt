@@ -39,6 +39,8 @@ fn tell_cleared(report: &mut BareReport, call: &BareReport, packet: &BareReport)
     orders.append(report.orders);
     report.orders = call.orders;
     report.orders.append(orders);
+    report.given_up = call.given_up;
+    report.given_up_16 = packet.given_up_16;
 }
 
 impl LinkLayer {

@@ -1,6 +1,6 @@
 -- Requests of layer 3.
-use Rattle.lapd_link.proofs.Vocabulary.{◌≡◌, ℕ, ◌<◌, Bool, Bor, true, List, [], ◌∷◌, ◌++◌, length, drop, Option, Some, None, sym, ap, subst, ◌∙◌, arith, length-append, if◌then◌else◌, drop-append-le, Store, Owned, Keeps, Refusal, WrongState, Terms, Request, requested, Course, begun, data_in_7_8, serves, refusal, refusal_for_room, granted, course, Entity, BareReport, Agrees, IsClear, Took}
-use Rattle.lapd_link.proofs.Vocabulary.{begun-resting, Link, LinkRequest, Data, request_of, LinkStands, Stays, terms_of}
+use Rattle.lapd_link.proofs.Vocabulary.{◌≡◌, ℕ, ◌<◌, ◌≤◌, Bool, Bor, true, List, [], ◌∷◌, ◌++◌, length, drop, Option, Some, None, sym, ap, subst, ◌∙◌, arith, length-append, if◌then◌else◌, drop-append-le, Store, Owned, Keeps, Refusal, WrongState, Terms, Request, requested, Course, begun, data_in_7_8, serves, refusal, refusal_for_room, granted, course, Entity, BareReport, Agrees, IsClear, Took}
+use Rattle.lapd_link.proofs.Vocabulary.{begun-resting, few_gone, Link, LinkRequest, Data, request_of, LinkStands, Stays, terms_of}
 use Rattle.model_link.specs.Link as machine
 use Rattle.lapd_link.proofs.Ending.{reached}
 
@@ -16,6 +16,8 @@ granted-course t r pool_is_full m none =
 -- contents that were put on the shelf and at the end of the queue
 pub transferred : {link : Link} {store : Store} {others : List Owned} {m : machine.Link} {none : BareReport} (octets : List ℕ) → LinkStands link store others m → length link.queue.slots < link.queue.capacity → IsClear none → Agrees (terms_of link) [] (machine.queue_of m ++ octets ∷ []) (data_in_7_8 octets (begun m)) link.entity none
 transferred {m = m} octets s place nothing =
+    let few : length (machine.queue_of m ++ octets ∷ []) ≤ 127 =
+    omega (arith, length-append (machine.queue_of m) (octets ∷ []), s.kept.lengths, place, s.fits.capacity, s.fits.range.queue_high) in
     record {
       fits =
           record {
@@ -25,8 +27,10 @@ transferred {m = m} octets s place nothing =
             queue =
                 ap (λ (n : ℕ). drop n (machine.queue_of m ++ octets ∷ [])) nothing.released
                 ∙ sym (drop-append-le m.a m.contents (octets ∷ []) (omega (arith, s.fits.sound.ordered, s.fits.sound.accepted)));
-            few = omega (arith, length-append (machine.queue_of m) (octets ∷ []), s.kept.lengths, place, s.fits.capacity, s.fits.range.queue_high);
+            few = few;
             cause = nothing.cause;
+            given_up = sym (few_gone few nothing.whole);
+            whole = λ some. absurd (omega (arith, some, few, nothing.whole));
           };
       is = ap (λ (c : Course). data_in_7_8 octets c) (begun-resting [] s.fits.rests nothing);
     }

@@ -19,7 +19,7 @@ pub use Rattle.lapd_link.specs.declared.link.Link.{Link}
 pub use Rattle.lapd_link.specs.declared.received.Received.{Received}
 pub use Rattle.lapd_link.specs.declared.requests.LinkRequest.{LinkRequest}
 pub use Rattle.lapd_link.specs.declared.requests.LinkRequest.TheVariants.{ClearBusy, Data, Establish, Release, SetBusy}
-pub use Rattle.lapd_link_steps.proofs.Resting.{begun-resting, fits-resting, rests-after, took-course}
+pub use Rattle.lapd_link_steps.proofs.Resting.{begun-resting, few_gone, fits-resting, rests-after, took-course}
 pub use Rattle.lapd_link_steps.specs.Does.{Agrees, Does}
 pub use Rattle.lapd_link_steps.specs.Done.{Rests, Took}
 pub use Rattle.lapd_link_steps.specs.Reports.{IsClear}

@@ -16,6 +16,8 @@ told_with info report = record {
   unit = if report.unit then Some info else None;
   orders = listed report.orders;
   lost = report.lost;
+  given_up = report.given_up;
+  given_up_16 = report.given_up_16;
   unserved = report.unserved;
 }
 
@@ -30,6 +32,8 @@ told_of outcome = record {
   unit = lent outcome.unit;
   orders = listed outcome.orders;
   lost = outcome.lost;
+  given_up = outcome.given_up;
+  given_up_16 = outcome.given_up_16;
   unserved = outcome.unserved;
 }
 

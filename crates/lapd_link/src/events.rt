@@ -112,7 +112,7 @@ impl Link {
         self.settle(before, report, shelf);
     }
 
-    // Ends an event: what it released goes from the shelf, and the report gets its orders.
+    // Ends an event: what it gave up is counted, what it released goes from the shelf, and the report gets its orders.
     #[inline(always)]
     pub(crate) fn settle<S: Shelf>(
         &mut self,
@@ -128,9 +128,10 @@ impl Link {
         ensures stays { Stays self.old self.new }
         ensures limits { SameLimits (S.store shelf.old) (S.store shelf.new) }
     {
+        let started = report.started;
+        report.count_given_up(self.terms.service, self.queue.len());
         self.queue
             .release_oldest(usize::from(report.released), shelf);
-        let started = report.started;
         let after = self.entity.running();
         put_orders(&mut report.orders, &self.terms, before, started, after);
     }

@@ -18,6 +18,10 @@ pub struct Outcome<'a> {
     pub orders: ShortList<Order>,
     /// How many control frames found no place to wait: they are lost, as if on the line. At most two.
     pub lost: u8,
+    /// How many contents that layer 3 was granted are given up, sent or not, if the link is of call control,
+    pub given_up: u8,
+    /// and if it is of the second service.
+    pub given_up_16: u8,
     /// Whether the state does not serve the frame.
     pub unserved: bool,
 }
@@ -35,6 +39,8 @@ impl<'a> Outcome<'a> {
             unit: report.unit.then_some(information),
             orders: report.orders,
             lost: report.lost,
+            given_up: report.given_up,
+            given_up_16: report.given_up_16,
             unserved: report.unserved,
         }
     }

@@ -69,7 +69,7 @@ some_given t l c (Some x) = refl
 
 -- nothing is told between two events
 abbrev untold : BareReport
-untold = record { notes = no_notes; orders = no_notes; delivered = false; unit = false; start = 0; cause = None; started = None; lost = 0; unserved = false; released = 0; in_range = omega arith }
+untold = record { notes = no_notes; orders = no_notes; delivered = false; unit = false; start = 0; cause = None; started = None; lost = 0; given_up = 0; given_up_16 = 0; unserved = false; released = 0; given_up_from = 127; in_range = omega arith }
 
 -- so the machine gives a frame where a control frame waits,
 module _ {terms : Terms} {e : Entity} (m : Link) (rests : Rests terms e m) where
@@ -87,7 +87,7 @@ module _ {terms : Terms} {e : Entity} (m : Link) (rests : Rests terms e m) where
       → ((messages : List (List ℕ)) (t : BareReport) (p : Past) → length messages ≡ queued → t.released ≡ 0 → Fits terms messages e t p → may ≡ may_send_information terms (link_of e p))
       → length (queue_of m) ≡ queued → queued ≤ 127 → (may || e.pending) ≡ is_some (given terms m)
   other_given {queued} {may} none allowed many few =
-      let fits : Fits terms (queue_of m) e untold (past_at m) = record { window = rests.window; received = rests.received; ring = rests.ring; queue = refl; few = omega (arith, many, few); cause = refl } in
+      let fits : Fits terms (queue_of m) e untold (past_at m) = record { window = rests.window; received = rests.received; ring = rests.ring; queue = refl; few = omega (arith, many, few); cause = refl; given_up = omega (arith, many, few); whole = λ some. absurd (omega (arith, some, many, few)) } in
       ap (λ b. b || e.pending) (allowed (queue_of m) untold (past_at m) many refl fits)
       ∙ sym (some_without_control terms (link_of e (past_at m)))
       ∙ ap (λ fs. is_some (offer_among terms fs (begun (link_of e (past_at m)))).sent) (sym (waits_some e.waiting.items (eqb-true (length e.waiting.items) 0 none)))

@@ -1,5 +1,6 @@
 -- Lemmas of this crate.
 mod Contents
+mod Counts
 pub mod Vocabulary
 pub mod Steps
 pub mod Giving

@@ -1,5 +1,9 @@
 -- From one event to the next: what an entity stands for as an event begins, and as it ends.
-use Rattle.lapd_link_steps.proofs.Vocabulary.{◌≡◌, ℕ, ◌≤◌, Bool, List, [], length, drop, Option, ap, subst, ◌∙◌, Note, LinkTimer, Terms, Link, queue_of, Course, begun, Step, Entity, BareReport, link_of, if_told, course_of, Fits, Agrees, IsClear, past_at, Rests, Took}
+use Rattle.lapd_link_steps.proofs.Vocabulary.{◌≡◌, ℕ, ◌-◌, ◌≤◌, arith, sym, Bool, List, [], length, drop, Option, ap, subst, ◌∙◌, Note, LinkTimer, Terms, Link, queue_of, Course, begun, Step, Entity, BareReport, link_of, if_told, course_of, Fits, Agrees, IsClear, past_at, Rests, Took}
+
+-- none of few contents is given up yet
+pub few_gone : {n from : ℕ} → n ≤ 127 → from ≡ 127 → n - from ≡ 0
+few_gone few is = omega (arith, few, is)
 
 -- an event begins: its past fits,
 pub fits-resting : {terms : Terms} {e : Entity} {m : Link} {none : BareReport} → Rests terms e m → length (queue_of m) ≤ 127 → IsClear none → Fits terms (queue_of m) e none (past_at m)
@@ -11,6 +15,8 @@ fits-resting {m = m} rests few nothing =
       queue = ap (λ n. drop n (queue_of m)) nothing.released;
       few = few;
       cause = nothing.cause;
+      given_up = sym (few_gone few nothing.whole);
+      whole = λ some. absurd (omega (arith, some, few, nothing.whole));
     }
 
 -- and its course is the one that begins

@@ -27,7 +27,7 @@ does_nothing = record { step = λ messages p fits. record { fits = fits; is = re
 -- a flag, RC or the state is set
 still-fits : {terms : Terms} {messages : List (List ℕ)} {e e' : Entity} {t : BareReport} {p : Past} → e'.window ≡ e.window → e'.vr ≡ e.vr → e'.waiting ≡ e.waiting → Fits terms messages e t p → Fits terms messages e' t p
 still-fits {p = p} same still ring fits =
-    record { window = subst (λ w. WindowStands w p.a p.s) (sym same) fits.window; received = still ∙ fits.received; ring = ap (λ w. w.capacity) ring ∙ fits.ring; queue = fits.queue; few = fits.few; cause = fits.cause }
+    record { window = subst (λ w. WindowStands w p.a p.s) (sym same) fits.window; received = still ∙ fits.received; ring = ap (λ w. w.capacity) ring ∙ fits.ring; queue = fits.queue; few = fits.few; cause = fits.cause; given_up = fits.given_up; whole = fits.whole }
 
 module _ {terms : Terms} {info : List ℕ} {e : Entity} {t : BareReport} where
   pub peer_busy_set : {b : Bool} → Does terms info (word.peer_busy_is b) e t (record e { peer_busy = b }) t
@@ -52,7 +52,7 @@ module _ {terms : Terms} {info : List ℕ} {e : Entity} {t : BareReport} where
   state_set = record { step = λ messages p fits. record { fits = still-fits refl refl refl fits; is = refl } }
 
   pub one_sent : {w : Window} → ((a s : ℕ) → WindowStands e.window a s → WindowStands w a (s + 1)) → Does terms info (changed offers.with_one_sent) e t (record e { window = w }) t
-  one_sent plain = record { step = λ messages p fits. record { fits = record { window = plain p.a p.s fits.window; received = fits.received; ring = fits.ring; queue = fits.queue; few = fits.few; cause = fits.cause }; is = refl } }
+  one_sent plain = record { step = λ messages p fits. record { fits = record { window = plain p.a p.s fits.window; received = fits.received; ring = fits.ring; queue = fits.queue; few = fits.few; cause = fits.cause; given_up = fits.given_up; whole = fits.whole }; is = refl } }
 
   pub repeats_more : Does terms info word.repeated e t (record e { repeats = e.repeats + 1 }) t
   repeats_more = record { step = λ messages p fits. record { fits = still-fits refl refl refl fits; is = refl } }
@@ -189,7 +189,7 @@ gives sent =
     record {
       step = λ messages p fits.
           record {
-            fits = record { window = fits.window; received = fits.received; ring = fits.ring; queue = fits.queue; few = fits.few; cause = fits.cause };
+            fits = record { window = fits.window; received = fits.received; ring = fits.ring; queue = fits.queue; few = fits.few; cause = fits.cause; given_up = fits.given_up; whole = fits.whole };
             is = refl;
           };
     }

@@ -24,7 +24,7 @@ given_of messages (Some given) = Some (record { frame = given.frame; contents = 
 
 -- a link as it begins
 abbrev pub fresh_past : Past
-fresh_past = record { contents = []; a = 0; s = 0; r = 0; sent = None; zeroed = false }
+fresh_past = record { contents = []; a = 0; s = 0; r = 0; sent = None; zeroed = false; given_up = 0 }
 
 pub record IsFresh (control : ℕ) (e : Entity) : Type 0 where
   pub link : link_of e fresh_past ≡ fresh
@@ -39,7 +39,7 @@ pub record Gives (terms : Terms) (f : Step) (queued : ℕ) (e : Entity) (t : Bar
 
 -- A link as it is between two events, and the entity that holds all of it but its past.
 abbrev pub past_at : Link → Past
-past_at m = record { contents = m.contents; a = m.a; s = m.s; r = m.r; sent = None; zeroed = false }
+past_at m = record { contents = m.contents; a = m.a; s = m.s; r = m.r; sent = None; zeroed = false; given_up = 0 }
 
 pub record Rests (terms : Terms) (e : Entity) (m : Link) : Type 0 where
   pub window : window.WindowStands e.window m.a m.s

@@ -24,6 +24,6 @@ pub use Rattle.lapd_link_steps.specs.Done.{Gives, IsFresh, Rests, given_of}
 pub use Rattle.lapd_link_steps.specs.Parts.{awaiting, effect_of, malformed_by_state, particulars, released_by_state, renewed, supervisory, told_of_clearing_by_state, told_of_establishment}
 pub use Rattle.lapd_link_steps.specs.Past.{Fits, link_of}
 pub use Rattle.lapd_link_steps.specs.Quiet.{IsQuiet}
-pub use Rattle.lapd_link_steps.specs.Reports.{IsClear, cause_in, delivered_in, has_contents}
+pub use Rattle.lapd_link_steps.specs.Reports.{IsClear, cause_in, counting, delivered_in, has_contents}
 pub use Rattle.lapd_link_steps.specs.declared.entity.Entity.{Entity}
 pub use Rattle.lapd_link_steps.specs.declared.report.BareReport.{BareReport}

@@ -10,3 +10,5 @@ pub record IsQuiet (r : BareReport) : Type 0 where
   pub cause : r.cause ≡ None
   pub unserved : r.unserved ≡ false
   pub lost : r.lost ≡ 0
+  pub given_up : r.given_up ≡ 0
+  pub given_up_16 : r.given_up_16 ≡ 0

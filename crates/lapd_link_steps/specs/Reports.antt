@@ -1,9 +1,11 @@
 -- What a report says of itself.
-use Rattle.std.specs.Prelude.{◌≡◌, ◌||◌, ℕ, Bool, false, List, [], drop, Option, Some, None, if◌then◌else◌}
+use Rattle.std.specs.Prelude.{◌≡◌, ◌||◌, ℕ, ◌-◌, Bool, false, List, [], drop, Option, Some, None, if◌then◌else◌}
 use Rattle.std.specs.Option.{option_or}
 use Rattle.model_bits.specs.declared.heard.Cause.{Cause}
 use Rattle.model_bits.specs.declared.heard.Cause.TheVariants.{Unserved}
 use Rattle.lapd_frame.specs.ShortLists.{listed}
+use Rattle.lapd_frame.specs.declared.services.Service.{Service}
+use Rattle.model_link.specs.Told.{of_call, of_packet}
 use Rattle.lapd_link_steps.specs.declared.report.BareReport.{BareReport}
 
 -- Nothing is told in it yet.
@@ -17,6 +19,16 @@ pub record IsClear (r : BareReport) : Type 0 where
   pub lost : r.lost ≡ 0
   pub unserved : r.unserved ≡ false
   pub released : r.released ≡ 0
+  pub whole : r.given_up_from ≡ 127
+  pub given_up : r.given_up ≡ 0
+  pub given_up_16 : r.given_up_16 ≡ 0
+
+-- What the event of a link gave up is counted, of so many contents that were queued as it began.
+abbrev pub counting : Service → ℕ → BareReport → BareReport
+counting service queued r = record r {
+  given_up = of_call service (queued - r.given_up_from);
+  given_up_16 = of_packet service (queued - r.given_up_from);
+}
 
 -- Whether contents were delivered.
 abbrev pub has_contents : BareReport → Bool

@@ -33,6 +33,7 @@ impl Entity {
         self.tell_clearing(terms, told);
         self.begin();
         told.started = None;
+        told.given_up_from = told.given_up_from.min(told.released);
         told.released = ALL;
     }
 

@@ -57,6 +57,7 @@ pub record Turn (l : Line) (change : Option Change) (told : LineTold) (m : Manag
   pub quiet : AreOfTeis told.notes
   pub contents : told.contents ≡ None
   pub ordered : AreOfLine told.orders
+  pub keeps : (told.given_up ≡ 0) × (told.given_up_16 ≡ 0)
 
 of_network_notes : (e : TeiEvent) (o : Option Change) (ns : List Note) → ByChange e o ns → AreOfTeis ns
 of_network_notes e o ns by = grind arith
@@ -73,7 +74,7 @@ module _ (c : Config) (l : Line) (s : IsSound c l) (P : Effect → Type 0)
   sides is = subst (λ b. IsOfSide b l.management l.own) is s.own
 
   idle : P (record { line = l; told = nothing })
-  idle = turns None nothing l.management l.own (record { moves = refl; table = s.management.table; quiet = tt; contents = refl; ordered = tt })
+  idle = turns None nothing l.management l.own (record { moves = refl; table = s.management.table; quiet = tt; contents = refl; ordered = tt; keeps = (refl, refl) })
 
   there : is_terminal c ≡ true → (e : TerminalEvent) → terminal_laws.IsInRange e → P (of_terminal c e l)
   there is e range =
@@ -81,7 +82,7 @@ module _ (c : Config) (l : Line) (s : IsSound c l) (P : Effect → Type 0)
       let after = terminal_after e t in
       turns (terminal_told e t).change (told_of_terminal (terminal_told e t)) (record l.management { places = after.places })
       (record { number = after.number; procedure = after.procedure; waiting = after.waiting })
-      (record { moves = led.moves; table = led.sound.table; quiet = of_news (terminal_told e t).news; contents = refl; ordered = of_t202 (terminal_told e t).order })
+      (record { moves = led.moves; table = led.sound.table; quiet = of_news (terminal_told e t).news; contents = refl; ordered = of_t202 (terminal_told e t).order; keeps = (refl, refl) })
 
   here : (e : TeiEvent) → tei_laws.IsInRange e → P (of_network c e l)
   here e range =
@@ -92,6 +93,7 @@ module _ (c : Config) (l : Line) (s : IsSound c l) (P : Effect → Type 0)
         quiet = of_network_notes e (tei_told e l.management).change (tei_told e l.management).notes (noted e l.management s.management);
         contents = refl;
         ordered = of_t201 (is_some l.management.check) (is_some (tei_after e l.management).check) (tei_told e l.management).orders (t201_follows e l.management);
+        keeps = (refl, refl);
       })
 
   in_range : (e : TeiEvent) → tei_laws.IsInRange e → IfSome (at_a_terminal e) terminal_laws.IsInRange

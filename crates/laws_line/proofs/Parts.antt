@@ -22,6 +22,9 @@ use Rattle.model_line.proofs.Places.{has-place}
 use Rattle.laws_line.proofs.Tied.{Ties, heard-ties, expiry-ties, request-ties}
 use Rattle.laws_line.proofs.Told.{moved}
 use Rattle.model_line.proofs.Downs.{by-down}
+use Rattle.laws_line.specs.Frames.{given_up_in}
+use Rattle.laws_line.specs.OneEvent.{given_up_behind}
+use Rattle.lapd_tei.specs.declared.outcome.Change.TheVariants.{Gained, Left}
 
 -- A step of TEI management, of whatever side.
 module _ (c : Config) (l : Line) (s : IsSound c l) (own_told : LineTold) (m : Management) (own : Own) where
@@ -55,6 +58,15 @@ module _ (c : Config) (l : Line) (s : IsSound c l) (own_told : LineTold) (m : Ma
   pub lost-is : (o : Option Change) → (of_change c o own_told (record l { management = m; own = own })).told.lost ≡ own_told.lost
   lost-is o = grind arith
 
+  pub given-is : own_told.given_up ≡ 0 → own_told.given_up_16 ≡ 0 → (o : Option Change) (service : Service)
+      → given_up_in service (told (of_change c o own_told (record l { management = m; own = own })).told) ≡ given_up_behind c l service o
+  given-is none none_16 None Call = none
+  given-is none none_16 None Packet = none_16
+  given-is none none_16 (Some (Gained tei place)) Call = none
+  given-is none none_16 (Some (Gained tei place)) Packet = none_16
+  given-is none none_16 (Some (Left tei place)) Call = refl
+  given-is none none_16 (Some (Left tei place)) Packet = grind (arith, get_or-set_other)
+
 -- Of the network's side, and of a terminal.
 module _ (c : Config) (l : Line) (s : IsSound c l) where
   abbrev IsOne : Effect → teis.Event → Type 0
@@ -75,6 +87,7 @@ module _ (c : Config) (l : Line) (s : IsSound c l) where
         begin = λ number few other. (links number few).1 (λ same. other (sym (same-place o t m l.own number) ∙ same));
         notes = noted-is c l s t m l.own o;
         lost = lost-is c l s t m l.own o;
+        given_up = given-is c l s t m l.own refl refl o;
       }
     where
       same-place : (o : Option Change) (t : LineTold) (m : Management) (own : Own) (number : ℕ)
@@ -96,6 +109,7 @@ module _ (c : Config) (l : Line) (s : IsSound c l) where
         begin = λ number few other. (links number few).1 (λ same. other (sym (same-place o t m own number) ∙ same));
         notes = noted-is c l s t m own o;
         lost = lost-is c l s t m own o;
+        given_up = given-is c l s t m own refl refl o;
       }
     where
       same-place : (o : Option Change) (t : LineTold) (m : Management) (own : Own) (number : ℕ)

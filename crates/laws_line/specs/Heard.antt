@@ -53,7 +53,8 @@ IsTooLong c address head link.wrong_size = long_reading (heard_side c) head ≡ 
 IsTooLong c address head link.overlong = (long_reading (heard_side c) head ≡ Ok (long.Information address)) ⊎ IsLongUnit c address head
 IsTooLong c address head other = ⊥
 
--- An answer says what a link tells: its notes, the contents of an I-frame or of a UI, its orders, and what it loses.
+-- An answer says what a link tells: its notes, the contents of an I-frame or of a UI, its orders, what it loses, and what it
+-- gives up.
 pub record AnswerTells (t : link_told.LinkTold) (answer : Answer) : Type 0 where
   pub own : LineTold
   pub is : answer ≡ told own
@@ -61,6 +62,8 @@ pub record AnswerTells (t : link_told.LinkTold) (answer : Answer) : Type 0 where
   pub contents : own.contents ≡ option_or t.delivered t.unit
   pub orders : own.orders ≡ t.orders
   pub lost : own.lost ≡ t.lost
+  pub given_up : own.given_up ≡ t.given_up
+  pub given_up_16 : own.given_up_16 ≡ t.given_up_16
 
 -- Then what is heard is this event of the link of that service and TEI, and nothing else changes; and the line answers what
 -- the link does.

@@ -18,7 +18,8 @@ use Rattle.model_line.specs.Line.{Line, is_terminal, terminal_in, with_terminal,
 use Rattle.model_line.specs.Machine as lines
 use Rattle.model_line.specs.Request.{Request, Down}
 use Rattle.model_line.specs.Sides.{IsToGroup}
-use Rattle.laws_line.specs.Frames.{lost_in}
+use Rattle.laws_link.specs.History.{given_up_of}
+use Rattle.laws_line.specs.Frames.{given_up_in, lost_in}
 use Rattle.laws_line.specs.GoesDown.{GivesUp}
 use Rattle.laws_line.specs.Heard.{AnswerTells, notes_of}
 use Rattle.laws_line.specs.Loss.{IsMoved}
@@ -39,6 +40,11 @@ abbrev pub noted_behind : Config → Line → Option Change → List Note
 noted_behind c l (Some (Left tei place)) = noted_ending c l Call tei place ++ noted_ending c l Packet tei place
 noted_behind c l other = []
 
+-- A link of a TEI that leaves gives up what it keeps; else nothing is given up.
+abbrev pub given_up_behind : Config → Line → Service → Option Change → ℕ
+given_up_behind c l service (Some (Left tei place)) = given_up_of service (links.told (terms c service tei) link.cleared (link_in l service place))
+given_up_behind c l service other = 0
+
 pub record IsManaged (c : Config) (before after : Line) (answer : Answer) (event : teis.Event) : Type 0 where
   pub line : after ≡ record before { management = teis.after event before.management; links = after.links }
   pub stay : (number : ℕ) → number < link_count c → tei_at (place_at number) after ≡ tei_at (place_at number) before → link_at number after ≡ link_at number before
@@ -46,6 +52,7 @@ pub record IsManaged (c : Config) (before after : Line) (answer : Answer) (event
   pub notes : notes_of answer
       ≡ (teis.told event before.management).notes ++ noted_behind c before (teis.told event before.management).change
   pub lost : lost_in answer ≡ (teis.told event before.management).lost
+  pub given_up : (service : Service) → given_up_in service answer ≡ given_up_behind c before service (teis.told event before.management).change
 
 -- The same of TEI management of a terminal, which loses no message.
 pub record IsManagedThere (c : Config) (before after : Line) (answer : Answer) (event : terminals.Event) : Type 0 where
@@ -55,6 +62,7 @@ pub record IsManagedThere (c : Config) (before after : Line) (answer : Answer) (
   pub notes : notes_of answer
       ≡ option_to_list (option_map note_of (terminals.told event (terminal_in before)).news) ++ noted_behind c before (terminals.told event (terminal_in before)).change
   pub lost : lost_in answer ≡ 0
+  pub given_up : (service : Service) → given_up_in service answer ≡ given_up_behind c before service (terminals.told event (terminal_in before)).change
 
 -- Unit data is granted.
 pub record IsGranted (e : Event) (answer : Answer) (unit : UnitData) : Type 0 where

@@ -2,13 +2,13 @@
 use Rattle.laws_link.proofs.Vocabulary.{◌≡◌, ℕ, ◌+◌, ◌≤◌, Bool, true, false, cond, List, [], ◌∷◌, ◌++◌, length, take, drop, Option, Some, None, is_some, refl, ◌⊎◌, inl, inr, sym, subst, true≢false, arith, length-take-le, append-nil, drop-drop, add-zero, ⊎_elim, All, nat_lt, nat_le, option_map_or, drop_all, drop-append-le, All-head, Control, Ui, ErrorCode, Refusal, WrongState, State, TeiAssigned}
 use Rattle.laws_link.proofs.Vocabulary.{AwaitingEstablishment, AwaitingRelease, Established, TimerRecovery, LinkTimer, T200, ControlFrame, Terms, Link, is_multiple_frame, IsSettledIn, IsSound, IsWaitingFrame, Course, begun, Step, ◌then◌, nothing, changed, Leads, nothing_leads, number_of, acknowledged_by, contents_asked, is_release, tells_loss, Share, share, left_by, with_share, unit_due}
 use Rattle.laws_link.proofs.Vocabulary.{is_i_frame, i_frames, begin_anew, deliver_unit, long_unit_in_7_8, malformed_down, pending_is, start, unit_data, give_information, give_waiting, is_awaiting_acknowledgement, may_send_information, offer_among, send_acknowledgement, with_one_sent, course, expired_in, expired_step, frame_in, frame_step, given_of, is_running, malformed_in, told_of_clearing}
-use Rattle.laws_link.proofs.Vocabulary.{both_ways}
+use Rattle.laws_link.proofs.Vocabulary.{both_ways, ap, ◌∙◌, ◌||◌, zero-add}
 use Rattle.model_link.specs.Events
 use Rattle.model_link.specs.Requests
 use Rattle.laws_link.proofs.Queueing.{On, words}
 use Rattle.laws_link.proofs.Moves.{Goes, Empties, Restarts, Moves}
 use Rattle.laws_link.proofs.Delivered.{not-over}
-use Rattle.laws_link.proofs.QueueRows.{is_ui, count, Stay, Move, still, frames_in_4, released_in_4, established_in_4, frames_in_5, t200_in_5, frames_in_6, t200_in_6, frames_in_7, timer_in_7, frames_in_8, t200_in_8, set_busy, clear_busy}
+use Rattle.laws_link.proofs.QueueRows.{is_ui, count, Stay, Move, none-kept, still, frames_in_4, released_in_4, established_in_4, frames_in_5, t200_in_5, frames_in_6, t200_in_6, frames_in_7, timer_in_7, frames_in_8, t200_in_8, set_busy, clear_busy}
 
 -- What a share leads to: the history that it makes, and what of the contents that were kept it leaves.
 pub record Comes (share : Share) (all : List (List ℕ)) (a : ℕ) (all' : List (List ℕ)) (a' : ℕ) : Type 0 where
@@ -36,21 +36,21 @@ restarted loss all a = grind (arith, append-nil)
 abbrev row : Bool → Bool → ℕ → Share
 row zeroed loss n = record { restarts = zeroed; empties = loss; accepted = []; acknowledged = n }
 
-pub done : (all : List (List ℕ)) (a s n : ℕ) (all' : List (List ℕ)) (a' s' : ℕ) (loss zeroed : Bool) (unit : Option (List ℕ)) → a ≤ length all
-    → Moves all a s n all' a' s' loss zeroed unit → Done (row zeroed loss n) all a s 0 all' a' s'
-done all a s n all' a' s' loss zeroed unit few h = grind (arith, by-going, by-emptying, by-restarting)
+pub done : (all : List (List ℕ)) (a s n : ℕ) (all' : List (List ℕ)) (a' s' : ℕ) (loss zeroed : Bool) (unit : Option (List ℕ)) (given_up : ℕ) → a ≤ length all
+    → Moves all a s n all' a' s' loss zeroed unit given_up → Done (row zeroed loss n) all a s 0 all' a' s'
+done all a s n all' a' s' loss zeroed unit given_up few h = grind (arith, by-going, by-emptying, by-restarting)
   where
-    by-going : Goes all a s n all' a' s' loss zeroed unit → Done (row zeroed loss n) all a s 0 all' a' s'
+    by-going : Goes all a s n all' a' s' loss zeroed unit given_up → Done (row zeroed loss n) all a s 0 all' a' s'
     by-going g =
         let x : Comes (row false false n) all a (all ++ []) (a + n) = grind (arith, drop-append-le, drop-drop) in
         grind (arith, append-nil)
 
-    by-emptying : Empties all a all' a' s' loss zeroed unit → Done (row zeroed loss n) all a s 0 all' a' s'
+    by-emptying : Empties all a all' a' s' loss zeroed unit given_up → Done (row zeroed loss n) all a s 0 all' a' s'
     by-emptying g =
         let x : Comes (row false true n) all a (take a all) a = emptied all [] a n few in
         grind arith
 
-    by-restarting : Restarts all a n all' a' s' loss zeroed unit → Done (row zeroed loss n) all a s 0 all' a' s'
+    by-restarting : Restarts all a n all' a' s' loss zeroed unit given_up → Done (row zeroed loss n) all a s 0 all' a' s'
     by-restarting g = grind (arith, restarted)
 
 module _ (t : Terms) (l : Link) (h : IsSound t l) where
@@ -66,7 +66,7 @@ module _ (t : Terms) (l : Link) (h : IsSound t l) where
   -- a row of an event that accepts nothing
   by-row : (n : ℕ) (c : Course) → Moved n c → Led (row c.zeroed (tells_loss c.notes) n) 0 c
   unfolding Moved
-  by-row n c m = done l.contents l.a l.s n c.link.contents c.link.a c.link.s (tells_loss c.notes) c.zeroed c.unit few m
+  by-row n c m = done l.contents l.a l.s n c.link.contents c.link.a c.link.s (tells_loss c.notes) c.zeroed c.unit c.given_up few m
 
   -- what leaves the contents and V(A)
   leaves : (all : List (List ℕ)) (a : ℕ) (loss zeroed : Bool) → all ≡ l.contents → a ≡ l.a → loss ≡ false → zeroed ≡ false
@@ -214,6 +214,68 @@ module _ (t : Terms) (l : Link) (h : IsSound t l) where
   event-done (Events.requested request full) = requested request full (Requests.refusal t l full request) refl
   event-done Events.offer = offers l.waiting h.frames
   event-done Events.cleared = clears l.state
+
+  -- What is given up: all that is kept where it goes, and else nothing.
+  abbrev Gone : Bool → Course → Type 0
+  Gone all c = c.given_up ≡ cond all (length (drop l.a l.contents)) 0
+
+  gone-by : (n : ℕ) (c : Course) → Moved n c → Gone (tells_loss c.notes) c
+  unfolding Moved
+  gone-by n c m = ⊎_elim (λ g. g.none_gone ∙ sym (ap (λ b. cond b (length (drop l.a l.contents)) 0) g.no_loss))
+      (λ other. ⊎_elim (λ g. g.all_gone ∙ sym (ap (λ b. cond b (length (drop l.a l.contents)) 0) g.told)) (λ g. g.gone) other) m
+
+  unit-gone : (long : Step) → Moved 0 (long (begun l)) → (octets : List ℕ) → let c = unit_data t long octets (begun l) in Gone (tells_loss c.notes) c
+  unit-gone long m octets = both_ways (λ c. Gone (tells_loss c.notes) c) (nat_lt t.n201 (length octets)) _ _ (gone-by 0 (long (begun l)) m) refl
+
+  ui-gone : (here : State) (b : Bool) (octets : List ℕ) (p : Bool) → let c = frame_in here t b octets (Ui p) (begun l) in Gone (tells_loss c.notes) c
+  ui-gone TeiAssigned b octets p = unit-gone (malformed_down t ErrorCode.O) (malformed TeiAssigned ErrorCode.O) octets
+  ui-gone AwaitingEstablishment b octets p = unit-gone (malformed_down t ErrorCode.O) (malformed AwaitingEstablishment ErrorCode.O) octets
+  ui-gone AwaitingRelease b octets p = unit-gone (malformed_down t ErrorCode.O) (malformed AwaitingRelease ErrorCode.O) octets
+  ui-gone Established b octets p = unit-gone (long_unit_in_7_8 t) long-unit octets
+  ui-gone TimerRecovery b octets p = unit-gone (long_unit_in_7_8 t) long-unit octets
+
+  frame-gone : (b : Bool) (octets : List ℕ) (control : Control) → (d : Bool) → is_ui control ≡ d
+      → let c = frame_step t b octets control (begun l) in Gone (tells_loss c.notes) c
+  frame-gone b octets control false e = gone-by _ (frame_step t b octets control (begun l)) (frames b octets control e)
+  frame-gone b octets (Ui p) true e = ui-gone l.state b octets p
+  frame-gone b octets other true e = absurd (true≢false (sym e))
+
+  release-gone : (here : State) → l.state ≡ here → Requests.serves here Events.Release ≡ true → Gone true (Requests.release_in here t (begun l))
+  release-gone TeiAssigned e s = none-kept t l h.ordered h.accepted (settled TeiAssigned e)
+  release-gone Established e s = zero-add _
+  release-gone TimerRecovery e s = zero-add _
+  release-gone other e s = absurd (true≢false (sym s))
+
+  granted-gone : (request : Events.Request) (o : Option Refusal) → cond (Requests.serves l.state request) o (Some WrongState) ≡ None
+      → Gone (is_release request || tells_loss (Requests.granted t request (begun l)).notes) (Requests.granted t request (begun l))
+  unfolding Moved
+  granted-gone Events.Establish o e = gone-by 0 (Requests.granted t Events.Establish (begun l)) (established_in_4 t l h.ordered h.accepted)
+  granted-gone Events.Release o e = release-gone l.state refl (served (Requests.serves l.state Events.Release) o e)
+  granted-gone (Events.Data octets) o e = refl
+  granted-gone Events.SetBusy o e = gone-by 0 (Requests.granted t Events.SetBusy (begun l)) (set_busy t l h.ordered h.accepted)
+  granted-gone Events.ClearBusy o e = gone-by 0 (Requests.granted t Events.ClearBusy (begun l)) (clear_busy t l h.ordered h.accepted)
+
+  requested-gone : (request : Events.Request) (full : Bool) (o : Option Refusal) → Requests.refusal t l full request ≡ o
+      → let c = elim o as (λ o. Course) [ None ↦ Requests.granted t request (begun l) | Some _ ↦ begun l ] in
+      Gone (cond (is_some o) false (is_release request) || tells_loss c.notes) c
+  requested-gone request full None e = granted-gone request (Requests.refusal_for_room t l full request) e
+  requested-gone request full (Some w) e = refl
+
+  clears-gone : (here : State) → Gone true (begin_anew (told_of_clearing here t (begun l)))
+  clears-gone here = grind (arith, zero-add)
+
+  offer-gone : (ws : List ControlFrame) → let c = offer_among t ws (begun l) in Gone (tells_loss c.notes) c
+  offer-gone ws = grind arith
+
+  pub event-gone : (e : Events.Event) → Gone (share t e l).empties (course t e l)
+  event-gone (Events.received (Events.frame f)) = frame-gone f.address.command f.info f.control (is_ui f.control) refl
+  event-gone (Events.received Events.undefined) = gone-by 0 (malformed_in l.state t ErrorCode.L (begun l)) (malformed l.state ErrorCode.L)
+  event-gone (Events.received Events.wrong_size) = gone-by 0 (malformed_in l.state t ErrorCode.N (begun l)) (malformed l.state ErrorCode.N)
+  event-gone (Events.received Events.overlong) = gone-by 0 (malformed_in l.state t ErrorCode.O (begun l)) (malformed l.state ErrorCode.O)
+  event-gone (Events.expired timer) = gone-by 0 (expired_step t timer (begun l)) (expires (is_running timer l) timer)
+  event-gone (Events.requested request full) = requested-gone request full (Requests.refusal t l full request) refl
+  event-gone Events.offer = offer-gone l.waiting
+  event-gone Events.cleared = clears-gone l.state
 
   -- Unit data is told of UI frames alone.
   no-unit : (n : ℕ) (c : Course) → Moved n c → c.unit ≡ None

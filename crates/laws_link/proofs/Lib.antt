@@ -6,6 +6,7 @@ pub mod QueueRows
 pub mod Delivered
 pub mod Once
 pub mod Keeping
+pub mod GivingUp
 pub mod Counted
 pub mod Offering
 pub mod Alone

@@ -4,7 +4,7 @@ use Rattle.laws_link.proofs.Vocabulary.{◌≡◌, ℕ, ◌+◌, ◌-◌, ◌≤
 use Rattle.laws_link.proofs.Queueing.{Claim, On, note_keeps}
 
 -- the contents are these, n of them more are acknowledged, and no loss is told
-pub record Goes (all : List (List ℕ)) (a s n : ℕ) (all' : List (List ℕ)) (a' s' : ℕ) (loss zeroed : Bool) (unit : Option (List ℕ)) : Type 0 where
+pub record Goes (all : List (List ℕ)) (a s n : ℕ) (all' : List (List ℕ)) (a' s' : ℕ) (loss zeroed : Bool) (unit : Option (List ℕ)) (given_up : ℕ) : Type 0 where
   pub contents : all' ≡ all
   pub acknowledged : a' ≡ a + n
   pub among : a + n ≤ length all
@@ -12,41 +12,45 @@ pub record Goes (all : List (List ℕ)) (a s n : ℕ) (all' : List (List ℕ)) (
   pub no_loss : loss ≡ false
   pub goes_on : zeroed ≡ false
   pub no_unit : unit ≡ None
+  pub none_gone : given_up ≡ 0
 
 -- all that are kept go
-pub record Empties (all : List (List ℕ)) (a : ℕ) (all' : List (List ℕ)) (a' s' : ℕ) (loss zeroed : Bool) (unit : Option (List ℕ)) : Type 0 where
+pub record Empties (all : List (List ℕ)) (a : ℕ) (all' : List (List ℕ)) (a' s' : ℕ) (loss zeroed : Bool) (unit : Option (List ℕ)) (given_up : ℕ) : Type 0 where
   pub contents : all' ≡ take a all
   pub acknowledged : a' ≡ a
   pub sent : s' ≡ a'
   pub told : loss ≡ true
   pub goes_on : zeroed ≡ false
   pub no_unit : unit ≡ None
+  pub all_gone : given_up ≡ length (drop a all)
 
 -- the numbers begin anew: what is kept stays where no loss is told
-pub record Restarts (all : List (List ℕ)) (a n : ℕ) (all' : List (List ℕ)) (a' s' : ℕ) (loss zeroed : Bool) (unit : Option (List ℕ)) : Type 0 where
+pub record Restarts (all : List (List ℕ)) (a n : ℕ) (all' : List (List ℕ)) (a' s' : ℕ) (loss zeroed : Bool) (unit : Option (List ℕ)) (given_up : ℕ) : Type 0 where
   pub none : n ≡ 0
   pub contents : all' ≡ cond loss [] (drop a all)
   pub acknowledged : a' ≡ 0
   pub sent : s' ≡ 0
   pub begins : zeroed ≡ true
   pub no_unit : unit ≡ None
+  pub gone : given_up ≡ cond loss (length (drop a all)) 0
 
 abbrev pub Moves : List (List ℕ) → ℕ → ℕ → ℕ → Claim
-Moves all a s n all' a' s' loss zeroed unit =
-    Goes all a s n all' a' s' loss zeroed unit ⊎ Empties all a all' a' s' loss zeroed unit ⊎ Restarts all a n all' a' s' loss zeroed unit
+Moves all a s n all' a' s' loss zeroed unit given_up =
+    Goes all a s n all' a' s' loss zeroed unit given_up ⊎ Empties all a all' a' s' loss zeroed unit given_up ⊎ Restarts all a n all' a' s' loss zeroed unit given_up
 
 -- nothing has changed
-pub record Same (all : List (List ℕ)) (a s : ℕ) (all' : List (List ℕ)) (a' s' : ℕ) (loss zeroed : Bool) (unit : Option (List ℕ)) : Type 0 where
+pub record Same (all : List (List ℕ)) (a s : ℕ) (all' : List (List ℕ)) (a' s' : ℕ) (loss zeroed : Bool) (unit : Option (List ℕ)) (given_up : ℕ) : Type 0 where
   pub contents : all' ≡ all
   pub acknowledged : a' ≡ a
   pub sent : s' ≡ s
   pub no_loss : loss ≡ false
   pub goes_on : zeroed ≡ false
   pub no_unit : unit ≡ None
+  pub none_gone : given_up ≡ 0
 
 module _ (all : List (List ℕ)) (a s : ℕ) (ordered : a ≤ s) (most : s ≤ length all) where
   abbrev pub Stays : Claim
-  Stays all' a' s' loss zeroed unit = Same all a s all' a' s' loss zeroed unit
+  Stays all' a' s' loss zeroed unit given_up = Same all a s all' a' s' loss zeroed unit given_up
 
   pub stays : (c : Course) → On Stays c → On (Moves all a s 0) c
   stays c h = grind arith

@@ -1,7 +1,7 @@
 -- What each row of the tables makes of the contents of a link, of V(A) and of V(S).
 use Rattle.laws_link.proofs.Vocabulary.{◌≡◌, ℕ, ◌-◌, ◌≤◌, Bool, true, false, cond, List, [], length, take, drop, length-take-le, Option, Some, None, IsTrue, true≢false, refl, ◌⊎◌, inl, inr, sym, arith, nat_lt, option_map_or, ltb-false, drop_all, take_all, Seq, named, Control, Information, ReceiveReady, ReceiveNotReady, Reject, Sabme, Disc, Ui, Ua, Dm, Frmr, Xid, ErrorCode, Established, LinkTimer}
 use Rattle.laws_link.proofs.Vocabulary.{T203, Terms, Link, has_outstanding, is_peer_busy, begun, Step, ◌then◌, by_bit, frame_in_4, release_in_4, establish_in_4, Leads, keeping_then, depending_leads, bit_leads, tested_leads, from_more, eqb-true, beyond, number_of, acknowledge, by_number, clear_flags, discard, enter, error, establish_indication, leave_unserved, read_as, response, send, start}
-use Rattle.laws_link.proofs.Vocabulary.{zero_numbers}
+use Rattle.laws_link.proofs.Vocabulary.{zero_numbers, ap, zero-add}
 use Rattle.laws_link.proofs.Vocabulary.{clear_busy_in_7_8, contents_in_7_8, failed, set_busy_in_7_8, both_ways}
 use Rattle.model_link.specs.AwaitingEstablishment
 use Rattle.model_link.specs.AwaitingRelease
@@ -28,7 +28,7 @@ module _ (t : Terms) (l : Link) (ordered : l.a ≤ l.s) (most : l.s ≤ length l
   Move n = Moves l.contents l.a l.s n
 
   pub begins : On Stay (begun l)
-  begins = record { contents = refl; acknowledged = refl; sent = refl; no_loss = refl; goes_on = refl; no_unit = refl }
+  begins = record { contents = refl; acknowledged = refl; sent = refl; no_loss = refl; goes_on = refl; no_unit = refl; none_gone = refl }
 
   pub still : (f : Step) → Leads (On Stay) f (On Stay) → On (Move 0) (f (begun l))
   still f x = stays l.contents l.a l.s ordered most (f (begun l)) (x.leads (begun l) begins)
@@ -40,33 +40,36 @@ module _ (t : Terms) (l : Link) (ordered : l.a ≤ l.s) (most : l.s ≤ length l
   all-taken : length l.contents ≡ l.a → l.contents ≡ take l.a l.contents
   all-taken none = sym (take_all l.a l.contents (omega (arith, none)))
 
+  pub none-kept : length l.contents ≡ l.a → 0 ≡ length (drop l.a l.contents)
+  none-kept none = ap (λ x. length x) (sym (drop_all l.a l.contents (omega (arith, none))))
+
   same-place : has_outstanding l ≡ false → l.s ≡ l.a
   same-place e = grind (arith, eqb-true)
 
   -- State 4.
   pub frames_in_4 : length l.contents ≡ l.a → (octets : List ℕ) (control : Control) → is_ui control ≡ false → On (Move 0) (frame_in_4 t octets control (begun l))
   frames_in_4 none octets (Dm false) is = still (read_as t leave_unserved (establish_in_4 t)) (search words)
-  frames_in_4 none octets control is = grind (arith, none-left, begins, still, words)
+  frames_in_4 none octets control is = grind (arith, none-left, none-kept, begins, still, words)
 
   pub released_in_4 : length l.contents ≡ l.a → On (Move 0) (release_in_4 t (begun l))
-  released_in_4 none = grind (arith, all-taken)
+  released_in_4 none = grind (arith, all-taken, none-kept)
 
   pub established_in_4 : On (Move 0) (establish_in_4 t (begun l))
   established_in_4 = still (establish_in_4 t) (search words)
 
   -- State 5.
   pub frames_in_5 : (IsTrue l.asked → length l.contents ≡ l.a) → (octets : List ℕ) (control : Control) → is_ui control ≡ false → On (Move 0) (AwaitingEstablishment.frame_in_5 t octets control (begun l))
-  frames_in_5 none octets control is = grind (arith, none-left, drop_all, begins, length-take-le, same-place, still, words)
+  frames_in_5 none octets control is = grind (arith, none-left, none-kept, drop_all, begins, length-take-le, same-place, still, words)
 
   pub t200_in_5 : On (Move 0) (AwaitingEstablishment.t200_in_5 t (begun l))
   t200_in_5 = grind (arith, On, words, both_ways, nat_lt, still)
 
   -- State 6.
   pub frames_in_6 : length l.contents ≡ l.a → (octets : List ℕ) (control : Control) → is_ui control ≡ false → On (Move 0) (AwaitingRelease.frame_in_6 t octets control (begun l))
-  frames_in_6 none octets control is = grind (arith, all-taken, still, words)
+  frames_in_6 none octets control is = grind (arith, all-taken, none-kept, still, words)
 
   pub t200_in_6 : length l.contents ≡ l.a → On (Move 0) (AwaitingRelease.t200_in_6 t (begun l))
-  t200_in_6 none = grind (arith, On, words, both_ways, nat_lt, still, all-taken)
+  t200_in_6 none = grind (arith, On, words, both_ways, nat_lt, still, all-taken, none-kept)
 
   -- States 7 and 8.
   sabme-again : (p d : Bool) → has_outstanding l ≡ d
@@ -75,10 +78,10 @@ module _ (t : Terms) (l : Link) (ordered : l.a ≤ l.s) (most : l.s ≤ length l
   sabme-again p d e = grind (arith, drop_all, length-take-le, begins, same-place)
 
   -- an N(R) that names m
-  went : (m : ℕ) → l.a ≤ m → m ≤ l.s → (all : List (List ℕ)) (a s : ℕ) (loss zeroed : Bool) (unit : Option (List ℕ))
-      → all ≡ l.contents → a ≡ m → (s ≡ l.s) ⊎ (s ≡ a) → loss ≡ false → zeroed ≡ false → unit ≡ None
-      → Moves l.contents l.a l.s (m - l.a) all a s loss zeroed unit
-  went m from to all a s loss zeroed unit e e' sent no_loss on none = grind arith
+  went : (m : ℕ) → l.a ≤ m → m ≤ l.s → (all : List (List ℕ)) (a s : ℕ) (loss zeroed : Bool) (unit : Option (List ℕ)) (given_up : ℕ)
+      → all ≡ l.contents → a ≡ m → (s ≡ l.s) ⊎ (s ≡ a) → loss ≡ false → zeroed ≡ false → unit ≡ None → given_up ≡ 0
+      → Moves l.contents l.a l.s (m - l.a) all a s loss zeroed unit given_up
+  went m from to all a s loss zeroed unit given_up e e' sent no_loss on none gone = grind arith
 
   acknowledging : (m : ℕ) → l.a ≤ m → m ≤ l.s → Leads (On Stay) (acknowledge m) (On (Move (m - l.a)))
   acknowledging m from to = grind (arith, went)
@@ -121,7 +124,7 @@ module _ (t : Terms) (l : Link) (ordered : l.a ≤ l.s) (most : l.s ≤ length l
   frames_in_7 b octets (ReceiveNotReady nr pf) is = moved (Established.frame_in_7 t b octets (ReceiveNotReady nr pf)) (search (words, numbers, acknowledging-then) depth 12 fits 4000)
   frames_in_7 b octets (Reject nr pf) is = moved (Established.frame_in_7 t b octets (Reject nr pf)) (search (words, numbers, in-7-by-rej) depth 12 fits 4000)
   frames_in_7 b octets (Sabme p) is = sabme-again p (has_outstanding l) refl
-  frames_in_7 b octets (Disc p) is = inr (inl (record { contents = refl; acknowledged = refl; sent = refl; told = refl; goes_on = refl; no_unit = refl }))
+  frames_in_7 b octets (Disc p) is = inr (inl (record { contents = refl; acknowledged = refl; sent = refl; told = refl; goes_on = refl; no_unit = refl; all_gone = zero-add _ }))
   frames_in_7 b octets (Dm false) is = (still (failed t ErrorCode.E) (search words))
   frames_in_7 b octets (Frmr f) is = (still (failed t ErrorCode.K) (search words))
   frames_in_7 b octets (Ui p) is = absurd (true≢false is)
@@ -134,7 +137,7 @@ module _ (t : Terms) (l : Link) (ordered : l.a ≤ l.s) (most : l.s ≤ length l
       → On (Move (count l.a l.s (number_of t control octets))) (TimerRecovery.frame_in_8 t b octets control (begun l))
   frames_in_8 b octets (Information ns nr p) is = information ns nr p octets acknowledge acknowledging (nat_lt t.n201 (length octets))
   frames_in_8 b octets (Sabme p) is = sabme-again p (has_outstanding l) refl
-  frames_in_8 b octets (Disc p) is = inr (inl (record { contents = refl; acknowledged = refl; sent = refl; told = refl; goes_on = refl; no_unit = refl }))
+  frames_in_8 b octets (Disc p) is = inr (inl (record { contents = refl; acknowledged = refl; sent = refl; told = refl; goes_on = refl; no_unit = refl; all_gone = zero-add _ }))
   frames_in_8 b octets (Ua f) is = still (TimerRecovery.frame_in_8 t b octets (Ua f)) (search words)
   frames_in_8 b octets (Dm true) is = (still (failed t ErrorCode.B) (search words))
   frames_in_8 b octets (Dm false) is = (still (failed t ErrorCode.E) (search words))

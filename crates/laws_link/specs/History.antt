@@ -1,5 +1,8 @@
 -- What a link keeps, from event to event, and since its numbers began.
-use Rattle.std.specs.Prelude.{◌≡◌, ℕ, ◌+◌, Bool, List, [], ◌++◌, drop, take, if◌then◌else◌}
+use Rattle.std.specs.Prelude.{◌≡◌, ℕ, ◌+◌, Bool, List, [], ◌++◌, length, drop, take, if◌then◌else◌}
+use Rattle.lapd_frame.specs.declared.services.Service.{Service}
+use Rattle.lapd_frame.specs.declared.services.Service.TheVariants.{Call, Packet}
+use Rattle.model_link.specs.Told.{LinkTold}
 use Rattle.model_link.specs.declared.terms.Terms.{Terms}
 use Rattle.model_link.specs.Link.{Link, queue_of}
 use Rattle.model_link.specs.Events.{Event}
@@ -33,6 +36,15 @@ left_by share kept = if share.empties then [] else drop share.acknowledged kept 
 
 abbrev pub IsKept : Share → Link → Link → Type 0
 IsKept share before after = queue_of after ≡ left_by share (queue_of before)
+
+-- What it gives up: all that was kept where it leaves nothing, and else nothing.
+abbrev pub given_up_by : Share → List (List ℕ) → ℕ
+given_up_by share kept = if share.empties then length kept else 0
+
+-- and how many it tells, of a service.
+abbrev pub given_up_of : Service → LinkTold → ℕ
+given_up_of Call t = t.given_up
+given_up_of Packet t = t.given_up_16
 
 -- The contents that were accepted since the numbers began, without those that went, oldest first, and how many of them
 -- are acknowledged.

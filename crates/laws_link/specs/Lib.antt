@@ -15,6 +15,7 @@ pub mod Following
 pub mod Samples
 pub mod WorkedWords
 pub mod WorkedRelease
+pub mod WorkedGivenUp
 pub mod WorkedTransfer
 pub mod WorkedRuns
 pub mod WorkedRoom

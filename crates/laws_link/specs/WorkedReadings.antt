@@ -35,7 +35,7 @@ unfolding seq distance_of named reading header_of control_of unnumbered_of super
 asked_for = refl
 
 asked_for_told : told (by_annex_b 3) (frame_comes (0x02 ∷ 0x81 ∷ 0x0F ∷ [])) fresh
-    ≡ record { notes = []; delivered = None; unit = None; orders = Start (timer.T200 Call 64) ∷ []; lost = 0; unserved = false }
+    ≡ record { notes = []; delivered = None; unit = None; orders = Start (timer.T200 Call 64) ∷ []; lost = 0; given_up = 0; given_up_16 = 0; unserved = false }
 unfolding seq distance_of named reading header_of control_of unnumbered_of supervisory_of after_all
 asked_for_told = refl
 
@@ -45,7 +45,7 @@ unfolding seq distance_of named reading header_of control_of unnumbered_of super
 asked_for_confirmed = refl
 
 not_asked_for : told usual_terms (frame_comes (0x02 ∷ 0x81 ∷ 0x0F ∷ [])) fresh
-    ≡ record { notes = []; delivered = None; unit = None; orders = []; lost = 0; unserved = true }
+    ≡ record { notes = []; delivered = None; unit = None; orders = []; lost = 0; given_up = 0; given_up_16 = 0; unserved = true }
 unfolding seq distance_of named reading header_of control_of unnumbered_of supervisory_of after_all
 not_asked_for = refl
 

@@ -29,13 +29,13 @@ unfolding seq distance_of named reading header_of control_of unnumbered_of super
 never_repeated = refl
 
 never_repeated_told : told_after (with_n200 0) (ask Establish ∷ []) (expired T200) fresh
-    ≡ record { notes = tell.Error Call 64 code.G ∷ tell.ReleaseIndication Call 64 ∷ []; delivered = None; unit = None; orders = Stop (timer.T200 Call 64) ∷ []; lost = 0; unserved = false }
+    ≡ record { notes = tell.Error Call 64 code.G ∷ tell.ReleaseIndication Call 64 ∷ []; delivered = None; unit = None; orders = Stop (timer.T200 Call 64) ∷ []; lost = 0; given_up = 0; given_up_16 = 0; unserved = false }
 unfolding seq distance_of named reading header_of control_of unnumbered_of supervisory_of after_all out notes lost price_of_all
 never_repeated_told = refl
 
 -- Establish, and UA with F=1: an establish confirm, T203 in place of T200, state 7.
 confirmed : told_after usual_terms (ask Establish ∷ offer ∷ []) (frame_comes (0x02 ∷ 0x81 ∷ 0x73 ∷ [])) fresh
-    ≡ record { notes = tell.EstablishConfirm Call 64 ∷ []; delivered = None; unit = None; orders = Stop (timer.T200 Call 64) ∷ Start (timer.T203 Call 64) ∷ []; lost = 0; unserved = false }
+    ≡ record { notes = tell.EstablishConfirm Call 64 ∷ []; delivered = None; unit = None; orders = Stop (timer.T200 Call 64) ∷ Start (timer.T203 Call 64) ∷ []; lost = 0; given_up = 0; given_up_16 = 0; unserved = false }
 unfolding seq distance_of named reading header_of control_of unnumbered_of supervisory_of after_all out notes lost price_of_all
 confirmed = refl
 
@@ -46,7 +46,7 @@ confirmed_state = refl
 
 -- UA with F=0 is error D, and state 5 stays.
 not_confirmed : told_after usual_terms (ask Establish ∷ offer ∷ []) (frame_comes (0x02 ∷ 0x81 ∷ 0x63 ∷ [])) fresh
-    ≡ record { notes = tell.Error Call 64 code.D ∷ []; delivered = None; unit = None; orders = []; lost = 0; unserved = false }
+    ≡ record { notes = tell.Error Call 64 code.D ∷ []; delivered = None; unit = None; orders = []; lost = 0; given_up = 0; given_up_16 = 0; unserved = false }
 unfolding seq distance_of named reading header_of control_of unnumbered_of supervisory_of after_all out notes lost price_of_all
 not_confirmed = refl
 
@@ -57,7 +57,7 @@ not_confirmed_state = refl
 
 -- State 7, and DM with F=0: error E, SABME, state 5.
 begun_again : told usual_terms (frame_comes (0x02 ∷ 0x81 ∷ 0x0F ∷ [])) up
-    ≡ record { notes = tell.Error Call 64 code.E ∷ []; delivered = None; unit = None; orders = Start (timer.T200 Call 64) ∷ Stop (timer.T203 Call 64) ∷ []; lost = 0; unserved = false }
+    ≡ record { notes = tell.Error Call 64 code.E ∷ []; delivered = None; unit = None; orders = Start (timer.T200 Call 64) ∷ Stop (timer.T203 Call 64) ∷ []; lost = 0; given_up = 0; given_up_16 = 0; unserved = false }
 unfolding seq distance_of named reading header_of control_of unnumbered_of supervisory_of after_all out notes lost price_of_all
 begun_again = refl
 
@@ -78,7 +78,7 @@ unfolding seq distance_of named reading header_of control_of unnumbered_of super
 released = refl
 
 released_told : told_after usual_terms (ask Release ∷ offer ∷ []) (frame_comes (0x02 ∷ 0x81 ∷ 0x73 ∷ [])) up
-    ≡ record { notes = tell.ReleaseConfirm Call 64 ∷ []; delivered = None; unit = None; orders = Stop (timer.T200 Call 64) ∷ []; lost = 0; unserved = false }
+    ≡ record { notes = tell.ReleaseConfirm Call 64 ∷ []; delivered = None; unit = None; orders = Stop (timer.T200 Call 64) ∷ []; lost = 0; given_up = 0; given_up_16 = 0; unserved = false }
 unfolding seq distance_of named reading header_of control_of unnumbered_of supervisory_of after_all out notes lost price_of_all
 released_told = refl
 
@@ -89,7 +89,7 @@ released_state = refl
 
 -- The terminal's SABME: UA, an establish indication, T203 started, state 7.
 established : told usual_terms sabme fresh
-    ≡ record { notes = tell.EstablishIndication Call 64 ∷ []; delivered = None; unit = None; orders = Start (timer.T203 Call 64) ∷ []; lost = 0; unserved = false }
+    ≡ record { notes = tell.EstablishIndication Call 64 ∷ []; delivered = None; unit = None; orders = Start (timer.T203 Call 64) ∷ []; lost = 0; given_up = 0; given_up_16 = 0; unserved = false }
 unfolding seq distance_of named reading header_of control_of unnumbered_of supervisory_of after_all out notes lost price_of_all
 established = refl
 
@@ -105,7 +105,7 @@ established_state = refl
 
 -- The terminal's DISC in state 7: UA, a release indication, T203 stopped, state 4.
 released_by_the_terminal : told usual_terms (frame_comes (0x00 ∷ 0x81 ∷ 0x53 ∷ [])) up
-    ≡ record { notes = tell.ReleaseIndication Call 64 ∷ []; delivered = None; unit = None; orders = Stop (timer.T203 Call 64) ∷ []; lost = 0; unserved = false }
+    ≡ record { notes = tell.ReleaseIndication Call 64 ∷ []; delivered = None; unit = None; orders = Stop (timer.T203 Call 64) ∷ []; lost = 0; given_up = 0; given_up_16 = 0; unserved = false }
 unfolding seq distance_of named reading header_of control_of unnumbered_of supervisory_of after_all out notes lost price_of_all
 released_by_the_terminal = refl
 
@@ -121,7 +121,7 @@ released_by_the_terminal_state = refl
 
 -- SABME once and then four times with P=0, none pulled: the fifth UA is lost.
 fifth_is_lost : told_after usual_terms (sabme ∷ frame_comes (0x00 ∷ 0x81 ∷ 0x6F ∷ []) ∷ frame_comes (0x00 ∷ 0x81 ∷ 0x6F ∷ []) ∷ frame_comes (0x00 ∷ 0x81 ∷ 0x6F ∷ []) ∷ []) (frame_comes (0x00 ∷ 0x81 ∷ 0x6F ∷ [])) fresh
-    ≡ record { notes = tell.Error Call 64 code.F ∷ []; delivered = None; unit = None; orders = Start (timer.T203 Call 64) ∷ []; lost = 1; unserved = false }
+    ≡ record { notes = tell.Error Call 64 code.F ∷ []; delivered = None; unit = None; orders = Start (timer.T203 Call 64) ∷ []; lost = 1; given_up = 0; given_up_16 = 0; unserved = false }
 unfolding seq distance_of named reading header_of control_of unnumbered_of supervisory_of after_all out notes lost price_of_all
 fifth_is_lost = refl
 
@@ -132,7 +132,7 @@ fifth_is_lost_out = refl
 
 -- A packet link has SAPI 16.
 packet_established : told packet (frame_comes (0x40 ∷ 0x81 ∷ 0x7F ∷ [])) fresh
-    ≡ record { notes = tell.EstablishIndication Packet 64 ∷ []; delivered = None; unit = None; orders = Start (timer.T203 Packet 64) ∷ []; lost = 0; unserved = false }
+    ≡ record { notes = tell.EstablishIndication Packet 64 ∷ []; delivered = None; unit = None; orders = Start (timer.T203 Packet 64) ∷ []; lost = 0; given_up = 0; given_up_16 = 0; unserved = false }
 unfolding seq distance_of named reading header_of control_of unnumbered_of supervisory_of after_all out notes lost price_of_all
 packet_established = refl
 
@@ -143,7 +143,7 @@ packet_established_out = refl
 
 -- The TEI leaves the line.
 cleared_in_7 : told usual_terms cleared up
-    ≡ record { notes = tell.ReleaseIndication Call 64 ∷ []; delivered = None; unit = None; orders = Stop (timer.T203 Call 64) ∷ []; lost = 0; unserved = false }
+    ≡ record { notes = tell.ReleaseIndication Call 64 ∷ []; delivered = None; unit = None; orders = Stop (timer.T203 Call 64) ∷ []; lost = 0; given_up = 0; given_up_16 = 0; unserved = false }
 unfolding seq distance_of named reading header_of control_of unnumbered_of supervisory_of after_all out notes lost price_of_all
 cleared_in_7 = refl
 
@@ -153,13 +153,13 @@ unfolding seq distance_of named reading header_of control_of unnumbered_of super
 cleared_in_7_state = refl
 
 cleared_in_6 : told_after usual_terms (ask Release ∷ []) cleared up
-    ≡ record { notes = tell.ReleaseConfirm Call 64 ∷ []; delivered = None; unit = None; orders = Stop (timer.T200 Call 64) ∷ []; lost = 0; unserved = false }
+    ≡ record { notes = tell.ReleaseConfirm Call 64 ∷ []; delivered = None; unit = None; orders = Stop (timer.T200 Call 64) ∷ []; lost = 0; given_up = 0; given_up_16 = 0; unserved = false }
 unfolding seq distance_of named reading header_of control_of unnumbered_of supervisory_of after_all out notes lost price_of_all
 cleared_in_6 = refl
 
 -- States 4, 5 and 6 don't serve RR, and the request for what is there already is refused.
 unserved_in_4 : told usual_terms (frame_comes (0x00 ∷ 0x81 ∷ 0x01 ∷ 0x01 ∷ [])) fresh
-    ≡ record { notes = []; delivered = None; unit = None; orders = []; lost = 0; unserved = true }
+    ≡ record { notes = []; delivered = None; unit = None; orders = []; lost = 0; given_up = 0; given_up_16 = 0; unserved = true }
 unfolding seq distance_of named reading header_of control_of unnumbered_of supervisory_of after_all out notes lost price_of_all
 unserved_in_4 = refl
 
@@ -170,6 +170,6 @@ establish_refused = refl
 
 -- Release in state 4 is confirmed at once.
 released_while_down : told usual_terms (ask Release) fresh
-    ≡ record { notes = tell.ReleaseConfirm Call 64 ∷ []; delivered = None; unit = None; orders = []; lost = 0; unserved = false }
+    ≡ record { notes = tell.ReleaseConfirm Call 64 ∷ []; delivered = None; unit = None; orders = []; lost = 0; given_up = 0; given_up_16 = 0; unserved = false }
 unfolding seq distance_of named reading header_of control_of unnumbered_of supervisory_of after_all out notes lost price_of_all
 released_while_down = refl

@@ -13,7 +13,7 @@ unfolding seq distance_of named reading header_of control_of unnumbered_of super
 twice = refl
 
 twice_delivered : told usual_terms (frame_comes (0x00 ∷ 0x81 ∷ 0x00 ∷ 0x00 ∷ 0x41 ∷ [])) up
-    ≡ record { notes = tell.Data Call 64 ∷ []; delivered = Some (0x41 ∷ []); unit = None; orders = Start (timer.T203 Call 64) ∷ []; lost = 0; unserved = false }
+    ≡ record { notes = tell.Data Call 64 ∷ []; delivered = Some (0x41 ∷ []); unit = None; orders = Start (timer.T203 Call 64) ∷ []; lost = 0; given_up = 0; given_up_16 = 0; unserved = false }
 unfolding seq distance_of named reading header_of control_of unnumbered_of supervisory_of after_all out notes lost price_of_all
 twice_delivered = refl
 
@@ -24,7 +24,7 @@ twice_out = refl
 
 -- An RR response with an N(R) that names nothing sent: error J, SABME, state 5.
 number_of_nothing : told usual_terms (frame_comes (0x02 ∷ 0x81 ∷ 0x01 ∷ 0x02 ∷ [])) up
-    ≡ record { notes = tell.Error Call 64 code.J ∷ []; delivered = None; unit = None; orders = Start (timer.T200 Call 64) ∷ Stop (timer.T203 Call 64) ∷ []; lost = 0; unserved = false }
+    ≡ record { notes = tell.Error Call 64 code.J ∷ []; delivered = None; unit = None; orders = Start (timer.T200 Call 64) ∷ Stop (timer.T203 Call 64) ∷ []; lost = 0; given_up = 0; given_up_16 = 0; unserved = false }
 unfolding seq distance_of named reading header_of control_of unnumbered_of supervisory_of after_all out notes lost price_of_all
 number_of_nothing = refl
 
@@ -87,7 +87,7 @@ longest = refl
 
 -- 261 are error O.
 over_n201 : told usual_terms (frame_comes (0x00 ∷ 0x81 ∷ 0x00 ∷ 0x00 ∷ replicate 261 0x55)) up
-    ≡ record { notes = tell.Error Call 64 code.O ∷ []; delivered = None; unit = None; orders = Start (timer.T200 Call 64) ∷ Stop (timer.T203 Call 64) ∷ []; lost = 0; unserved = false }
+    ≡ record { notes = tell.Error Call 64 code.O ∷ []; delivered = None; unit = None; orders = Start (timer.T200 Call 64) ∷ Stop (timer.T203 Call 64) ∷ []; lost = 0; given_up = 0; given_up_16 = 0; unserved = false }
 unfolding seq distance_of named reading header_of control_of unnumbered_of supervisory_of after_all out notes lost price_of_all
 over_n201 = refl
 
@@ -98,7 +98,7 @@ over_n201_out = refl
 
 -- So is an I-frame that was too long to keep.
 overlong_told : told usual_terms (received overlong) up
-    ≡ record { notes = tell.Error Call 64 code.O ∷ []; delivered = None; unit = None; orders = Start (timer.T200 Call 64) ∷ Stop (timer.T203 Call 64) ∷ []; lost = 0; unserved = false }
+    ≡ record { notes = tell.Error Call 64 code.O ∷ []; delivered = None; unit = None; orders = Start (timer.T200 Call 64) ∷ Stop (timer.T203 Call 64) ∷ []; lost = 0; given_up = 0; given_up_16 = 0; unserved = false }
 unfolding seq distance_of named reading header_of control_of unnumbered_of supervisory_of after_all out notes lost price_of_all
 overlong_told = refl
 
@@ -130,7 +130,7 @@ unfolding seq distance_of named reading header_of control_of unnumbered_of super
 enquired_notes = refl
 
 enquired_orders : told usual_terms (expired T203) up
-    ≡ record { notes = []; delivered = None; unit = None; orders = Start (timer.T200 Call 64) ∷ Stop (timer.T203 Call 64) ∷ []; lost = 0; unserved = false }
+    ≡ record { notes = []; delivered = None; unit = None; orders = Start (timer.T200 Call 64) ∷ Stop (timer.T203 Call 64) ∷ []; lost = 0; given_up = 0; given_up_16 = 0; unserved = false }
 unfolding seq distance_of named reading header_of control_of unnumbered_of supervisory_of after_all out notes lost price_of_all
 enquired_orders = refl
 
@@ -153,16 +153,16 @@ released_before_acknowledging = refl
 
 -- UI and XID are told in every state.
 unit_data : told usual_terms (frame_comes (0x00 ∷ 0x81 ∷ 0x03 ∷ 0xCB ∷ [])) fresh
-    ≡ record { notes = tell.Unit Call 64 ∷ []; delivered = None; unit = Some (0xCB ∷ []); orders = []; lost = 0; unserved = false }
+    ≡ record { notes = tell.Unit Call 64 ∷ []; delivered = None; unit = Some (0xCB ∷ []); orders = []; lost = 0; given_up = 0; given_up_16 = 0; unserved = false }
 unfolding seq distance_of named reading header_of control_of unnumbered_of supervisory_of after_all out notes lost price_of_all
 unit_data = refl
 
 identification : told usual_terms (frame_comes (0x00 ∷ 0x81 ∷ 0xAF ∷ 0x01 ∷ [])) up
-    ≡ record { notes = tell.Xid Call 64 ∷ []; delivered = None; unit = None; orders = []; lost = 0; unserved = false }
+    ≡ record { notes = tell.Xid Call 64 ∷ []; delivered = None; unit = None; orders = []; lost = 0; given_up = 0; given_up_16 = 0; unserved = false }
 unfolding seq distance_of named reading header_of control_of unnumbered_of supervisory_of after_all out notes lost price_of_all
 identification = refl
 
 unit_data_over_n201 : told usual_terms (frame_comes (0x00 ∷ 0x81 ∷ 0x03 ∷ replicate 261 0x55)) up
-    ≡ record { notes = []; delivered = None; unit = None; orders = []; lost = 0; unserved = true }
+    ≡ record { notes = []; delivered = None; unit = None; orders = []; lost = 0; given_up = 0; given_up_16 = 0; unserved = true }
 unfolding seq distance_of named reading header_of control_of unnumbered_of supervisory_of after_all out notes lost price_of_all
 unit_data_over_n201 = refl

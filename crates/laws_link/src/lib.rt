@@ -15,7 +15,7 @@
 //!
 //! Each law is the contract of a call that does nothing.
 //!
-//! - `sending`: what a request that is granted does;
+//! - `sending`: the effects of a request that is granted, and how contents leave a link;
 //! - `following`: what an event leaves of a link, its state, its flags and what waits, and what it tells;
 //! - `two`: progress of a link, and of two links that face each other.
 #![tactic(auto)]
@@ -25,7 +25,7 @@ mod sending;
 mod two;
 
 pub use following::{flags_follow, frames_follow, notes_follow, states_follow};
-pub use sending::requests_take_effect;
+pub use sending::{losses_are_told, requests_take_effect};
 pub use two::{
     arrives_in_any_order, busy_ends_are_heard, busy_ends_recover, busy_is_heeded, contents_arrive,
     kept_contents_arrive, losses_are_recovered, stay_up_while_ahead,

@@ -1,12 +1,13 @@
-//! What a request that is granted does. The law is the contract of a call that does nothing.
+//! Effects of a request that is granted, and how contents leave a link. Each law is the contract of a call that does nothing.
 
 ghost use Rattle.std.specs.Prelude.{◌≡◌, Bool, None};
 ghost use Rattle.model_link.specs.declared.terms.Terms.{Terms};
-ghost use Rattle.model_link.specs.Link.{Link};
-ghost use Rattle.model_link.specs.Events.{Request, requested};
+ghost use Rattle.model_link.specs.Link.{Link, queue_of};
+ghost use Rattle.model_link.specs.Events.{Event, Request, requested};
 ghost use Rattle.model_link.specs.Machine.{after, told};
 ghost use Rattle.model_link.specs.Sound.{IsSound};
 ghost use Rattle.laws_link.specs.Effects.{TakesEffect};
+ghost use Rattle.laws_link.specs.History.{IsKept, given_up_by, given_up_of, share};
 ghost use Rattle.model_link.specs.Requests.{refusal};
 
 /// A request that is granted takes effect:
@@ -21,4 +22,12 @@ ghost use Rattle.model_link.specs.Requests.{refusal};
 pub fn requests_take_effect()
     ensures takes_effect { (t : Terms) (request : Request) (full : Bool) (l : Link) → IsSound t l → refusal t l full request ≡ None
         → TakesEffect t request l (after t (requested request full) l) (told t (requested request full) l).notes (told t (requested request full) l).lost }
+{}
+
+/// Contents that were granted are acknowledged, wait or are given up, and what is given up is told. By each event the oldest
+/// leave that an N(R) names, and those that it adds come after the others; or all leave. All leave, and are told as given up,
+/// by a release that is granted, as the TEI leaves, and with the notes that tell it (profile).
+pub fn losses_are_told()
+    ensures kept { (t : Terms) (e : Event) (l : Link) → IsSound t l → IsKept (share t e l) l (after t e l) }
+    ensures told { (t : Terms) (e : Event) (l : Link) → IsSound t l → given_up_of t.service (told t e l) ≡ given_up_by (share t e l) (queue_of l) }
 {}

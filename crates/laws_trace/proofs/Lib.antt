@@ -29,6 +29,7 @@ pub mod ObservedControlsMoment
 pub mod Runs
 pub mod Configurations
 pub mod OfferTells
+pub mod ToldGivenUp
 pub mod OrdersOfLink
 pub mod ManagedLink
 pub mod OneLink
@@ -111,6 +112,8 @@ pub mod OwedAtLine
 pub mod LossesAtLine
 pub mod FramesOfLink
 pub mod NoLossInVain
+pub mod OneTei
+pub mod GivenUpIsTold
 pub mod RoomsAreTold
 pub mod UnitsAreTold
 pub mod SlotsSummed

@@ -5,6 +5,12 @@ use Rattle.laws_trace.proofs.Vocabulary.{append-nil, arith, get_or, set, get_or-
 use Rattle.laws_trace.proofs.Vocabulary.{and-false, TeiEvent, none-ordered}
 use Rattle.laws_trace.proofs.OrdersOfLink.{its_orders, of-event, management-orders-none}
 use Rattle.laws_trace.proofs.Facts.{its-own}
+use Rattle.laws_trace.proofs.Addressed.{at-some-place}
+use Rattle.laws_trace.proofs.ToldGivenUp.{none-in}
+use Rattle.laws_trace.proofs.Vocabulary.{IsAt, subst, given_up_in, given_up_of, link_told}
+use Rattle.model_line.specs.Event as line_event
+use Rattle.model_link.specs.Events as link_event
+use Rattle.lapd_tei.specs.Table.{is_on}
 use Rattle.laws_line.proofs.Changes.{AreOfLine, Turn, turned, turned-there}
 use Rattle.laws_trace.proofs.Vocabulary.{LineTold, at_management, of_aim}
 use Rattle.lapd_terminal.specs.Events.{Event as TerminalEvent}
@@ -121,6 +127,45 @@ module _ (c : Config) (l : Line) (s : IsSound c l) (service : Service) (tei : �
     step-ordered : (o : Option Change) → Moves l.management.places o m.places → Ordered o
     step-ordered o moves = grind (arith, own-orders-none, as-before, alike, gained-elsewhere, comes, eqb-true, fresh-off, leaves-ordered)
 
+    -- A TEI is on the line until it leaves; as it does, its link gives up what it keeps.
+    abbrev GivesUp : Option Change → Type 0
+    GivesUp o =
+        has_tei tei l ≡ true → has_tei tei (next o) ≡ false
+        → given_up_in service (line_event.told (of_change c o told (record l { management = m; own = own_part })).told) ≡ given_up_of service (link_told its link_event.cleared (link_of service tei l))
+
+    still-on : (p q : ℕ) (x : Option ℕ) → IsAt l.management.places p tei → m.places ≡ set l.management.places q x → (p ≡ q → ⊥) → is_on tei m.places ≡ true
+    still-on p q x at is apart = is_on-at m.places p tei (ap (λ xs. get_or xs p None) is ∙ get_or-set_other l.management.places q p x None apart ∙ at)
+
+    left-given : (by place : ℕ) (z : Service)
+        → given_up_in z (line_event.told (of_change c (Some (Left by place)) told (record l { management = m; own = own_part })).told) ≡ given_up_of z (link_told (terms c z by) link_event.cleared (link_in l z place))
+    left-given by place Call = refl
+    left-given by place Packet =
+        ap (λ x. (link_told (terms c Packet by) link_event.cleared x).given_up_16)
+        (get_or-set_other l.links (link_number place Call) (link_number place Packet) fresh fresh (λ e. omega (arith, e)))
+
+    own-there : (place : ℕ) → IsAt l.management.places place tei → link_in l service place ≡ link_of service tei l
+    own-there place at = sym (ap (λ o. option_map_or (link_in l service) o fresh) (has-place l.management.places tei place s.management.table at))
+
+    gives-up : (o : Option Change) → Moves l.management.places o m.places → GivesUp o
+    gives-up None moves on off = absurd (true≢false (sym on ∙ ap (is_on tei) (sym moves) ∙ off))
+    gives-up (Some (Gained by place)) joined on off =
+        let p = at-some-place l tei on in
+        let at = (place_of-is l.management.places tei p.0 p.1).1 in
+        absurd (true≢false (sym (still-on p.0 place (Some by) at joined.is_there (λ same. none-some tei (sym joined.was_free ∙ ap (λ n. get_or l.management.places n None) (sym same) ∙ at))) ∙ off))
+    gives-up (Some (Left by place)) gone on off = go (by == tei) refl
+      where
+        go : (b : Bool) → (by == tei) ≡ b
+            → given_up_in service (line_event.told (of_change c (Some (Left by place)) told (record l { management = m; own = own_part })).told) ≡ given_up_of service (link_told its link_event.cleared (link_of service tei l))
+        go true same =
+            let by-is = eqb-true by tei same in
+            left-given by place service ∙ ap (λ n. given_up_of service (link_told (terms c service n) link_event.cleared (link_in l service place))) by-is
+            ∙ ap (λ x. given_up_of service (link_told its link_event.cleared x)) (own-there place (subst (λ n. IsAt l.management.places place n) by-is gone.was_there))
+        go false other =
+            let p = at-some-place l tei on in
+            let at = (place_of-is l.management.places tei p.0 p.1).1 in
+            absurd (true≢false (sym (still-on p.0 place None at gone.is_free
+            (λ same. true≢false (sym (eq-eqb by tei (some-same by tei (sym gone.was_there ∙ ap (λ n. get_or l.management.places n None) (sym same) ∙ at))) ∙ other))) ∙ off))
+
   -- So of each event of it, of whatever side.
   abbrev OrdersIts : Effect → Type 0
   OrdersIts f = its_orders service tei f.told.orders ≡ orders_for (terms c service tei) (link_of service tei l).running None (link_of service tei f.line).running
@@ -142,3 +187,35 @@ module _ (c : Config) (l : Line) (s : IsSound c l) (service : Service) (tei : �
 
   pub own-managed : (te : TerminalEvent) → IsOwnEvent c te → Remains (of_aim c (at_terminal te) l).line
   own-managed te proper = turned-there c l s (λ f. Remains f.line) each-remains te proper
+
+  abbrev GivesUpIts : Effect → Type 0
+  GivesUpIts f =
+      has_tei tei l ≡ true → has_tei tei f.line ≡ false
+      → given_up_in service (line_event.told f.told) ≡ given_up_of service (link_told (terms c service tei) link_event.cleared (link_of service tei l))
+
+  each-gives-up : (o : Option Change) (t : LineTold) (m : Management) (own_part : Own) → Turn l o t m → GivesUpIts (of_change c o t (record l { management = m; own = own_part }))
+  each-gives-up o t m own_part turn = gives-up t m own_part turn.table turn.ordered o turn.moves
+
+  pub management-gives-up : (me : TeiEvent) → IsInRange me → GivesUpIts (of_aim c (at_management me) l)
+  management-gives-up me fits = turned c l s GivesUpIts each-gives-up me fits
+
+  pub own-gives-up : (te : TerminalEvent) → IsOwnEvent c te → GivesUpIts (of_aim c (at_terminal te) l)
+  own-gives-up te proper = turned-there c l s GivesUpIts each-gives-up te proper
+
+  -- and nothing else does: what is told as given up is of a TEI that leaves.
+  abbrev pub OfLeaving : Effect → Type 0
+  OfLeaving f = (given_up_in service (line_event.told f.told) ≡ 0) ⊎ ((by : ℕ) × (has_tei by l ≡ true) × (has_tei by f.line ≡ false))
+
+  each-leaving : (o : Option Change) (t : LineTold) (m : Management) (own_part : Own) → Turn l o t m → OfLeaving (of_change c o t (record l { management = m; own = own_part }))
+  each-leaving None t m own_part turn = inl (none-in t turn.keeps.0 turn.keeps.1 service)
+  each-leaving (Some (Gained by place)) t m own_part turn = inl (none-in t turn.keeps.0 turn.keeps.1 service)
+  each-leaving (Some (Left by place)) t m own_part turn = inr (by, is_on-at l.management.places place by turn.moves.was_there, gone-off by place m turn.table turn.moves)
+    where
+      gone-off : (by place : ℕ) (m : Management) → IsSoundTable m.places → HasLeft l.management.places m.places by place → is_on by m.places ≡ false
+      gone-off by place m table gone = is-off m.places by (has-no-place m.places by (emptied fresh itself refl c l s m table place None gone.is_free gone.within by refl gone.was_there))
+
+  pub management-leaving : (me : TeiEvent) → IsInRange me → OfLeaving (of_aim c (at_management me) l)
+  management-leaving me fits = turned c l s OfLeaving each-leaving me fits
+
+  pub own-leaving : (te : TerminalEvent) → IsOwnEvent c te → OfLeaving (of_aim c (at_terminal te) l)
+  own-leaving te proper = turned-there c l s OfLeaving each-leaving te proper

@@ -18,7 +18,7 @@ use Rattle.laws_trace.proofs.ManagingTables.{on-coming, on-leaving}
 use Rattle.laws_trace.proofs.NewsOfOthers.{none-filtered, tei-note, other-link}
 
 -- Calls keep a TEI on the line.
-next-keeps : (tei : ℕ) (c : Config) (l : Line) → IsSound c l → has_tei tei l ≡ true → has_tei tei (after c next l) ≡ true
+pub next-keeps : (tei : ℕ) (c : Config) (l : Line) → IsSound c l → has_tei tei l ≡ true → has_tei tei (after c next l) ≡ true
 unfolding after
 next-keeps tei c l s on = go (taken c l) (taken-one c l s)
   where

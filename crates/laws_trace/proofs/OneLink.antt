@@ -17,9 +17,11 @@ use Rattle.laws_trace.proofs.Vocabulary.{line_frame_of as frame_of, refusal, IsS
 use Rattle.model_link.specs.Events as link
 use Rattle.laws_line.proofs.Readings as read
 use Rattle.laws_trace.proofs.ClearedTells.{none-delivered, none-lost}
-use Rattle.laws_trace.proofs.ManagedLink.{alike, Remains, managed, management-ordered, own-managed, own-ordered}
-use Rattle.laws_trace.proofs.OfferTells.{offer-tells_nothing}
+use Rattle.laws_trace.proofs.ManagedLink.{alike, Remains, managed, management-ordered, management-gives-up, own-managed, own-ordered, own-gives-up}
+use Rattle.laws_trace.proofs.Vocabulary.{NextFrame, given_up_in, given_up_of, is_on, true≢false}
+use Rattle.laws_trace.proofs.OfferTells.{offer-gives_up, offer-tells_nothing}
 use Rattle.laws_trace.proofs.OrdersOfLink.{its_orders, down-orders-none, other-ordered}
+use Rattle.laws_trace.proofs.ToldGivenUp.{none-gave, of-its}
 use Rattle.model_line.proofs.Downs.{given_up}
 
 -- Which events of a line give a frame: of a link, only an offer.
@@ -61,6 +63,7 @@ pub record HasOne (c : Config) (service : Service) (tei : ℕ) (e : Event) (befo
   pub contents : contents_in a ≡ option_or (link_told (terms c service tei) event (link_of service tei before)).delivered
       (link_told (terms c service tei) event (link_of service tei before)).unit
   pub lost : lost_in a ≡ (link_told (terms c service tei) event (link_of service tei before)).lost
+  pub given_up : given_up_in service a ≡ given_up_of service (link_told (terms c service tei) event (link_of service tei before))
   pub orders : orders_in a ≡ (link_told (terms c service tei) event (link_of service tei before)).orders
   pub begins : frame_in a ≡ frames_given c (terms c service tei) event (link_of service tei before)
 
@@ -74,14 +77,16 @@ IsForeign c service tei frame =
     ((info : List ℕ) × (frame ≡ message_text c info)) ⊎ ((unit : UnitData) × (frame ≡ unit_frame c unit))
     ⊎ ((t : Terms) × (g : Given) × (frame ≡ frame_of c t g) × ((same_service t.service service && t.tei == tei) ≡ false))
 
--- No event of the link: it stays as it is, or its TEI comes or leaves, and it is as one that begins; and its timer is stopped
--- where it runs no more.
+-- No event of the link: it stays as it is, or its TEI comes or leaves, and it is as one that begins; its timer is stopped where
+-- it runs no more, and where its TEI leaves it gives up what it keeps.
 pub record HasNone (c : Config) (service : Service) (tei : ℕ) (e : Event) (before after : Line) (a : Answer) : Type 0 where
   pub is : (link_of service tei after ≡ link_of service tei before) ⊎ (link_of service tei after ≡ fresh)
   pub stays : has_tei tei before ≡ true → has_tei tei after ≡ true → link_of service tei after ≡ link_of service tei before
   pub aims : is_at_link service tei (aim_of c e before) ≡ false
   pub orders : its_orders service tei (orders_in a) ≡ orders_for (terms c service tei) (link_of service tei before).running None (link_of service tei after).running
   pub begins : All (IsForeign c service tei) (frame_in a)
+  pub gone : has_tei tei before ≡ true → has_tei tei after ≡ false
+      → given_up_in service a ≡ given_up_of service (link_told (terms c service tei) link.cleared (link_of service tei before))
 
 -- The link is deactivated: it is as one that begins, and tells what one tells whose TEI leaves the line.
 pub record IsGivenUp (c : Config) (service : Service) (tei : ℕ) (e : Event) (before after : Line) (a : Answer) : Type 0 where
@@ -92,6 +97,7 @@ pub record IsGivenUp (c : Config) (service : Service) (tei : ℕ) (e : Event) (b
   pub notes : notes_of a ≡ (link_told (terms c service tei) link.cleared (link_of service tei before)).notes
   pub contents : contents_in a ≡ None
   pub lost : lost_in a ≡ 0
+  pub given_up : given_up_in service a ≡ given_up_of service (link_told (terms c service tei) link.cleared (link_of service tei before))
   pub orders : orders_in a ≡ (link_told (terms c service tei) link.cleared (link_of service tei before)).orders
   pub begins : frame_in a ≡ []
 
@@ -130,28 +136,36 @@ module _ (c : Config) (l : Line) (s : IsSound c l) (service : Service) (tei : �
     no-frame : All (IsForeign c service tei) (frame_in a)
     no-frame = subst (All (IsForeign c service tei)) (sym none_begins) (All-nil (IsForeign c service tei))
 
+    abbrev Gone : Line → Type 0
+    Gone new =
+        has_tei tei l ≡ true → has_tei tei new ≡ false
+        → given_up_in service a ≡ given_up_of service (link_told (terms c service tei) link.cleared (link_of service tei l))
+
     stays : (aim : Aim) → aim_of c e l ≡ aim → is_at_link service tei aim ≡ false → (new : Line)
         → its_orders service tei (orders_in a) ≡ orders_for (terms c service tei) (link_of service tei l).running None (link_of service tei new).running → Remains c l s service tei new
-        → Goes c service tei e l new a
-    stays aim is none new ordered (inl same) =
-        inl (record { is = inl same; stays = λ was there. same; aims = ap (is_at_link service tei) is ∙ none; orders = ordered; begins = no-frame })
-    stays aim is none new ordered (inr anew) =
+        → Gone new → Goes c service tei e l new a
+    stays aim is none new ordered (inl same) gone =
+        inl (record { is = inl same; stays = λ was there. same; aims = ap (is_at_link service tei) is ∙ none; orders = ordered; begins = no-frame; gone = gone })
+    stays aim is none new ordered (inr anew) gone =
         inl (record {
           is = inr anew.0;
           stays = λ was there. absurd (anew.1 was there);
           aims = ap (is_at_link service tei) is ∙ none;
           orders = ordered;
           begins = no-frame;
+          gone = gone;
         })
 
     abbrev Tells : Aim → Type 0
     Tells aim =
         (notes_of a ≡ (of_aim c aim l).told.notes) × (contents_in a ≡ (of_aim c aim l).told.contents) × (lost_in a ≡ (of_aim c aim l).told.lost)
-        × (orders_in a ≡ (of_aim c aim l).told.orders)
+        × (orders_in a ≡ (of_aim c aim l).told.orders) × ((z : Service) → given_up_in z a ≡ given_up_in z (told (of_aim c aim l).told))
 
     kept : (aim : Aim) → aim_of c e l ≡ aim → is_at_link service tei aim ≡ false → Tells aim → its_orders service tei (of_aim c aim l).told.orders ≡ [] → (new : Line)
-        → link_of service tei new ≡ link_of service tei l → Goes c service tei e l new a
-    kept aim is none tells silent new same = stays aim is none new (quiet new same (orders_in a) (ap (its_orders service tei) tells.3 ∙ silent)) (inl same)
+        → link_of service tei new ≡ link_of service tei l → has_tei tei new ≡ has_tei tei l → Goes c service tei e l new a
+    kept aim is none tells silent new same on =
+        stays aim is none new (quiet new same (orders_in a) (ap (its_orders service tei) tells.3 ∙ silent)) (inl same)
+        (λ was off. absurd (true≢false (sym was ∙ sym on ∙ off)))
 
     at-one : (its : Service) (by place : ℕ) (event : link.Event) → aim_of c e l ≡ at_link its by place event → IsAt l.management.places place by
         → IsOf c e a its by event → Tells (at_link its by place event) → frames_given c (terms c its by) event (link_of its by l) ≡ []
@@ -159,11 +173,19 @@ module _ (c : Config) (l : Line) (s : IsSound c l) (service : Service) (tei : �
     at-one its by place event is at ties tells silent false other =
         kept (at_link its by place event) is other tells (other-ordered (terms c its by) event (x its by place event at) service tei other) (of_aim c (at_link its by place event) l).line
         (alike c l s service tei (with_link (link_number place its) (y its by place event at) l) (of_aim c (at_link its by place event) l).line refl refl
-        ∙ other-stays its by place event at other)
+        ∙ other-stays its by place event at other) refl
     at-one its by place event is at ties tells silent true same = grind (arith, both-true, services-equal, eqb-true, one, ended, by-or-down)
       where
+        tells-gone : given_up_in its a ≡ given_up_of its (link_told (terms c its by) event (link_of its by l))
+        tells-gone =
+            tells.4 its ∙ of-its its (link_told (terms c its by) event (x its by place event at))
+            ∙ ap (λ x. given_up_of its (link_told (terms c its by) event x)) (sym (own-before its by place event at))
+
+        ended-gone : event ≡ link.cleared → given_up_in its a ≡ given_up_of its (link_told (terms c its by) link.cleared (link_of its by l))
+        ended-gone cleared = tells-gone ∙ ap (λ what. given_up_of its (link_told (terms c its by) what (link_of its by l))) cleared
+
         ended : event ≡ link.cleared → IsDeactivated e a its by → IsGivenUp c its by e l (of_aim c (at_link its by place event) l).line a
-        ended cleared down = grind (arith, own-before, has-place, read.same-read, own-after, none-delivered, none-lost)
+        ended cleared down = grind (arith, own-before, has-place, read.same-read, own-after, none-delivered, none-lost, ended-gone)
 
         one : IsBy c e a its by event → HasOne c its by e l (of_aim c (at_link its by place event) l).line a
         one own =
@@ -178,6 +200,7 @@ module _ (c : Config) (l : Line) (s : IsSound c l) (service : Service) (tei : �
               notes = tells.0 ∙ ap (λ x. (link_told (terms c its by) event x).notes) before;
               contents = tells.1 ∙ ap (λ x. option_or (link_told (terms c its by) event x).delivered (link_told (terms c its by) event x).unit) before;
               lost = tells.2 ∙ ap (λ x. (link_told (terms c its by) event x).lost) before;
+              given_up = tells-gone;
               orders = tells.3 ∙ ap (λ x. (link_told (terms c its by) event x).orders) before;
               begins = none_begins ∙ sym silent;
             }
@@ -189,18 +212,19 @@ module _ (c : Config) (l : Line) (s : IsSound c l) (service : Service) (tei : �
 
     aim-goes : (aim : Aim) → aim_of c e l ≡ aim → IsProper c l aim → Ties c e a aim → Tells e a none_begins aim → Silent c l aim
         → Goes c service tei e l (to-be aim) a
-    aim-goes (at_none what) is proper ties tells silent = grind (arith, kept, its_orders, alike)
+    aim-goes (at_none what) is proper ties tells silent = kept e a none_begins (at_none what) is refl tells (ap (its_orders service tei) silent) l refl refl
     aim-goes (at_units unit) is proper ties tells silent =
-        kept e a none_begins (at_units unit) is refl tells refl (to-be (at_units unit)) (alike c l s service tei l (to-be (at_units unit)) refl refl)
+        kept e a none_begins (at_units unit) is refl tells refl (to-be (at_units unit)) (alike c l s service tei l (to-be (at_units unit)) refl refl) refl
     aim-goes at_no_link is proper ties tells silent =
         kept e a none_begins at_no_link is refl tells (by-down c l s (λ f. its_orders service tei f.told.orders ≡ []) (down-orders-none service tei l.management.check l.own.procedure)) (to-be at_no_link)
         (by-down c l s (λ f. link_of service tei f.line ≡ link_of service tei l) (alike c l s service tei l (given_up l).line refl refl))
+        (by-down c l s (λ f. has_tei tei f.line ≡ has_tei tei l) refl)
     aim-goes (at_management me) is proper ties tells silent =
         stays e a none_begins (at_management me) is refl (to-be (at_management me)) (ap (its_orders service tei) tells.3 ∙ management-ordered c l s service tei me proper)
-        (managed c l s service tei me proper)
+        (managed c l s service tei me proper) (λ on off. tells.4 service ∙ management-gives-up c l s service tei me proper on off)
     aim-goes (at_terminal te) is proper ties tells silent =
         stays e a none_begins (at_terminal te) is refl (to-be (at_terminal te)) (ap (its_orders service tei) tells.3 ∙ own-ordered c l s service tei te proper)
-        (own-managed c l s service tei te proper)
+        (own-managed c l s service tei te proper) (λ on off. tells.4 service ∙ own-gives-up c l s service tei te proper on off)
     aim-goes (at_link its by place event) is proper ties tells silent = grind (arith, at-one)
 
   -- What a call takes: a frame of this link, or of another part.
@@ -215,7 +239,9 @@ module _ (c : Config) (l : Line) (s : IsSound c l) (service : Service) (tei : �
     begins : t.frame ∷ [] ≡ frames_given c Own link.offer (link_of service tei l)
 
   abbrev Took : Taken → Type 0
-  Took t = ((link_of service tei t.line ≡ link_of service tei l) × IsForeign c service tei t.frame × (its_orders service tei t.orders ≡ [])) ⊎ Takes t
+  Took t =
+      ((link_of service tei t.line ≡ link_of service tei l) × IsForeign c service tei t.frame × (its_orders service tei t.orders ≡ []) × (has_tei tei t.line ≡ has_tei tei l))
+      ⊎ Takes t
 
   -- what a link gives, it orders as well
   pub given-orders : (t : Terms) (x : Link) (g : Given) → given t x ≡ Some g → g.orders ≡ (link_told t link.offer x).orders
@@ -230,6 +256,7 @@ module _ (c : Config) (l : Line) (s : IsSound c l) (service : Service) (tei : �
         inr (inr (terms c its by, g, refl, other)),
         ap (its_orders service tei) (given-orders (terms c its by) (link_in l its place) g gives)
             ∙ other-ordered (terms c its by) link.offer (link_in l its place) service tei other,
+        refl,
       )
   took-link its by place g at gives true same =
       let parts = both-true (same_service its service) (by == tei) same in
@@ -264,7 +291,7 @@ module _ (c : Config) (l : Line) (s : IsSound c l) (service : Service) (tei : �
 
   -- a message, and unit data
   other-part : (t : Taken) → t.line.management.places ≡ l.management.places → t.line.links ≡ l.links → t.orders ≡ [] → IsForeign c service tei t.frame → Took t
-  other-part t places links none foreign = inl (alike c l s service tei l t.line places links, foreign, ap (its_orders service tei) none)
+  other-part t places links none foreign = inl (alike c l s service tei l t.line places links, foreign, ap (its_orders service tei) none, ap (is_on tei) places)
 
   took-message : (b : Bool) → is_terminal c ≡ b → IfSome (cond b (option_map (with_own_message l) (terminals.offered (terminal_in l))) (option_map (with_message l) (teis.offered c.side l.management))) Took
   took-message true is = go (slice_get l.own.waiting 0)
@@ -294,27 +321,54 @@ module _ (c : Config) (l : Line) (s : IsSound c l) (service : Service) (tei : �
   -- A call for the next frame.
   abbrev Gave : Line → List (List ℕ) → List Order → Type 0
   Gave new frames orders =
-      ((link_of service tei new ≡ link_of service tei l) × All (IsForeign c service tei) frames × (its_orders service tei orders ≡ []))
+      ((link_of service tei new ≡ link_of service tei l) × All (IsForeign c service tei) frames × (its_orders service tei orders ≡ []) × (has_tei tei new ≡ has_tei tei l))
       ⊎ ((place : ℕ) × (place_in l tei ≡ Some place) × (link_of service tei new ≡ link_after Own link.offer (link_of service tei l))
       × (frames ≡ frames_given c Own link.offer (link_of service tei l)) × (orders ≡ (link_told Own link.offer (link_of service tei l)).orders))
 
   gave-it : (o : Option Taken) → IfSome o Took → let a = gave (option_map next_of o) in Gave (option_map_or line_of o l) (frame_in a) (orders_in a)
   gave-it o h = grind (arith, All-nil, All-cons)
 
+  from-gave : (new : Line) (o : Option NextFrame) → let a = gave o in Gave new (frame_in a) (orders_in a) → Goes c service tei next l new a
+  from-gave new o (inl x) =
+      inl (record {
+        is = inl x.0;
+        stays = λ was there. x.0;
+        aims = refl;
+        orders = quiet new x.0 (orders_in (gave o)) x.2;
+        begins = x.1;
+        gone = λ on off. absurd (true≢false (sym on ∙ sym x.3 ∙ off));
+      })
+  from-gave new o (inr x) =
+      let none = offer-tells_nothing Own (link_of service tei l) in
+      inr (inl (record {
+        place = x.0;
+        placed = x.1;
+        event = link.offer;
+        by = refl;
+        aimed = inl refl;
+        is = x.2;
+        notes = sym none.0;
+        contents = sym (ap (λ d. option_or d (link_told Own link.offer (link_of service tei l)).unit) none.1 ∙ none.2);
+        lost = sym none.3;
+        given_up = none-gave o service ∙ sym (offer-gives_up Own (link_of service tei l) service);
+        orders = x.4;
+        begins = x.3;
+      }))
+
   next-goes : Goes c service tei next l (after c next l) (answer c next l)
   unfolding after answer
-  next-goes = grind (arith, gave-it, took-any, stays, quiet, offer-tells_nothing)
+  next-goes = from-gave (option_map_or line_of (taken c l) l) (option_map next_of (taken c l)) (gave-it (taken c l) took-any)
 
 pub event-goes : (c : Config) (e : Event) (l : Line) (service : Service) (tei : ℕ) → IsSound c l → Goes c service tei e l (after c e l) (answer c e l)
 unfolding after answer
 event-goes c (hears what) l service tei s =
     let aim = aim_of_heard c l what in
     let a = told (of_aim c aim l).told in
-    aim-goes c l s service tei (hears what) a refl aim refl (heard_proper c l what) (heard-ties c l what a) (refl, refl, refl, refl) (heard-silent c l what)
+    aim-goes c l s service tei (hears what) a refl aim refl (heard_proper c l what) (heard-ties c l what a) (refl, refl, refl, refl, λ z. refl) (heard-silent c l what)
 event-goes c (expiry timer) l service tei s =
     let aim = aim_of_expiry timer l in
     aim-goes c l s service tei (expiry timer) (told (of_aim c aim l).told) refl aim refl (expiry_proper c l timer)
-    (expiry-ties c l timer (told (of_aim c aim l).told)) (refl, refl, refl, refl) (expiry-silent c l timer)
+    (expiry-ties c l timer (told (of_aim c aim l).told)) (refl, refl, refl, refl, λ z. refl) (expiry-silent c l timer)
 event-goes c (request r) l service tei s = go (refusal c false r l) refl
   where
     go : (o : Option Refusal) → refusal c false r l ≡ o
@@ -322,7 +376,15 @@ event-goes c (request r) l service tei s = go (refusal c false r l) refl
     go None none =
         let a = told (of_aim c (aim_of_request r l) l).told in
         aim-goes c l s service tei (request r) a refl (aim_of_request r l) (ap (λ o. unless_refused o (aim_of_request r l)) none)
-        (subst (λ o. IsProper c l (unless_refused o (aim_of_request r l))) none (request_proper c l r)) (request-ties c l a refl r) (refl, refl, refl, refl)
+        (subst (λ o. IsProper c l (unless_refused o (aim_of_request r l))) none (request_proper c l r)) (request-ties c l a refl r) (refl, refl, refl, refl, λ z. refl)
         (request-silent c l r)
-    go (Some why) some = grind (arith, stays, none-ordered)
+    go (Some why) some =
+        inl (record {
+          is = inl refl;
+          stays = λ was there. refl;
+          aims = ap (λ o. is_at_link service tei (unless_refused o (aim_of_request r l))) some;
+          orders = sym (none-ordered (terms c service tei) (link_of service tei l).running);
+          begins = All-nil (IsForeign c service tei);
+          gone = λ on off. absurd (true≢false (sym on ∙ off));
+        })
 event-goes c next l service tei s = next-goes c l s service tei

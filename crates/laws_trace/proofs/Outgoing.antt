@@ -60,7 +60,7 @@ module _ (lost anew : Bool) (k x : Link) (o p : Observed) (was : IsSeenAs k o) (
   left-as = grind (arith, number-up, went_by)
 
 -- A call for the next frame tells nothing.
-next-quiet : (card : Card) (number : ℕ) (what : line_event.Event) → what ≡ line_event.next → notes_of (answer (at number what) card) ≡ []
+pub next-quiet : (card : Card) (number : ℕ) (what : line_event.Event) → what ≡ line_event.next → notes_of (answer (at number what) card) ≡ []
 unfolding lines.answer lines.takes_slot
 next-quiet card number what is = grind arith
 

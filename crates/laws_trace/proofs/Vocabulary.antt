@@ -94,7 +94,9 @@ pub use Rattle.laws_line.proofs.TimersFollow.{followed, timely-line}
 pub use Rattle.model_line.proofs.TimersFollow.{nowhere, number-is}
 pub use Rattle.laws_line.proofs.ToldOnce.{told-once}
 pub use Rattle.laws_line.specs.Drains.{control_text, frames_to_go, most_frames, way_round, most_frames_before}
-pub use Rattle.laws_line.specs.Frames.{lost_in}
+pub use Rattle.laws_line.specs.Frames.{given_up_in, lost_in}
+pub use Rattle.laws_link.proofs.GivingUp.{other-none, own-gone}
+pub use Rattle.laws_link.specs.History.{given_up_of}
 pub use Rattle.laws_line.specs.Heard.{IsHeard, IsHeardAtLink, IsHeardByGroup, contents_in, is_data_of, is_unit_of, notes_of, tells_contents}
 pub use Rattle.laws_line.specs.Loss.{is_loss_of}
 pub use Rattle.laws_line.specs.Requests.{deactivates, is_deactivation, of_link}

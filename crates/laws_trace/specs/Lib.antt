@@ -44,7 +44,9 @@ pub mod WorkedAsking
 pub mod WorkedOtherSide
 pub mod WorkedSapis
 pub mod RoomsAreTold
+pub mod GivenUpIsTold
 pub mod WorkedRooms
+pub mod WorkedGivenUp
 pub mod WorkedRequests
 pub mod WorkedUnitsTold
 pub mod CausesAreTold

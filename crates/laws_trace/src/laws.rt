@@ -14,6 +14,7 @@ ghost use Rattle.laws_trace.specs.Deliveries.{WhatIsToldWasHeard};
 ghost use Rattle.laws_trace.specs.LinksMove.{LinksMove};
 ghost use Rattle.laws_trace.specs.News.{NewsIsTold};
 ghost use Rattle.laws_trace.specs.NoLossInVain.{NoLossInVain};
+ghost use Rattle.laws_trace.specs.GivenUpIsTold.{GivenUpIsTold};
 ghost use Rattle.laws_trace.specs.TeisAreManaged.{TeisAreManaged};
 ghost use Rattle.laws_trace.specs.TimersAreTimely.{TimersAreTimely, TimersRun};
 ghost use Rattle.laws_trace.specs.TurnsMeanwhile.{LinksTakeTurnsMeanwhile};
@@ -167,6 +168,15 @@ pub fn what_is_due_joins_the_queue()
 /// is left, as four are owed. A terminal loses none (profile).
 pub fn nothing_is_lost_in_vain()
     ensures { Always NoLossInVain }
+{}
+
+/// What is given up is told. An event gives up all that the link of a TEI keeps, or nothing. It gives it up if layer 3
+/// learns that the link keeps nothing, or if the TEI leaves the line. The observer of [`what_is_given_is_due`] defines
+/// what it keeps: what it is granted, and is neither acknowledged nor given up. All links that give up contents by one
+/// event are of one TEI. If the event is a request of a link, or removes a TEI, it is the TEI that the request names. Of
+/// each service the answer tells as many as one link gives up. It tells none only if no link gives up any (profile).
+pub fn given_up_is_told()
+    ensures { Always GivenUpIsTold }
 {}
 
 /// TEIs are managed as the procedures say. Whatever happened to a card, the answer to an event of a line shows exactly

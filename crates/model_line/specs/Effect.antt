@@ -58,6 +58,8 @@ told_of_link t = record {
   cause = unserved_cause t.unserved;
   orders = t.orders;
   lost = t.lost;
+  given_up = t.given_up;
+  given_up_16 = t.given_up_16;
 }
 
 abbrev pub of_link : Config → Service → ℕ → ℕ → link.Event → Line → Effect
@@ -73,14 +75,19 @@ of_link c service tei place event l =
 -- the last (profile).
 abbrev pub told_of_management : tei.TeiTold → LineTold
 told_of_management t =
-    record { notes = t.notes; contents = None; cause = unserved_cause t.unserved; orders = t.orders; lost = t.lost }
+    record nothing { notes = t.notes; cause = unserved_cause t.unserved; orders = t.orders; lost = t.lost }
 
 abbrev pub with_opened : ℕ → Line → Line
 with_opened place l = with_link (link_number place Packet) fresh (with_link (link_number place Call) fresh l)
 
 abbrev pub with_cleared : LineTold → LineTold → LineTold → LineTold
 with_cleared call packet t =
-    record t { notes = t.notes ++ call.notes ++ packet.notes; orders = call.orders ++ packet.orders ++ t.orders }
+    record t {
+      notes = t.notes ++ call.notes ++ packet.notes;
+      orders = call.orders ++ packet.orders ++ t.orders;
+      given_up = call.given_up;
+      given_up_16 = packet.given_up_16;
+    }
 
 abbrev pub of_change : Config → Option Change → LineTold → Line → Effect
 of_change c None told l = record { line = l; told = told }
@@ -108,12 +115,10 @@ order_of t202.Start = orders.Start T202
 order_of t202.Stop = orders.Stop T202
 
 abbrev pub told_of_terminal : TerminalTold → LineTold
-told_of_terminal t = record {
+told_of_terminal t = record nothing {
   notes = option_to_list (option_map note_of t.news);
-  contents = None;
   cause = unserved_cause t.unserved;
   orders = option_to_list (option_map order_of t.order);
-  lost = 0;
 }
 
 abbrev pub of_terminal : Config → terminals.Event → Line → Effect

@@ -17,13 +17,16 @@ pub data Event : Type 0 where
   next : Event
 
 -- What is heard, an expiry or an accepted request is answered with: notes for layer 3 and management, the contents that a
--- frame brought, why something was dropped, timer orders, and how many frames found no place to wait.
+-- frame brought, why something was dropped, timer orders, how many frames found no place to wait, and what is given up.
 pub record LineTold : Type 0 where
   pub notes : List Note
   pub contents : Option (List ℕ)
   pub cause : Option Cause
   pub orders : List Order
   pub lost : ℕ
+  -- how many contents that were granted on a link are given up, sent or not: of call control, and of the second service
+  pub given_up : ℕ
+  pub given_up_16 : ℕ
 
 -- The next frame to send, from its address to its information, and timer orders.
 pub record NextFrame : Type 0 where
@@ -44,7 +47,7 @@ given_in (gave frame) = frame
 
 -- Nothing happened.
 abbrev pub nothing : LineTold
-nothing = record { notes = []; contents = None; cause = None; orders = []; lost = 0 }
+nothing = record { notes = []; contents = None; cause = None; orders = []; lost = 0; given_up = 0; given_up_16 = 0 }
 
 -- Something was dropped without effect.
 abbrev pub dropped : Cause → LineTold

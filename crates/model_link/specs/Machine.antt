@@ -10,7 +10,7 @@ use Rattle.model_link.specs.declared.timers.LinkTimer.TheVariants.{T200, T203}
 use Rattle.model_link.specs.declared.terms.Terms.{Terms}
 use Rattle.model_link.specs.Link.{Link}
 use Rattle.model_link.specs.Events.{Received, frame, undefined, wrong_size, overlong, Event, received, expired, requested, offer, cleared}
-use Rattle.model_link.specs.Told.{LinkTold, Given, runs, orders_for}
+use Rattle.model_link.specs.Told.{LinkTold, Given, of_call, of_packet, runs, orders_for}
 use Rattle.model_link.specs.Steps.{Sent, Course, begun, Step, ◌then◌, nothing, depending_on}
 use Rattle.model_link.specs.Words.{malformed, release_indication, release_confirm, begin_anew}
 use Rattle.model_link.specs.TeiAssigned.{frame_in_4}
@@ -112,6 +112,8 @@ told_of t before c = record {
   unit = c.unit;
   orders = orders_for t before.running c.started c.link.running;
   lost = c.lost;
+  given_up = of_call t.service c.given_up;
+  given_up_16 = of_packet t.service c.given_up;
   unserved = c.unserved;
 }
 

@@ -20,6 +20,8 @@ pub record Course : Type 0 where
   -- the timer that the event started last, if it was not stopped since
   pub started : Option LinkTimer
   pub lost : ℕ
+  -- contents that layer 3 was granted, and that were given up, sent or not
+  pub given_up : ℕ
   pub unserved : Bool
   -- whether the numbers were set to zero, or the link cleared: the next establishment's numbers begin
   pub zeroed : Bool
@@ -33,6 +35,7 @@ begun l = record {
   sent = None;
   started = None;
   lost = 0;
+  given_up = 0;
   unserved = false;
   zeroed = false;
 }

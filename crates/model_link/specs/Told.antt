@@ -1,6 +1,8 @@
 -- What a link answers.
-use Rattle.std.specs.Prelude.{ℕ, ◌+◌, Bool, false, true, List, [], ◌∷◌, ◌++◌, Option, Some, None, ◌&&◌, not, if◌then◌else◌}
+use Rattle.std.specs.Prelude.{ℕ, zero, suc, ◌+◌, Bool, false, true, List, [], ◌∷◌, ◌++◌, Option, Some, None, ◌&&◌, not, if◌then◌else◌}
 use Rattle.lapd_frame.specs.declared.notes.Note.{Note}
+use Rattle.lapd_frame.specs.declared.services.Service.{Service}
+use Rattle.lapd_frame.specs.declared.services.Service.TheVariants.{Call, Packet}
 use Rattle.lapd_frame.specs.declared.timers.Order.{Order}
 use Rattle.lapd_frame.specs.declared.timers.Order.TheVariants.{Start, Stop}
 use Rattle.lapd_frame.specs.declared.timers.Timer.{Timer}
@@ -19,8 +21,22 @@ pub record LinkTold : Type 0 where
   pub orders : List Order
   -- control frames that found no place to wait
   pub lost : ℕ
+  -- how many contents that were granted are given up, sent or not: of call control, and of the second service
+  pub given_up : ℕ
+  pub given_up_16 : ℕ
   -- the state does not serve the frame
   pub unserved : Bool
+
+-- A number of contents of a link, as one of call control, and as one of the second service.
+abbrev pub of_call : Service → ℕ → ℕ
+of_call service zero = 0
+of_call Call (suc n) = suc n
+of_call Packet (suc n) = 0
+
+abbrev pub of_packet : Service → ℕ → ℕ
+of_packet service zero = 0
+of_packet Call (suc n) = 0
+of_packet Packet (suc n) = suc n
 
 -- What an offer gives: the frame, the contents that go with it if it is an I-frame, and orders for the timers.
 pub record Given : Type 0 where

@@ -16,8 +16,8 @@ use Rattle.model_link.specs.declared.timers.LinkTimer.{LinkTimer}
 use Rattle.model_link.specs.declared.timers.LinkTimer.TheVariants.{T200}
 use Rattle.model_link.specs.declared.frames.ControlFrame.{ControlFrame}
 use Rattle.model_link.specs.declared.terms.Terms.{Terms}
-use Rattle.model_link.specs.Link.{Link, fresh}
-use Rattle.model_link.specs.Steps.{Step, ◌then◌, by_bit, changed}
+use Rattle.model_link.specs.Link.{Link, fresh, queue_of}
+use Rattle.model_link.specs.Steps.{Course, Step, ◌then◌, by_bit, changed}
 
 -- What layer 3 and layer management are told (clause 4.1.1, and appendix II for the errors).
 abbrev pub note : Note → Step
@@ -141,12 +141,15 @@ with_zero l = record l { contents = drop l.s l.contents; a = 0; s = 0; r = 0 }
 abbrev pub zero_numbers : Step
 zero_numbers c = record c { link = with_zero c.link; zeroed = true }
 
--- All contents that are kept are released.
+-- All contents that are kept, sent or not, are given up. How many they are is told (profile).
 abbrev pub without_queue : Link → Link
 without_queue l = record l { contents = take l.a l.contents; s = l.a }
 
+abbrev pub with_given_up : Course → ℕ
+with_given_up c = c.given_up + length (queue_of c.link)
+
 abbrev pub discard : Step
-discard = changed without_queue
+discard c = record c { link = without_queue c.link; given_up = with_given_up c }
 
 -- The contents before number n are acknowledged, and released (clause 5.6.3.2).
 abbrev pub with_acknowledged : ℕ → Link → Link
@@ -169,9 +172,9 @@ with_one_received l = record l { r = l.r + 1 }
 abbrev pub count_received : Step
 count_received = changed with_one_received
 
--- The link is again as one that begins.
+-- The link is again as one that begins: what it kept is given up.
 abbrev pub begin_anew : Step
-begin_anew c = record c { link = fresh; started = None; zeroed = true }
+begin_anew c = record c { link = fresh; started = None; zeroed = true; given_up = with_given_up c }
 
 -- A control frame waits to be sent, as it is now. Where as many wait as may, it is lost (profile).
 abbrev pub has_room : Terms → Link → Bool

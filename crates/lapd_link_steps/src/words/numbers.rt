@@ -10,13 +10,14 @@ use crate::report::{ALL, BareReport};
 use lapd_seq::{Seq, Window, valid};
 
 impl Entity {
-    // Releases all contents that are kept.
+    // Gives up all contents that are kept.
     pub(crate) fn discard(&mut self, told: &mut BareReport)
         ensures tells { Tells 0 0 told.old told.new }
         ensures does { (terms : Terms) (info : List ℕ) → Does terms info word.discard self.old told.old self.new told.new }
     {
         let va = self.window.va();
         self.window.go_back(va);
+        told.given_up_from = told.given_up_from.min(told.released);
         told.released = ALL;
     }
 

@@ -1,5 +1,5 @@
 -- Hand-written answers for `Link::request`.
-use Rattle.lapd_link.proofs.Vocabulary.{event-rises, ◌≡◌, ℕ, [], None, sym, ap, subst, ◌∙◌, nat_le, used_slots, requested, Course, refusal, course, request_of, Reaches, terms_of}
+use Rattle.lapd_link.proofs.Vocabulary.{event-rises, ℕ, [], sym, ap, subst, ◌∙◌, nat_le, used_slots, requested, Course, refusal, course, request_of, Reaches, terms_of}
 use Rattle.lapd_link.proofs.Ending.{stands-after, told-after}
 use Rattle.lapd_link.proofs.Asking.{granted-course}
 use Rattle.lapd_link.proofs.link.Link.request.Goals as goal

@@ -1,0 +1,46 @@
+-- What is given up is told. `Outgoing` defines what a link keeps: what it is granted, and is neither acknowledged nor given up.
+use Rattle.std.specs.Prelude.{◌≡◌, ℕ, ◌||◌, ◌&&◌, not, ◌⊎◌, List, length, Option, Some, None, if◌then◌else◌}
+use Rattle.lapd_frame.specs.declared.services.Service.{Service}
+use Rattle.model_line.specs.declared.config.Config.{Config}
+use Rattle.model_line.specs.Event as line_event
+use Rattle.model_line.specs.Event.{request}
+use Rattle.model_line.specs.Request.{Request, Establish, Release, Data, SetBusy, ClearBusy, Deactivate, Remove}
+use Rattle.model_card.specs.Event.{Event}
+use Rattle.laws_line.specs.Frames.{given_up_in}
+use Rattle.laws_trace.specs.Managing.{is_on}
+use Rattle.laws_trace.specs.Observer.{moment_of, views}
+use Rattle.laws_trace.specs.Outgoing.{loses, outgoing_of}
+
+-- How many a link gives up by an event of its line. It is all that it keeps, if layer 3 learns that it keeps nothing, or if
+-- its TEI leaves the line (Q.921 clauses 5.3.4, 5.5.3.2 and 5.7). Otherwise it is none.
+abbrev pub given_up : Config → Service → ℕ → ℕ → List Event → line_event.Event → ℕ
+given_up c service tei number events what =
+    let o = outgoing_of c service tei number events in
+    let m = moment_of c events number what in
+    let stays = is_on tei (views c service tei number o.view m).teis in
+    if is_on tei o.view.teis && (loses service tei what m.answer || not stays) then length o.kept else 0
+
+-- The TEI of a request of a link, or of one to remove a TEI.
+abbrev pub named_by : Request → Option ℕ
+named_by (Establish of tei) = Some tei
+named_by (Release of tei) = Some tei
+named_by (Data of tei contents) = Some tei
+named_by (SetBusy of tei) = Some tei
+named_by (ClearBusy of tei) = Some tei
+named_by (Deactivate of tei) = Some tei
+named_by (Remove tei) = Some tei
+named_by other = None
+
+-- Of each service an event tells as many as one link gives up, and none only if no link does (profile). All links that give
+-- up contents by one event are of one TEI, whatever their services. If a request names a TEI, they are of this one.
+pub record TellsGivenUp (c : Config) (events : List Event) (number : ℕ) (service : Service) (what : line_event.Event) : Type 0 where
+  pub told : (tei : ℕ) → (given_up c service tei number events what ≡ 0)
+      ⊎ (given_up_in service (moment_of c events number what).answer ≡ given_up c service tei number events what)
+  pub given : (given_up_in service (moment_of c events number what).answer ≡ 0)
+      ⊎ ((tei : ℕ) × (given_up c service tei number events what ≡ given_up_in service (moment_of c events number what).answer))
+  pub whose : (tei : ℕ) (other : Service) (by : ℕ) → (given_up c service tei number events what ≡ 0)
+      ⊎ (given_up c other by number events what ≡ 0) ⊎ (tei ≡ by)
+  pub named : (tei by : ℕ) (r : Request) → what ≡ request r → named_by r ≡ Some by → (given_up c service tei number events what ≡ 0) ⊎ (tei ≡ by)
+
+abbrev pub GivenUpIsTold : Config → List Event → ℕ → Type 0
+GivenUpIsTold c events number = (service : Service) (what : line_event.Event) → TellsGivenUp c events number service what

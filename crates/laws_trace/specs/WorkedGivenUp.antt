@@ -1,0 +1,42 @@
+-- Worked values: what is told as given up.
+use Rattle.std.specs.Prelude.{◌≡◌, List, ◌∷◌, ◌++◌, [], refl}
+use Rattle.lapd_frame.specs.declared.services.Service.TheVariants.{Call, Packet}
+use Rattle.lapd_frame.specs.Reading.{reading, header_of, control_of, unnumbered_of, supervisory_of}
+use Rattle.lapd_frame.specs.Senders.{exchanged, reading as read_by}
+use Rattle.lapd_seq.specs.Circle.{named, distance_of}
+use Rattle.lapd_seq.specs.Numbers.{seq}
+use Rattle.lapd_tei.specs.Events as teis
+use Rattle.model_line.specs.Event.{request}
+use Rattle.model_line.specs.Machine as lines
+use Rattle.model_line.specs.Request.{Data, Release, Remove}
+use Rattle.model_card.specs.Event.{Event}
+use Rattle.model_card.specs.Run.{moments, after_all}
+use Rattle.laws_line.specs.card.Worked.{usual, on_0, up}
+use Rattle.laws_line.specs.Frames.{given_up_in}
+use Rattle.laws_trace.specs.GivenUpIsTold.{given_up}
+use Rattle.laws_trace.specs.Observer.{moment_of}
+use Rattle.laws_trace.specs.WorkedUnits.{calls, frame_comes}
+
+-- Two data, of which one goes: a release gives both up, and so does removing the TEI; behind RR 1 it is the other alone.
+abbrev two : List Event
+two = up ++ on_0 (Data Call 64 (7 ∷ [])) ∷ on_0 (Data Call 64 (8 ∷ [])) ∷ calls 2
+
+by_release : given_up usual Call 64 0 two (request (Release Call 64)) ≡ 2
+unfolding moments after_all lines.after lines.answer lines.takes_slot teis.course teis.refusal seq distance_of named exchanged read_by reading header_of control_of unnumbered_of supervisory_of
+by_release = refl
+
+release_tells : given_up_in Call (moment_of usual two 0 (request (Release Call 64))).answer ≡ 2
+unfolding moments after_all lines.after lines.answer lines.takes_slot teis.course teis.refusal seq distance_of named exchanged read_by reading header_of control_of unnumbered_of supervisory_of
+release_tells = refl
+
+removal_tells : given_up_in Call (moment_of usual two 0 (request (Remove 64))).answer ≡ 2
+unfolding moments after_all lines.after lines.answer lines.takes_slot teis.course teis.refusal seq distance_of named exchanged read_by reading header_of control_of unnumbered_of supervisory_of
+removal_tells = refl
+
+of_packet_none : given_up_in Packet (moment_of usual two 0 (request (Remove 64))).answer ≡ 0
+unfolding moments after_all lines.after lines.answer lines.takes_slot teis.course teis.refusal seq distance_of named exchanged read_by reading header_of control_of unnumbered_of supervisory_of
+of_packet_none = refl
+
+behind_rr : given_up_in Call (moment_of usual (two ++ frame_comes (0x02 ∷ 0x81 ∷ 0x01 ∷ 0x02 ∷ []) ∷ []) 0 (request (Release Call 64))).answer ≡ 1
+unfolding moments after_all lines.after lines.answer lines.takes_slot teis.course teis.refusal seq distance_of named exchanged read_by reading header_of control_of unnumbered_of supervisory_of
+behind_rr = refl

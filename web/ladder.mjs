@@ -37,9 +37,9 @@ function arrowOf(row) {
   return it;
 }
 
-/** Words beside the card: what was lost or dropped, and why, stands out. */
+/** Words beside the card: what was lost, given up or dropped, and why, stands out. */
 function besideOf(words) {
-  return element("span", /^(lost|dropped)/.test(words) ? "beside ink-red" : "beside", words);
+  return element("span", /^(lost|given-up|dropped)/.test(words) ? "beside ink-red" : "beside", words);
 }
 
 /** What a row shows between the other side and the card, and between the card and layer 3. */

@@ -68,6 +68,9 @@ function ofAnswer(step, said, sapi) {
   const [word, ...words] = said.split(" ");
   if (["tx", "frame", "nothing"].includes(word)) return [];
   if (["dropped", "lost", "counter"].includes(word)) return row(BESIDE, said);
+  if (["given-up", "given-up-16"].includes(word)) {
+    return row(BESIDE, said).map((it) => ({ ...it, head: [it.head, it.meaning].filter(Boolean).join(" "), meaning: "" }));
+  }
   if (["data", "unit"].includes(word.split("-")[0])) return row(UP, `${word} ${words[0]}`, { info: words[1] });
   return row(UP, said);
 }

@@ -62,7 +62,7 @@ class Picture:
             draw.text(TIME, self.y - 1, str(row.at), "soft", 12, anchor="end", mono=True)
             self.shown = row.at
         if row.kind == BESIDE:
-            draw.text(CARD + 10, self.y, row.head, "red" if row.head.startswith("lost") else "soft", 12, mono=True)
+            draw.text(CARD + 10, self.y, row.head, "red" if row.head.startswith(("lost", "given-up")) else "soft", 12, mono=True)
         else:
             self.arrow(row)
 

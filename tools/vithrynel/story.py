@@ -73,6 +73,9 @@ def of_answer(at: int, said: str, sapi: str) -> Optional[Row]:
         return None
     if word in ("dropped", "lost", "counter"):
         return Row(at, BESIDE, said)
+    if word in ("given-up", "given-up-16"):
+        row = with_sapi(Row(at, BESIDE, said), "-16", sapi)
+        return row._replace(head=" ".join(filter(None, (row.head, row.meaning))), meaning="")
     words = rest.split(" ")
     if word.partition("-")[0] in ("data", "unit"):
         return with_sapi(Row(at, UP, f"{word} {words[0]}", words[1]), "-16", sapi)

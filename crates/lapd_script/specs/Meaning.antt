@@ -8,7 +8,7 @@ use Rattle.lapd_script.specs.declared.command.Durations.{Durations}
 use Rattle.model_line.specs.declared.faults.Fault.{Fault}
 use Rattle.model_line.specs.declared.config.Config.{Config}
 use Rattle.lapd_script.specs.declared.command.Command.{Command}
-use Rattle.lapd_script.specs.declared.command.Command.TheVariants.{Skip, Card, Rx, In, Failed, Next, Down, AskTei, Pull, Wait, Timers, Stored, Counters, Ask}
+use Rattle.lapd_script.specs.declared.command.Command.TheVariants.{Skip, Card, Rx, In, Failed, Next, Down, AskTei, Pull, Wait, Timers, Stored, Losses, Counters, Ask}
 
 pub data Meaning : Type 0 where
   -- nothing: the line is skipped
@@ -35,6 +35,8 @@ pub data Meaning : Type 0 where
   timers : Durations → Meaning
   -- what the card holds is shown
   stored : Meaning
+  -- from now on it is shown how many contents are given up
+  losses : Meaning
   -- what was counted of the line is shown, of these counters
   counters : ℕ → CounterGroup → Meaning
   -- for a line and a TEI this is asked, with the octets that it carries
@@ -54,6 +56,7 @@ meant buffer (Pull line count) = pull line count
 meant buffer (Wait milliseconds) = wait milliseconds
 meant buffer (Timers durations) = timers durations
 meant buffer Stored = stored
+meant buffer Losses = losses
 meant buffer (Counters line group) = counters line group
 meant buffer (Ask line tei what count) = ask line tei what (take count buffer)
 

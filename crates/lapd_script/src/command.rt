@@ -90,6 +90,8 @@ pub enum Command {
     Timers(Durations),
     /// `stored`: shows what the card holds.
     Stored,
+    /// `losses`: from now on it is shown how many contents are given up.
+    Losses,
     /// `counters LINE`, `messages LINE`: shows what was counted of the line.
     Counters {
         line: u16,

@@ -78,6 +78,10 @@ fn read_as(word: Word, words: &[&[u8]], room: &mut [u8]) -> Result<Command, Faul
             none(words)?;
             Ok(Command::Stored)
         }
+        Word::Losses => {
+            none(words)?;
+            Ok(Command::Losses)
+        }
         Word::Counters(group) => {
             let line = short(one(words)?)?;
             Ok(Command::Counters { line, group })

@@ -22,6 +22,7 @@ pub(crate) enum Word {
     Wait,
     Timers,
     Stored,
+    Losses,
     Counters(CounterGroup),
     Ask(Asked),
 }
@@ -44,6 +45,7 @@ impl Word {
             _ if name == b"wait".as_slice() => Some(Word::Wait),
             _ if name == b"timers".as_slice() => Some(Word::Timers),
             _ if name == b"stored".as_slice() => Some(Word::Stored),
+            _ if name == b"losses".as_slice() => Some(Word::Losses),
             _ if name == b"counters".as_slice() => Some(Word::Counters(CounterGroup::Line)),
             _ if name == b"messages".as_slice() => Some(Word::Counters(CounterGroup::Messages)),
             _ => Asked::named(name).map(Word::Ask),

@@ -277,13 +277,14 @@ pub record Else (s : rust.Setup) (m : Setup) : Type 0 where
   pub counters : counters_of s.timed.card ≡ m.counters
   pub terminals : Each Sends s.terminals.items m.terminals
   pub listeners : Each Hears s.listeners.items m.taken
+  pub losses : m.losses ≡ s.losses
 
 pub else_of : (s : rust.Setup) (m : Setup) → SetupStands s m → Else s m
-else_of s m h = record { config = h.config; board = h.board; counters = h.counters; terminals = h.terminals; listeners = h.listeners }
+else_of s m h = record { config = h.config; board = h.board; counters = h.counters; terminals = h.terminals; listeners = h.listeners; losses = h.losses }
 
 -- All but the card, its counters and its timers stays.
 module _ (event : Event) (old new : rust.Setup) (leads : Leads event old.timed.card new.timed.card) (config : new.config ≡ old.config)
-    (terminals : new.terminals ≡ old.terminals) (listeners : new.listeners ≡ old.listeners) (m : Setup) (stands : Else old m) where
+    (terminals : new.terminals ≡ old.terminals) (listeners : new.listeners ≡ old.listeners) (losses : new.losses ≡ old.losses) (m : Setup) (stands : Else old m) where
   pub goes_on : TimersStand new.timed.timers (after event m.board).card.card (obeyed event.line (orders_in (reply event m.board)) m.clock) → SetupStands new (happened m event)
   goes_on timers = record {
     config = stands.config ∙ sym config;
@@ -292,22 +293,24 @@ module _ (event : Event) (old new : rust.Setup) (leads : Leads event old.timed.c
     timers = timers;
     terminals = subst (λ ts. Each Sends ts.items m.terminals) (sym terminals) stands.terminals;
     listeners = subst (λ ls. Each Hears ls.items m.taken) (sym listeners) stands.listeners;
+    losses = stands.losses ∙ sym losses;
   }
 
   -- and it has been told
   pub told_on : {E : Type 0} (result : Result Unit E) (a b : Output) (r : Reply) → r ≡ reply event m.board
       → TimersStand new.timed.timers (after event m.board).card.card (obeyed event.line (orders_in (reply event m.board)) m.clock)
-      → Puts result a b (reply_text event.line r) → Tells result a b (SetupStands new) (with_event (scene m) event)
-  told_on (Ok x) a b r is timers put = (subst (λ z. IsPut a b (reply_text event.line z)) is put, goes_on timers)
-  told_on (Err x) a b r is timers put = subst (λ z. IsStuck a b (reply_text event.line z)) is put
+      → Puts result a b (reply_text old.losses event r) → Tells result a b (SetupStands new) (with_event (scene m) event)
+  told_on (Ok x) a b r is timers put = (subst (λ z. IsPut a b (reply_text m.losses event z)) is (subst (λ b'. IsPut a b (reply_text b' event r)) (sym stands.losses) put), goes_on timers)
+  told_on (Err x) a b r is timers put = subst (λ z. IsStuck a b (reply_text m.losses event z)) is (subst (λ b'. IsStuck a b (reply_text b' event r)) (sym stands.losses) put)
 
 -- where nothing of it changes, it stands as it did
-pub as_before : (s new : rust.Setup) → new.config ≡ s.config → new.timed ≡ s.timed → new.terminals ≡ s.terminals → new.listeners ≡ s.listeners → (m : Setup) → SetupStands s m → SetupStands new m
-as_before s new config timed terminals listeners m h = record {
+pub as_before : (s new : rust.Setup) → new.config ≡ s.config → new.timed ≡ s.timed → new.terminals ≡ s.terminals → new.listeners ≡ s.listeners → new.losses ≡ s.losses → (m : Setup) → SetupStands s m → SetupStands new m
+as_before s new config timed terminals listeners losses m h = record {
   config = h.config ∙ sym config;
   board = subst (λ (t : TimedCard). OnBoard t.card m.board) (sym timed) h.board;
   counters = subst (λ (t : TimedCard). counters_of t.card ≡ m.counters) (sym timed) h.counters;
   timers = subst (λ (t : TimedCard). TimersStand t.timers m.board.card.card m.clock) (sym timed) h.timers;
   terminals = subst (λ ts. Each Sends ts.items m.terminals) (sym terminals) h.terminals;
   listeners = subst (λ ls. Each Hears ls.items m.taken) (sym listeners) h.listeners;
+  losses = h.losses ∙ sym losses;
 }

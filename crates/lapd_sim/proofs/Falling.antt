@@ -69,7 +69,7 @@ module _ (s then new : rust.Setup) (end moment line : ℕ) (timer : Timer) (repo
     (h : SetupStands then (record m { clock = at_moment (max m.clock.now moment) m.clock })) (due_is : Some (line, timer) ≡ option_map named_by (due (at_moment (max m.clock.now moment) m.clock)))
     (says : (n : Machine) → AnyStands then.timed.card n → line_event.told (told_beside None report) ≡ kinds.answer (frame_event.at line (line_event.expiry timer)) n)
     (leads : AnyLeads (frame_event.at line (line_event.expiry timer)) then.timed.card new.timed.card) (steps : Steps falls_due falls_due then.timed new.timed)
-    (config : new.config ≡ then.config) (terminals : new.terminals ≡ then.terminals) (listeners : new.listeners ≡ then.listeners) where
+    (config : new.config ≡ then.config) (terminals : new.terminals ≡ then.terminals) (listeners : new.listeners ≡ then.listeners) (losses : new.losses ≡ then.losses) where
   x : (x : Expiry) × IsFirstDue end moment m.clock x
   x = first_due end moment m.clock is soon
 
@@ -89,9 +89,9 @@ module _ (s then new : rust.Setup) (end moment line : ℕ) (timer : Timer) (repo
     says = says_on (expiry_of_both timer) line then.timed.card m.board h.board (line_event.told (told_beside None report)) refl says;
     stands =
         subst (λ (n : Setup). SetupStands new (happened n (at line (expiry timer)))) (sym expired_is)
-        (goes_on (at line (expiry timer)) then new (lead_on (expiry_of_both timer) line then.timed.card new.timed.card leads) config terminals listeners
+        (goes_on (at line (expiry timer)) then new (lead_on (expiry_of_both timer) line then.timed.card new.timed.card leads) config terminals listeners losses
         (record m { clock = without_first at_it.clock })
-        (record { config = h.config; board = h.board; counters = h.counters; terminals = h.terminals; listeners = h.listeners })
+        (record { config = h.config; board = h.board; counters = h.counters; terminals = h.terminals; listeners = h.listeners; losses = h.losses })
         (timed_due then.timed new.timed steps m.board h.board at_it.clock h.timers (record x.0 { line = line; timer = timer })
         (x.1.due_then ∙ ap (λ (p : ℕ × Timer). Some (record x.0 { line = p.0; timer = p.1 })) named)));
   }

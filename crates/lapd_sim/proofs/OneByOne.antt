@@ -8,14 +8,14 @@ use Rattle.std.proofs.lemmas.List.Sums.{fold-append}
 bench_onto : (events : List Event) (m : Setup) (x y : List ℕ) → (with_events events (record { setup = m; text = x })).setup ≡ (with_events events (record { setup = m; text = y })).setup
 bench_onto [] m x y = refl
 bench_onto (e ∷ events) m x y =
-    let said = reply_text e.line (reply e m.board) in
+    let said = reply_text m.losses e (reply e m.board) in
     bench_onto events (happened m e) (x ++ said) (y ++ said)
 
 -- and what is said follows it
 text_onto : (events : List Event) (m : Setup) (x : List ℕ) → (with_events events (record { setup = m; text = x })).text ≡ x ++ (with_events events (scene m)).text
 text_onto [] m x = sym (append-nil x)
 text_onto (e ∷ events) m x =
-    let said = reply_text e.line (reply e m.board) in
+    let said = reply_text m.losses e (reply e m.board) in
     text_onto events (happened m e) (x ++ said)
     ∙ append_assoc x said (with_events events (scene (happened m e))).text
     ∙ ap (λ l. x ++ l) (sym (text_onto events (happened m e) said))

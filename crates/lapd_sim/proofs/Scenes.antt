@@ -3,7 +3,7 @@ use Rattle.lapd_sim.proofs.Vocabulary.{◌≡◌, ℕ, ◌<◌, ◌≤◌, nat_l
 use Rattle.lapd_script.specs.Meaning as meaning
 use Rattle.model_card.specs.declared.kinds.CardKind.TheVariants.{Octets, Frames}
 use Rattle.lapd_sim.specs.declared.setup.Setup as rust
-use Rattle.lapd_sim.proofs.Vocabulary.{Has, IsErr, None, Option, Some, none-some}
+use Rattle.lapd_sim.proofs.Vocabulary.{Bool, Has, IsErr, IsPut, None, Option, Some, none-some, nothing, puts_nothing, told_text}
 use Rattle.std.proofs.Common.{arith, false, nat_le}
 use Rattle.std.proofs.lemmas.Bool.Decides.{nat_tests}
 use Rattle.std.proofs.lemmas.Option.{same_Some}
@@ -79,3 +79,8 @@ pub has_some : (b : Option rust.Setup) (s : rust.Setup) → b ≡ Some s → (m 
 has_some None s is h = absurd (none-some s is)
 has_some (Some b) s is (None, h) = absurd h
 has_some (Some b) s is (Some m, h) = (m, subst (λ (x : rust.Setup). SetupStands x m) (same_Some b s is) h)
+
+-- where nothing happened nothing is said, whatever is shown
+pub nothing_told : (losses : Bool) (line : ℕ) (a : Output) → IsPut a a (told_text losses line None nothing)
+nothing_told true line a = puts_nothing a
+nothing_told false line a = puts_nothing a

@@ -54,7 +54,7 @@ unfoldable pub use Rattle.lapd_sim.specs.machine.Board.{reply}
 pub use Rattle.lapd_sim.specs.machine.Script.{Fault, Played, after_bench, after_meaning, after_piece, after_reading, after_scene, counted, faulty, first_fault, is_too_long, not_begun, one_more, played, transcript, unless_faulty}
 pub use Rattle.lapd_sim.specs.machine.Setup.{Setup, happened, taken_at, terminal_at, with_terminal}
 pub use Rattle.lapd_sim.specs.machine.Steps.{Pulls, Scene, after_coming, after_counters, after_down, after_failed, after_next, after_pull, after_rx, after_wait, at_expiry, at_line, can_come, deactivations, downs, due_by, expired, for_frames, for_octets, is_on_line, last_moment, octet_in, octets_at, one_pull, pulls, reply_text, teis_on, time_until, until, with_card, with_event, with_events}
-pub use Rattle.lapd_sim.specs.machine.Steps.{without_card}
+pub use Rattle.lapd_sim.specs.machine.Steps.{after_losses, shown_losses, told_text, without_card}
 pub use Rattle.lapd_card.specs.{told_if_at}
 pub use Rattle.lapd_card.specs.Counted.{counters_in}
 pub use Rattle.lapd_card.specs.FrameCard.{Held}

@@ -1,5 +1,6 @@
 -- What has been written, and what a setup stands for, while it waits.
-use Rattle.lapd_sim.proofs.Vocabulary.{◌≡◌, ℕ, ◌+◌, ◌-◌, ◌<◌, ◌≤◌, arith, none-some, orders_in, List, [], ◌∷◌, ◌++◌, Option, Some, None, Ok, Err, refl, sym, ap, ◌∙◌, subst, at, expiry, reply, told, told_beside, AreInRange, Timer, Expiry, due_by, time_until, Setup, Scene, reply_text, at_expiry, happened, expired, until, scene, Tells, SetupStands, HasExpired, puts_nothing, puts_then, stuck_more}
+use Rattle.lapd_sim.proofs.Vocabulary.{◌≡◌, ℕ, ◌+◌, ◌-◌, ◌<◌, ◌≤◌, arith, none-some, orders_in, List, [], ◌∷◌, ◌++◌, Option, Some, None, Ok, Err, refl, sym, ap, ◌∙◌, subst, at, expiry, reply, told_beside, told_text, AreInRange, Timer, Expiry, due_by, time_until, Setup, Scene, reply_text, at_expiry, happened, expired, until, scene, Tells, SetupStands, HasExpired, puts_nothing, puts_then}
+use Rattle.lapd_sim.proofs.Vocabulary.{stuck_more}
 use Rattle.lapd_sim.proofs.Vocabulary.{Output, IsPut}
 use Rattle.lapd_sim.proofs.Vocabulary.{IsStuck, Puts, WriteFailed, expiry_lowers, until-expired, until-over, text_grows}
 use Rattle.std.specs.List.{sum_by}
@@ -36,26 +37,32 @@ in_range s m h = subst AreInRange (sym h.timers.clock_is.lengths) (sound s.timed
 
 module _ (s new : rust.Setup) (before after last : Output) (end line : ℕ) (report : BareReport) (m : Setup) (w : Waits s before after end m) (x : HasExpired end line report new w.by_now.setup) where
   abbrev said_then : List ℕ
-  said_then = reply_text line (reply (at line (expiry x.timer)) w.by_now.setup.board)
+  said_then = reply_text w.by_now.setup.losses (at line (expiry x.timer)) (reply (at line (expiry x.timer)) w.by_now.setup.board)
+
+  -- so it is said where it is shown as the setup has it
+  as_said : (P : List ℕ → Type 0) → P (told_text new.losses line None (told_beside None report)) → P said_then
+  as_said P put =
+      subst (λ r. P (reply_text w.by_now.setup.losses (at line (expiry x.timer)) r)) x.says
+      (subst (λ b. P (told_text b line None (told_beside None report))) (sym x.stands.losses) put)
 
   range : AreInRange w.by_now.setup.clock.lengths
   range = in_range s w.by_now.setup w.stands
 
-  pub waits_on : (u : Unit {0}) → Puts {E = WriteFailed} (Ok u) after last (reply_text line (told (told_beside None report))) → Waits new before last end m
+  pub waits_on : (u : Unit {0}) → Puts {E = WriteFailed} (Ok u) after last (told_text new.losses line None (told_beside None report)) → Waits new before last end m
   waits_on u put = record {
     by_now = expired line x.timer w.by_now;
-    written = puts_then (Ok u) before after last w.by_now.text said_then w.written (subst (λ r. IsPut after last (reply_text line r)) x.says put);
+    written = puts_then (Ok u) before after last w.by_now.text said_then w.written (as_said (IsPut after last) put);
     stands = x.stands;
     same = w.same ∙ until-expired end w.by_now (line, x.timer) range x.due;
   }
 
-  pub waits_in_vain : (why : WriteFailed) → Puts {A = Unit {0}} (Err why) after last (reply_text line (told (told_beside None report))) → IsStuck before last (until end (scene m)).text
+  pub waits_in_vain : (why : WriteFailed) → Puts {A = Unit {0}} (Err why) after last (told_text new.losses line None (told_beside None report)) → IsStuck before last (until end (scene m)).text
   waits_in_vain why stuck =
       let next = expired line x.timer w.by_now in
       let later = text_grows (time_until end next.setup.clock) end next (due_by end next.setup.clock) refl in
       let whole : (until end (scene m)).text ≡ next.text ++ later.0 = ap (λ (x : Scene). x.text) (w.same ∙ until-expired end w.by_now (line, x.timer) range x.due) ∙ later.1 in
       subst (IsStuck before last) (sym whole)
-      (stuck_more before last next.text later.0 (puts_then (Err why) before after last w.by_now.text said_then w.written (subst (λ r. IsStuck after last (reply_text line r)) x.says stuck)))
+      (stuck_more before last next.text later.0 (puts_then (Err why) before after last w.by_now.text said_then w.written (as_said (IsStuck after last) stuck)))
 
 -- at the end, the moment is the end
 pub waits_over : (s new : rust.Setup) (before after : Output) (end : ℕ) (m : Setup) (w : Waits s before after end m) → due_by end w.by_now.setup.clock ≡ None

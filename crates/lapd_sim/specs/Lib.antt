@@ -43,6 +43,6 @@ pub use Rattle.lapd_sim.specs.machine.Board.{at, expiry, hears, next, pull, repl
 pub use Rattle.lapd_sim.specs.machine.Events.{RunsOnBoards, ScriptsAreRuns}
 pub use Rattle.lapd_sim.specs.machine.Heard.{FramesAreHeard}
 pub use Rattle.lapd_sim.specs.machine.Replies.{TranscriptsAreReplies}
-pub use Rattle.lapd_sim.specs.machine.Steps.{after_counters, after_rx, after_stored, deactivations, downs, due_by, in_time, is_on_line, lengths_of, octet_in, pulls, reply_text, request_for, teis_on, until, with_card, with_event, with_events, with_timers, without_card}
+pub use Rattle.lapd_sim.specs.machine.Steps.{after_counters, after_rx, after_stored, deactivations, downs, due_by, in_time, is_on_line, lengths_of, octet_in, pulls, request_for, shown_losses, tei_asked, teis_on, told_text, until, with_card, with_event, with_events, with_timers, without_card}
 pub use Rattle.lapd_sim.specs.machine.Waits.{WaitsLeaveNothingDue}
 pub use Rattle.lapd_sim.specs.machine.Within.{ScriptsStayWithin}

@@ -22,6 +22,7 @@ pub record SetupStands (b : Setup) (m : machine.Setup) : Type 0 where
   pub timers : TimersStand b.timed.timers m.board.card.card m.clock
   pub terminals : Each Sends b.terminals.items m.terminals
   pub listeners : Each Hears b.listeners.items m.taken
+  pub losses : m.losses ≡ b.losses
 
 -- Before the card line there is no setup.
 abbrev pub Has : Option Setup → Option machine.Setup → Type 0

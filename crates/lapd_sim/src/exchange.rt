@@ -1,19 +1,18 @@
 //! What happens at the card that a script is played on: octets that come and go, requests, and timers that expire.
 
-ghost use Rattle.std.specs.Prelude.{◌≡◌, ◌<◌, ◌≤◌, ◌^◌, [], ℕ, length, take, None, option_copied, IfSome, IfNone};
-ghost use Rattle.lapd_sim.specs.{kind_of, on, told_beside, written, IsClear, Puts};
+ghost use Rattle.std.specs.Prelude.{◌≡◌, ◌<◌, ◌≤◌, ◌^◌, List, Option, [], ℕ, length, take, None, option_copied, IfSome, IfNone};
+ghost use Rattle.lapd_sim.specs.{kind_of, on, shown_losses, told_beside, told_text, written, IsClear, Puts};
 ghost use Rattle.model_card.specs.declared.kinds.CardKind.TheVariants.{Octets};
 ghost use Rattle.lapd_script.specs.Meaning as meaning;
 ghost use Rattle.lapd_sim.specs.machine.Board as event;
-ghost use Rattle.lapd_sim.specs.machine.Board.{told};
 ghost use Rattle.lapd_sim.specs.machine.Setup as machine;
-ghost use Rattle.lapd_sim.specs.machine.Steps.{reply_text};
 
+use crate::parts::tei_asked;
 use crate::setup::{Obeyed, Setup};
 use lapd_card::{AnyCard, BareReport, Request};
 use lapd_frame::{GROUP, Service};
 use lapd_script::{FaultKind, LineFault};
-use lapd_transcript::{Page, Put, Target};
+use lapd_transcript::{Page, Put, Target, tei_noted};
 
 /// The last moment of the clock, in milliseconds.
 const LAST_MOMENT: u64 = (1 << 63) - 1;
@@ -48,7 +47,14 @@ impl Setup {
         let AnyCard::Octets(card) = self.timed.card() else {
             unreachable!();
         };
-        tell(line, &report, card.contents(line, &report), page)
+        tell(
+            line,
+            self.losses,
+            None,
+            &report,
+            card.contents(line, &report),
+            page,
+        )
     }
 
     /// A line of a card of octets takes as many octets as there is room for.
@@ -91,9 +97,10 @@ impl Setup {
         ensures told { SetupSays result self.old self.new (on T.taken page.old) (on T.taken page.new)
             (λ s. with_event s (at line (event.request (request_of request.entry)))) }
     {
+        let tei = tei_asked(&request);
         let mut report = BareReport::nothing();
         match self.timed.request(line, request, &mut report) {
-            Ok(()) => tell(line, &report, None, page),
+            Ok(()) => tell(line, self.losses, tei, &report, None, page),
             Err(refusal) => page.put_refused(line as u16, refusal),
         }
     }
@@ -149,7 +156,7 @@ impl Setup {
     {
         let mut report = BareReport::nothing();
         while let Some(line) = self.fall_due(end, &mut report) {
-            tell(line, &report, None, page)?;
+            tell(line, self.losses, None, &report, None, page)?;
             report = BareReport::nothing();
         }
         self.go_to(end);
@@ -189,15 +196,18 @@ impl Setup {
     }
 }
 
-/// Writes what a report on a line tells.
+/// Writes what a report on a line tells, and if losses are shown, what is given up of a TEI: of the one that a request names, or
+/// of the first note's.
 pub(crate) fn tell<T: Target>(
     line: usize,
+    losses: bool,
+    tei: Option<u8>,
     report: &BareReport,
     contents: Option<&[u8]>,
     page: &mut Page<T>,
 ) -> Put
     requires number { line < 2 ^ 16 }
-    ensures { Puts result (on T.taken page.old) (on T.taken page.new) (reply_text line (told (told_beside (option_copied contents.entry) report.now))) }
+    ensures { Puts result (on T.taken page.old) (on T.taken page.new) (told_text losses line tei (told_beside (option_copied contents.entry) report.now)) }
 {
     page.put_report(
         line as u16,
@@ -205,7 +215,24 @@ pub(crate) fn tell<T: Target>(
         contents,
         report.cause(),
         report.lost,
-    )
+    )?;
+    tell_losses(line as u16, losses, tei, report, page)
+}
+
+fn tell_losses<T: Target>(
+    line: u16,
+    losses: bool,
+    tei: Option<u8>,
+    report: &BareReport,
+    page: &mut Page<T>,
+) -> Put
+    ensures { (contents : Option (List ℕ)) → Puts result (on T.taken page.old) (on T.taken page.new) (shown_losses losses line tei (told_beside contents report.now)) }
+{
+    if !losses {
+        return Ok(());
+    }
+    let tei = tei.unwrap_or(tei_noted(report.notes()));
+    page.put_losses(line, tei, report.given_up, report.given_up_16)
 }
 
 /// What a line comes to at which only a write can fail.

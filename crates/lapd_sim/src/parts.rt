@@ -3,7 +3,7 @@
 ghost use Rattle.std.specs.Prelude.{◌≡◌, [], vec_len, replicate, None, Some, IfOk, IfErr};
 ghost use Rattle.lapd_clock.specs.Given as given;
 ghost use Rattle.lapd_clock.specs.Timer.{first_out_of_range};
-ghost use Rattle.lapd_sim.specs.{config_of, counters_of, kind_of, lengths_of, request_for, Begins, Each, Hears, OnBoard, Sends};
+ghost use Rattle.lapd_sim.specs.{config_of, counters_of, kind_of, lengths_of, request_for, tei_asked, Begins, Each, Hears, OnBoard, Sends};
 ghost use Rattle.model_line.specs.Request as asking;
 
 use lapd_bits::Deframer;
@@ -84,6 +84,27 @@ pub(crate) fn lengths_of(durations: Durations) -> Result<Lengths, LengthFault>
     ensures fault { IfErr result (λ fault. first_out_of_range (lengths_of durations) ≡ Some fault) }
 {
     Lengths::new(durations.t200, durations.t203, durations.t201)?.with_t202(durations.t202)
+}
+
+/// The TEI that a request names.
+pub(crate) fn tei_asked(request: &Request<'_>) -> Option<u8>
+    ensures { result ≡ tei_asked (asking.request_of request.now) }
+{
+    match request {
+        Request::Establish(_, tei)
+        | Request::Release(_, tei)
+        | Request::Data(_, tei, _)
+        | Request::Unit(_, tei, _)
+        | Request::Assign(tei)
+        | Request::Remove(tei)
+        | Request::Check(tei)
+        | Request::Disown(tei)
+        | Request::VerifyTei(tei)
+        | Request::SetBusy(_, tei)
+        | Request::ClearBusy(_, tei)
+        | Request::Deactivate(_, tei) => Some(*tei),
+        Request::AskTei | Request::Down => None,
+    }
 }
 
 /// What a word of a script asks of the card.

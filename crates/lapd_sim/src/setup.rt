@@ -28,6 +28,8 @@ pub(crate) struct Setup {
     pub(crate) timed: TimedCard,
     terminals: Vec<Terminal>,
     listeners: Vec<Deframer>,
+    /// Whether it is shown how many contents are given up.
+    pub(crate) losses: bool,
     ghost in_range: { IsInRange config },
     ghost same_config: { config_of timed.card ≡ config },
     ghost each_sends: { vec_len terminals ≡ config.lines },
@@ -57,6 +59,7 @@ impl Setup {
             timed: TimedCard::new(board, timers),
             terminals,
             listeners,
+            losses: false,
         })
     }
 
@@ -87,6 +90,7 @@ impl Setup {
             Command::Stored => {
                 written(page.put_stored(self.timed.card().stored(), limit(&self.config)))
             }
+            Command::Losses => self.show_losses(),
             Command::Counters { line, group } => self.show_counters(line, group, page),
             Command::Ask {
                 line,
@@ -151,7 +155,7 @@ impl Setup {
                 let mut report = BareReport::nothing();
                 self.timed.frame(line, frame, &mut report);
                 let contents = self.timed.card().frames().contents(line, frame, &report);
-                written(tell(line, &report, contents, page))
+                written(tell(line, self.losses, None, &report, contents, page))
             }
             AnyCard::Octets(_) => {
                 if frame.len() < SHORTEST_FRAME || frame.len() > LONGEST_FRAME {
@@ -171,7 +175,7 @@ impl Setup {
         let line = self.line(line)?;
         let mut report = BareReport::nothing();
         self.timed.failed(line, fault, &mut report);
-        written(tell(line, &report, None, page))
+        written(tell(line, self.losses, None, &report, None, page))
     }
 
     /// A line takes the next frame, which is put into the beginning of `room`: there is room for each frame that a card has.
@@ -225,6 +229,14 @@ impl Setup {
             return Err(LineFault::Faulty(FaultKind::BadNumber));
         };
         self.timed.set_lengths(lengths);
+        Ok(())
+    }
+
+    /// From now on it is shown how many contents are given up.
+    fn show_losses(&mut self) -> Obeyed
+        ensures { (before : Output) → Answers result self.old self.new before before meaning.losses }
+    {
+        self.losses = true;
         Ok(())
     }
 

@@ -65,6 +65,35 @@ dropped_text line (Some cause) = line_text line (codes "dropped " ++ cause_name 
 abbrev pub lost_text : ℕ → ℕ → List ℕ
 lost_text line lost = if lost == 0 then [] else line_text line (codes "lost " ++ decimal lost)
 
+-- How many contents that were granted on a link were given up, where any were; and of both links of a TEI.
+abbrev pub given_up_text : ℕ → Service → ℕ → ℕ → List ℕ
+given_up_text line service tei count = if count == 0 then [] else line_text line (link_words (codes "given-up") service tei ++ codes " " ++ decimal count)
+
+abbrev pub losses_text : ℕ → ℕ → ℕ → ℕ → List ℕ
+losses_text line tei call packet = given_up_text line Call tei call ++ given_up_text line Packet tei packet
+
+-- The TEI that a note names, or 127.
+abbrev pub tei_of : Note → ℕ
+tei_of (EstablishIndication service tei) = tei
+tei_of (EstablishConfirm service tei) = tei
+tei_of (ReleaseIndication service tei) = tei
+tei_of (ReleaseConfirm service tei) = tei
+tei_of (Data service tei) = tei
+tei_of (Unit service tei) = tei
+tei_of (Error service tei code) = tei
+tei_of (Assigned tei) = tei
+tei_of (Removed tei) = tei
+tei_of (Doubled tei) = tei
+tei_of Denied = 127
+tei_of Unassigned = 127
+tei_of RemoveAll = 127
+tei_of (Xid service tei) = tei
+
+-- That of the first note.
+abbrev pub tei_noted : List Note → ℕ
+tei_noted [] = 127
+tei_noted (note ∷ notes) = tei_of note
+
 -- What an event brought, in this order.
 abbrev pub report_text : ℕ → List Note → Option (List ℕ) → Option Cause → ℕ → List ℕ
 report_text line notes contents cause lost =

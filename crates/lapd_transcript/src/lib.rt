@@ -29,6 +29,7 @@ mod write_to;
 
 pub use counters::CounterGroup;
 pub use lines::write_faulty;
+pub use notes::tei_noted;
 pub use output::Page;
 pub use read_from::ReadFrom;
 pub use shown::{write_bound, write_line_octets, write_shown};

@@ -1,7 +1,7 @@
 //! Puts what an event brought onto a page.
 
 ghost use Rattle.std.specs.Prelude.{◌++◌, [], ◌∷◌, codes, flat_map, option_copied, ◌≡◌};
-ghost use Rattle.lapd_transcript.specs.{cause_name, letter_of, suffix, Puts, on, octets_text, line_text, link_words, tei_words, note_text, report_text, dropped_text, lost_text};
+ghost use Rattle.lapd_transcript.specs.{cause_name, letter_of, suffix, Puts, on, octets_text, line_text, link_words, tei_words, note_text, report_text, dropped_text, given_up_text, losses_text, lost_text, tei_noted, tei_of};
 
 use crate::output::Page;
 use crate::streams::{Put, Target};
@@ -54,6 +54,37 @@ impl<T: Target> Page<'_, T> {
         }
         let lost = decimal(u64::from(lost));
         self.put_line(line, &[b"lost ".as_slice(), lost.as_slice()])
+    }
+
+    /// How many contents that were granted on the links of a TEI were given up: on that of call control, and on that of the
+    /// second service.
+    pub fn put_losses(&mut self, line: u16, tei: u8, call: u8, packet: u8) -> Put
+        ensures { Puts result (on T.taken self.old) (on T.taken self.new) (losses_text line tei call packet) }
+    {
+        self.put_given_up(line, Service::Call, tei, call)?;
+        self.put_given_up(line, Service::Packet, tei, packet)
+    }
+
+    fn put_given_up(&mut self, line: u16, service: Service, tei: u8, count: u8) -> Put
+        ensures { Puts result (on T.taken self.old) (on T.taken self.new) (given_up_text line service tei count) }
+    {
+        if count == 0 {
+            return Ok(());
+        }
+        let tei = decimal(u64::from(tei));
+        let count = decimal(u64::from(count));
+        let name = b"given-up".as_slice();
+        self.put_line(
+            line,
+            &[
+                name,
+                suffix(service),
+                b" ",
+                tei.as_slice(),
+                b" ",
+                count.as_slice(),
+            ],
+        )
     }
 
     fn put_note(&mut self, line: u16, note: Note, contents: &[u8]) -> Put
@@ -137,6 +168,35 @@ impl<T: Target> Page<'_, T> {
     {
         let tei = decimal(u64::from(tei));
         self.put_line(line, &[name, b" ", tei.as_slice()])
+    }
+}
+
+/// The TEI of the first note, or 127 if none names one.
+pub fn tei_noted(notes: &[Note]) -> u8
+    ensures { result ≡ tei_noted notes.now }
+{
+    match notes {
+        [] => GROUP,
+        [note, ..] => tei_of(*note),
+    }
+}
+
+fn tei_of(note: Note) -> u8
+    ensures { result ≡ tei_of note }
+{
+    match note {
+        Note::EstablishIndication(_, tei)
+        | Note::EstablishConfirm(_, tei)
+        | Note::ReleaseIndication(_, tei)
+        | Note::ReleaseConfirm(_, tei)
+        | Note::Data(_, tei)
+        | Note::Unit(_, tei)
+        | Note::Error(_, tei, _)
+        | Note::Assigned(tei)
+        | Note::Removed(tei)
+        | Note::Doubled(tei)
+        | Note::Xid(_, tei) => tei,
+        Note::Denied | Note::Unassigned | Note::RemoveAll => GROUP,
     }
 }
 

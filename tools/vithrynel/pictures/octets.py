@@ -86,7 +86,7 @@ FRAMES = [
 ]
 TOLD = [
     "A report tells notes and contents for layer 3, or why something was dropped;",
-    "orders for timers; how many frames were lost.",
+    "orders for timers; how many frames were lost, and how many contents given up.",
     "A controller's frame comes by {}, {} and {} to".format(*(it.names for it in FRAMES[:3])),
     "FrameLine::heard; the next by {}, {},".format(*(it.names for it in FRAMES[3:5])),
     "{} and FrameLine::take.".format(FRAMES[5].names),

@@ -134,6 +134,6 @@ text_grows zero end s o is = ([], sym (append-nil s.text))
 text_grows (suc n) end s None is = ([], ap (λ (x : Scene). x.text) (none_left (suc n) end s is) ∙ sym (append-nil s.text))
 text_grows (suc n) end s (Some due) is =
     let next = expired due.0 due.1 s in
-    let said = reply_text due.0 (reply (at due.0 (expiry due.1)) s.setup.board) in
+    let said = reply_text s.setup.losses (at due.0 (expiry due.1)) (reply (at due.0 (expiry due.1)) s.setup.board) in
     let later : (later : List ℕ) × ((expiries n end next).text ≡ next.text ++ later) = text_grows n end next (due_by end next.setup.clock) refl in
     (said ++ later.0, ap (λ (x : Scene). x.text) (one_left n end s due is) ∙ later.1 ∙ append_assoc s.text said later.0)

@@ -99,17 +99,17 @@ pub no_moment : (card : Board) → moments card [] ≡ []
 unfolding moments
 no_moment card = refl
 
-first_moment : (card : Board) (e : Event) (events : List Event)
-    → replies_text (moments card (e ∷ events)) ≡ reply_text e.line (reply e card) ++ replies_text (moments (after e card) events)
+first_moment : (losses : Bool) (card : Board) (e : Event) (events : List Event)
+    → replies_text losses (moments card (e ∷ events)) ≡ reply_text losses e (reply e card) ++ replies_text losses (moments (after e card) events)
 unfolding moments
-first_moment card e events = refl
+first_moment losses card e events = refl
 
-events_say : (events : List Event) (s : Scene) → (with_events events s).text ≡ s.text ++ replies_text (moments s.setup.board events)
+events_say : (events : List Event) (s : Scene) → (with_events events s).text ≡ s.text ++ replies_text s.setup.losses (moments s.setup.board events)
 unfolding moments
 events_say [] s = sym (append-nil s.text)
 events_say (e ∷ events) s =
     events_say events (with_event s e)
-    ∙ append_assoc s.text (reply_text e.line (reply e s.setup.board)) (replies_text (moments (after e s.setup.board) events))
+    ∙ append_assoc s.text (reply_text s.setup.losses e (reply e s.setup.board)) (replies_text s.setup.losses (moments (after e s.setup.board) events))
 
 pulls_give : (count number : ℕ) (p : Pulls) → (pulls count number p).octets ≡ p.octets ++ map octet_given (moments p.setup.board (replicate count (at number pull)))
 unfolding moments
@@ -122,12 +122,12 @@ pulls_keep : (count number : ℕ) (p : Pulls) → (pulls count number p).setup.t
 pulls_keep zero number p = refl
 pulls_keep (suc count) number p = pulls_keep count number (one_pull number p)
 
-expiries_say : (most end : ℕ) (s : Scene) → (expiries most end s).text ≡ s.text ++ replies_text (moments s.setup.board (expiry_events most end s))
+expiries_say : (most end : ℕ) (s : Scene) → (expiries most end s).text ≡ s.text ++ replies_text s.setup.losses (moments s.setup.board (expiry_events most end s))
 expiries_say most end s =
-    by_expiry end (λ s t es. t.text ≡ s.text ++ replies_text (moments s.setup.board es)) (λ s. sym (ap (λ ms. s.text ++ replies_text ms) (no_moment s.setup.board) ∙ append-nil s.text))
+    by_expiry end (λ s t es. t.text ≡ s.text ++ replies_text s.setup.losses (moments s.setup.board es)) (λ s. sym (ap (λ ms. s.text ++ replies_text s.setup.losses ms) (no_moment s.setup.board) ∙ append-nil s.text))
     (λ s due t es is h.
     let e : Event = at due.0 (expiry due.1) in
-    h ∙ append_assoc s.text (reply_text due.0 (reply e s.setup.board)) (replies_text (moments (after e s.setup.board) es)) ∙ ap (λ x. s.text ++ x) (sym (first_moment s.setup.board e es)))
+    h ∙ append_assoc s.text (reply_text s.setup.losses e (reply e s.setup.board)) (replies_text s.setup.losses (moments (after e s.setup.board) es)) ∙ ap (λ x. s.text ++ x) (sym (first_moment s.setup.losses s.setup.board e es)))
     most s
 
 -- ---- a line, where there is a card
@@ -162,11 +162,11 @@ at_it : {events : List Event} {text : List ℕ} (number : ℕ) (b : Setup) (s : 
 at_it number b s h = if_good _ _ _ (nat_lt number b.board.config.lines) (Ok s) BadLine (λ good. h (ltb-true _ _ good))
 
 event_brought : (e : Event) (b : Setup) → IsEventOf b.board.kind e → IsAtLine b.board e
-    → Brings b (e ∷ []) (replies_text (moments b.board (e ∷ []))) (with_event (scene_of b) e)
+    → Brings b (e ∷ []) (replies_text b.losses (moments b.board (e ∷ []))) (with_event (scene_of b) e)
 event_brought e b is within = record { led = event_led e (scene_of b) is within; says = events_say (e ∷ []) (scene_of b) }
 
 coming_brought : (kind : CardKind) (number : ℕ) (octets : List ℕ) (b : Setup) → b.board.kind ≡ kind → number < b.board.config.lines
-    → let events = coming_events kind number octets (scene_of b) in Brings b events (replies_text (moments b.board events)) (after_coming kind number octets (scene_of b))
+    → let events = coming_events kind number octets (scene_of b) in Brings b events (replies_text b.losses (moments b.board events)) (after_coming kind number octets (scene_of b))
 coming_brought Octets number octets b is within = record { led = in_led number octets (scene_of b) is within; says = events_say (octets_at number (octets_sent octets (terminal_at number b))) _ }
 coming_brought Frames number octets b is within =
     event_brought (at number (is_heard_as (scene_of b) octets)) b (heard_is b.board.kind number (came b.board.config.n201 octets) is) within
@@ -218,6 +218,10 @@ meaning_brings (line.wait milliseconds) b =
     let end = b.clock.now + milliseconds in
     if_good _ _ _ (nat_le end last_moment) _ TimeOver (λ _. record { led = wait_led milliseconds (scene_of b); says = expiries_say (time_until end b.clock) end (scene_of b) })
 meaning_brings (line.timers durations) b = timers_brought (lengths_of durations) b
+meaning_brings line.losses b = record {
+  led = record { board = no_event b.board; of_kind = none_of_kind b.board.kind; kept = λ k. (k, All-nil (IsAtLine b.board)) };
+  says = refl;
+}
 meaning_brings line.stored b = record { led = nothing_led b; says = refl }
 meaning_brings (line.counters number group) b = at_it number b _ (λ within. record { led = nothing_led b; says = refl })
 meaning_brings (line.ask number tei what octets) b =

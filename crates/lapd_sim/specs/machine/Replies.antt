@@ -1,5 +1,5 @@
 -- The text of a script, by the answers to its events.
-use Rattle.std.specs.Prelude.{◌≡◌, ℕ, List, [], ◌∷◌, ◌++◌, map, flat_map, Option, None, Some, Result, Ok, Err}
+use Rattle.std.specs.Prelude.{◌≡◌, ℕ, Bool, List, [], ◌∷◌, ◌++◌, map, flat_map, Option, None, Some, Result, Ok, Err}
 use Rattle.model_card.specs.ports.Stored.{limit}
 use Rattle.lapd_sim.specs.machine.Board.{Board, Moment, moments}
 use Rattle.lapd_script.specs.declared.kind.FaultKind.{FaultKind}
@@ -15,11 +15,11 @@ use Rattle.lapd_sim.specs.machine.Script.{Played, not_begun, one_more, played, t
 use Rattle.lapd_sim.specs.machine.Events.{meant_events, unless_fault, script_events, first_board}
 
 -- What a reply says, and the octet that it gives.
-abbrev pub text_of : Moment → List ℕ
-text_of m = reply_text m.event.line m.reply
+abbrev pub text_of : Bool → Moment → List ℕ
+text_of losses m = reply_text losses m.event m.reply
 
-abbrev pub replies_text : List Moment → List ℕ
-replies_text ms = flat_map text_of ms
+abbrev pub replies_text : Bool → List Moment → List ℕ
+replies_text losses ms = flat_map (text_of losses) ms
 
 abbrev pub octet_given : Moment → ℕ
 octet_given m = octet_in m.reply
@@ -31,9 +31,10 @@ said line.skip b ms = []
 said (line.card kind config) b ms = []
 said (line.pull number count) b ms = pulled_text number (taken_at number b) (map octet_given ms)
 said (line.timers durations) b ms = []
+said line.losses b ms = []
 said line.stored b ms = stored_text (held b.board) (limit b.board.config)
 said (line.counters number group) b ms = counters_text number group (counters_at number b)
-said _ b ms = replies_text ms
+said _ b ms = replies_text b.losses ms
 
 -- The moments of a line, and what it says; before the card line, and from the first faulty line on, nothing.
 abbrev pub meant_moments : line.Meaning → Setup → List Moment

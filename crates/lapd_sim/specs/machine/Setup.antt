@@ -1,6 +1,6 @@
 -- What a script is played on: a board, the counters of its lines, the clock of its timers, and for octets, at each line, a
--- terminal and a listener.
-use Rattle.std.specs.Prelude.{ℕ, List, [], ◌++◌, set, get_or, replicate}
+-- terminal and a listener; and whether it is shown what is given up.
+use Rattle.std.specs.Prelude.{ℕ, Bool, false, List, [], ◌++◌, set, get_or, replicate}
 use Rattle.lapd_clock.specs.Timer.{standard}
 use Rattle.lapd_count.specs.declared.counters.Counters.{Counters}
 use Rattle.lapd_count.specs.Counters.{none_counted}
@@ -18,6 +18,7 @@ pub record Setup : Type 0 where
   pub clock : Clock
   pub terminals : List Terminal
   pub taken : List (List ℕ)
+  pub losses : Bool
 
 -- As a card line sets it up.
 abbrev pub begun : CardKind → Config → Setup
@@ -27,6 +28,7 @@ begun kind c = record {
   clock = stopped standard;
   terminals = replicate c.lines (record { items = []; given = 0 });
   taken = replicate c.lines [];
+  losses = false;
 }
 
 abbrev pub terminal_at : ℕ → Setup → Terminal

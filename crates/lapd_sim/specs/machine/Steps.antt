@@ -1,5 +1,5 @@
 -- What each line of a script makes of the setup, and what it says in the transcript.
-use Rattle.std.specs.Prelude.{ℕ, zero, suc, ◌+◌, ◌-◌, ◌^◌, max, nat_lt, nat_le, Bool, true, ◌&&◌, if◌then◌else◌, List, [], ◌∷◌, ◌++◌, length, map, fold, flat_map, sum_by, Option, None, Some, Result, Ok, Err}
+use Rattle.std.specs.Prelude.{ℕ, zero, suc, ◌+◌, ◌-◌, ◌^◌, max, nat_lt, nat_le, Bool, true, ◌&&◌, if◌then◌else◌, List, [], ◌∷◌, ◌++◌, length, map, fold, flat_map, sum_by, Option, None, Some, unwrap_or, Result, Ok, Err}
 use Rattle.std.specs.List.{filter, range_with_len}
 use Rattle.std.specs.Option.{is_some}
 use Rattle.lapd_frame.specs.declared.services.Service.TheVariants.{Call, Packet}
@@ -11,6 +11,7 @@ use Rattle.model_line.specs.Config.{first_fault}
 use Rattle.model_bits.specs.Stream.{dropped}
 use Rattle.model_line.specs.Came.{came, cause_of}
 use Rattle.model_line.specs.declared.faults.Fault.{Fault}
+use Rattle.model_line.specs.Event.{LineTold}
 use Rattle.model_line.specs.Request as asking
 use Rattle.model_timed.specs.Clock.{Clock, at_moment, next_moment, with_lengths, without_first}
 use Rattle.model_card.specs.Card as lines
@@ -26,7 +27,7 @@ use Rattle.model_card.specs.declared.kinds.CardKind.{CardKind}
 use Rattle.lapd_script.specs.declared.command.Durations.{Durations}
 use Rattle.model_card.specs.declared.kinds.CardKind.TheVariants.{Octets, Frames}
 use Rattle.lapd_script.specs.Meaning as line
-use Rattle.lapd_transcript.specs.Text.{report_text, refused_text, frame_text, nothing_text, stored_text}
+use Rattle.lapd_transcript.specs.Text.{report_text, losses_text, tei_noted, refused_text, frame_text, nothing_text, stored_text}
 use Rattle.lapd_transcript.specs.declared.counters.CounterGroup.{CounterGroup}
 use Rattle.lapd_transcript.specs.Counted.{counters_text}
 use Rattle.lapd_sim.specs.machine.Setup.{Setup, begun, happened, terminal_at, counters_at, taken_at, with_terminal, with_taken}
@@ -38,17 +39,46 @@ pub record Scene : Type 0 where
   pub setup : Setup
   pub text : List ℕ
 
+-- The TEI that a request names.
+abbrev pub tei_asked : asking.Request → Option ℕ
+tei_asked (asking.Establish service tei) = Some tei
+tei_asked (asking.Release service tei) = Some tei
+tei_asked (asking.«Data» service tei octets) = Some tei
+tei_asked (asking.Unit service tei octets) = Some tei
+tei_asked (asking.Assign tei) = Some tei
+tei_asked (asking.Remove tei) = Some tei
+tei_asked (asking.Check tei) = Some tei
+tei_asked (asking.Disown tei) = Some tei
+tei_asked asking.AskTei = None
+tei_asked (asking.VerifyTei tei) = Some tei
+tei_asked (asking.SetBusy service tei) = Some tei
+tei_asked (asking.ClearBusy service tei) = Some tei
+tei_asked (asking.Deactivate service tei) = Some tei
+tei_asked asking.Down = None
+
+abbrev pub tei_named : What → Option ℕ
+tei_named (request r) = tei_asked r
+tei_named other = None
+
+-- What an event brought; and if losses are shown, what the links of a TEI gave up by it. That is the TEI which a request names,
+-- else that of the first note: each other event notes what it gives up.
+abbrev pub shown_losses : Bool → ℕ → Option ℕ → LineTold → List ℕ
+shown_losses losses line tei t = if losses then losses_text line (unwrap_or tei (tei_noted t.notes)) t.given_up t.given_up_16 else []
+
+abbrev pub told_text : Bool → ℕ → Option ℕ → LineTold → List ℕ
+told_text losses line tei t = report_text line t.notes t.contents t.cause t.lost ++ shown_losses losses line tei t
+
 -- What a reply says. Octets that are pulled are told together, and timer orders are not told.
-abbrev pub reply_text : ℕ → Reply → List ℕ
-reply_text line (told t) = report_text line t.notes t.contents t.cause t.lost
-reply_text line (refused why) = refused_text line why
-reply_text line (pulled value begins orders) = []
-reply_text line (gave None) = nothing_text line
-reply_text line (gave (Some given)) = frame_text line given.octets
+abbrev pub reply_text : Bool → Event → Reply → List ℕ
+reply_text losses e (told t) = told_text losses e.line (tei_named e.what) t
+reply_text losses e (refused why) = refused_text e.line why
+reply_text losses e (pulled value begins orders) = []
+reply_text losses e (gave None) = nothing_text e.line
+reply_text losses e (gave (Some given)) = frame_text e.line given.octets
 
 -- An event, and events one after the other.
 abbrev pub with_event : Scene → Event → Scene
-with_event s e = record { setup = happened s.setup e; text = s.text ++ reply_text e.line (reply e s.setup.board) }
+with_event s e = record { setup = happened s.setup e; text = s.text ++ reply_text s.setup.losses e (reply e s.setup.board) }
 
 abbrev pub with_events : List Event → Scene → Scene
 with_events events s = fold with_event s events
@@ -192,6 +222,10 @@ held b = held_in b.kind b.card
 abbrev pub after_stored : Scene → Scene
 after_stored s = record s { text = s.text ++ stored_text (held s.setup.board) (limit s.setup.board.config) }
 
+-- `losses`: what is given up is shown from now on.
+abbrev pub after_losses : Scene → Scene
+after_losses s = record s { setup = record s.setup { losses = true } }
+
 -- `counters`, `messages`: what was counted of the line.
 abbrev pub after_counters : CounterGroup → ℕ → Scene → Scene
 after_counters group line s = record s { text = s.text ++ counters_text line group (counters_at line s.setup) }
@@ -243,6 +277,7 @@ with_card (line.pull number count) s = for_octets s.setup.board.kind (at_line nu
 with_card (line.wait milliseconds) s = in_time milliseconds s
 with_card (line.timers durations) s = with_timers (lengths_of durations) s
 with_card line.stored s = Ok (after_stored s)
+with_card line.losses s = Ok (after_losses s)
 with_card (line.counters number group) s = at_line number s (after_counters group number s)
 with_card (line.ask number tei what octets) s = at_line number s (after_request number tei what octets s)
 

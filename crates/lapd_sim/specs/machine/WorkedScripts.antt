@@ -57,6 +57,11 @@ in_frames : transcript (codes "frames 1 8 7 8 4 4 64 260 3\nassign 0 64\nin 0 00
 unfolding boards.reply cards.after cards.answer cards.meant lines.after lines.answer lines.takes_slot exchanged read_by sapi_fault reading header_of control_of unnumbered_of teis.course teis.refusal low_bits decode_pairs encode_with digits
 in_frames = refl
 
+-- from the line `losses` on it is told that DISC gives up a content that waits
+given_up : transcript (codes "frames 1 8 7 8 4 4 64 260 3\nassign 0 64\nin 0 00817F\ndata 0 64 41\nlosses\nin 0 008153\n") ≡ codes "0 establish-indication 64\n0 release-indication 64\n0 given-up 64 1\n"
+unfolding boards.reply cards.after cards.answer cards.meant lines.after lines.answer lines.takes_slot exchanged read_by sapi_fault reading header_of control_of unnumbered_of teis.course teis.refusal low_bits decode_pairs encode_with digits
+given_up = refl
+
 -- a terminal: it asks for a TEI and establishes its link, answers a check, and its TEI is removed
 terminal_called : transcript (codes "frames 1 8 7 8 4 4 64 260 3 user 4660\nask 0\nnext 0\nin 0 FEFF030F12340281\nestablish 0 64\nnext 0\nin 0 FEFF030F00000481\nnext 0\nin 0 FEFF030F00000681\n")
     ≡ codes "0 frame FCFF030F123401FF\n0 assigned 64\n0 frame 00817F\n0 frame FCFF030F295D0581\n0 removed 64\n0 release-indication 64\n"

@@ -21,7 +21,7 @@ returns-in-Frames g c = λ m h.
     obeyed c.tell.result _ c.written.ensures _ _ (SetupStands _) _ _
     (moved_to _ _ _ (into_is s m h c.in_ok-line.ensures.0 c.in_ok-line.ensures.1 kind.Frames frame of_frames refl)
     (ap (λ (d : Config). with_event (scene m) (at line (hears (came d.n201 frame)))) (sym same)))
-    (told_on (at line (hears e)) s _ (led_frames line (hears e) (line_event.hears e) refl s.timed.card c.frame.new.self.card c.frame.ensures.called.leads) refl refl refl m (else_of s m h)
+    (told_on (at line (hears e)) s _ (led_frames line (hears e) (line_event.hears e) refl s.timed.card c.frame.new.self.card c.frame.ensures.called.leads) refl refl refl refl m (else_of s m h)
     c.tell.result _ _ (told (told_beside (option_copied c.contents-contents.result) report))
     (told_frames line (hears e) (line_event.hears e) refl s.timed.card m.board h.board of_frames (line_event.told (told_beside (option_copied c.contents-contents.result) report))
     (λ n k. ap (λ x. line_event.told (told_beside x report)) lent ∙ c.frame.ensures.called.answers n k))
@@ -48,4 +48,5 @@ returns-else-frame-gt-LONGEST_FRAME g c = λ m h.
       timers = h.timers;
       terminals = each_set Sends s.terminals.items m.terminals line c.send-octets.new.self (after_sending frame t) sent.1 h.terminals;
       listeners = h.listeners;
+      losses = h.losses;
     })))

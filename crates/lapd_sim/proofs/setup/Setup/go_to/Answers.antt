@@ -23,4 +23,5 @@ returns-clause-after c = λ m h.
       timers = timed_time c.args.self.now.timed c.go_to.new.self c.args.moment steps m.board h.board m.clock h.timers;
       terminals = h.terminals;
       listeners = h.listeners;
+      losses = h.losses;
     }

@@ -27,4 +27,5 @@ returns g c = λ m h.
       terminals = stands.terminals;
       listeners = each_set Hears c.pull_all.new.self.listeners.items p.setup.taken line c.tell.new.listener (taken_at line p.setup ++ p.octets)
           (subst (λ xs. Hears c.tell.new.listener (taken_at line p.setup ++ xs)) octets (after (taken_at line p.setup) past)) stands.listeners;
+      losses = stands.losses;
     })))

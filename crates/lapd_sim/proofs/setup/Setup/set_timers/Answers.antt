@@ -18,5 +18,6 @@ returns c = λ before m h.
         timers = subst (λ l. TimersStand c.set_lengths.new.self.timers m.board.card.card (with_lengths l m.clock)) c.in-Ok.ensures.given (c.set_lengths.ensures.after m.board.card.card m.clock h.timers);
         terminals = h.terminals;
         listeners = h.listeners;
+        losses = h.losses;
       },
     )

@@ -22,5 +22,6 @@ returns c =
             (c.in_ok-timers.ensures.stopped config (sym c.from-lines.ensures) (sym c.into.ensures) begun.0));
         terminals = subst (λ n. Each Sends c.in_ok-terminals.terminals.items (replicate n (record { items = []; given = 0 }))) c.from-lines.ensures c.in_ok-terminals.ensures.begun;
         listeners = subst (λ n. Each Hears c.in_ok-listeners.listeners.items (replicate n [])) c.from-lines.ensures c.in_ok-listeners.ensures.begun;
+        losses = refl;
       },
     )

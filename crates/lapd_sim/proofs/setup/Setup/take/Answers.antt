@@ -14,7 +14,7 @@ returns-in-Ok-Some g c = λ m h.
     let kind = c.in_ok-for_frames.ensures in
     obeyed c.put_frame.result _ c.written.ensures _ _ (SetupStands _) _ _
     (there_frames s m h c.in_ok-number.ensures.0 c.in_ok-number.ensures.1 after_next kind)
-    (told_on (at line next) s _ (led_frames line next line_event.next refl s.timed.card c.next_frame.new.self.card c.in-Ok-Some.ensures.called.leads) refl refl refl m (else_of s m h)
+    (told_on (at line next) s _ (led_frames line next line_event.next refl s.timed.card c.next_frame.new.self.card c.in-Ok-Some.ensures.called.leads) refl refl refl refl m (else_of s m h)
     c.put_frame.result _ _ _
     (told_frames line next line_event.next refl s.timed.card m.board h.board kind (gave_in c.next_frame.new.out (Some c.in-Ok-Some.next))
     (λ n k. subst (λ x. gave_in c.next_frame.new.out x ≡ frame_machine.answer (frame_event.at line line_event.next) n) c.in-Ok-Some.field-0-is (c.in-Ok-Some.ensures.called.answers n k)))
@@ -28,7 +28,7 @@ returns-in-Ok-None g c = λ m h.
     let kind = c.in_ok-for_frames.ensures in
     obeyed c.put_nothing.result _ c.written-in-Ok-None.ensures _ _ (SetupStands _) _ _
     (there_frames s m h c.in_ok-number.ensures.0 c.in_ok-number.ensures.1 after_next kind)
-    (told_on (at line next) s _ (led_frames line next line_event.next refl s.timed.card c.next_frame.new.self.card c.in-Ok-None.ensures.called.leads) refl refl refl m (else_of s m h)
+    (told_on (at line next) s _ (led_frames line next line_event.next refl s.timed.card c.next_frame.new.self.card c.in-Ok-None.ensures.called.leads) refl refl refl refl m (else_of s m h)
     c.put_nothing.result _ _ _
     (told_frames line next line_event.next refl s.timed.card m.board h.board kind (gave_in c.next_frame.new.out None)
     (λ n k. subst (λ x. gave_in c.next_frame.new.out x ≡ frame_machine.answer (frame_event.at line line_event.next) n) c.in-Ok-None.field-0-is (c.in-Ok-None.ensures.called.answers n k)))

@@ -206,6 +206,7 @@ static bool is_same(const lapd_report *one, const lapd_report *two) {
     return one->note_count == two->note_count && one->order_count == two->order_count && one->cause == two->cause
            && one->lost == two->lost && one->begun == two->begun && one->delivered == two->delivered
            && one->length == two->length && one->reopened == two->reopened
+           && one->given_up == two->given_up && one->given_up_16 == two->given_up_16
            && memcmp(one->notes, two->notes, one->note_count * sizeof *one->notes) == 0
            && memcmp(one->orders, two->orders, one->order_count * sizeof *one->orders) == 0
            && memcmp(one->contents, two->contents, one->length) == 0;

@@ -52,6 +52,7 @@ private:
     fault wait(uint32_t ms);
     void fall_due(uint64_t end);
     void tell(uint32_t line);
+    void tell(uint32_t line, unsigned tei);
     void receive(uint32_t line, uint8_t octet);
     void send(uint32_t line, lapd::octets frame);
     void pull(uint32_t line, uint32_t count);
@@ -73,6 +74,7 @@ private:
     lapd::report report_;
     std::vector<side> sides_;
     uint64_t now_ = 0;
+    bool losses_ = false; // what is given up is shown
 };
 
 lapd::any_card *station::any() {
@@ -112,8 +114,13 @@ fault station::start(const command &line) {
     return NO_FAULT;
 }
 
-// Writes what an event told, and hands its orders to the clock.
+// The first note has the TEI: what an event gives up is noted, unless layer 3 asked for it.
 void station::tell(uint32_t line) {
+    tell(line, report_.notes().empty() ? unsigned{LAPD_GROUP_TEI} : report_.notes()[0].tei);
+}
+
+// Writes what an event of a TEI told, and hands its orders to the clock.
+void station::tell(uint32_t line, unsigned tei) {
     for (lapd::note note : report_.notes()) {
         std::printf("%u %s %u", line, note.text(), note.tei);
         if (note.kind == lapd::note_kind::data_indication || note.kind == lapd::note_kind::unit_indication) {
@@ -129,6 +136,10 @@ void station::tell(uint32_t line) {
         std::printf("%u dropped %s\n", line, lapd::text(report_.cause()));
     if (report_.lost() != 0)
         std::printf("%u lost %u\n", line, report_.lost());
+    if (losses_ && report_.given_up() != 0)
+        std::printf("%u given-up %u %u\n", line, tei, report_.given_up());
+    if (losses_ && report_.given_up_16() != 0)
+        std::printf("%u given-up-16 %u %u\n", line, tei, report_.given_up_16());
     if (is_timed_)
         want_ok(report_.orders().empty() && report_.line() == line ? status::ok : status::wrong_order, "no orders");
     else if (report_.orders().size() == 1)
@@ -272,7 +283,7 @@ void station::ask(uint32_t line, const command &of) {
         return;
     }
     want_ok(is, "request");
-    tell(line);
+    tell(line, of.numbers[1]);
 }
 
 void station::bring_down(uint32_t line) {
@@ -349,6 +360,10 @@ fault station::obey(const command &line) {
     }
     if (line.verb == STORED) {
         show_stored();
+        return NO_FAULT;
+    }
+    if (line.verb == LOSSES) {
+        losses_ = true;
         return NO_FAULT;
     }
     if (is_of_other_card(line))

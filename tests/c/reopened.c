@@ -1,7 +1,7 @@
 /*
- * reopened.c: a link on which contents were refused because its queue was full is told once, when it has room again. What a
- * report has to say is found here by lapd_room, over random requests, frames and timers at links with room for two, and at
- * a card of octets. For tests alone.
+ * reopened.c: two promises of reports. If a full queue refused contents, its link is told once, when it has room again.
+ * Contents that were granted are acknowledged, wait, or are told as given up. lapd_room says here what a report has to tell.
+ * Requests, frames and timers come at random, at links with room for two. So they do at a card of octets. For tests alone.
  */
 #include <stdio.h>
 #include <string.h>
@@ -9,13 +9,14 @@
 #include "hdlc.h"
 #include "lapd.h"
 
-enum { LINES = 2, PLACES = 254, ROUNDS = 200000 };
+enum { LINES = 2, PLACES = 254, QUEUE = 2, ROUNDS = 200000 };
 
 static const lapd_config config = {LINES, 2, 2, 2, 2, 2, 4, 64, 16, 1, LAPD_NETWORK, 0, 0, LAPD_PROFILE};
 static lapd_card card = LAPD_CARD_NONE;
 static lapd_report report;
 static bool waits[LINES][PLACES];
-static unsigned refused, told, dropped;
+static struct { int count; uint8_t va; } kept[LINES][PLACES];
+static unsigned refused, told, dropped, given_up;
 static uint32_t seed = 1;
 static int failed;
 
@@ -44,6 +45,8 @@ static int queue_left(uint32_t line, unsigned place) {
     return lapd_room(&card, line, service, (uint8_t)(place / 2), &room) == LAPD_OK ? (int)room.queue : -1;
 }
 
+static void is_accounted(uint32_t line);
+
 /* The report is that of a call of this line: of the links that wait, the first that has room is told, and no other; those that
  * are gone wait no longer. */
 static void is_told(uint32_t line) {
@@ -62,6 +65,29 @@ static void is_told(uint32_t line) {
         }
     }
     wants(was_told || report.reopened == 0, "room is told where there is none");
+    is_accounted(line);
+}
+
+/* A link keeps no more what was acknowledged: V(A) went on by as many. The rest is told as given up, and no more is. */
+static void is_accounted(uint32_t line) {
+    const int numbers[] = {report.given_up, report.given_up_16};
+    int gone[] = {0, 0};
+    for (unsigned i = 0; i < 4; i++) {
+        struct lapd_room room = {0, QUEUE, 0};
+        uint8_t service = i % 2 == 0 ? LAPD_CALL : LAPD_PACKET, tei = i < 2 ? 64 : 126;
+        (void)!lapd_room(&card, line, service, tei, &room);
+        unsigned place = place_of(service, tei);
+        int now = QUEUE - (int)room.queue, left = kept[line][place].count - now;
+        if (numbers[i % 2] != 0)
+            gone[i % 2] += left;
+        else
+            wants(left <= 0 || ((room.va - kept[line][place].va) & 127) == left, "contents are gone silently");
+        kept[line][place].count = now;
+        kept[line][place].va = room.va;
+    }
+    wants(numbers[0] == gone[0] && numbers[1] == gone[1], "so many are not given up");
+    wants(numbers[0] + numbers[1] == 0 || lapd_tells(&report), "what is given up is nothing to tell");
+    given_up += (unsigned)(gone[0] + gone[1]);
 }
 
 static void send(uint32_t line, uint8_t service, uint8_t tei) {
@@ -183,15 +209,16 @@ static void happens_in_octets(void) {
 static void plays(const char *kind, uint32_t started, void (*round)(void)) {
     wants(started == LAPD_OK, "there is no card");
     memset(waits, 0, sizeof waits);
-    refused = told = dropped = 0;
+    memset(kept, 0, sizeof kept);
+    refused = told = dropped = given_up = 0;
     for (uint32_t line = 0; line < LINES; line++) {
         hdlc_begin(&senders[line]);
         wants(lapd_assign(&card, line, 64, &report) == LAPD_OK && lapd_assign(&card, line, 126, &report) == LAPD_OK, "no TEI");
     }
     for (unsigned i = 0; i < ROUNDS && !failed; i++)
         round();
-    printf("reopened: %s: refused %u, told %u, dropped %u\n", kind, refused, told, dropped);
-    wants(failed || (refused > ROUNDS / 200 && told > ROUNDS / 400 && dropped > 20), "little has happened");
+    printf("reopened: %s: refused %u, told %u, dropped %u, given up %u\n", kind, refused, told, dropped, given_up);
+    wants(failed || (refused > ROUNDS / 200 && told > ROUNDS / 400 && dropped > 20 && given_up > ROUNDS / 400), "little has happened");
     wants(lapd_card_free(&card) == LAPD_OK, "a card is not freed");
 }
 

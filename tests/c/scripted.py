@@ -2,7 +2,7 @@
 at cards that keep their own timers."""
 import re
 import sys
-from typing import Any, Dict, Iterator, List, NamedTuple, Tuple
+from typing import Any, Dict, Iterator, List, NamedTuple, Optional, Tuple
 
 from compiled import ROOT
 
@@ -21,7 +21,7 @@ CAUSES = {b"abort": lapd.Cause.ABORT, b"ragged": lapd.Cause.RAGGED, b"short": la
 # Words that are followed by octets, and by how many numbers before; and the range of the last number.
 NUMBERS: Dict[bytes, Tuple[int, int, int]] = {
     b"rx": (1, 0, MOST_NUMBER), b"in": (1, 0, MOST_NUMBER), b"pull": (2, 1, MOST_PULLS), b"next": (1, 0, MOST_NUMBER),
-    b"wait": (1, 0, MOST_WAIT), b"stored": (0, 0, 0), b"counters": (1, 0, MOST_NUMBER),
+    b"wait": (1, 0, MOST_WAIT), b"stored": (0, 0, 0), b"losses": (0, 0, 0), b"counters": (1, 0, MOST_NUMBER),
     b"messages": (1, 0, MOST_NUMBER), b"down": (1, 0, MOST_NUMBER), b"ask": (1, 0, MOST_NUMBER),
     **{it: (2, 0, MOST_TEI) for it in (b"assign", b"remove", b"check", b"disown", b"verify", b"establish", b"release", b"busy",
                                        b"ready", b"deactivate", b"data", b"unit", b"establish16", b"release16", b"busy16", b"ready16",
@@ -113,6 +113,7 @@ class Station:
         self.card: Any = None
         self.clock: Any = None
         self.now = 0
+        self.losses = False
         self.terminals: Dict[int, Terminal] = {}
         self.listeners: Dict[int, Deframer] = {}
 
@@ -130,7 +131,7 @@ class Station:
             raise Faulty("bad card") from None
         self.clock = None if self.is_timed else lapd.Clock(config)
 
-    def told(self, line: int, report: lapd.Report) -> Iterator[str]:
+    def told(self, line: int, report: lapd.Report, tei: Optional[int] = None) -> Iterator[str]:
         for note in report.notes:
             has_contents = note.kind in (lapd.NoteKind.DATA_INDICATION, lapd.NoteKind.UNIT_INDICATION)
             more = f" {shown(report.contents)}" if has_contents else f" {note.error}" if note.error else ""
@@ -139,10 +140,17 @@ class Station:
             yield f"{line} dropped {report.cause}"
         if report.lost:
             yield f"{line} lost {report.lost}"
+        yield from self.given_up(line, report, report.notes[0].tei if tei is None and report.notes else tei)
         if self.clock:
             self.clock.apply(line, report, self.now)
         elif report.orders or report.line != line:
             raise AssertionError(f"{line} {report}")
+
+    def given_up(self, line: int, report: lapd.Report, tei: Optional[int]) -> Iterator[str]:
+        if self.losses and report.given_up:
+            yield f"{line} given-up {tei} {report.given_up}"
+        if self.losses and report.given_up_16:
+            yield f"{line} given-up-16 {tei} {report.given_up_16}"
 
     def received(self, line: int, octets: bytes) -> Iterator[str]:
         for octet in octets:
@@ -184,7 +192,7 @@ class Station:
         except lapd.Refused as fault:
             yield f"{line} refused {fault}"
             return
-        yield from self.told(line, report)
+        yield from self.told(line, report, tei)
 
     def waited(self, ms: int) -> Iterator[str]:
         end = self.now + ms
@@ -223,6 +231,8 @@ class Station:
             yield from self.waited(line.numbers[0])
         elif line.word == "timers":
             (self.card if self.is_timed else self.clock).set_lengths(*line.numbers)
+        elif line.word == "losses":
+            self.losses = True
         elif line.word == "stored":
             yield f"stored {self.card.stored()} limit {self.card.limit()}"
         elif line.word in (("rx", "pull") if isinstance(self.card, lapd.FrameCard) else ("failed", "next")):

@@ -76,7 +76,8 @@ static void same_report(uint32_t line, const lapd_report *own, const lapd_report
     wants(own->order_count == 0, "an order");
     wants(own->note_count == told->note_count && own->cause == told->cause && own->lost == told->lost && own->begun == told->begun
               && own->delivered == told->delivered && own->length == told->length && own->more == told->more
-              && own->reopened == told->reopened, "another report");
+              && own->reopened == told->reopened && own->given_up == told->given_up && own->given_up_16 == told->given_up_16,
+          "another report");
     wants(!own->reopened || (own->reopened_service == told->reopened_service && own->reopened_tei == told->reopened_tei), "another link has room");
     wants(memcmp(own->notes, told->notes, own->note_count * sizeof *own->notes) == 0
               && memcmp(own->contents, told->contents, own->length) == 0, "other notes or contents");

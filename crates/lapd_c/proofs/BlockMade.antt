@@ -67,6 +67,8 @@ pulled_nothing timed r a value begun orders (inr (other, is)) its s =
       contents = s.contents;
       cause = s.cause;
       lost = s.lost;
+      given_up = s.given_up;
+      given_up_16 = s.given_up_16;
       begun = s.begun;
       more = s.more;
     } in

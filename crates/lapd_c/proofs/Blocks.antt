@@ -37,15 +37,16 @@ none_if : {A : Type 0} (o : Option A) → is_none o ≡ true → o ≡ None
 none_if None is = refl
 none_if (Some x) is = absurd (false≢true is)
 
-all_nothing : (notes : List Note) (contents : Option (List ℕ)) (cause : Option Cause) (orders : List Order) (lost : ℕ)
-    → notes ≡ [] → contents ≡ None → cause ≡ None → orders ≡ [] → lost ≡ 0
-    → told (record { notes = notes; contents = contents; cause = cause; orders = orders; lost = lost }) ≡ told nothing
-all_nothing notes contents cause orders lost n c k o l =
-    ap (λ x. told (record { notes = x; contents = contents; cause = cause; orders = orders; lost = lost })) n
-    ∙ ap (λ x. told (record { notes = []; contents = x; cause = cause; orders = orders; lost = lost })) c
-    ∙ ap (λ x. told (record { notes = []; contents = None; cause = x; orders = orders; lost = lost })) k
-    ∙ ap (λ x. told (record { notes = []; contents = None; cause = None; orders = x; lost = lost })) o
-    ∙ ap (λ x. told (record { notes = []; contents = None; cause = None; orders = []; lost = x })) l
+all_nothing : (t : LineTold) → t.notes ≡ [] → t.contents ≡ None → t.cause ≡ None → t.orders ≡ [] → t.lost ≡ 0 → t.given_up ≡ 0 → t.given_up_16 ≡ 0 → told t ≡ told nothing
+all_nothing t notes contents cause orders lost given_up given_up_16 = λ i. told (record {
+  notes = notes i;
+  contents = contents i;
+  cause = cause i;
+  orders = orders i;
+  lost = lost i;
+  given_up = given_up i;
+  given_up_16 = given_up_16 i;
+})
 
 told_empty : (t : LineTold) → tells_nothing (told t) ≡ true → told t ≡ told nothing
 told_empty t is =
@@ -53,7 +54,9 @@ told_empty t is =
     let b = and_parts _ _ (a.0) in
     let c = and_parts _ _ (b.0) in
     let d = and_parts _ _ (c.0) in
-    all_nothing t.notes t.contents t.cause t.orders t.lost (nil_if t.notes (d.0)) (none_if t.contents (a.1)) (none_if t.cause (c.1)) (nil_if t.orders (d.1)) (eqb-true t.lost 0 (b.1))
+    let e = and_parts _ _ (d.0) in
+    let f = and_parts _ _ (e.0) in
+    all_nothing t (nil_if t.notes (f.0)) (none_if t.contents (a.1)) (none_if t.cause (e.1)) (nil_if t.orders (f.1)) (eqb-true t.lost 0 (d.1)) (eqb-true t.given_up 0 (c.1)) (eqb-true t.given_up_16 0 (b.1))
 
 not_begun : (begun : Bool) → not begun ≡ true → begun ≡ false
 not_begun true is = absurd (false≢true is)

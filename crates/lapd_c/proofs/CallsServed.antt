@@ -43,6 +43,7 @@ use Rattle.lapd_c.proofs.BothKinds.{both_kinds_are_served_by}
 use Rattle.lapd_c.proofs.CallsWrite.{calls_write_by}
 use Rattle.lapd_c.proofs.CallEvents.{calls_are_events_by}
 use Rattle.lapd_c.proofs.Calling.{octets_held}
+use Rattle.lapd_c.proofs.HandlesLeft.{handles_are_left_by}
 use Rattle.lapd_c.proofs.Served.{still_within}
 use Rattle.lapd_c.proofs.WrongStatuses.{refused_not_ok}
 
@@ -63,7 +64,7 @@ frames_held (Some kept) m s = of_card kept.card s
     of_card (Octets c) s = absurd s
     of_card (Frames c) s = refl
 
-each_card : (cards : Wanted) (old : CardHandle) (m : Machine) (P : Machine → Type 0) → HandleStands old m → is_of cards (is_timed old) m ≡ true → OfEach cards old P → P m
+pub each_card : (cards : Wanted) (old : CardHandle) (m : Machine) (P : Machine → Type 0) → HandleStands old m → is_of cards (is_timed old) m ≡ true → OfEach cards old P → P m
 each_card of_any old m P s is all = all m s
 each_card of_octets old (with_ports m) P s is all = all m s
 each_card of_octets old (alone m) P s is all = absurd (false≢true is)
@@ -71,7 +72,7 @@ each_card of_frames old (with_ports m) P s is all = absurd (false≢true is)
 each_card of_frames old (alone m) P s is all = all m s
 each_card of_untimed old m P s is all = all m (s, not_true (is_timed old) is)
 
-is_other : (cards : Wanted) (old : CardHandle) (m : Machine) → HandleStands old m → is_of cards (is_timed old) m ≡ false → IsOther cards old
+pub is_other : (cards : Wanted) (old : CardHandle) (m : Machine) → HandleStands old m → is_of cards (is_timed old) m ≡ false → IsOther cards old
 is_other of_any old m s is = absurd (false≢true (sym is))
 is_other of_octets old (with_ports m) s is = absurd (false≢true (sym is))
 is_other of_octets old (alone m) s is = frames_held (card_of old) m s
@@ -206,6 +207,8 @@ tells_shown r t s = record {
   no_contents = λ none. (s.delivered ∙ ap mark_of none, s.octet_count ∙ ap (λ o. length (contents_or_none o)) none);
   cause = s.cause;
   lost = s.lost;
+  given_up = s.given_up;
+  given_up_16 = s.given_up_16;
   begun = s.begun;
   more = s.more;
 }
@@ -218,6 +221,8 @@ tells_pull r begun more orders s = record {
   no_contents = λ none. (s.delivered, s.octet_count);
   cause = s.cause;
   lost = s.lost;
+  given_up = s.given_up;
+  given_up_16 = s.given_up_16;
   begun = s.begun;
   more = s.more;
 }
@@ -244,6 +249,7 @@ calls_are_served_by = record {
   events = calls_are_events_by;
   both_kinds = both_kinds_are_served_by;
   writes = calls_write_by;
+  handles = handles_are_left_by;
   calls = λ asked old new result before r c. call_is_served asked old new result before r c;
   falls_due = fall_is_served;
   none_due = λ now m c old new result none. (none.none, none.stands, none.timers, none.marks, none.counters);

@@ -1,12 +1,12 @@
 -- What calls write, and what is there after a start.
-use Rattle.std.specs.Prelude.{replicate, get_or, cond, is_some, option_map, IfSome, zero, suc}
+use Rattle.std.specs.Prelude.{◌≢◌, replicate, get_or, cond, is_some, option_map, IfSome, zero, suc}
 use Rattle.std.proofs.lemmas.Option.{none-some, same_Some}
 use Rattle.lapd_clock.specs.Timer.{first_out_of_range}
 use Rattle.lapd_clock.specs.Timers.{Timers, with_lengths}
 use Rattle.lapd_c.specs.Clocks.{clock_of}
 use Rattle.lapd_c.specs.Cards.{without_marks}
 use Rattle.std.proofs.Common.{⊎_elim}
-use Rattle.lapd_c.proofs.Vocabulary.{◌≡◌, ◌≤◌, ◌<◌, ◌++◌, ℕ, Option, None, Some, List, length, drop, refl, sym, ap, subst, ◌∙◌, false≢true, Machine, card_in}
+use Rattle.lapd_c.proofs.Vocabulary.{◌≡◌, ◌≤◌, ◌<◌, ◌++◌, ℕ, Option, None, Some, List, length, drop, inl, inr, refl, sym, ap, subst, ◌∙◌, false≢true, Machine, card_in}
 use Rattle.std.proofs.lemmas.List.{take-append-drop}
 use Rattle.lapd_count.specs.Counters.{count, none_counted, place, value_in}
 use Rattle.lapd_count.specs.declared.counter.Counter.{Counter}
@@ -16,18 +16,23 @@ use Rattle.model_line.specs.Event.{NextFrame, given_in}
 use Rattle.model_timed.specs.Clock.{at_moment, due}
 use Rattle.lapd_card.specs.Kinds.{AnyStands, counters_of, line_count}
 use Rattle.lapd_card.specs.declared.kinds.AnyCard.{AnyCard}
+use Rattle.model_card.specs.declared.kinds.CardKind.{CardKind}
 use Rattle.lapd_c.specs.CallsWrite.{CallsWrite, HasNothing}
 use Rattle.lapd_c.specs.Answers.{octet_of}
 use Rattle.lapd_c.specs.CardSlots.{HeldCard}
 use Rattle.lapd_c.specs.Cards.{card_of, marks_held, served_card, StandsIn}
-use Rattle.lapd_c.specs.Calls.{HasBegun}
+use Rattle.lapd_c.specs.Calls.{HasBegun, IsTimedStart}
 use Rattle.lapd_c.specs.Config.{config_fault}
 use Rattle.lapd_c.specs.Counted.{counters_held}
 use Rattle.lapd_c.specs.Counters.{plain_counters}
 use Rattle.lapd_c.specs.Frames.{IsGiven, next_at}
 use Rattle.lapd_c.specs.Waits.{Waits}
 use Rattle.lapd_c.specs.FallsDue.{FellDue}
+use Rattle.lapd_c.specs.Starts.{IsStart}
+use Rattle.lapd_c.specs.Timers.{lengths_in}
 use Rattle.lapd_c.specs.declared.card.CardHandle.{CardHandle}
+use Rattle.lapd_c.specs.declared.plain.config.PlainConfig.{PlainConfig}
+use Rattle.lapd_c.specs.declared.plain.timers.PlainLengths.{PlainLengths}
 use Rattle.lapd_c.proofs.Moments.{first_told, none_runs}
 
 -- what holds of what is there
@@ -88,6 +93,28 @@ same_kept None (Some then) is = absurd (none-some then.card (sym is))
 same_kept (Some kept) None is = absurd (none-some kept.card is)
 same_kept (Some kept) (Some then) is = ap counters_of (same_Some then.card kept.card is)
 
+-- a start that is not OK changes nothing
+none_begins : {A B C : Type 0} (P : Type 0) (held : Option A) (fault : Option B) (long : Option C) → ((x : A) → held ≡ Some x → P) → ((x : B) → held ≡ None → fault ≡ Some x → P)
+    → ((x : C) → held ≡ None → fault ≡ None → long ≡ Some x → P) → (held ≡ None → fault ≡ None → long ≡ None → P) → P
+none_begins P (Some x) fault long second wrong late else = second x refl
+none_begins P None (Some x) long second wrong late else = wrong x refl refl
+none_begins P None None (Some x) second wrong late else = late x refl refl refl
+none_begins P None None None second wrong late else = else refl refl refl
+
+no_start : {H X : Type 0} (held : H → Option X) (config : PlainConfig) (old new : H) (result : ℕ) → IsStart held config old new result → result ≢ 0 → new ≡ old
+no_start held config old new result s bad = none_begins {C = ℕ} (new ≡ old) (held old) (config_fault config) None
+    (λ x is. (there (λ _. (result ≡ 13) × (new ≡ old)) (held old) x s.second is).1)
+    (λ wrong none is. (there (λ wrong. (result ≡ wrong) × (new ≡ old)) (config_fault config) wrong (s.fault none) is).1)
+    (λ x none right is. absurd (none-some x is))
+    (λ none right _. ⊎_elim (λ ok. absurd (bad ok)) s.no_memory (s.otherwise none right))
+
+no_timed_start : (kind : CardKind) (config : PlainConfig) (lengths : PlainLengths) (old new : CardHandle) (result : ℕ) → IsTimedStart kind config lengths old new result → result ≢ 0 → new ≡ old
+no_timed_start kind config lengths old new result s bad = none_begins (new ≡ old) (card_of old) (config_fault config) (first_out_of_range (lengths_in lengths))
+    (λ x is. (there (λ _. (result ≡ 13) × (new ≡ old)) (card_of old) x s.second is).1)
+    (λ wrong none is. (there (λ wrong. (result ≡ wrong) × (new ≡ old)) (config_fault config) wrong (s.fault none) is).1)
+    (λ x none right is. (there (λ _. (result ≡ 21) × (new ≡ old)) (first_out_of_range (lengths_in lengths)) x (s.wrong_time none right) is).1)
+    (λ none right short. ⊎_elim (λ ok. absurd (bad ok)) (λ no_memory. no_memory.1) (s.otherwise none right short))
+
 -- if something is out of range
 out_of_range : {A : Type 0} (o : Option A) (c d : Timers) → IfSome o (λ _. (cond {A = ℕ} (is_some o) 21 0 ≡ 21) × (cond (is_some o) c d ≡ c))
 out_of_range None c d = tt
@@ -99,7 +126,8 @@ calls_write_by = record {
   frame = λ line long out out' given h m said stands within room is.
       frame_written long out out' given (there (λ x. IsGiven x out out' long) (next_at line m) given (said m stands within room) (ap given_in is));
   named = λ asked old new result before r m called stands within ok.
-      let it = called.call in ((it.reopened m stands within ok).of_line, ap (λ t. t.timer) (it.expired ok));
+      let it = called.call in ((it.reopened m stands within ok).of_line, it.expired ok);
+  no_timer = λ cards line result old new before r called. called.expired;
   timed = λ asked old new result before r called. called.call.timed;
   refused = λ now result old new m c said stands timers early. said m c stands timers early;
   fell_due = λ now result x old new m c r said it is.
@@ -114,6 +142,12 @@ calls_write_by = record {
       (same_stands (card_of old) (card_of new) m called.card stands, same_kept (card_of old) (card_of new) called.card, called.marks);
   no_lengths_card = λ old new result called. called.no_card;
   lengths_of_another = λ old new result called some untimed. ⊎_elim (λ none. absurd (some none)) (λ wrong. wrong) (called.wrong_card untimed);
+  start = λ kind config old new result s. record { in_range = s.start.otherwise; not_ok = no_start card_of config old new result s.start };
+  timed_start = λ kind config lengths old new result s. record {
+    in_range = λ none is. ⊎_elim (λ ok. inl ok) (λ no_memory. inr no_memory.0) (s.otherwise none is.0 is.1);
+    not_ok = no_timed_start kind config lengths old new result s;
+  };
+  clock_start = λ config old new result s. record { in_range = s.start.otherwise; not_ok = no_start clock_of config old new result s.start };
   second_start = λ kind config old new result kept h is. there (λ _. (result ≡ 13) × (new ≡ old)) (card_of old) kept h.start.second is;
   wrong_start = λ kind config old new result wrong h none is. there (λ wrong. (result ≡ wrong) × (new ≡ old)) (config_fault config) wrong (h.start.fault none) is;
   second_timed_start = λ kind config lengths old new result kept h is. there (λ _. (result ≡ 13) × (new ≡ old)) (card_of old) kept h.second is;

@@ -28,6 +28,8 @@ pub mod BothKinds
 pub mod WrongCalls
 pub mod Numbers
 pub mod CallsWrite
+pub mod HandlesLeft
 pub mod CallsServed
 pub mod CallEvents
+pub mod QuestionsServed
 pub mod QuestionsAnswered

@@ -1,6 +1,6 @@
 -- The moment at which a timer falls due first.
 use Rattle.lapd_c.proofs.Vocabulary.{◌≡◌, ℕ, ◌<◌, List, [], ◌∷◌, Option, None, Some, IsSome, refl, sym, ap, subst, arith, none-some}
-use Rattle.std.proofs.Common.{◌≢◌, cond, nat_le}
+use Rattle.std.proofs.Common.{◌≢◌, cond}
 use Rattle.std.proofs.lemmas.Bool.{le-leb, lt-leb}
 use Rattle.lapd_clock.specs.Timers.{Expiry}
 use Rattle.model_timed.specs.Clock.{first_due, first_moment}

@@ -1,9 +1,11 @@
 -- What questions are answered.
-use Rattle.std.specs.Prelude.{◌==◌, ◌+◌, ◌-◌, ◌++◌, Result, Err, slice_get, fold, find, flat_map, if◌then◌else◌}
+use Rattle.std.specs.Prelude.{◌==◌, ◌+◌, ◌-◌, ◌++◌, Result, Err, slice_get, fold, find, flat_map, map, if◌then◌else◌}
 use Rattle.lapd_c.proofs.Vocabulary.{◌≡◌, ◌∷◌, ℕ, Bool, true, false, cond, Option, None, Some, IfSome, Ok, List, [], length, inl, inr, refl, sym, ap, ◌∙◌, arith, not, nat_lt, cases_lt, and_parts, false≢true, Card, Machine, with_ports, alone, card_in, OctetCard, Service, answer, at, next}
 use Rattle.std.proofs.lemmas.Bool.{ltb-true, ne_eqb}
 use Rattle.std.specs.Option.{option_map_or, unwrap_or}
 use Rattle.model_bits.specs.Heads.{head_of, or_later}
+use Rattle.model_bits.specs.Framer.{last_octets}
+use Rattle.model_bits.specs.OpenGap.{octets_held}
 use Rattle.model_bits.specs.Sent as item
 use Rattle.model_bits.specs.Sent.{Item, idle}
 use Rattle.model_bits.specs.Stream as stream
@@ -20,14 +22,17 @@ use Rattle.model_card.specs.Room.{free}
 use Rattle.model_card.specs.ports.Card.{port_at}
 use Rattle.model_card.specs.ports.FrameHeard.{before_latest, octets_in}
 use Rattle.model_card.specs.ports.HeadHeard.{or_heard}
-use Rattle.model_card.specs.ports.Stored.{limit}
+use Rattle.model_card.specs.Stored as of_frames
+use Rattle.model_card.specs.ports.Port.{Port, left_of}
+use Rattle.model_card.specs.ports.Stored.{held_at, limit}
 use Rattle.lapd_card.proofs.Waiting.{first_waiting}
 use Rattle.lapd_c.proofs.LinksTold.{links_are_told_by}
+use Rattle.lapd_c.proofs.QuestionsServed.{questions_change_nothing_by}
 use Rattle.lapd_card.specs.Waiting.{IsFirstWaiting, has_next, next_waiting, waits_on}
 use Rattle.std.specs.List.{range_with_len}
 use Rattle.lapd_c.specs.Heads.{plain_head}
 use Rattle.lapd_c.specs.QuestionWords.{begun_frame_of, begun_of, heard_frame_of, in_front, or_status, room_at, room_of, room_told, state_of, waiting_from}
-use Rattle.lapd_c.specs.QuestionsAnswered.{GivesNone, HasEnded, IsNoService, WaitsFirst, NoneWaits, QuestionsAreAnswered, beginning, beginning_in, frame_in, frames_in, last_or, octets_heard, room_beside, whole_in}
+use Rattle.lapd_c.specs.QuestionsAnswered.{GivesNone, HasEnded, IsNoService, WaitsFirst, NoneWaits, QuestionsAreAnswered, beginning, beginning_in, frame_in, frames_in, last_or, octets_heard, octets_of, octets_on_their_way, room_beside, whole_in}
 use Rattle.lapd_c.specs.Services.{if_ok, number_of, or_wrong_service}
 use Rattle.lapd_c.specs.Statuses.{wrong_tei}
 use Rattle.lapd_c.specs.Timers.{link_in, with_tei}
@@ -180,8 +185,24 @@ none_waits_there from m none = go (next_waiting from m) (found (waits_on m) (ran
         let within = ltb-true k m.config.lines (and_parts (nat_lt k m.config.lines) (is_given (answer (at k next) m)) is).0 in
         absurd (not_given k m (none k h.gives.0 within) h.gives.1)
 
+-- ---- what is stored
+
+last_is : (items : List Item) → last_octets items ≡ length (last_or [] (map octets_of items))
+last_is [] = refl
+last_is (idle ∷ []) = refl
+last_is (item.frame octets ∷ []) = refl
+last_is (one ∷ other ∷ items) = last_is (other ∷ items)
+
+held_is : (n201 : ℕ) (p : Port) → held_at n201 p ≡ octets_on_their_way n201 p
+held_is n201 p = ap (λ n. octets_held n201 p.received + (if nat_lt (length (left_of p)) 8 then 0 else n)) (last_is p.items)
+
+same_sum : (f g : Port → ℕ) → ((p : Port) → f p ≡ g p) → (ps : List Port) → (n : ℕ) → fold (λ a p. a + f p) n ps ≡ fold (λ a p. a + g p) n ps
+same_sum f g same [] n = refl
+same_sum f g same (p ∷ ps) n = ap (λ k. fold (λ a p. a + f p) (n + k) ps) (same p) ∙ same_sum f g same ps (n + g p)
+
 pub questions_are_answered_by : QuestionsAreAnswered
 questions_are_answered_by = record {
+  served = (questions_change_nothing_by _, questions_change_nothing_by _, questions_change_nothing_by _, questions_change_nothing_by _, questions_change_nothing_by _);
   has = λ line m within. within;
   has_any = λ m. tt;
   lacks = λ line m past. past;
@@ -200,6 +221,7 @@ questions_are_answered_by = record {
   none_waits = none_waits_there;
   counters = λ c. refl;
   stored = λ m. refl;
+  stored_at_ports = λ m. ap (λ n. Ok (of_frames.stored m.card + n)) (same_sum (held_at m.card.config.n201) (octets_on_their_way m.card.config.n201) (held_is m.card.config.n201) m.ports 0);
   stored_alone = λ m. refl;
   limit = λ m. ap (λ (c : Card). Ok (limit c.config)) (inside m);
   lines = λ m. ap (λ (c : Card). Ok c.config.lines) (inside m);

@@ -119,7 +119,7 @@ no-orders [] is = refl
 no-orders (o ∷ os) is = absurd (omega (arith, is))
 
 quiet-orders : (a : port.Answer) → tells_nothing a ≡ true → timed_octets.orders_in a ≡ []
-quiet-orders (port.told t) is = no-orders t.orders (eqb-true (length t.orders) 0 (and_parts _ _ (and_parts _ _ (and_parts _ _ (and_parts _ _ is).0).0).0).1)
+quiet-orders (port.told t) is = no-orders t.orders (eqb-true (length t.orders) 0 (and_parts _ _ (and_parts _ _ (and_parts _ _ (and_parts _ _ (and_parts _ _ (and_parts _ _ is).0).0).0).0).0).1)
 quiet-orders (port.refused why) is = refl
 quiet-orders (port.pulled value begun orders) is = no-orders orders (eqb-true (length orders) 0 (and_parts _ _ is).1)
 

@@ -32,6 +32,7 @@ use Rattle.lapd_c.specs.Cards.{card_of, marks_at, HandleStands}
 use Rattle.lapd_c.specs.Config.{config_in}
 use Rattle.lapd_c.specs.Counted.{counters_at}
 use Rattle.lapd_c.specs.FallsDue.{FellDue, NoneDue}
+use Rattle.lapd_c.specs.HandlesLeft.{HandlesAreLeft}
 use Rattle.lapd_c.specs.Kept.{TimersStandIn, is_timed, orders_by, timers_of}
 use Rattle.lapd_c.specs.Notes.{cause_number, plain_note}
 use Rattle.lapd_c.specs.Reopened.{TellsReopened, WaitsFor}
@@ -79,6 +80,8 @@ pub record Tells (t : LineTold) (has_begun has_more : Bool) (r : PlainReport) : 
   pub no_contents : t.contents ≡ None → (r.delivered ≡ 0) × (r.length ≡ 0)
   pub cause : r.cause ≡ cause_number t.cause
   pub lost : r.lost ≡ t.lost
+  pub given_up : r.given_up ≡ t.given_up
+  pub given_up_16 : r.given_up_16 ≡ t.given_up_16
   pub begun : r.begun ≡ (if has_begun then 1 else 0)
   pub more : r.more ≡ (if has_more then 1 else 0)
 
@@ -129,12 +132,13 @@ pub record FallIsServed (now number : ℕ) (timer : Timer) (m : Machine) (c : Cl
   pub reopened : TellsReopened number (card_in (after (at number (line.expiry timer)) m)) (marks_at old) (marks_at new) r
 
 -- Each call is the event that `lapd.h` says, and is served so, at a machine of either kind. So is what falls due at a card with its
--- own timers. A start begins the machine of its configuration; if the card keeps its own timers, none runs. What a report shows it
+-- own timers. Each leaves a handle for the next call. A start begins the machine of its configuration; if the card keeps its own timers, none runs. What a report shows it
 -- tells, without orders if the card keeps its own timers.
 pub record CallsAreServed : Type 0 where
   pub events : CallsAreEvents
   pub both_kinds : BothKindsAreServed
   pub writes : CallsWrite
+  pub handles : HandlesAreLeft
   pub calls : (asked : Asked) (old new : CardHandle) (result : ℕ) (before r : PlainReport) → Called asked old new result before r → CallIsServed asked old new result before r
   pub falls_due : (now number : ℕ) (timer : Timer) (m : Machine) (c : Clock) (old new : CardHandle) (result : ℕ) (r : PlainReport) → FellDue now number timer m c old new result r
       → FallIsServed now number timer m c old new result r

@@ -1,5 +1,5 @@
 -- What a call writes beside its report, what it says of moments, and what is there after a start, in words of their own: those of `lapd.h`.
-use Rattle.std.specs.Prelude.{◌≡◌, ◌≢◌, ◌⊎◌, ◌≤◌, ◌<◌, ◌^◌, ℕ, ◌+◌, ◌-◌, Bool, true, false, List, [], ◌∷◌, ◌++◌, length, take, drop, get_or, None, Some, IfSome, IsSome, codes, refl}
+use Rattle.std.specs.Prelude.{◌≡◌, ◌≢◌, ◌⊎◌, ◌≤◌, ◌<◌, ◌^◌, ℕ, ◌+◌, ◌-◌, Bool, true, false, List, [], ◌∷◌, ◌++◌, length, take, drop, get_or, Option, None, Some, IfSome, IsSome, codes, refl}
 use Rattle.std.proofs.Common.{arith}
 use Rattle.lapd_clock.specs.Timer.{Lengths, first_out_of_range}
 use Rattle.lapd_clock.specs.Timers.{Expiry, Timers}
@@ -30,7 +30,7 @@ use Rattle.lapd_c.specs.declared.plain.counters.PlainCounters.{PlainCounters}
 use Rattle.lapd_c.specs.declared.plain.reports.PlainReport.{PlainReport}
 use Rattle.lapd_c.specs.declared.plain.timers.PlainLengths.{PlainLengths}
 use Rattle.lapd_c.specs.Answers.{octet_of}
-use Rattle.lapd_c.specs.CalledBy.{Asked, Called}
+use Rattle.lapd_c.specs.CalledBy.{Asked, Called, IsCallOf}
 use Rattle.lapd_c.specs.Calls.{IsCardStart, IsTimedStart}
 use Rattle.lapd_c.specs.Cards.{card_of, marks_at, served_card, IsHandle, HandleStands}
 use Rattle.lapd_c.specs.Clocks as clocks
@@ -44,7 +44,7 @@ use Rattle.lapd_c.specs.Kept.{TimersStandIn, is_timed, timers_of}
 use Rattle.lapd_c.specs.Starts.{IsFreed}
 use Rattle.lapd_c.specs.Timers.{lengths_in}
 use Rattle.lapd_c.specs.Waits.{Waits}
-use Rattle.lapd_c.specs.Wanted.{FramesWithLine, OctetsWithLine}
+use Rattle.lapd_c.specs.Wanted.{FramesWithLine, OctetsWithLine, Wanted}
 
 -- A moment is not before the clock's, and before 2^63.
 pub record IsOnTime (now : ℕ) (h : CardHandle) (m : Machine) (c : Clock) : Type 0 where
@@ -58,6 +58,11 @@ pub record HasNothing (h : CardHandle) : Type 0 where
   pub no_waits : (line tei : ℕ) (service : Service) → Waits (marks_at h) line service tei → ⊥
   pub no_counts : (line : ℕ) (counter : Counter) → value_in (get_or (counters_at h) line none_counted) counter ≡ 0
 
+-- A start where none is, with all in range, is OK, or finds no memory. Unless it is OK, nothing changes.
+pub record StartIsTold {H X : Type 0} (held : H → Option X) (IsInRange : Type 0) (old new : H) (result : ℕ) : Type 0 where
+  pub in_range : held old ≡ None → IsInRange → (result ≡ 0) ⊎ (result ≡ 22)
+  pub not_ok : result ≢ 0 → new ≡ old
+
 pub record CallsWrite : Type 0 where
   -- A pull writes the octet that the machine gives. A call for the next frame writes the frame, and its length; after it the room is as it was.
   pub octet : (line written value : ℕ) (begun : Bool) (orders : List Order) (h : CardHandle) (m : OctetCard)
@@ -67,9 +72,11 @@ pub record CallsWrite : Type 0 where
       → FramesWithLine line h (λ m. m.config.n201 + 4 ≤ length out → IfSome (next_at line m) (λ next. IsGiven next out out' count))
       → HandleStands h (alone m) → line < m.config.lines → m.config.n201 + 4 ≤ length out → answer (at line event.next) m ≡ event.gave (Some given)
       → (count ≡ length given.octets) × (out' ≡ given.octets ++ drop (length given.octets) out)
-  -- The report of a call names its line, and no timer.
+  -- The report of a call names its line, and no timer; nor does that of a block of octets.
   pub named : (asked : Asked) (old new : CardHandle) (result : ℕ) (before r : PlainReport) (m : Machine) → Called asked old new result before r
-      → HandleStands new m → asked.line < (card_in m).config.lines → result ≡ 0 → (r.line ≡ asked.line) × (r.expired.timer ≡ 0)
+      → HandleStands new m → asked.line < (card_in m).config.lines → result ≡ 0 → (r.line ≡ asked.line) × (r.expired ≡ record { timer = 0; service = 0; tei = 0 })
+  pub no_timer : (cards : Wanted) (line result : ℕ) (old new : CardHandle) (before r : PlainReport) → IsCallOf cards line old new result before r
+      → result ≡ 0 → r.expired ≡ record { timer = 0; service = 0; tei = 0 }
   -- A call leaves a card's kind of timers as it was.
   pub timed : (asked : Asked) (old new : CardHandle) (result : ℕ) (before r : PlainReport) → Called asked old new result before r → is_timed new ≡ is_timed old
   -- A moment before the clock's is refused, and one from 2^63 on. Else the first timer that is due falls due, or none is. A card
@@ -97,6 +104,13 @@ pub record CallsWrite : Type 0 where
   pub no_lengths_card : (old new : CardHandle) (result : ℕ) → IsTimersCall old new result → card_of old ≡ None → (result ≡ 11) × (new ≡ old)
   pub lengths_of_another : (old new : CardHandle) (result : ℕ) → IsTimersCall old new result → card_of old ≢ None → is_timed old ≡ false
       → (result ≡ 26) × (card_of new ≡ card_of old)
+  -- A start begins a card or a clock, or changes nothing.
+  pub start : (kind : CardKind) (config : PlainConfig) (old new : CardHandle) (result : ℕ) → IsCardStart kind config old new result
+      → StartIsTold card_of (config_fault config ≡ None) old new result
+  pub timed_start : (kind : CardKind) (config : PlainConfig) (lengths : PlainLengths) (old new : CardHandle) (result : ℕ) → IsTimedStart kind config lengths old new result
+      → StartIsTold card_of ((config_fault config ≡ None) × (first_out_of_range (lengths_in lengths) ≡ None)) old new result
+  pub clock_start : (config : PlainConfig) (old new : ClockHandle) (result : ℕ) → IsClockStart config old new result
+      → StartIsTold clock_of (config_fault config ≡ None) old new result
   -- A second start, and one with a wrong configuration or length, change nothing, and say so.
   pub second_start : (kind : CardKind) (config : PlainConfig) (old new : CardHandle) (result : ℕ) (kept : KeptCard) → IsCardStart kind config old new result
       → card_of old ≡ Some kept → (result ≡ 13) × (new ≡ old)

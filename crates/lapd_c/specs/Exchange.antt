@@ -26,7 +26,7 @@ use Rattle.lapd_card.specs.Kinds.{CardStands}
 
 -- An answer has nothing to tell.
 abbrev pub tells_nothing : Answer → Bool
-tells_nothing (told t) = (length t.notes == 0) && (length t.orders == 0) && is_none t.cause && (t.lost == 0) && is_none t.contents
+tells_nothing (told t) = (length t.notes == 0) && (length t.orders == 0) && is_none t.cause && (t.lost == 0) && (t.given_up == 0) && (t.given_up_16 == 0) && is_none t.contents
 tells_nothing (refused why) = false
 tells_nothing (pulled value begun orders) = not begun && (length orders == 0)
 

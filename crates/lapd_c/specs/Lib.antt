@@ -48,8 +48,10 @@ pub mod LinksTold
 pub mod BothKinds
 pub mod Numbers
 pub mod CallsWrite
+pub mod HandlesLeft
 pub mod CallsServed
 pub mod CallEvents
+pub mod QuestionsServed
 pub mod QuestionsAnswered
 -- the words of the contracts, from where they are defined
 pub use Rattle.lapd_card.specs.Counted.{counters_in}

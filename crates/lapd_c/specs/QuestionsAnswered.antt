@@ -1,6 +1,7 @@
 -- What questions are answered, in words of their own: those of `lapd.h` and of the machine.
-use Rattle.std.specs.Prelude.{◌≡◌, ◌≢◌, ◌≤◌, ◌<◌, ◌==◌, ℕ, ◌+◌, ◌-◌, ◌*◌, ◌%◌, nat_lt, List, [], ◌∷◌, ◌++◌, length, take, drop, flat_map, replicate, Some, None, Result, Ok, Err, codes, refl, if◌then◌else◌}
+use Rattle.std.specs.Prelude.{◌≡◌, ◌≢◌, ◌≤◌, ◌<◌, ◌==◌, ℕ, ◌+◌, ◌-◌, ◌*◌, ◌%◌, nat_lt, List, [], ◌∷◌, ◌++◌, length, take, drop, flat_map, map, replicate, sum_by, Some, None, Result, Ok, Err, codes, refl, if◌then◌else◌}
 use Rattle.std.specs.Option.{unwrap_or}
+use Rattle.model_bits.specs.OpenGap.{octets_held}
 use Rattle.model_bits.specs.Sent as item
 use Rattle.model_bits.specs.Sent.{Item, idle}
 use Rattle.model_bits.specs.Stream as stream
@@ -23,15 +24,18 @@ use Rattle.model_card.specs.Event.{at}
 use Rattle.model_card.specs.Machine.{after, answer}
 use Rattle.model_card.specs.Stored as of_frames
 use Rattle.model_card.specs.ports.Card.{OctetCard, port_at}
+use Rattle.model_card.specs.ports.Port.{Port, left_of}
 use Rattle.model_card.specs.ports.Stored as of_octets
 use Rattle.lapd_card.specs.Kinds.{Machine, with_ports, alone, card_in}
 use Rattle.lapd_c.specs.Counters.{plain_counters}
 use Rattle.lapd_c.specs.LinksTold.{LinksAreTold}
 use Rattle.lapd_c.specs.Services.{number_of}
 use Rattle.lapd_c.specs.Questions.{Has, Lacks}
+use Rattle.lapd_c.specs.QuestionsServed.{QuestionsChangeNothing}
 use Rattle.lapd_c.specs.QuestionWords.{begun_frame_of, begun_of, heard_frame_of, heard_of, limit_of, lines_of, room_of, state_of, stored_of, waiting_from}
 use Rattle.lapd_c.specs.Texts.{text_of}
 use Rattle.lapd_count.specs.declared.counters.Counters.{Counters}
+use Rattle.lapd_c.specs.declared.plain.counters.PlainCounters.{PlainCounters}
 use Rattle.lapd_c.specs.declared.plain.heads.PlainHead.{PlainHead}
 use Rattle.lapd_c.specs.declared.plain.rooms.PlainRoom.{PlainRoom}
 
@@ -107,7 +111,19 @@ most_of_messages c = if is_terminal c then 8 * (c.terminals + 1) else 44
 abbrev pub said_of : ℕ → List ℕ → List ℕ
 said_of side octets = told_text (if side == 0 then Network else User) octets
 
+-- The octets on their way at a port: of the frame that comes, the whole ones so far; and of the last item, if it is a frame, all of
+-- it while eight bits are left.
+abbrev pub octets_of : Item → List ℕ
+octets_of idle = []
+octets_of (item.frame octets) = octets
+
+abbrev pub octets_on_their_way : ℕ → Port → ℕ
+octets_on_their_way n201 p = octets_held n201 p.received + (if nat_lt (length (left_of p)) 8 then 0 else length (last_or [] (map octets_of p.items)))
+
 pub record QuestionsAreAnswered : Type 0 where
+  -- A question changes nothing and is told its word, whatever it asks for.
+  pub served : QuestionsChangeNothing ℕ × QuestionsChangeNothing PlainHead × QuestionsChangeNothing (List ℕ × ℕ) × QuestionsChangeNothing PlainRoom
+      × QuestionsChangeNothing PlainCounters
   -- A question of a line is asked if the card has that line. One of the whole card is always asked.
   pub has : (line : ℕ) (m : Machine) → line < (card_in m).config.lines → Has (Some line) m
   pub has_any : (m : Machine) → Has None m
@@ -137,9 +153,10 @@ pub record QuestionsAreAnswered : Type 0 where
   pub none_waits : (from : ℕ) (m : Card) → NoneWaits m from → waiting_from from (alone m) ≡ Err 28
   -- Counters are told as they are, each at its place.
   pub counters : (c : Counters) → plain_counters c ≡ record { values = c.values }
-  -- A card stores what its machine does. It may store, of each line, control frames, messages, and the frames on their way, and of each
+  -- A card stores what its machine does: what the card of frames does, and the frames on their way. It may store, of each line, control frames, messages, and the frames on their way, and of each
   -- slot N201 octets.
   pub stored : (m : OctetCard) → stored_of (with_ports m) ≡ Ok (of_octets.stored m)
+  pub stored_at_ports : (m : OctetCard) → stored_of (with_ports m) ≡ Ok (of_frames.stored m.card + sum_by (octets_on_their_way m.card.config.n201) m.ports)
   pub stored_alone : (m : Card) → stored_of (alone m) ≡ Ok (of_frames.stored m)
   pub limit : (m : Machine) → let c = (frames_in m).config in
       limit_of m ≡ Ok (c.lines * (8 * c.control * c.terminals + most_of_messages c) + c.slots * c.n201 + c.lines * (2 * c.n201 + 10))

@@ -39,6 +39,8 @@ pub record Shows (r : PlainReport) (t : LineTold) : Type 0 where
   pub contents : contents_in r ≡ t.contents
   pub cause : r.cause ≡ cause_number t.cause
   pub lost : r.lost ≡ t.lost
+  pub given_up : r.given_up ≡ t.given_up
+  pub given_up_16 : r.given_up_16 ≡ t.given_up_16
   pub begun : r.begun ≡ 0
   pub more : r.more ≡ 0
 
@@ -52,6 +54,8 @@ pub record ShowsPull (r : PlainReport) (is_begun has_more : Bool) (given : List 
   pub contents : contents_in r ≡ None
   pub cause : r.cause ≡ 0
   pub lost : r.lost ≡ 0
+  pub given_up : r.given_up ≡ 0
+  pub given_up_16 : r.given_up_16 ≡ 0
   pub begun : r.begun ≡ (if is_begun then 1 else 0)
   pub more : r.more ≡ (if has_more then 1 else 0)
 
@@ -61,6 +65,8 @@ pub record SameButContents (r r' : PlainReport) : Type 0 where
   pub order_count : r'.order_count ≡ r.order_count
   pub cause : r'.cause ≡ r.cause
   pub lost : r'.lost ≡ r.lost
+  pub given_up : r'.given_up ≡ r.given_up
+  pub given_up_16 : r'.given_up_16 ≡ r.given_up_16
   pub begun : r'.begun ≡ r.begun
   pub more : r'.more ≡ r.more
   pub notes : r'.notes ≡ r.notes

@@ -199,5 +199,7 @@ fn tells_nothing(told: &BareReport, delivered: Option<&[u8]>) -> bool
         && told.orders().is_empty()
         && told.cause().is_none()
         && told.lost == 0
+        && told.given_up == 0
+        && told.given_up_16 == 0
         && delivered.is_none()
 }

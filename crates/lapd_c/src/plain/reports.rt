@@ -52,6 +52,10 @@ pub struct PlainReport {
     pub reopened_tei: u8,
     /// The line of the event.
     pub line: u16,
+    /// How many contents that were granted are given up: the latest of the link of call control,
+    pub given_up: u8,
+    /// and of that of the second service.
+    pub given_up_16: u8,
 }
 
 impl PlainReport {
@@ -68,6 +72,8 @@ impl PlainReport {
         self.delivered = 0;
         self.length = 0;
         self.more = 0;
+        self.given_up = 0;
+        self.given_up_16 = 0;
     }
 
     /// Shows orders alone.
@@ -123,6 +129,8 @@ impl PlainReport {
         self.note_count = write_notes(&mut self.notes, items(&told.notes));
         self.cause = cause_number(told.cause());
         self.lost = told.lost;
+        self.given_up = told.given_up;
+        self.given_up_16 = told.given_up_16;
     }
 
     /// Shows the line, and which link of it has room again, by its place, or that none has that waited for it; and that no timer

@@ -10,3 +10,4 @@ pub mod TimedDrive
 pub mod RequestsMean
 pub mod EventsMean
 pub mod RepliesMean
+pub mod RunsMean

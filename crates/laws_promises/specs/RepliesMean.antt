@@ -1,5 +1,5 @@
--- What replies of Rattle say: in a report notes, contents, cause, orders and how many frames were lost; to a pull an octet; to a call
--- for the next frame the frame.
+-- What replies of Rattle say: in a report notes, contents, cause, orders, how many frames were lost and how many contents are given up;
+-- to a pull an octet; to a call for the next frame the frame.
 use Rattle.std.specs.Prelude.{◌≡◌, ℕ, List, [], take, Some, None}
 use Rattle.std.specs.Option.{option_copied}
 use Rattle.lapd_frame.specs.ShortLists.{listed}
@@ -22,7 +22,7 @@ use Rattle.laws_promises.specs.declared.frame_replies.SentFrame.{SentFrame}
 use Rattle.laws_promises.specs.declared.timed_replies.TimedReply.TheVariants as timed
 
 pub record RepliesMeanThis : Type 0 where
-  pub report : (r : Report) → report_told r ≡ record { notes = listed r.notes; contents = option_copied r.delivered; cause = r.cause; orders = listed r.orders; lost = r.lost }
+  pub report : (r : Report) → report_told r ≡ record { notes = listed r.notes; contents = option_copied r.delivered; cause = r.cause; orders = listed r.orders; lost = r.lost; given_up = r.given_up; given_up_16 = r.given_up_16 }
   pub none : listed {T = Order} short.None ≡ []
   pub one : (items : List Order) → listed (short.One items) ≡ items
   pub two : (items : List Order) → listed (short.Two items) ≡ items

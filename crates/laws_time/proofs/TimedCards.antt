@@ -64,4 +64,5 @@ timed-cards-are-cards = record {
   orders_pulled = λ value begun orders. refl;
   lengths = λ lengths c. refl;
   usual = refl;
+  ranges = λ l. refl;
 }

@@ -1,7 +1,8 @@
 -- A card that keeps its own timers is a card at which the same happens, and whose timers expire as they fall due.
 use Rattle.std.specs.Prelude.{◌≡◌, ◌≤◌, ◌<◌, ℕ, ◌+◌, Bool, true, false, List, [], ◌∷◌, ◌++◌, All, fold, option_map, option_to_list}
-use Rattle.lapd_clock.specs.Timer.{Timer, Order, Lengths, standard}
+use Rattle.lapd_clock.specs.Timer.{Timer, Order, Lengths, standard, first_out_of_range}
 use Rattle.lapd_clock.specs.Timers.{Expiry}
+use Rattle.lapd_clock.specs.declared.fault.LengthFault.TheVariants as fault
 use Rattle.model_line.specs.Event as line
 use Rattle.model_line.specs.Event.{LineTold}
 use Rattle.model_line.specs.Laws.{orders_in as line_orders_in}
@@ -16,6 +17,7 @@ use Rattle.model_timed.specs.Clock.{Clock, due, with_lengths}
 use Rattle.model_timed.specs.Frames.{frames}
 use Rattle.model_timed.specs.Octets.{octets, orders_in}
 use Rattle.model_timed.specs.Timed.{Kind, Timed, Step, happens, time, falls_due, after, after_all, ArePrompt}
+use Rattle.laws_trace.specs.Configurations.{is_out, first_of}
 
 -- What happens at the card by some steps: the events, and of each timer that falls due the event that it expires.
 unfoldable pub happened : {Card Event : Type 0} → Kind Card Event → (ℕ → Timer → Event) → List (Step Event) → Timed Card → List Event
@@ -74,3 +76,6 @@ pub record TimedCardsAreCards : Type 0 where
   -- 5.9.8).
   pub lengths : (new : Lengths) (c : Clock) → with_lengths new c ≡ record c { lengths = new }
   pub usual : standard ≡ record { t200 = 1000; t203 = 10000; t201 = 1000; t202 = 2000 }
+  -- Each runs a millisecond at least, and an hour at most; of those that are out of this range the first is named (profile).
+  pub ranges : (l : Lengths) → first_out_of_range l
+      ≡ first_of ((is_out 1 3600000 l.t200, fault.T200) ∷ (is_out 1 3600000 l.t203, fault.T203) ∷ (is_out 1 3600000 l.t201, fault.T201) ∷ (is_out 1 3600000 l.t202, fault.T202) ∷ [])

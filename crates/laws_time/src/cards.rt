@@ -17,7 +17,8 @@ ghost use Rattle.model_timed.specs.Octets.{octets};
 /// Laws that ask for prompt steps speak of all steps in which time does not go back, nor over the moment of a timer
 /// that runs and so many milliseconds more. Any event may happen at a line that the card has, except an expiry. New
 /// lengths hold for timers that are started from then on, and those that run keep their moments. The usual lengths are
-/// those of Q.921 (clauses 5.9.1 and 5.9.6 to 5.9.8).
+/// those of Q.921 (clauses 5.9.1 and 5.9.6 to 5.9.8). Each length is a millisecond at least, and an hour at most; of those
+/// that are not, the first is named (`ranges`).
 ///
 /// After any steps of a card of either kind no timer that runs goes before the one that is due (`first_of_frames`,
 /// `first_of_octets`). The earlier moment goes first. At one moment it is the lower line. On one line T200 goes before

@@ -59,10 +59,10 @@ fair-both ts us first then =
 codes-told : (a : port.Answer) → codes (told_by a) ≡ flat_map error_in (notes_in a)
 codes-told (port.told t) = go (tells_nothing t) t.notes refl refl
   where
-    go : (b : Bool) (ns : List Note) → tells_nothing t ≡ b → t.notes ≡ ns → codes (cond (tells_nothing t) [] (record t { orders = [] } ∷ [])) ≡ flat_map error_in t.notes
+    go : (b : Bool) (ns : List Note) → tells_nothing t ≡ b → t.notes ≡ ns → codes (cond (tells_nothing t) [] (record t { orders = []; given_up = 0; given_up_16 = 0 } ∷ [])) ≡ flat_map error_in t.notes
     go true [] e is = grind (arith, e, is)
     go true (n ∷ ns) e is = grind (arith, e, is)
-    go false ns e is = ap (λ b. codes (cond b [] (record t { orders = [] } ∷ []))) e ∙ ap (flat_map error_in) (append-nil t.notes)
+    go false ns e is = ap (λ b. codes (cond b [] (record t { orders = []; given_up = 0; given_up_16 = 0 } ∷ []))) e ∙ ap (flat_map error_in) (append-nil t.notes)
 codes-told (port.refused why) = refl
 codes-told (port.pulled value begun orders) = refl
 

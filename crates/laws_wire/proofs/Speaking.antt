@@ -2,9 +2,9 @@
 use Rattle.laws_wire.proofs.Vocabulary.{◌≡◌, ℕ, ◌+◌, ◌≤◌, List, [], ◌∷◌, length, map, Some, sym, subst, eq-eqb, arith, All, slice_get, option_to_list, if◌then◌else◌, option_or, le-ltb, seq, named, Parts, Terms, Link, received, course, LinkEndpoint, unserved_cause, LineTold, named-number, fits-at, Informs, Lane, lane-low, lane-order, Steady, is-steady, unwrap_or, frame, Course, Direction}
 use Rattle.laws_wire.proofs.Vocabulary.{tells_nothing, data_told}
 
--- what a course tells, but orders
+-- what a course tells, but orders and what it gives up
 abbrev pub heard_by : Course → LineTold
-heard_by c = record { notes = c.notes; contents = option_or c.delivered c.unit; cause = unserved_cause c.unserved; orders = []; lost = c.lost }
+heard_by c = record { notes = c.notes; contents = option_or c.delivered c.unit; cause = unserved_cause c.unserved; orders = []; lost = c.lost; given_up = 0; given_up_16 = 0 }
 
 abbrev pub said_by : Course → List LineTold
 said_by c = if tells_nothing (heard_by c) then [] else heard_by c ∷ []

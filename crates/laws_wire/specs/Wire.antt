@@ -17,12 +17,13 @@ pub record Endpoint : Type 0 where
   pub granted : List (List ℕ)
   pub told : List LineTold
 
--- What layer 3 is told by an answer: all but orders for timers, and nothing where it tells nothing else.
+-- What layer 3 is told by an answer: all but orders for timers and how many contents are given up, and nothing where it tells
+-- nothing else.
 abbrev pub tells_nothing : LineTold → Bool
 tells_nothing t = length t.notes == 0 && not (is_some t.contents) && not (is_some t.cause) && t.lost == 0
 
 abbrev pub without_orders : LineTold → List LineTold
-without_orders t = if tells_nothing t then [] else record t { orders = [] } ∷ []
+without_orders t = if tells_nothing t then [] else record t { orders = []; given_up = 0; given_up_16 = 0 } ∷ []
 
 abbrev pub told_by : Answer → List LineTold
 told_by (told t) = without_orders t

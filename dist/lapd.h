@@ -177,7 +177,8 @@ enum {
     /* What else can be. */
     LAPD_NO_MEMORY = 22, /* a start was refused memory; what it had taken is given back */
     LAPD_NO_TIMER = 23,  /* no timer is due, or none runs */
-    LAPD_NO_PLACE = 24,  /* no place for one more timer of the line; tests see none where a card alone orders */
+    LAPD_NO_PLACE = 24,  /* no place for one more timer of the line; orders of one card of the clock's configuration always
+                            find one */
     LAPD_NO_MORE_LINKS = 25, /* the line has no link from that place on */
 
     /* Of cards of frames. Nothing has changed. */
@@ -336,14 +337,23 @@ enum {
 
 /*
  * What an event led to: notes, then why something was dropped, then orders. Each call that succeeds tells all of one
- * event: the numbers of notes and orders, cause, lost, begun, delivered, length and more are always those of this event.
- * Beyond these numbers, and beyond length, the arrays may hold what earlier events told.
+ * event: the numbers of notes and orders, cause, lost, begun, delivered, length, more, given_up and given_up_16 are always
+ * those of this event. Beyond these numbers, and beyond length, the arrays may hold what earlier events told. A refused call
+ * writes no report: what an earlier call told, given_up too, still stands there.
  *
  * A link on which contents were refused as LAPD_REFUSED_QUEUE_FULL waits for room, and is told once when its queue has
  * some (`reopened`): by the first call of its line that writes a report and at whose end it has. It does not matter what
  * made the room: contents were acknowledged, or given up as the link was released, established anew or taken down. If more
  * than one that waits has room, a report tells one, the lowest TEI first, and call control before packet. The next reports
  * of the line tell the others, if they still have. A link whose TEI leaves the line waits no longer, and is not told.
+ *
+ * Contents that lapd_data granted wait until the other end acknowledges them, or are given up. A link gives them up as it is
+ * released or deactivated, as its establishment fails, and as its TEI leaves the line. It also does as it is established anew
+ * while some are outstanding: sent, not acknowledged, and not to be sent again. An event is of one TEI: that of a request,
+ * otherwise that of the first note. `given_up` and `given_up_16` say how many contents its two links give up. These are the
+ * ones that were granted last before the event, sent or not; what was sent may have arrived all the same. So read a report
+ * before the card's next call. A release has no note as it is granted: its own report tells what it gives up. Unit data is not counted: it is given up only as the line goes down. No
+ * report counts what is lost by lapd_card_free, a restart or a standby that takes over.
  *
  * A report is written by the calls that it is handed to, and by these alone: no card keeps its address. It has no pointers, so
  * a copy tells the same, and stays as it is. While layer 3 reads a report and asks for something meanwhile, its requests take
@@ -379,6 +389,8 @@ typedef struct lapd_report {
     uint8_t reopened_service; /* of that link: LAPD_CALL or LAPD_PACKET */
     uint8_t reopened_tei;     /* of that link: 0 to 126 */
     uint16_t line;            /* the line at which the event happened */
+    uint8_t given_up;    /* the latest so many contents that lapd_data granted for call control are given up: 0 to 127 */
+    uint8_t given_up_16; /* the same of the second service */
 } lapd_report;
 
 /* ---- A card ----------------------------------------------------------------------------------------------------- */
@@ -766,6 +778,7 @@ LAPD_STATUS lapd_clock_next(lapd_clock *clock, uint64_t *moment);
 /* Whether a report has anything to tell. */
 LAPD_INLINE bool lapd_tells(const lapd_report *report) {
     return report->note_count != 0 || report->order_count != 0 || report->cause != 0 || report->lost != 0
+           || report->given_up != 0 || report->given_up_16 != 0
            || report->begun != 0 || report->delivered != 0 || report->reopened != 0;
 }
 

@@ -284,6 +284,9 @@ public:
     list<lapd_order, order> orders() const { return {raw_.orders, raw_.order_count}; }
     lapd::cause cause() const { return static_cast<lapd::cause>(raw_.cause); }
     unsigned lost() const { return raw_.lost; }
+    /// How many contents that were granted are given up, the latest: of call control, and of the second service.
+    unsigned given_up() const { return raw_.given_up; }
+    unsigned given_up_16() const { return raw_.given_up_16; }
     bool begun() const { return raw_.begun != 0; }
     bool delivered() const { return raw_.delivered != 0; }
     octets contents() const { return {raw_.contents, raw_.length}; }

@@ -250,7 +250,7 @@ class _Report(ctypes.Structure):
                 ("length", ctypes.c_uint16), ("notes", _Note * 4), ("orders", _Order * 4),
                 ("contents", ctypes.c_uint8 * 260), ("more", ctypes.c_uint8), ("expired", _Timer),
                 ("reopened", ctypes.c_uint8), ("reopened_service", ctypes.c_uint8), ("reopened_tei", ctypes.c_uint8),
-                ("line", ctypes.c_uint16)]
+                ("line", ctypes.c_uint16), ("given_up", ctypes.c_uint8), ("given_up_16", ctypes.c_uint8)]
     # tools/names: end
 
 
@@ -506,6 +506,9 @@ class Report(NamedTuple):
     contents: Optional[bytes] = None  # of a data or a unit indication
     more: bool = False  # of the next frame: whether another waits on its line
     reopened: Optional[Tuple[Service, int]] = None  # a link, with its TEI, that was refused contents and has room again
+    # Of the TEI of the request, otherwise of the first note: 0 to 127 each. A release that is granted tells it in its own report.
+    given_up: int = 0  # the latest so many contents that were granted for call control are given up
+    given_up_16: int = 0  # the same of the second service
     line: int = 0  # at which the event happened
     expired: Optional[Timer] = None  # of fall_due: the timer that expired
 
@@ -556,7 +559,7 @@ def _report(of: _Report) -> Report:
                   tuple(Order(OrderKind(it.order), _timer(it.timer)) for it in of.orders[: of.order_count]),
                   Cause(of.cause) if of.cause else None, of.lost, bool(of.begun),
                   bytes(of.contents[: of.length]) if of.delivered else None, bool(of.more),
-                  (Service(of.reopened_service), of.reopened_tei) if of.reopened else None, of.line,
+                  (Service(of.reopened_service), of.reopened_tei) if of.reopened else None, of.given_up, of.given_up_16, of.line,
                   _timer(of.expired) if of.expired.timer else None)
 
 
@@ -815,14 +818,15 @@ class _Timed(AnyCard):
     def fall_due(self, now: int) -> Iterator[Report]:
         """The time is now this moment: what is due falls due, one after the other, and each tells which timer it was and what it led to.
 
-        Take all of them, as `for report in card.fall_due(now)` or `list(..)` does: the call alone does nothing. An Error with
+        Take all of them, and read each before the next, as `for report in card.fall_due(now)` does: the call alone does nothing.
+        If layer 3 sends meanwhile, `list(..)` is too late: `given_up` counts what was granted before its event. An Error with
         WRONG_TIME: the moment is before the last one, or 2^63 and later."""
         while _unless(Status.NO_TIMER, "lapd_fall_due", self._at, now, ctypes.byref(self._told)):
             yield _report(self._told)
 
     def at(self, now: int, call: Callable[..., Report], *words: Any, **named: Any) -> Iterator[Report]:
         """A call with its moment, as `card.at(now, card.frame, 0, octets)`: what is due by then falls due, and then the call is
-        made; each tells what it led to. So nobody forgets to tell the time. Take all of them, as of fall_due."""
+        made; each tells what it led to. So nobody forgets to tell the time. Take all of them in turn, as of fall_due."""
         yield from self.fall_due(now)
         yield call(*words, **named)
 

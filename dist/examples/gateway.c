@@ -25,7 +25,7 @@ void gateway_end(gateway *own) {
 
 static bool has_news(const lapd_report *report) {
     return report->note_count != 0 || report->cause != 0 || report->lost != 0 || report->delivered != 0
-           || report->reopened != 0;
+           || report->reopened != 0 || report->given_up != 0 || report->given_up_16 != 0;
 }
 
 /* What layer management does about an error: where a TEI that was assigned may be doubled or gone, it asks. What is refused is

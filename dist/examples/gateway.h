@@ -39,7 +39,7 @@ typedef struct gateway gateway;
 
 /* A gateway, which begins as GATEWAY_NONE; its callback is set before the start. */
 struct gateway {
-    /* What an event led to, at report->line, where it led to notes, contents, a drop, a loss or room. */
+    /* What an event led to, at report->line, where it led to notes, contents, a drop, a loss or room, or gave something up. */
     void (*on_report)(gateway *own, const lapd_report *report);
     lapd_card card;
     uint64_t now; /* the latest moment that it was told */

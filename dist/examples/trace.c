@@ -132,6 +132,10 @@ void trace_report(trace *log, uint64_t milliseconds, lapd_card *card, const lapd
         begin(log, milliseconds, line, " ");
         fprintf(log->to, "lost %u\n", report->lost);
     }
+    if (report->given_up != 0 || report->given_up_16 != 0) {
+        begin(log, milliseconds, line, " ");
+        fprintf(log->to, "given up %u, of the second service %u\n", report->given_up, report->given_up_16);
+    }
     for (unsigned i = 0; i < report->order_count; i++) {
         begin(log, milliseconds, line, " ");
         trace_timer(log, report->orders[i].order == LAPD_START ? "start" : "stop", &report->orders[i].timer);

@@ -32,18 +32,32 @@ static void want_ok(uint32_t status, const char *call) {
     exit(3);
 }
 
-/* Writes what an event told, and hands its orders to the clock. */
-static void tell(station *b, uint32_t line, const lapd_report *report) {
+/* Writes what a TEI's links gave up. */
+static void tell_losses(const station *b, uint32_t line, unsigned tei, const lapd_report *report) {
+    if (b->losses && report->given_up != 0)
+        fprintf(b->to, "%u given-up %u %u\n", line, tei, report->given_up);
+    if (b->losses && report->given_up_16 != 0)
+        fprintf(b->to, "%u given-up-16 %u %u\n", line, tei, report->given_up_16);
+}
+
+/* Writes what an event of a TEI told, and hands its orders to the clock. */
+static void tell_of(station *b, uint32_t line, unsigned tei, const lapd_report *report) {
     for (int i = 0; i < report->note_count; i++)
         put_note(b, line, &report->notes[i], report);
     if (report->cause != 0)
         fprintf(b->to, "%u dropped %s\n", line, lapd_cause_text(report->cause));
     if (report->lost != 0)
         fprintf(b->to, "%u lost %u\n", line, report->lost);
+    tell_losses(b, line, tei, report);
     if (b->is_timed)
         want_ok(report->order_count == 0 ? LAPD_OK : LAPD_WRONG_ORDER, "orders of a card with timers of its own");
     else
         want_ok(lapd_clock_apply_report(&b->clock, line, report, b->now), "orders of the card");
+}
+
+/* The first note has the TEI: what an event gives up is noted, unless layer 3 asked for it. */
+static void tell(station *b, uint32_t line, const lapd_report *report) {
+    tell_of(b, line, report->note_count > 0 ? report->notes[0].tei : LAPD_GROUP_TEI, report);
 }
 
 static uint32_t start_card(station *b, const lapd_config *config) {
@@ -263,7 +277,7 @@ static void ask(station *b, uint32_t line, const command *c) {
         return;
     }
     want_ok(status, "request");
-    tell(b, line, &report);
+    tell_of(b, line, c->numbers[1], &report);
 }
 
 /* The whole line goes down, a link a call. */
@@ -336,7 +350,7 @@ static fault obeyed(station *b, const command *c) {
         return b->card.started ? SECOND_CARD : start(b, c);
     if (lapd_lines(&b->card, &lines) != LAPD_OK)
         return NO_CARD;
-    if (c->verb == WAIT || c->verb == TIMERS || c->verb == STORED)
+    if (c->verb == WAIT || c->verb == TIMERS || c->verb == STORED || c->verb == LOSSES)
         hand_over(b);
     if (c->verb == WAIT)
         return wait(b, c->numbers[0]);
@@ -348,6 +362,10 @@ static fault obeyed(station *b, const command *c) {
     }
     if (c->verb == STORED) {
         show_stored(b);
+        return NO_FAULT;
+    }
+    if (c->verb == LOSSES) {
+        b->losses = true;
         return NO_FAULT;
     }
     if (is_of_other_card(b, c))

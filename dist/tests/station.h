@@ -29,6 +29,7 @@ typedef struct {
     bool is_timed;    /* the card keeps its own timers, and there is no clock */
     bool by_exchange; /* every pull is one of lapd_exchange; lines `rx LINE OCTET` and `pull LINE 1` in turn are one run of it */
     bool for_frames;
+    bool losses;      /* what is given up is shown */
     station_run run; /* what is not handed over yet */
     hdlc_sender senders[LAPD_MOST_LINES];
     hdlc_listener listeners[LAPD_MOST_LINES];

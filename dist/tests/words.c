@@ -30,6 +30,7 @@ static const meaning meanings[] = {
     {"next", NEXT, 0, 0, 1, false, 0, ANY},
     {"wait", WAIT, 0, 0, 1, false, 0, 3600000},
     {"stored", STORED, 0, 0, 0, false, 0, ANY},
+    {"losses", LOSSES, 0, 0, 0, false, 0, ANY},
     {"counters", COUNTERS, 0, 0, 1, false, 0, ANY},
     {"messages", MESSAGES, 0, 0, 1, false, 0, ANY},
     {"down", DOWN, 0, 0, 1, false, 0, ANY},

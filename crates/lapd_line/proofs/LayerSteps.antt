@@ -1,5 +1,5 @@
 -- What a call on the links does to the entities of a line.
-use Rattle.lapd_line.proofs.Vocabulary.{management_of, places_of, ◌≡◌, ℕ, ◌<◌, ◌≤◌, List, ◌++◌, length, slice_get, Option, Some, refl, sym, ap, subst, ◌∙◌, arith, append_assoc, get_or, None, Owned, Holds, Store, SameLimits, Service, Link, told_with, state_number, IsAt, place_of, at-within, place_of-is, Line, link_number, link_count, service_at, place_at, tei_at, terms, state_in, state_of, at_link}
+use Rattle.lapd_line.proofs.Vocabulary.{management_of, places_of, ◌≡◌, ℕ, ◌<◌, ◌≤◌, List, ◌++◌, length, slice_get, Option, Some, refl, sym, ap, subst, ◌∙◌, arith, append_assoc, get_or, None, Owned, Holds, Store, SameLimits, Service, Link, told_with, IsAt, place_of, at-within, place_of-is, Line, link_number, link_count, service_at, place_at, tei_at, terms, at_link, link_in, place_in}
 use Rattle.lapd_line.proofs.Vocabulary.{told_of_link, IsSound}
 use Rattle.lapd_line.proofs.Vocabulary.{place_at-number, service_at-number, number_within, aim_sound, ranges_of, LinkLayer, BareReport, told_in, unit_pairs, UnitRing, AreFor, Marks, Sets, AreAwake, TellsOf, Bool, LinksStand, HasTerms, links_pairs, terms_in, machine_at, LinkFits, LayerStands, Standing, Serves, always, Config, Managing, is_terminal, is_terminals, own_of, All, zip}
 use Rattle.std.specs.Option.{option_map}
@@ -136,15 +136,15 @@ at_link_serves {e} {s} {t} {new} {has_frame} {service} {tei} {place} {number} {w
           is_told ∙ ap told_of_link (served.told e.config (terms e.config service tei) (beside_links e m others) m.links n.has_terms (links_part e s others m st));
     }
 
--- the state of a link of a TEI on the line
-pub state_is : (e : LinkLayer) (s : Store) (others : List Owned) (m : Line) (service : Service) (tei place number : ℕ) (result : Option ℕ) → LayerStands e s others m → place_of tei (places_of e.teis) ≡ Some place
+-- what is asked of a link of a TEI on the line
+pub asked_of_link : {A : Type 0} (of_link : machine.Link → A) (e : LinkLayer) (s : Store) (others : List Owned) (m : Line) (service : Service) (tei place number : ℕ) (result : Option A) → LayerStands e s others m → place_of tei (places_of e.teis) ≡ Some place
     → (place ≤ 8 → number ≡ link_number place service)
-    → (number < length e.links → LinksStand e.config e.links s (beside_links e m others) m.links → result ≡ Some (state_number (machine_at m.links number).state))
-    → result ≡ state_of service tei m
-state_is e s others m service tei place number result st is named_so h =
+    → (number < length e.links → LinksStand e.config e.links s (beside_links e m others) m.links → result ≡ Some (of_link (machine_at m.links number)))
+    → result ≡ option_map (λ place. of_link (link_in m service place)) (place_in m tei)
+asked_of_link of_link e s others m service tei place number result st is named_so h =
     let at = (place_of-is (places_of e.teis) tei place is).1 in
     let n = named e s others m service tei place st at in
     let same : number ≡ link_number place service = numbered e s tei place (others, m, st) at named_so in
     h (subst (λ x. x < length e.links) (sym same) n.within) (links_part e s others m st)
-    ∙ ap (λ x. Some (state_number (machine_at m.links x).state)) same
-    ∙ sym (ap (λ t. option_map (state_in m service) (place_of tei t.places)) st.management ∙ ap (option_map (state_in m service)) is)
+    ∙ ap (λ x. Some (of_link (machine_at m.links x))) same
+    ∙ sym (ap (λ t. option_map (λ place. of_link (link_in m service place)) (place_of tei t.places)) st.management ∙ ap (option_map (λ place. of_link (link_in m service place))) is)

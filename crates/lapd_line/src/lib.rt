@@ -49,7 +49,7 @@ mod units;
 
 pub use fault::StartFault;
 pub use frame_line::FrameLine;
-pub use lapd_link::{BareReport, Room};
+pub use lapd_link::{BareReport, LinkCounts, Room};
 pub use line::Line;
 pub use marks::Marks;
 pub use model_line::{Config, Field, Request};

@@ -7,7 +7,7 @@ ghost use Rattle.model_link.specs.Link as machine;
 
 use crate::fault::StartFault;
 use lapd_frame::{Address, Refusal, Service};
-use lapd_link::{BareReport, Link, LinkRequest, LinkTimer, Offer, Received, Room};
+use lapd_link::{BareReport, Link, LinkCounts, LinkRequest, LinkTimer, Offer, Received, Room};
 use lapd_store::Shelf;
 use model_line::Config;
 use std::alloc::Global;
@@ -147,6 +147,14 @@ impl Links {
             → result ≡ Some (machine.state_number (machine_at ms number).state) }
     {
         Some(self.all.get(number)?.state())
+    }
+
+    /// What was counted of a link; none if there is no such link.
+    pub(crate) fn counts(&self, number: usize) -> Option<LinkCounts>
+        ensures { (c : Config) (store : Store) (others : List Owned) (ms : List machine.Link) → number < length self.now → LinksStand c self.now store others ms
+            → result ≡ Some (machine_at ms number).counts }
+    {
+        Some(self.all.get(number)?.counts())
     }
 
     /// How much room a link has; none if there is no such link.

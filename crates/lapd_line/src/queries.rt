@@ -10,7 +10,7 @@ use crate::frame_line::FrameLine;
 use crate::link_layer::link_number;
 use lapd_count::Counters;
 use lapd_frame::{LAST_TEI, Refusal, Service};
-use lapd_link::Room;
+use lapd_link::{LinkCounts, Room};
 use lapd_store::Shelf;
 
 impl FrameLine {
@@ -39,6 +39,15 @@ impl FrameLine {
     {
         let place = self.layer.teis.place(tei)?;
         self.layer.links.state(link_number(place, service))
+    }
+
+    /// What was counted of the link of a service with this TEI. None where the TEI is not on the line.
+    pub fn link_counts(&self, service: Service, tei: u8) -> Option<LinkCounts>
+        ensures { (store : Store) (others : List Owned) (m : machine.Line) → LineStands self.now store others m
+            → result ≡ machine.counts_of service tei m }
+    {
+        let place = self.layer.teis.place(tei)?;
+        self.layer.links.counts(link_number(place, service))
     }
 
     /// The place of a TEI on the line, in the table of its TEIs. None where the TEI is not on the line.

@@ -34,7 +34,7 @@ mod rooms;
 pub use fault::StartFault;
 pub use lapd_link_steps::BareReport;
 pub use link::Link;
-pub use model_link::{LinkTimer, Room, two_ends};
+pub use model_link::{LinkCounts, LinkTimer, Room, two_ends};
 pub use offers::Offer;
 pub use outcome::Outcome;
 pub use received::Received;

@@ -10,7 +10,7 @@ use crate::fault::StartFault;
 use lapd_frame::{Address, Reading, Service};
 use lapd_link_steps::Entity;
 use lapd_store::SlotQueue;
-use model_link::Terms;
+use model_link::{LinkCounts, Terms};
 use std::alloc::Global;
 
 /// A data link of one TEI and one service.
@@ -110,6 +110,13 @@ impl Link {
         ensures { (store : Store) (others : List Owned) (m : machine.Link) → LinkStands self.now store others m → result ≡ machine.state_number m.state }
     {
         self.entity.state().number()
+    }
+
+    /// What was counted of it.
+    pub fn counts(&self) -> LinkCounts
+        ensures { (store : Store) (others : List Owned) (m : machine.Link) → LinkStands self.now store others m → result ≡ m.counts }
+    {
+        self.entity.counts()
     }
 
     /// The octets of the control frames that wait, without frame checks: 3 or 4 each.

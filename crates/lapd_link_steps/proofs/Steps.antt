@@ -1,10 +1,12 @@
 -- How steps are put together. The answer for a row is the chain of its words.
-use Rattle.lapd_link_steps.proofs.Vocabulary.{◌≡◌, ℕ, Bool, true, false, IsTrue, cond, ◌+◌, ◌⊎◌, List, Option, Some, None, MatchOption, inl, inr, refl, sym, ap, subst, arith, ◌∙◌, Seq, IsNamed, named, WindowStands, State, Terms, Link, Sent, Course, Step, ◌then◌, nothing, depending_on, by_bit, changed, acknowledge, by_number, pending_is, start, T200, failed, Entity, BareReport, Past, past_of}
+use Rattle.lapd_link_steps.proofs.Vocabulary.{◌≡◌, ℕ, Bool, true, false, IsTrue, cond, ◌+◌, ◌-◌, ◌⊎◌, List, Option, Some, None, MatchOption, inl, inr, refl, sym, ap, subst, arith, ◌∙◌, Seq, IsNamed, named, WindowStands, State, Terms, Link, Sent, Course, Step, ◌then◌, nothing, depending_on, by_bit, changed, acknowledge, by_number, pending_is, start, T200, failed, Entity, BareReport, Past, past_of}
 use Rattle.lapd_link_steps.proofs.Vocabulary.{link_of, course_of, Fits, Agrees, Does, DoesBy}
 use Rattle.lapd_frame.specs.Readings.{by_reading}
 use Rattle.lapd_frame.specs.declared.notes.ErrorCode.TheVariants as code
 use Rattle.lapd_frame.specs.declared.readings.Reading.{Reading}
 use Rattle.lapd_frame.specs.declared.readings.Reading.TheVariants.{Profile, AnnexB}
+use Rattle.model_link.specs.declared.counts.LinkCounts.{LinkCounts}
+use Rattle.model_link.specs.Counts.{with_information_sent}
 use Rattle.model_link.specs.Words.{read_as}
 use Rattle.model_link.specs.Offers as offers
 use Rattle.model_link.specs.Words as word
@@ -51,8 +53,13 @@ module _ {terms : Terms} {info : List ℕ} {e : Entity} {t : BareReport} where
   pub state_set : {state : State} → Does terms info (word.enter state) e t (record e { state = state }) t
   state_set = record { step = λ messages p fits. record { fits = still-fits refl refl refl fits; is = refl } }
 
-  pub one_sent : {w : Window} → ((a s : ℕ) → WindowStands e.window a s → WindowStands w a (s + 1)) → Does terms info (changed offers.with_one_sent) e t (record e { window = w }) t
-  one_sent plain = record { step = λ messages p fits. record { fits = record { window = plain p.a p.s fits.window; received = fits.received; ring = fits.ring; queue = fits.queue; few = fits.few; cause = fits.cause; given_up = fits.given_up; whole = fits.whole }; is = refl } }
+  -- something is counted
+  pub counted : (change : LinkCounts → LinkCounts) {k : LinkCounts} → k ≡ change e.counts → Does terms info (word.count change) e t (record e { counts = k }) t
+  counted change same = record { step = λ messages p fits. record { fits = still-fits refl refl refl fits; is = ap (λ (k : LinkCounts). record (course_of info e t p) { link = record (link_of e p) { counts = k } }) same } }
+
+  pub one_sent : {w : Window} {n : ℕ} {k : LinkCounts} → ((a s : ℕ) → WindowStands e.window a s → WindowStands w a (s + 1)) → n ≡ e.again - 1 → k ≡ with_information_sent e.again e.counts
+      → Does terms info (changed offers.with_one_sent) e t (record e { window = w; again = n; counts = k }) t
+  one_sent {k = kept} plain fewer same = record { step = λ messages p fits. record { fits = record { window = plain p.a p.s fits.window; received = fits.received; ring = fits.ring; queue = fits.queue; few = fits.few; cause = fits.cause; given_up = fits.given_up; whole = fits.whole }; is = ap (λ (n : ℕ). record (course_of info e t p) { link = record (link_of e p) { s = p.s + 1; again = n; counts = kept } }) fewer ∙ ap (λ (k : LinkCounts). record (course_of info e t p) { link = record (link_of e p) { s = p.s + 1; again = e.again - 1; counts = k } }) same } }
 
   pub repeats_more : Does terms info word.repeated e t (record e { repeats = e.repeats + 1 }) t
   repeats_more = record { step = λ messages p fits. record { fits = still-fits refl refl refl fits; is = refl } }

@@ -40,6 +40,7 @@ link_of e p = record {
   a = p.a;
   s = p.s;
   r = p.r;
+  again = e.again;
   peer_busy = e.peer_busy;
   own_busy = e.own_busy;
   rejecting = e.rejecting;
@@ -48,6 +49,7 @@ link_of e p = record {
   repeats = e.repeats;
   running = e.running;
   waiting = e.waiting.items;
+  counts = e.counts;
 }
 
 -- The event under way, of which the information came with the frame.

@@ -2,7 +2,7 @@
 
 use circular_buffer::HeapCircularBuffer;
 use lapd_seq::{Seq, Window};
-use model_link::{ControlFrame, LinkTimer, State};
+use model_link::{ControlFrame, LinkCounts, LinkTimer, State};
 use std::alloc::{AllocError, Global};
 
 /// The data link layer entity of one link, without its queue of contents.
@@ -15,6 +15,8 @@ pub struct Entity {
     pub(crate) window: Window,
     // V(R)
     pub(crate) vr: Seq,
+    // how many of the contents from V(S) on were sent before
+    pub(crate) again: u8,
     // the terminal can take no I-frames
     pub(crate) peer_busy: bool,
     // this side can take no I-frames
@@ -30,6 +32,7 @@ pub struct Entity {
     pub(crate) running: Option<LinkTimer>,
     // control frames that wait to be sent, oldest first
     pub(crate) waiting: HeapCircularBuffer<ControlFrame>,
+    pub(crate) counts: LinkCounts,
 }
 
 impl Entity {
@@ -49,6 +52,7 @@ impl Entity {
             state: State::TeiAssigned,
             window: Window::new(),
             vr: Seq::zero(),
+            again: 0,
             peer_busy: false,
             own_busy: false,
             rejecting: false,
@@ -57,6 +61,7 @@ impl Entity {
             repeats: 0,
             running: None,
             waiting,
+            counts: LinkCounts::none(),
         })
     }
 
@@ -72,6 +77,13 @@ impl Entity {
         ensures { result ≡ self.now.running }
     {
         self.running
+    }
+
+    /// What was counted.
+    pub fn counts(&self) -> LinkCounts
+        ensures { result ≡ self.now.counts }
+    {
+        self.counts
     }
 
     /// V(A).

@@ -31,7 +31,10 @@ impl Entity {
         ensures quiet { IfSome result (λ given. given.place ≡ None → (self.new.running ≡ self.old.running) × (told.new.started ≡ told.old.started)) }
     {
         match self.waiting.pop_front() {
-            Some(frame) => Some(Given { frame, place: None }),
+            Some(frame) => {
+                self.counts.control_sent(frame.control);
+                Some(Given { frame, place: None })
+            }
             None => self.offer_numbered(terms, told, queued),
         }
     }
@@ -99,6 +102,8 @@ impl Entity {
     {
         let given = self.next_information();
         self.window.advance();
+        self.counts.information_sent(self.again);
+        self.again = self.again.saturating_sub(1);
         self.pending = false;
         self.await_acknowledgement(told);
         given

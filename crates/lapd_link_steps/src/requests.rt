@@ -8,7 +8,7 @@ use crate::entity::Entity;
 use crate::report::{ALL, BareReport};
 use lapd_frame::Note;
 use lapd_seq::{Seq, Window};
-use model_link::{State, Terms};
+use model_link::{LinkCounts, State, Terms};
 
 impl Entity {
     /// Layer 3 asks for the release. In states 5 and 6 nothing is done.
@@ -59,6 +59,7 @@ impl Entity {
         self.state = State::TeiAssigned;
         self.window = Window::new();
         self.vr = Seq::zero();
+        self.again = 0;
         self.peer_busy = false;
         self.own_busy = false;
         self.rejecting = false;
@@ -67,5 +68,6 @@ impl Entity {
         self.repeats = 0;
         self.running = None;
         self.waiting.clear();
+        self.counts = LinkCounts::none();
     }
 }

@@ -54,6 +54,7 @@ impl Entity {
         ensures tells { Tells 2 2 told.old told.new }
         ensures does { (info : List ℕ) → Does terms.now info (expire_running timer terms.now) self.old told.old self.new told.new }
     {
+        self.counts.expired(timer);
         match (self.state, timer) {
             (State::AwaitingEstablishment, LinkTimer::T200) => self.t200_in_5(terms, told),
             (State::AwaitingRelease, LinkTimer::T200) => self.t200_in_6(terms, told),

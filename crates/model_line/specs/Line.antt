@@ -5,6 +5,7 @@ use Rattle.lapd_frame.specs.declared.addresses.Side.{Side}
 use Rattle.lapd_frame.specs.declared.addresses.Side.TheVariants.{User, Network}
 use Rattle.lapd_frame.specs.declared.services.Service.{Service}
 use Rattle.lapd_frame.specs.declared.services.Service.TheVariants.{Call, Packet}
+use Rattle.model_link.specs.declared.counts.LinkCounts.{LinkCounts}
 use Rattle.model_link.specs.declared.terms.Terms.{Terms}
 use Rattle.model_link.specs.Link.{Link, fresh, state_number}
 use Rattle.lapd_tei.specs.Machine.{Management, empty, place}
@@ -144,3 +145,10 @@ state_in l service place = state_number (link_in l service place).state
 
 abbrev pub state_of : Service → ℕ → Line → Option ℕ
 state_of service tei l = option_map (state_in l service) (place_in l tei)
+
+-- What was counted of that link; none where the TEI is not on the line.
+abbrev pub counts_in : Line → Service → ℕ → LinkCounts
+counts_in l service place = (link_in l service place).counts
+
+abbrev pub counts_of : Service → ℕ → Line → Option LinkCounts
+counts_of service tei l = option_map (counts_in l service) (place_in l tei)

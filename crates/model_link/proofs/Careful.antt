@@ -1,6 +1,7 @@
 -- What each word of the tables does with a claim that asks more of some: which frame is sent, which number is
 -- acknowledged, which state is entered.
-use Rattle.model_link.proofs.Vocabulary.{arith, ◌≡◌, ℕ, ◌≤◌, ◌⊎◌, Bool, true, false, IsTrue, List, ◌∷◌, length, Some, None, named, reject_number, Seq, Control, ErrorCode, State, TeiAssigned, AwaitingEstablishment, AwaitingRelease, Established, TimerRecovery, LinkTimer, T203, ControlFrame, Terms, Course, ◌then◌, changed, is_multiple_frame, Data, Event, Request, requested, data_in_7_8, refusal}
+use Rattle.model_link.proofs.Vocabulary.{arith, ◌≡◌, ℕ, ◌≤◌, ◌⊎◌, Bool, true, false, IsTrue, List, ◌∷◌, length, Some, None, named, reject_number, Seq, Control, ErrorCode, State, TeiAssigned, AwaitingEstablishment, AwaitingRelease, Established, TimerRecovery, LinkCounts, LinkTimer, T203, ControlFrame, Terms, Course, ◌then◌, changed, is_multiple_frame, Data, Event, Request, requested, data_in_7_8}
+use Rattle.model_link.proofs.Vocabulary.{refusal}
 use Rattle.model_link.specs.Words
 use Rattle.model_link.specs.Offers
 use Rattle.model_link.proofs.Waits.{Waits}
@@ -105,6 +106,8 @@ pub record Careful (t : Terms) (Units Anew Taken Window Queued Offered : Type 0)
       → E ((Words.send_again_from n then Words.start timer then Words.enter Established) c)
   pub transfer : Queued → (p q : Purse) (octets : List ℕ) (full : Bool) (c : Course) → refusal t c.link full (Data octets) ≡ None
       → P (another p) q c → E (data_in_7_8 octets c)
+  -- what is counted
+  pub count : (p q : Purse) (change : LinkCounts → LinkCounts) (c : Course) → P p q c → P p q (Words.count change c)
   -- an offer
   pub give_waiting : Offered → (p q : Purse) (f : ControlFrame) (fs : List ControlFrame) (c : Course) → c.link.waiting ≡ f ∷ fs → P p q c
       → E (Offers.give_waiting f fs c)
@@ -137,10 +140,10 @@ module _ {t : Terms} {Units Anew Taken : Type 0} {S : Course → Type 0} {P : Pu
   transfers p q octets c h = k.ends p q _ (k.transfer p q octets c (k.unsent p q c h))
 
   gives : (p q : Purse) (f : ControlFrame) (fs : List ControlFrame) (c : Course) → P p q c → E (Offers.give_waiting f fs c)
-  gives p q f fs c h = k.ends p q _ (k.waiting_rest p q fs _ (k.give p q f None c h))
+  gives p q f fs c h = k.ends p q _ (k.waiting_rest p q f fs _ (k.give p q f None c h))
 
   gives-information : (p q : Purse) (c : Course) → P p q c → P p q ((Offers.give_information then changed Offers.with_one_sent) c)
   gives-information p q c h = k.sent_one p q _ (k.give p q _ _ c h)
 
   pub plainly : Careful t Units Anew Taken (Unit {0}) (Unit {0}) (Unit {0}) (λ state here. Unit {0}) S P E
-  plainly = search (k.begins, k.ends, k.unsent, k.untold, k.error, k.establish_indication, k.establish_confirm, k.release_indication, k.release_confirm, k.xid, k.taken, k.unit, k.unserved, k.send, k.peer_busy, k.busy, k.rejecting, k.settled, owes, k.flags, k.repeats, k.repeated, k.start, k.no_timer, enters, asks, k.zero, begins-anew, k.discard, k.acknowledge, goes-back, recovers, transfers, gives, gives-information, k.give) depth 12 fits 4000
+  plainly = search (k.begins, k.ends, k.unsent, k.untold, k.error, k.establish_indication, k.establish_confirm, k.release_indication, k.release_confirm, k.xid, k.taken, k.unit, k.unserved, k.send, k.peer_busy, k.busy, k.rejecting, k.settled, owes, k.flags, k.repeats, k.repeated, k.start, k.no_timer, enters, asks, k.zero, begins-anew, k.discard, k.acknowledge, goes-back, recovers, transfers, gives, gives-information, k.give, k.count) depth 12 fits 4000

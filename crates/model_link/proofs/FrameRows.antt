@@ -1,5 +1,6 @@
 -- What the row of a frame does, said once: a claim that every word of the tables leads on is led on by every row.
-use Rattle.model_link.proofs.Vocabulary.{◌≡◌, ℕ, ◌≤◌, Bool, true, false, IsTrue, List, Option, Some, None, inr, refl, sym, true≢false, length-take, arith, Seq, seq, named, leb-true, Control, Information, ReceiveReady, ReceiveNotReady, Reject, Sabme, Disc, Ui, Ua, Dm, Frmr, Xid, ErrorCode, State, TeiAssigned, AwaitingEstablishment, AwaitingRelease, Established, TimerRecovery, LinkTimer, T200, T203}
+use Rattle.model_link.proofs.Vocabulary.{◌≡◌, ℕ, ◌≤◌, Bool, true, false, IsTrue, List, Option, Some, None, inr, refl, sym, true≢false, length-take, arith, Seq, seq, named, leb-true, Control, Information, ReceiveReady, ReceiveNotReady, Reject, Sabme, Disc, Ui, Ua, Dm, Frmr, Xid, ErrorCode, State, TeiAssigned, AwaitingEstablishment, AwaitingRelease, Established, TimerRecovery, LinkCounts, LinkTimer}
+use Rattle.model_link.proofs.Vocabulary.{T200, T203}
 use Rattle.model_link.proofs.Vocabulary.{ControlFrame, Terms, has_outstanding, is_asked, is_peer_busy, is_own_busy, is_multiple_frame, Course, Step, ◌then◌, nothing, depending_on, establish_in_4, frame_in_4, frame_in_5, frame_in_6, acknowledged_in_8, particulars_in_8, frame_in, response}
 use Rattle.std.specs.Prelude.{◌&&◌}
 use Rattle.model_link.specs.Words
@@ -71,6 +72,9 @@ module _ {t : Terms} {Units Anew Taken Window Queued Offered : Type 0} {In : Sta
 
   pub no_timer : {X : Claim} {p q : Purse} → Leads (At X (P p q)) Words.no_timer (At X (P p q))
   no_timer {p = p} {q = q} = record { leads = λ c h. record { known = h.known; holds = k.no_timer p q c h.holds } }
+
+  pub count : {X : Claim} {p q : Purse} (change : LinkCounts → LinkCounts) → Leads (At X (P p q)) (Words.count change) (At X (P p q))
+  count {p = p} {q = q} change = record { leads = λ c h. record { known = h.known; holds = k.count p q change c h.holds } }
 
   pub discard : {X : Claim} {p q : Purse} → Leads (At X (P p q)) Words.discard (At (idle In) (P p q))
   discard {p = p} {q = q} = grind (arith, length-take)
@@ -169,9 +173,9 @@ module _ {t : Terms} {Units Anew Taken Window Queued Offered : Type 0} {In : Sta
       → ((final : Bool) → Leads (At X (P one two)) (own.told_of final) (At X (P one one)))
       → ((a s n i : ℕ) (state : State) → X a s n state → named a s nr ≡ Some i → Y i a s n state)
       → ((final : Bool) (i : ℕ) → Leads (At (Y i) (P one one)) (effect final i) E)
-      → Leads (At X S) (MultipleFrame.supervisory t own busy b pf nr effect) E
+      → Leads (At X (P two two)) (MultipleFrame.supervisory t own busy b pf nr effect) E
   supervisory own busy b pf nr effect y w x =
-      begun_by (peer_busy busy ▹ (bit_leads (b && pf) (ready false) silent) ▹ y (MultipleFrame.is_final b pf) ▹ number nr w (x (MultipleFrame.is_final b pf)))
+      peer_busy busy ▹ (bit_leads (b && pf) (ready false) silent) ▹ y (MultipleFrame.is_final b pf) ▹ number nr w (x (MultipleFrame.is_final b pf))
 
   -- contents that are outstanding are released, and layer 3 is told
   loose : {R Q : Course → Type 0} {X : Claim} {f : Step} → Leads R f (At X Q) → Leads R f (At anything Q)
@@ -251,12 +255,12 @@ module _ {t : Terms} {Units Anew Taken Window Queued Offered : Type 0} {In : Sta
   row_in_7_8 here own told information rr rnr rej dm up b octets (Information ns nr p) may =
       begun_by (bit_leads _ (failed ErrorCode.O) (contents may ns p octets ▹ number nr (names-in here (Information ns nr p) nr) information))
   row_in_7_8 here own told information rr rnr rej dm up b octets (ReceiveReady nr pf) may =
-      supervisory own false b pf nr own.by_rr (told (ReceiveReady nr pf)) (names-in here (ReceiveReady nr pf) nr) rr
+      begun_by (supervisory own false b pf nr own.by_rr (told (ReceiveReady nr pf)) (names-in here (ReceiveReady nr pf) nr) rr)
   row_in_7_8 here own told information rr rnr rej dm up b octets (ReceiveNotReady nr pf) may =
-      supervisory own true b pf nr own.by_rnr (told (ReceiveNotReady nr pf)) (names-in here (ReceiveNotReady nr pf) nr) rnr
+      begun_by (supervisory own true b pf nr own.by_rnr (told (ReceiveNotReady nr pf)) (names-in here (ReceiveNotReady nr pf) nr) rnr)
   row_in_7_8 here own told information rr rnr rej dm up b octets (Reject nr pf) may =
-      supervisory own false b pf nr own.by_rej (told (Reject nr pf))
-      (λ a s n i state x e. (names-in here (Reject nr pf) nr a s n i state x e, x.1 nr i up refl e)) rej
+      begun_by (count _ ▹ supervisory own false b pf nr own.by_rej (told (Reject nr pf))
+      (λ a s n i state x e. (names-in here (Reject nr pf) nr a s n i state x e, x.1 nr i up refl e)) rej)
   row_in_7_8 here own told information rr rnr rej dm up b octets (Sabme p) may =
       begun_by (send (ua_waits t p) ▹ flags ▹ error ErrorCode.F ▹ emptied ▹ zero may ▹ start T203 ▹ enter_7)
   row_in_7_8 here own told information rr rnr rej dm up b octets (Disc p) may =

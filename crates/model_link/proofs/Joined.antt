@@ -1,5 +1,6 @@
 -- Two ends: what holds in both directions, as long as both links stay in states 7 and 8.
-use Rattle.model_link.proofs.Vocabulary.{◌≡◌, ℕ, Bool, cond, IsTrue, List, [], ◌∷◌, ◌++◌, drop, Option, None, Some, refl, sym, ap, subst, ◌∙◌, append-nil, arith, option_to_list, Refusal, Parts, State, Established, LinkTimer, Terms, Link, is_multiple_frame, frame, Request, Event, received, expired, requested, offer, Course, begun, IsInRange, IsSound, Endpoint, Ends, EndStep, requests, expires}
+use Rattle.model_link.proofs.Vocabulary.{LinkCounts, with_expiry, with_counted, ◌≡◌, ℕ, Bool, cond, IsTrue, List, [], ◌∷◌, ◌++◌, drop, Option, None, Some, refl, sym, ap, subst, ◌∙◌, append-nil, arith, option_to_list, Refusal, Parts, State, Established, LinkTimer, Terms, Link, is_multiple_frame, frame, Request, Event, received, expired, requested, offer, Course, begun, IsInRange, IsSound, Endpoint}
+use Rattle.model_link.proofs.Vocabulary.{Ends, EndStep, requests, expires}
 use Rattle.model_link.proofs.Vocabulary.{StepAt, at_near, at_far, with_link, with_sent, without_first, with_first_of, acting, doing, doing_all, Begins, IsUp, StayUp, Agree, granted, refusal, release_in, after, course, expired_in, is_running, told}
 use Rattle.model_link.proofs.SoundEvents.{sound-after}
 use Rattle.model_link.proofs.Delivering.{event-delivers}
@@ -50,8 +51,15 @@ module _ (t : Terms) (l : Link) where
   expired-goes Established before timer up = by-up _ ((timer_7_up t l {S = still l.s} timer).leads (begun l) (at-first t l)) up
   expired-goes here before timer up = grind (arith, by-up, t200_8_up, still, at-first, stays)
 
+-- what is counted doesn't matter
+recounted : (change : LinkCounts → LinkCounts) (l l' : Link) → Goes (with_counted change l) l' → Goes l l'
+recounted change l l' h = record { more = h.more; same = h.same; still = h.still; received = h.received; reports = h.reports }
+
+module _ (t : Terms) (l : Link) where
   timer-goes : IsTrue (is_multiple_frame l.state) → (timer : LinkTimer) → IsUpIn (course t (expired timer) l) → Goes l (after t (expired timer) l)
-  timer-goes before timer up = either (is_running timer l) _ _ (λ u. expired-goes l.state before timer u) (λ u. stays) up
+  timer-goes before timer up =
+      either t l (is_running timer l) _ _
+      (λ u. recounted (with_expiry timer) l _ (expired-goes t (with_counted (with_expiry timer) l) l.state before timer u)) (λ u. stays t l) up
 
 -- What holds of both ends.
 pub record Joined (n m : Endpoint) : Type 0 where

@@ -1,5 +1,5 @@
 -- What each word of the tables does with a claim, as a record with a field for each word.
-use Rattle.model_link.proofs.Vocabulary.{arith, ◌≡◌, ℕ, ◌+◌, Bool, true, false, List, Option, Control, Information, Sabme, Ui, Ua, ErrorCode, State, LinkTimer, ControlFrame, Terms, Course, changed, Event, cleared, frame, received, data_in_7_8}
+use Rattle.model_link.proofs.Vocabulary.{arith, ◌≡◌, ℕ, ◌+◌, Bool, true, false, List, Option, Control, Information, Sabme, Ui, Ua, ErrorCode, State, LinkCounts, LinkTimer, ControlFrame, Terms, Course, changed, Event, cleared, frame, received, data_in_7_8}
 use Rattle.model_link.specs.Words
 use Rattle.model_link.specs.Offers
 
@@ -70,10 +70,12 @@ pub record Kept (t : Terms) (Units Anew Taken : Type 0) (S : Course → Type 0) 
   pub acknowledge : (p q : Purse) (n : ℕ) (c : Course) → P p q c → P p q (Words.acknowledge n c)
   pub send_again : (p q : Purse) (n : ℕ) (c : Course) → P p q c → P p q (Words.send_again_from n c)
   pub transfer : (p q : Purse) (octets : List ℕ) (c : Course) → P p q c → P p q (data_in_7_8 octets c)
+  -- what is counted
+  pub count : (p q : Purse) (change : LinkCounts → LinkCounts) (c : Course) → P p q c → P p q (Words.count change c)
   -- an offer
   pub give : (p q : Purse) (f : ControlFrame) (o : Option (List ℕ)) (c : Course) → P p q c → P p q (Offers.give f o c)
   pub sent_one : (p q : Purse) (c : Course) → P p q c → P p q (changed Offers.with_one_sent c)
-  pub waiting_rest : (p q : Purse) (fs : List ControlFrame) (c : Course) → P p q c → P p q (changed (Offers.with_waiting_rest fs) c)
+  pub waiting_rest : (p q : Purse) (f : ControlFrame) (fs : List ControlFrame) (c : Course) → P p q c → P p q (changed (Offers.with_waiting_rest f fs) c)
 
 pub any_event : (e : Event) → FitsEvent (Unit {0}) (Unit {0}) (Unit {0}) e
 any_event e = grind arith

@@ -1,10 +1,11 @@
 -- No event raises what is sent and still owed by more than its price.
-use Rattle.model_link.proofs.Vocabulary.{◌≡◌, ℕ, ◌+◌, ◌*◌, ◌≤◌, Bool, true, cond, List, [], ◌∷◌, Option, Some, None, is_some, refl, ap, ◌∙◌, arith, and_from, Seq, named, Control, ErrorCode, Refusal, State, LinkTimer, ControlFrame, Terms, Link, is_multiple_frame, may_send, sent, reject_number, is_valid_reject, price, sent_in_all, price_of_all, IsInRange, IsSound, Course, begun, Event, Request}
-use Rattle.model_link.proofs.Vocabulary.{cleared, expired, frame, offer, overlong, received, requested, undefined, wrong_size, begin_anew, granted, refusal, offer_among, after, after_all, course, expired_in, frame_in, malformed_in, told_of_clearing}
+use Rattle.model_link.proofs.Vocabulary.{with_expiry, ◌≡◌, ℕ, ◌+◌, ◌*◌, ◌≤◌, Bool, true, cond, List, [], ◌∷◌, Option, Some, None, is_some, refl, ap, ◌∙◌, arith, and_from, Seq, named, Control, ErrorCode, Refusal, State, LinkTimer, ControlFrame, Terms, Link, is_multiple_frame, may_send, sent, reject_number, is_valid_reject, price, sent_in_all, price_of_all, IsInRange, IsSound, Course, begun, Event}
+use Rattle.model_link.proofs.Vocabulary.{Request}
+use Rattle.model_link.proofs.Vocabulary.{cleared, expired, frame, offer, overlong, received, requested, undefined, wrong_size, begin_anew, granted, refusal, offer_among, after, after_all, course, expire_running, frame_in, malformed_in, told_of_clearing}
 use Rattle.model_link.proofs.Kept.{Purse, no_more, another, two}
 unfoldable use Rattle.model_link.proofs.Kept.{how_many}
 use Rattle.model_link.proofs.Careful.{anything, any_contents, Careful}
-use Rattle.model_link.proofs.FrameRows.{frame_by}
+use Rattle.model_link.proofs.FrameRows.{◌▹◌, count, frame_by}
 use Rattle.model_link.proofs.Rows.{malformed_by, expired_by, granted_by}
 use Rattle.model_link.proofs.SoundRows.{is_in}
 use Rattle.model_link.proofs.SoundEvents.{sound-stands, sound-after}
@@ -39,10 +40,11 @@ module _ (t : Terms) (r : IsInRange t) (l : Link) (h : IsSound t l) where
   unfolding how_many
   malformed-costs e = ((malformed_by (plain (may_send t l + 2)) {X = anything} l.state e).leads (begun l) (record { known = tt; holds = begins (may_send t l + 2) 0 two (omega arith) })).within
 
-  expired-costs : (timer : LinkTimer) → owed t (expired_in l.state timer t (begun l)) ≤ may_send t l + (t.k + 1)
+  expired-costs : (timer : LinkTimer) → owed t (expire_running timer t (begun l)) ≤ may_send t l + (t.k + 1)
   unfolding how_many
   expired-costs timer =
-      ((expired_by (costs t r (may_send t l + (t.k + 1)) t.k (Unit {0}) (λ w. refl)) l.state timer).leads (begun l)
+      let k = costs t r (may_send t l + (t.k + 1)) t.k (Unit {0}) (λ w. refl) in
+      ((count k {q = two} (with_expiry timer) ▹ expired_by k l.state timer).leads (begun l)
       (record { known = (refl, tt); holds = begins (may_send t l + (t.k + 1)) t.k (another no_more) (omega arith) })).within
 
   request-costs : (request : Request) (full : Bool) (o : Option Refusal) → refusal t l full request ≡ o

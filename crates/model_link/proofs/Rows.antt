@@ -1,5 +1,6 @@
 -- What a row does, said once: a claim that every word of the tables leads on is led on by every event.
-use Rattle.model_link.proofs.Vocabulary.{arith, ◌≡◌, ℕ, Bool, true, false, cond, List, [], ◌∷◌, Option, Some, None, inr, refl, Control, ErrorCode, Refusal, State, TeiAssigned, AwaitingEstablishment, AwaitingRelease, Established, TimerRecovery, LinkTimer, T200, T203, ControlFrame, Terms, is_own_busy, Course, ◌then◌, nothing, ClearBusy, Data, Establish, Event, Release, Request, SetBusy, cleared}
+use Rattle.model_link.proofs.Vocabulary.{with_expiry, arith, ◌≡◌, ℕ, Bool, true, false, cond, List, [], ◌∷◌, Option, Some, None, inr, refl, Control, ErrorCode, Refusal, State, TeiAssigned, AwaitingEstablishment, AwaitingRelease, Established, TimerRecovery, LinkTimer, T200, T203, ControlFrame, Terms, is_own_busy, Course, ◌then◌, nothing, ClearBusy, Data, Establish, Event, Release, Request, SetBusy}
+use Rattle.model_link.proofs.Vocabulary.{cleared}
 use Rattle.model_link.proofs.Vocabulary.{expired, frame, offer, overlong, received, requested, undefined, wrong_size, own_busy_is, report_receiver_status, clear_busy_in_7_8, set_busy_in_7_8, granted, refusal, release_in, is_awaiting_acknowledgement, is_pending, may_send_information, offer_among, send_acknowledgement, send_information, command, Disc}
 use Rattle.model_link.specs.Link.{may_repeat}
 use Rattle.model_link.specs.Machine
@@ -7,7 +8,7 @@ use Rattle.model_link.proofs.Leads.{Leads, depending_leads, tested_leads, Passed
 use Rattle.model_link.proofs.Waits.{sabme_waits, may_wait}
 use Rattle.model_link.proofs.Kept.{Purse, no_more, two, Fits, FitsEvent, Kept, any_event}
 use Rattle.model_link.proofs.Careful.{Claim, At, anything, paid, QueuesFor, Queues, Careful, plainly, any_contents}
-use Rattle.model_link.proofs.FrameRows.{one, ◌▹◌, error, release_indication, release_confirm, send, settled, repeats, repeated, start, no_timer, discard, ready, untold, ends, stays, enter_4, enter_6, enter_8, knowing, begun_by, malformed, establish, failed, frame_by}
+use Rattle.model_link.proofs.FrameRows.{one, ◌▹◌, error, release_indication, release_confirm, send, settled, repeats, repeated, start, no_timer, count, discard, ready, untold, ends, stays, enter_4, enter_6, enter_8, knowing, begun_by, malformed, establish, failed, frame_by}
 
 -- what is not refused is served
 served : (b : Bool) (o : Option Refusal) (w : Refusal) → cond b o (Some w) ≡ None → b ≡ true
@@ -94,7 +95,7 @@ module _ {t : Terms} {Units Anew Taken Window Queued Offered : Type 0} {In : Sta
   event_by w o (received wrong_size) may room = record { leads = λ c h. (malformed_by {X = anything} c.link.state ErrorCode.N).leads c (record { known = tt; holds = h }) }
   event_by w o (received overlong) may room = record { leads = λ c h. (malformed_by {X = anything} c.link.state ErrorCode.O).leads c (record { known = tt; holds = h }) }
   event_by w o (expired timer) may room =
-      record { leads = λ c h. (depending_leads (Machine.is_running timer) (expired_by c.link.state timer) (stays k)).leads c (record { known = (k.is_in c.link.state, w); holds = k.unsent one two c (k.begins c h) }) }
+      record { leads = λ c h. (depending_leads (Machine.is_running timer) (count k (with_expiry timer) ▹ expired_by c.link.state timer) (stays k)).leads c (record { known = (k.is_in c.link.state, w); holds = k.unsent one two c (k.begins c h) }) }
   event_by w o (requested request full) may room =
       record { leads = λ c h. request_by request full room c (k.unsent one two c (k.begins c h)) (refusal t c.link full request) refl }
   event_by w o offer may room = record { leads = λ c h. offer_by o c.link.waiting c (k.begins c h) refl }

@@ -1,6 +1,6 @@
 -- One direction between two ends, where an end gives a frame to its way.
 use Rattle.model_link.proofs.Vocabulary.{◌≡◌, ℕ, ◌+◌, ◌-◌, ◌<◌, ◌≤◌, Bool, true, false, cond, not, ◌&&◌, List, [], ◌∷◌, ◌++◌, length, Option, Some, refl, ap, ◌∙◌, append_assoc, append-nil, arith, slice_get, get_or, unwrap_or, nat_lt, ltb-true, and_parts, slice_get-get_or, seq, ReceiveReady, Parts, ControlFrame, Terms, Link, frame_of, Course, begun, given_of, IsInRange, IsSound, frame_given}
-use Rattle.model_link.proofs.Vocabulary.{response, give_waiting, is_established, may_send_information, next_information, offer_among, send_acknowledgement}
+use Rattle.model_link.proofs.Vocabulary.{is_awaiting_acknowledgement, with_one_sent, response, give_waiting, is_established, may_send_information, next_information, offer_among, send_acknowledgement}
 use Rattle.model_link.proofs.Lines.{Carries, Carried, Rising, carried-push, rising-push}
 use Rattle.model_link.proofs.Direction.{frames_of}
 
@@ -74,6 +74,12 @@ module _ (t : Terms) (ranges : IsInRange t) (l : Link) (sound : IsSound t l) whe
         rising = λ a gs h. rising-push a l.r gs information_frame refl h;
       }
 
+  tested : (b : Bool) (u v : Course) → (b ≡ true → Gave t l u) → Gave t l v → Gave t l (cond b u v)
+  tested b u v x y = grind arith
+
   pub offer-gave : (ws : List ControlFrame) → l.waiting ≡ ws → Gave t l (offer_among t ws (begun l))
-  offer-gave [] e = grind (arith, either, sent, acknowledgement, idle)
+  offer-gave [] e =
+      tested (may_send_information t l) _ _
+      (λ may. either (is_awaiting_acknowledgement (with_one_sent l)) _ _ (sent _ may e refl refl refl refl refl) (sent _ may e refl refl refl refl refl))
+      (either l.pending _ _ (acknowledgement e) idle)
   offer-gave (f ∷ fs) e = waited f fs e

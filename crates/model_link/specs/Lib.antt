@@ -4,8 +4,9 @@
 -- an N(R) in the middle of a row is read at that moment); the states, one equation a row: TeiAssigned,
 -- AwaitingEstablishment, AwaitingRelease, MultipleFrame, Established, TimerRecovery; Requests and Offers; Machine; and
 -- Room, which tells what a request for data will be refused for. A link keeps all contents since its numbers were
--- zero, and plain numbers that never wrap. Sound, Notes, Rises, Deliveries, Numbered, Timed and TwoEnds are the
+-- zero, and plain numbers that never wrap. Counts has what is counted of a link. Sound, Notes, Rises, Deliveries, Numbered, Timed and TwoEnds are the
 -- words of the laws.
+pub mod Counts
 pub mod Link
 pub mod Events
 pub mod Told

@@ -8,6 +8,8 @@ use Rattle.model_link.specs.declared.states.State.TheVariants.{TeiAssigned, Awai
 use Rattle.model_link.specs.declared.timers.LinkTimer.{LinkTimer}
 use Rattle.model_link.specs.declared.frames.ControlFrame.{ControlFrame}
 use Rattle.model_link.specs.declared.terms.Terms.{Terms}
+use Rattle.model_link.specs.declared.counts.LinkCounts.{LinkCounts}
+use Rattle.model_link.specs.Counts.{none_counted}
 
 -- The state's number (annex B).
 abbrev pub state_number : State → ℕ
@@ -28,6 +30,8 @@ pub record Link : Type 0 where
   pub s : ℕ
   -- how many I-frames were received in sequence
   pub r : ℕ
+  -- how many of the contents from number s on were sent before, and go again (at most 127; the machine counts to 255)
+  pub again : ℕ
   -- the terminal can take no I-frames, or this side can't (clauses 5.6.5 and 5.6.6)
   pub peer_busy : Bool
   pub own_busy : Bool
@@ -43,6 +47,8 @@ pub record Link : Type 0 where
   pub running : Option LinkTimer
   -- control frames that wait to be sent, oldest first
   pub waiting : List ControlFrame
+  -- what was counted of it
+  pub counts : LinkCounts
 
 -- A link as it begins, when its TEI comes to the line (state 4).
 abbrev pub fresh : Link
@@ -52,6 +58,7 @@ fresh = record {
   a = 0;
   s = 0;
   r = 0;
+  again = 0;
   peer_busy = false;
   own_busy = false;
   rejecting = false;
@@ -60,6 +67,7 @@ fresh = record {
   repeats = 0;
   running = None;
   waiting = [];
+  counts = none_counted;
 }
 
 -- The contents that it still keeps: those from the first that is not acknowledged on. The first of them are

@@ -8,11 +8,12 @@ use Rattle.model_link.specs.declared.states.State.TheVariants.{TeiAssigned, Awai
 use Rattle.model_link.specs.declared.timers.LinkTimer.{LinkTimer}
 use Rattle.model_link.specs.declared.timers.LinkTimer.TheVariants.{T200, T203}
 use Rattle.model_link.specs.declared.terms.Terms.{Terms}
+use Rattle.model_link.specs.Counts.{with_expiry}
 use Rattle.model_link.specs.Link.{Link}
 use Rattle.model_link.specs.Events.{Received, frame, undefined, wrong_size, overlong, Event, received, expired, requested, offer, cleared}
 use Rattle.model_link.specs.Told.{LinkTold, Given, of_call, of_packet, runs, orders_for}
 use Rattle.model_link.specs.Steps.{Sent, Course, begun, Step, ◌then◌, nothing, depending_on}
-use Rattle.model_link.specs.Words.{malformed, release_indication, release_confirm, begin_anew}
+use Rattle.model_link.specs.Words.{count, malformed, release_indication, release_confirm, begin_anew}
 use Rattle.model_link.specs.TeiAssigned.{frame_in_4}
 use Rattle.model_link.specs.AwaitingEstablishment.{frame_in_5, t200_in_5}
 use Rattle.model_link.specs.AwaitingRelease.{frame_in_6, t200_in_6}
@@ -66,7 +67,7 @@ abbrev pub is_running : LinkTimer → Link → Bool
 is_running timer l = runs timer l.running
 
 abbrev pub expire_running : LinkTimer → Terms → Step
-expire_running timer t c = expired_in c.link.state timer t c
+expire_running timer t c = (count (with_expiry timer) then expired_in c.link.state timer t) c
 
 -- The expiry of a timer that does not run changes nothing and tells nothing (profile).
 abbrev pub expired_step : Terms → LinkTimer → Step

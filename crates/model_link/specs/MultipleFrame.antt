@@ -10,9 +10,10 @@ use Rattle.lapd_frame.specs.declared.notes.ErrorCode.TheVariants as code
 use Rattle.model_link.specs.declared.states.State.TheVariants.{TeiAssigned, AwaitingRelease, Established}
 use Rattle.model_link.specs.declared.timers.LinkTimer.TheVariants.{T200, T203}
 use Rattle.model_link.specs.declared.terms.Terms.{Terms}
+use Rattle.model_link.specs.Counts.{with_reject_received}
 use Rattle.model_link.specs.Link.{Link, has_outstanding, is_own_busy, is_rejecting}
 use Rattle.model_link.specs.Steps.{Step, ◌then◌, nothing, depending_on, by_bit, changed}
-use Rattle.model_link.specs.Words.{error, deliver, establish_indication, release_indication, leave_unserved, read_as, unit_data, xid, peer_busy_is, clear_flags, pending_is, rejecting_is, own_busy_is, repeats_are, zero_numbers, discard, count_received, start, no_timer, enter, send, command, response, answer, report_receiver_status, reject, re_establish, by_number}
+use Rattle.model_link.specs.Words.{error, deliver, establish_indication, release_indication, leave_unserved, read_as, unit_data, xid, peer_busy_is, clear_flags, pending_is, rejecting_is, own_busy_is, repeats_are, zero_numbers, discard, count, count_received, start, no_timer, enter, send, command, response, answer, report_receiver_status, reject, re_establish, by_number}
 
 -- Requests of layer 3.
 
@@ -130,7 +131,7 @@ frame_in_7_8 own t is_command octets (ReceiveReady nr pf) = supervisory t own fa
 -- clauses 5.6.5 and 5.6.7
 frame_in_7_8 own t is_command octets (ReceiveNotReady nr pf) = supervisory t own true is_command pf nr own.by_rnr
 -- clauses 5.6.4 and 5.6.7
-frame_in_7_8 own t is_command octets (Reject nr pf) = supervisory t own false is_command pf nr own.by_rej
+frame_in_7_8 own t is_command octets (Reject nr pf) = count with_reject_received then supervisory t own false is_command pf nr own.by_rej
 -- clauses 5.5.1.2 and 5.7
 frame_in_7_8 own t is_command octets (Sabme p) = sabme_in_7_8 t p
 -- clause 5.5.3.2

@@ -1,5 +1,5 @@
 -- The next frame that a link gives to be sent.
-use Rattle.std.specs.Prelude.{ℕ, ◌+◌, Bool, true, false, not, ◌&&◌, nat_lt, List, [], ◌∷◌, length, slice_get, Option, None, Some}
+use Rattle.std.specs.Prelude.{ℕ, ◌+◌, ◌-◌, Bool, true, false, not, ◌&&◌, nat_lt, List, [], ◌∷◌, length, slice_get, Option, None, Some}
 use Rattle.lapd_seq.specs.Numbers.{seq}
 use Rattle.lapd_frame.specs.declared.controls.Control.TheVariants.{Information, ReceiveReady}
 use Rattle.model_link.specs.declared.states.State.{State}
@@ -8,6 +8,7 @@ use Rattle.model_link.specs.declared.timers.LinkTimer.TheVariants.{T200}
 use Rattle.model_link.specs.declared.frames.ControlFrame.{ControlFrame}
 use Rattle.model_link.specs.declared.terms.Terms.{Terms}
 use Rattle.model_link.specs.Link.{Link, outstanding}
+use Rattle.model_link.specs.Counts.{with_information_sent, with_control_sent}
 use Rattle.model_link.specs.Told.{runs}
 use Rattle.model_link.specs.Steps.{Step, ◌then◌, nothing, depending_on, changed}
 use Rattle.model_link.specs.Words.{pending_is, start, command, response}
@@ -17,11 +18,11 @@ abbrev pub give : ControlFrame → Option (List ℕ) → Step
 give f contents c = record c { sent = Some (record { frame = f; contents = contents }) }
 
 -- The control frame that has waited longest.
-abbrev pub with_waiting_rest : List ControlFrame → Link → Link
-with_waiting_rest fs l = record l { waiting = fs }
+abbrev pub with_waiting_rest : ControlFrame → List ControlFrame → Link → Link
+with_waiting_rest f fs l = record l { waiting = fs; counts = with_control_sent f.control l.counts }
 
 abbrev pub give_waiting : ControlFrame → List ControlFrame → Step
-give_waiting f fs = give f None then changed (with_waiting_rest fs)
+give_waiting f fs = give f None then changed (with_waiting_rest f fs)
 
 -- An I-frame may be sent in state 7 while the terminal is not busy, fewer than k are outstanding, and contents are
 -- unsent (clauses 5.6.1 and 5.6.5).
@@ -44,7 +45,7 @@ abbrev pub give_information : Step
 give_information c = give (next_information c.link) (first_unsent c.link) c
 
 abbrev pub with_one_sent : Link → Link
-with_one_sent l = record l { s = l.s + 1 }
+with_one_sent l = record l { s = l.s + 1; again = l.again - 1; counts = with_information_sent l.again l.counts }
 
 abbrev pub is_awaiting_acknowledgement : Link → Bool
 is_awaiting_acknowledgement l = runs T200 l.running

@@ -1,5 +1,5 @@
 -- The words of the tables.
-use Rattle.std.specs.Prelude.{ℕ, ◌+◌, nat_lt, Bool, true, false, cond, List, [], ◌∷◌, ◌++◌, length, take, drop, None, Some}
+use Rattle.std.specs.Prelude.{ℕ, ◌+◌, ◌-◌, min, nat_lt, Bool, true, false, cond, List, [], ◌∷◌, ◌++◌, length, take, drop, None, Some}
 use Rattle.lapd_seq.specs.declared.numbers.Seq.{Seq}
 use Rattle.lapd_seq.specs.Numbers.{seq}
 use Rattle.lapd_seq.specs.Circle.{named}
@@ -16,6 +16,8 @@ use Rattle.model_link.specs.declared.timers.LinkTimer.{LinkTimer}
 use Rattle.model_link.specs.declared.timers.LinkTimer.TheVariants.{T200}
 use Rattle.model_link.specs.declared.frames.ControlFrame.{ControlFrame}
 use Rattle.model_link.specs.declared.terms.Terms.{Terms}
+use Rattle.model_link.specs.declared.counts.LinkCounts.{LinkCounts}
+use Rattle.model_link.specs.Counts.{with_establishment}
 use Rattle.model_link.specs.Link.{Link, fresh, queue_of}
 use Rattle.model_link.specs.Steps.{Course, Step, ◌then◌, by_bit, changed}
 
@@ -133,17 +135,17 @@ start timer c = record c { link = record c.link { running = Some timer }; starte
 abbrev pub no_timer : Step
 no_timer c = record c { link = record c.link { running = None }; started = None }
 
--- V(A), V(S) and V(R) become 0, and the numbers of the next establishment begin. What is not sent yet begins the new
--- list.
+-- The link is established: V(A), V(S) and V(R) become 0, and the numbers of the next establishment begin. What is not sent yet
+-- begins the new list.
 abbrev pub with_zero : Link → Link
-with_zero l = record l { contents = drop l.s l.contents; a = 0; s = 0; r = 0 }
+with_zero l = record l { contents = drop l.s l.contents; a = 0; s = 0; r = 0; again = 0; counts = with_establishment l.counts }
 
 abbrev pub zero_numbers : Step
 zero_numbers c = record c { link = with_zero c.link; zeroed = true }
 
 -- All contents that are kept, sent or not, are given up. How many they are is told (profile).
 abbrev pub without_queue : Link → Link
-without_queue l = record l { contents = take l.a l.contents; s = l.a }
+without_queue l = record l { contents = take l.a l.contents; s = l.a; again = 0 }
 
 abbrev pub with_given_up : Course → ℕ
 with_given_up c = c.given_up + length (queue_of c.link)
@@ -160,7 +162,7 @@ acknowledge n = changed (with_acknowledged n)
 
 -- The contents from number n on are to be sent again (clauses 5.6.4 and 5.6.7).
 abbrev pub with_next_sent : ℕ → Link → Link
-with_next_sent n l = record l { s = n }
+with_next_sent n l = record l { s = n; again = min (l.again + (l.s - n)) 255 }
 
 abbrev pub send_again_from : ℕ → Step
 send_again_from n = changed (with_next_sent n)
@@ -171,6 +173,13 @@ with_one_received l = record l { r = l.r + 1 }
 
 abbrev pub count_received : Step
 count_received = changed with_one_received
+
+-- Something is counted.
+abbrev pub with_counted : (LinkCounts → LinkCounts) → Link → Link
+with_counted change l = record l { counts = change l.counts }
+
+abbrev pub count : (LinkCounts → LinkCounts) → Step
+count change = changed (with_counted change)
 
 -- The link is again as one that begins: what it kept is given up.
 abbrev pub begin_anew : Step

@@ -15,6 +15,7 @@
 //! - `timers`: `LinkTimer`, T200 and T203.
 //! - `frames`: `ControlFrame`, a frame without information that waits to be sent.
 //! - `terms`: `Terms`, the parameters of a link.
+//! - `counts`: `LinkCounts`, what is counted of a link.
 //! - `rooms`: `Room`, how much room a link has.
 //!
 //! - `laws`: what holds of the machine itself.
@@ -24,6 +25,7 @@
 //! What two links agree on across a new establishment.
 #![tactic(auto)]
 
+mod counts;
 mod frames;
 mod laws;
 mod rooms;
@@ -31,6 +33,7 @@ mod states;
 mod terms;
 mod timers;
 
+pub use counts::LinkCounts;
 pub use frames::ControlFrame;
 pub use laws::{numbered, rises, stays_sound, tells_little, two_ends, unserved_stays};
 pub use rooms::Room;

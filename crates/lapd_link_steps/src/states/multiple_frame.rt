@@ -56,6 +56,7 @@ impl Entity {
                 self.supervisory(terms, told, recovering, Bearer::Rnr, command, nr, pf);
             }
             Control::Reject { nr, pf } => {
+                self.counts.reject_received();
                 self.peer_busy = false;
                 self.supervisory(terms, told, recovering, Bearer::Rej, command, nr, pf);
             }

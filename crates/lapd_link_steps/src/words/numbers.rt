@@ -7,7 +7,7 @@ ghost use Rattle.lapd_link_steps.specs.Does.{Does};
 
 use crate::entity::Entity;
 use crate::report::{ALL, BareReport};
-use lapd_seq::{Seq, Window, valid};
+use lapd_seq::{Seq, Window, distance, valid};
 
 impl Entity {
     // Gives up all contents that are kept.
@@ -17,11 +17,12 @@ impl Entity {
     {
         let va = self.window.va();
         self.window.go_back(va);
+        self.again = 0;
         told.given_up_from = told.given_up_from.min(told.released);
         told.released = ALL;
     }
 
-    // The numbers become 0. What was sent goes.
+    // The link is established: the numbers become 0, and what was sent goes.
     pub(crate) fn zero_numbers(&mut self, told: &mut BareReport)
         ensures tells { Tells 0 0 told.old told.new }
         ensures does { (terms : Terms) (info : List ℕ) → Does terms info word.zero_numbers self.old told.old self.new told.new }
@@ -29,6 +30,8 @@ impl Entity {
         told.released = (told.released + self.window.outstanding()).min(ALL);
         self.window = Window::new();
         self.vr = Seq::zero();
+        self.again = 0;
+        self.counts.establishment();
     }
 
     // One more I-frame was received in sequence.
@@ -67,6 +70,8 @@ impl Entity {
         requires { IsValid (va_of self.old.window) nr (vs_of self.old.window) }
         ensures { (terms : Terms) (info : List ℕ) (told : _) → DoesBy terms info nr word.send_again_from self.old told self.new told }
     {
+        let back = distance(nr, self.window.vs());
         self.window.go_back(nr);
+        self.again = self.again.saturating_add(back);
     }
 }

@@ -2,8 +2,9 @@
 use Rattle.lapd_link_steps.proofs.Vocabulary.{ap, ◌∙◌, true, false, length, arith, lt-ltb, le-ltb, Dm, Ua, ◌then◌, by_number, particulars, effect_of}
 use Rattle.lapd_link_steps.specs.declared.states.multiple_frame.Bearer.TheVariants.{Information}
 use Rattle.lapd_frame.specs.declared.notes.ErrorCode.TheVariants as code
+use Rattle.model_link.specs.Counts.{with_reject_received}
 use Rattle.model_link.specs.MultipleFrame as row
-use Rattle.lapd_link_steps.proofs.Steps.{◌▹◌, bit_yes, bit_no, peer_busy_set, with_known}
+use Rattle.lapd_link_steps.proofs.Steps.{◌▹◌, counted, bit_yes, bit_no, peer_busy_set, with_known}
 use Rattle.lapd_link_steps.proofs.entity.Entity.frame_in_7_8.Goals as goal
 
 pub returns-then-from-octets-clause-does : goal.returns-then-from-octets-clause-does
@@ -30,7 +31,7 @@ returns-in-ReceiveNotReady-clause-does c = λ info len.
 
 pub returns-in-Reject-clause-does : goal.returns-in-Reject-clause-does
 returns-in-Reject-clause-does c = λ info len.
-    with_known (row.frame_in_7_8 (particulars c.args.recovering c.args.terms.now) c.args.terms.now c.args.command info) c.args.control _ c.in-Reject.is (peer_busy_set ▹ c.supervisory-in-Reject.ensures.does info)
+    with_known (row.frame_in_7_8 (particulars c.args.recovering c.args.terms.now) c.args.terms.now c.args.command info) c.args.control _ c.in-Reject.is (counted with_reject_received c.reject_received.ensures ▹ peer_busy_set ▹ c.supervisory-in-Reject.ensures.does info)
 
 pub returns-in-Sabme-clause-does : goal.returns-in-Sabme-clause-does
 returns-in-Sabme-clause-does c = λ info len. with_known (row.frame_in_7_8 (particulars c.args.recovering c.args.terms.now) c.args.terms.now c.args.command info) c.args.control _ c.in-Sabme.is (c.sabme_in_7_8.ensures.does info)

@@ -9,7 +9,7 @@ returns-clause-gives c = λ terms queued.
     record {
       step = λ info messages p many none unsent fits.
           (gives (λ c. Some (record { frame = offers.next_information c.link; contents = offers.first_unsent c.link }))
-          ▹ one_sent c.advance.ensures.plain ▹ pending_set ▹ c.await_acknowledgement.ensures terms info).step messages p fits;
+          ▹ one_sent c.advance.ensures.plain c.saturating_sub-self.ensures c.information_sent.ensures ▹ pending_set ▹ c.await_acknowledgement.ensures terms info).step messages p fits;
       sent = λ info messages p many none unsent fits.
           sent-information (course_of info c.args.self.now c.args.told.now p) ∙ sym (c.next_information-given.ensures.given terms messages c.args.told.now p none fits);
     }

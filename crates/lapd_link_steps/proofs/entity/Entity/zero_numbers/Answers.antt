@@ -1,5 +1,7 @@
 -- Hand-written answers for `Entity::zero_numbers`.
-use Rattle.lapd_link_steps.proofs.Vocabulary.{◌≤◌, length, refl, sym, ap, subst, drop, ◌∙◌}
+use Rattle.lapd_link_steps.proofs.Vocabulary.{true, link_of, course_of, ◌≤◌, length, refl, sym, ap, subst, drop, ◌∙◌}
+use Rattle.model_link.specs.declared.counts.LinkCounts.{LinkCounts}
+use Rattle.model_link.specs.Words.{with_zero}
 use Rattle.lapd_link_steps.proofs.Queue.{released_more, still_beyond}
 use Rattle.lapd_link_steps.proofs.entity.Entity.zero_numbers.Goals as goal
 
@@ -23,6 +25,6 @@ returns-clause-does c = λ terms info.
                       subst (λ n. length messages ≤ n) (sym c.min-told.ensures)
                       (still_beyond messages c.args.told.now.given_up_from c.args.told.now.released c.outstanding.result fits.few fits.whole some);
                 };
-            is = refl;
+            is = ap (λ (k : LinkCounts). record (course_of info c.args.self.now c.args.told.now p) { link = record (with_zero (link_of c.args.self.now p)) { counts = k }; zeroed = true }) c.establishment.ensures;
           };
     }

@@ -24,7 +24,8 @@ pub use Rattle.model_card.specs.Laws.{CardsStaySound, DeliveriesNumbered, DropsC
 pub use Rattle.model_card.specs.Machine.{after, answer, wants_room}
 pub use Rattle.model_card.specs.Numbered.{IsNext, LinkName, arrived, contents_numbered, delivered, one_more, received_by, restarts}
 pub use Rattle.model_card.specs.Promises.{HasLink, IsAmortised, IsNotRefusedForPool}
-pub use Rattle.model_card.specs.Reached.{IsReached}
+pub use Rattle.model_card.specs.Reached.{AreTimed, CameAbout, IsReached, MayBegin}
+unfoldable pub use Rattle.model_card.specs.Reached.{IsMade}
 pub use Rattle.model_card.specs.Room.{RefusesBy, room}
 pub use Rattle.model_card.specs.Run.{AreAtLines, IsAtLine, Moment, Run}
 unfoldable pub use Rattle.model_card.specs.Run.{after_all, moments}

@@ -2,7 +2,8 @@
 use Rattle.std.specs.Prelude.{ℕ, nat_le, nat_lt, Bool, List, get_or, replicate, sum_by, Option, None, if◌then◌else◌}
 use Rattle.lapd_frame.specs.declared.services.Service.{Service}
 use Rattle.model_line.specs.declared.config.Config.{Config}
-use Rattle.model_line.specs.Line.{Line, fresh_line, state_of}
+use Rattle.model_link.specs.declared.counts.LinkCounts.{LinkCounts}
+use Rattle.model_line.specs.Line.{Line, fresh_line, counts_of, state_of}
 use Rattle.model_line.specs.Stored.{slots_of}
 
 pub record Card : Type 0 where
@@ -29,3 +30,8 @@ is_full card = nat_le card.config.slots (used card)
 abbrev pub state : ℕ → Service → ℕ → Card → Option ℕ
 state number service tei card =
     if nat_lt number card.config.lines then state_of service tei (line_at number card) else None
+
+-- What was counted of that link.
+abbrev pub counts : ℕ → Service → ℕ → Card → Option LinkCounts
+counts number service tei card =
+    if nat_lt number card.config.lines then counts_of service tei (line_at number card) else None

@@ -1,5 +1,5 @@
 -- What a receiver hears in the octets that a line's pulls give: the law.
-use Rattle.model_card.proofs.OfPorts.Vocabulary.{◌≡◌, ℕ, ◌<◌, List, [], ◌∷◌, ◌++◌, length, map, refl, sym, ap, ◌∙◌, subst, arith, get_or-replicate, length-replicate, map-append, Item, idle, Config, Event, IsInRange, IsSoundPort, AreAtLines, OctetCard, Port, after_all, fresh, fresh_port, frames_among, left_of, port_at, AllGivenAreHeard, AreHeardWhole, GivenFramesAreHeard, GivenGoOut, GoOut}
+use Rattle.model_card.proofs.OfPorts.Vocabulary.{◌≡◌, ℕ, ◌<◌, List, [], ◌∷◌, ◌++◌, length, map, sym, ap, ◌∙◌, subst, arith, get_or-replicate, length-replicate, map-append, Item, idle, Config, Event, IsInRange, IsSoundPort, AreAtLines, OctetCard, Port, after_all, fresh, fresh_port, frames_among, left_of, port_at, AllGivenAreHeard, AreHeardWhole, GivenFramesAreHeard, GivenGoOut, GoOut}
 use Rattle.model_card.proofs.OfPorts.Vocabulary.{IsReached, as_octets, frames_to_hear, heard_in, octets_given}
 use Rattle.model_bits.specs.Stream as stream
 use Rattle.model_card.proofs.OfPorts.AsOctets.{sent, same_text, frames_sent, cut_sent, heard_whole}
@@ -7,9 +7,8 @@ use Rattle.model_card.proofs.OfPorts.CallsPut.{run_puts}
 use Rattle.model_card.proofs.OfPorts.Codec.{run_goes_on}
 use Rattle.model_card.proofs.OfPorts.LastItem.{IsOnItsWay, stays_on_its_way, begins_on_its_way}
 use Rattle.model_card.proofs.OfPorts.LineHeard.{go_out, all_out}
-use Rattle.model_card.proofs.OfPorts.PortRuns.{run_keeps}
-use Rattle.model_card.proofs.OfPorts.Reaching.{reached_fresh, reached_after_all, reached_sound}
-use Rattle.model_card.proofs.OfPorts.Sound.{fresh_octets_sound, port_sound}
+use Rattle.model_card.proofs.OfPorts.Reaching.{reached_fresh, reached_after_all, reached_keeps, reached_sound}
+use Rattle.model_card.proofs.OfPorts.Sound.{port_sound}
 use Rattle.model_card.proofs.OfPorts.Steps.{config_stays}
 
 -- a port of a card that has just begun
@@ -27,11 +26,7 @@ module _ (m : OctetCard) (number : ℕ) (r : IsReached m) (within : number < m.c
   p = port_at number m
 
   pub on_its_way : IsOnItsWay p
-  on_its_way =
-      let c = m.card.config in
-      subst (λ m. IsOnItsWay (port_at number m)) (sym r.same)
-      (run_keeps c IsOnItsWay (stays_on_its_way c) (fresh c) r.events number refl (fresh_octets_sound c r.config) r.at_lines within
-      (subst IsOnItsWay (sym (fresh_at c number within)) begins_on_its_way))
+  on_its_way = reached_keeps m r number within IsOnItsWay (stays_on_its_way m.card.config) begins_on_its_way
 
   sound : IsSoundPort m.card.config.n201 p
   sound = port_sound m number (reached_sound m r) within

@@ -1,16 +1,16 @@
 -- Pulls of a line are calls for its next frame, and by them the bits that are left of it run out.
 use Rattle.model_card.proofs.OfPorts.Vocabulary.{◌≡◌, ◌==◌, ◌&&◌, ℕ, ◌+◌, ◌*◌, ◌/◌, ◌<◌, ◌≤◌, ◌⊎◌, Bool, true, List, [], ◌∷◌, ◌++◌, length, Option, None, Some, option_map, option_to_list, refl, sym, ap, subst, cond, arith, cases_lt, eqb-true, ltb-true, mul-le-mul_right, length-append, length-drop, length-bits, length-check, All, All-nil, All-cons, All-head, All-tail, All-append, bits, stuffed}
-use Rattle.model_card.proofs.OfPorts.Vocabulary.{Item, item_text, item_octets, Config, Event, IsSoundOctetCard, IsTextOf, IsAtLine, AreAtLines, OctetCard, Port, after, after_all, fresh, fresh_port, left_of, meant, meant_all, port_at, pull, said, with_item, with_octet, OfEachLine}
+use Rattle.model_card.proofs.OfPorts.Vocabulary.{Item, item_text, item_octets, Config, Event, IsSoundOctetCard, IsTextOf, IsAtLine, AreAtLines, OctetCard, Port, after, after_all, fresh_port, left_of, meant, meant_all, port_at, pull, said, with_item, with_octet}
 use Rattle.model_line.specs.Event as line
 use Rattle.model_card.specs.Event as frames
 use Rattle.model_card.specs.ports.Port as port
 use Rattle.model_card.specs.Takes.{AreTakesAt, takes_at, is_take, takes_of}
-use Rattle.model_card.specs.ports.Pulls.{ArePullsAt, pulls_at, is_pull, pulls_of, longest_text, pulls_behind, HasFewLeft, PullsAreTakes}
+use Rattle.model_card.specs.ports.Pulls.{ArePullsAt, pulls_at, is_pull, pulls_of, longest_text, pulls_behind, HasFewLeft, OfEachReached, PullsAreTakes}
 use Rattle.model_card.proofs.OfPorts.Codec.{asked_at, said_is}
-use Rattle.model_card.proofs.OfPorts.GoingOut.{fresh_at}
 use Rattle.model_card.proofs.OfPorts.PortGoesOn.{ready_where}
-use Rattle.model_card.proofs.OfPorts.PortRuns.{IsKept, run_keeps}
-use Rattle.model_card.proofs.OfPorts.Sound.{GivesShort, gives_short, item_short, octets_keep_sound, at_lines_after, fresh_octets_sound, port_sound}
+use Rattle.model_card.proofs.OfPorts.PortRuns.{IsKept}
+use Rattle.model_card.proofs.OfPorts.Reaching.{reached_keeps}
+use Rattle.model_card.proofs.OfPorts.Sound.{GivesShort, gives_short, item_short, octets_keep_sound, at_lines_after, port_sound}
 use Rattle.model_card.proofs.OfPorts.Steps.{by_port, config_after}
 use Rattle.model_card.proofs.OfPorts.TextGoesOn.{IsReady, put_on, one_item, left_with_octet, left_with_item}
 
@@ -197,10 +197,8 @@ few_stay c m e is s within few = grind (arith, said_is, few_after, asked_at, giv
 few_at_first : (n201 : ℕ) → LeavesFew n201 fresh_port
 few_at_first n201 = let eight : length (left_of fresh_port) ≡ 8 = refl in omega (arith, eight)
 
-few_left : OfEachLine HasFewLeft
-few_left c events number ranged all within =
-    run_keeps c (LeavesFew c.n201) (few_stay c) (fresh c) events number refl (fresh_octets_sound c ranged) all within
-    (subst (LeavesFew c.n201) (sym (fresh_at c number within)) (few_at_first c.n201))
+few_left : OfEachReached HasFewLeft
+few_left m number r within = reached_keeps m r number within (LeavesFew m.card.config.n201) (few_stay m.card.config) (few_at_first m.card.config.n201)
 
 pub pulls_are_takes : PullsAreTakes
 pulls_are_takes = grind (arith, only_takes, few_takes, enough_pulls, enough_meanwhile, few_left)

@@ -1,7 +1,8 @@
 -- A card of octets is sound as it begins, and each event keeps it so.
 use Rattle.model_card.proofs.OfPorts.Vocabulary.{◌≡◌, ℕ, ◌+◌, ◌≤◌, ◌<◌, Bool, true, false, List, [], ◌∷◌, length, Option, None, Some, IfSome, option_map, option_map_or, refl, ap, sym, ◌∙◌, subst, cond, arith, length-replicate, All, All-get_or, All-head, All-nil, All-push, All-replicate, All-set, All-tail, Item, item_octets, IsInRange, Config, Card, CardsStaySound, Event, IsSoundOctetCard}
-use Rattle.model_card.proofs.OfPorts.Vocabulary.{IsSoundPort, IsAtLine, AreAtLines, OctetCard, Port, after, after_all, card_after, fresh, fresh_port, given_in, is_due, item_of, meant, port_at, pull, said, with_item, with_octet, Line, NextFrame, Taken, line_at, next_of, taken}
+use Rattle.model_card.proofs.OfPorts.Vocabulary.{IsSoundPort, IsAtLine, AreAtLines, OctetCard, Port, after, after_all, card_after, fresh, with_fresh_ports, fresh_port, given_in, is_due, item_of, meant, port_at, pull, said, with_item, with_octet, Line, NextFrame, Taken, line_at, next_of, taken}
 use Rattle.model_card.specs.Event as frames
+use Rattle.model_card.specs.Card.{fresh as fresh_frames}
 use Rattle.model_card.specs.Sound as cards
 use Rattle.model_card.proofs.CardSound.{after_is_sound, fresh_is_sound}
 use Rattle.model_card.proofs.Steps.{has_lines, line_sound}
@@ -85,12 +86,15 @@ always_sound m (e ∷ events) s within =
 fresh_port_sound : (n201 : ℕ) → IsSoundPort n201 fresh_port
 fresh_port_sound n201 = record { text = record { text = refl }; sizes = All-nil (IsShort n201) }
 
-pub fresh_octets_sound : (c : Config) → IsInRange c → IsSoundOctetCard (fresh c)
-fresh_octets_sound c ranged = record {
-  card = fresh_is_sound c ranged;
-  count = length-replicate c.lines fresh_port;
-  ports = All-replicate (IsSoundPort c.n201) c.lines fresh_port (fresh_port_sound c.n201);
+pub begun_octets_sound : (card : Card) → cards.IsSound card → IsSoundOctetCard (with_fresh_ports card)
+begun_octets_sound card s = record {
+  card = s;
+  count = length-replicate card.config.lines fresh_port;
+  ports = All-replicate (IsSoundPort card.config.n201) card.config.lines fresh_port (fresh_port_sound card.config.n201);
 }
+
+pub fresh_octets_sound : (c : Config) → IsInRange c → IsSoundOctetCard (fresh c)
+fresh_octets_sound c ranged = begun_octets_sound (fresh_frames c) (fresh_is_sound c ranged)
 
 pub cards_stay_sound : CardsStaySound
 cards_stay_sound = record { begins = fresh_octets_sound; always = always_sound }

@@ -43,7 +43,7 @@ pub use Rattle.model_line.proofs.NotShort.{IsNotShort, taken_not_short}
 pub use Rattle.model_line.specs.Event.{NextFrame, nothing, given_in}
 pub use Rattle.model_line.specs.Line.{Line}
 pub use Rattle.model_line.specs.Taken.{Taken, next_of, taken}
-pub use Rattle.model_card.specs.ports.Card.{OctetCard, answer_to, card_after, fresh, port_at, said}
+pub use Rattle.model_card.specs.ports.Card.{OctetCard, answer_to, card_after, fresh, port_at, said, with_fresh_ports}
 unfoldable pub use Rattle.model_card.specs.ports.Card.{after, answer, meant}
 pub use Rattle.model_card.specs.ports.Codec.{GoesOn, IsAnswered, IsTextOf, PortGoesOn, Refines, Says, SaysSo, asked_among, asked_with, come_of, frames_among, heard_by, heard_of, meant_in, octet_come, octet_pulled, octets_come, octets_pulled, pulled_of}
 pub use Rattle.model_card.specs.Takes.{frames_given, given_of, octets_of}

@@ -14,6 +14,10 @@ pub record OctetCard : Type 0 where
   pub card : cards.Card
   pub ports : List Port
 
+-- A card of frames with ports as they begin.
+abbrev pub with_fresh_ports : cards.Card → OctetCard
+with_fresh_ports card = record { card = card; ports = replicate card.config.lines fresh_port }
+
 -- As it begins.
 abbrev pub fresh : Config → OctetCard
 fresh c = record { card = cards.fresh c; ports = replicate c.lines fresh_port }

@@ -1,13 +1,12 @@
 -- Pulls of a line are calls for its next frame.
 use Rattle.std.specs.Prelude.{◌≡◌, ℕ, ◌==◌, ◌&&◌, ◌+◌, ◌*◌, ◌/◌, ◌<◌, ◌≤◌, Bool, true, false, List, [], ◌∷◌, length, All, if◌then◌else◌}
-use Rattle.model_line.specs.declared.config.Config.{Config}
 use Rattle.model_card.specs.Takes.{AreTakesAt, takes_at, takes_of}
-use Rattle.model_card.specs.ports.Card.{OctetCard, fresh, port_at}
+use Rattle.model_card.specs.ports.Card.{OctetCard, port_at}
 use Rattle.model_card.specs.ports.Event.{Event}
-use Rattle.model_card.specs.ports.GoingOut.{OfEachLine}
 use Rattle.model_card.specs.ports.Port as port
 use Rattle.model_card.specs.ports.Port.{Port, pull, left_of}
-use Rattle.model_card.specs.ports.Run.{after_all, meant_all, AreAtLines}
+use Rattle.model_card.specs.ports.Reached.{IsReached}
+use Rattle.model_card.specs.ports.Run.{meant_all, AreAtLines}
 use Rattle.model_card.specs.ports.Sound.{IsSoundOctetCard}
 
 -- What happens at a line are pulls; at the others anything may. And how many they are.
@@ -41,11 +40,15 @@ pulls_behind n201 p n = (length (left_of p) + n * longest_text n201) / 8 + 1
 abbrev pub most_pulls_behind : ℕ → ℕ → ℕ
 most_pulls_behind n201 n = (longest_text n201 + n * longest_text n201) / 8 + 1
 
-abbrev pub HasFewLeft : Config → List Event → ℕ → Type 0
-HasFewLeft c events number = length (left_of (port_at number (after_all (fresh c) events))) ≤ longest_text c.n201
+abbrev pub HasFewLeft : OctetCard → ℕ → Type 0
+HasFewLeft m number = length (left_of (port_at number m)) ≤ longest_text m.card.config.n201
 
-abbrev pub HasFewBehind : Config → List Event → ℕ → Type 0
-HasFewBehind c events number = (n : ℕ) → pulls_behind c.n201 (port_at number (after_all (fresh c) events)) n ≤ most_pulls_behind c.n201 n
+abbrev pub HasFewBehind : OctetCard → ℕ → Type 0
+HasFewBehind m number = (n : ℕ) → pulls_behind m.card.config.n201 (port_at number m) n ≤ most_pulls_behind m.card.config.n201 n
+
+-- Of each line of a card that is reached.
+abbrev pub OfEachReached : (OctetCard → ℕ → Type 0) → Type 0
+OfEachReached P = (m : OctetCard) (number : ℕ) → IsReached m → number < m.card.config.lines → P m number
 
 -- Where a line is only pulled, its card of frames is only called for the next frame there, once a pull at most, and more
 -- often than n times once the pulls are enough for that; this also where anything else happens at the line.
@@ -56,5 +59,5 @@ pub record PullsAreTakes : Type 0 where
       pulls_behind m.card.config.n201 (port_at number m) n ≤ pulls_at number events → n < takes_at number (meant_all m events)
   pub meanwhile : (m : OctetCard) (events : List Event) (number n : ℕ) → IsSoundOctetCard m → AreAtLines m events → number < m.card.config.lines →
       pulls_behind m.card.config.n201 (port_at number m) n ≤ pulls_of number events → n < takes_of number (meant_all m events)
-  pub left : OfEachLine HasFewLeft
-  pub most : OfEachLine HasFewBehind
+  pub left : OfEachReached HasFewLeft
+  pub most : OfEachReached HasFewBehind

@@ -3,9 +3,10 @@ use Rattle.std.proofs.Common.{arith, ◌≡◌, ℕ, ◌<◌, Bool, cond, List, 
 use Rattle.std.proofs.lemmas.Option.{none-some}
 use Rattle.std.specs.List.{AllByRecursion}
 use Rattle.std.specs.Option.{option_map_or}
+use Rattle.lapd_clock.specs.InOrder.{IsInOrder}
 use Rattle.lapd_clock.specs.Sound.{IsOneEach}
 use Rattle.lapd_clock.specs.Timer.{Timer, Lengths}
-use Rattle.lapd_clock.specs.Timers.{Expiry}
+use Rattle.lapd_clock.specs.Timers.{Expiry, is_before}
 use Rattle.model_line.specs.Event as line_event
 use Rattle.model_line.specs.Expiry.{is_running}
 use Rattle.model_line.specs.Sound.{IsInRange}
@@ -14,8 +15,10 @@ use Rattle.model_card.specs.Card as cards
 use Rattle.model_card.specs.Card.{Card, line_at}
 use Rattle.model_card.specs.Event.{Event, at}
 use Rattle.model_card.specs.Machine.{after}
+use Rattle.model_card.specs.Reached.{AreTimed}
 use Rattle.model_card.specs.Sound.{IsSound}
 use Rattle.model_card.proofs.CardSound.{after_is_sound, fresh_is_sound}
+use Rattle.model_card.proofs.Reaching.{timed-fresh}
 use Rattle.model_card.specs.ports.Card as ports
 use Rattle.model_card.specs.ports.Card.{OctetCard}
 use Rattle.model_card.specs.ports.Event.{Event as OctetEvent, at as octet_at}
@@ -25,24 +28,17 @@ use Rattle.model_timed.specs.Timed as timed
 use Rattle.model_timed.specs.Timed.{Step, happens, time, falls_due, with_expiry, IsPrompt, ArePrompt}
 use Rattle.model_timed.specs.Frames.{TimedCard, frames, fresh, orders_at, IsNoExpiry}
 use Rattle.model_timed.specs.Octets.{TimedOctetCard, octets, fresh as octets_fresh, orders_at as octet_orders_at, IsNoExpiry as OctetIsNoExpiry}
-use Rattle.model_timed.specs.RunTheSame.{left_at, left_by, as_they_are, RunAs, TimersRunTheSame, OctetTimersRunTheSame}
+use Rattle.model_timed.specs.RunTheSame.{left_at, left_by, as_they_are, RunAs, Stands, TimersRunOn, OctetTimersRunOn, TimersRunTheSame, OctetTimersRunTheSame}
 use Rattle.model_timed.proofs.OctetsRun.{OctetsMean, octets-mean}
-use Rattle.model_timed.proofs.Orders.{one-each, all-run}
-use Rattle.model_timed.proofs.Running.{AreTimed, timed-then, timed-fresh, run-on, run-fresh, taken-left}
+use Rattle.model_timed.proofs.Orders.{in-order, one-each, all-run}
+use Rattle.model_timed.proofs.Running.{timed-then, run-on, run-fresh, taken-left}
 
--- What holds of a card of frames, alone or inside one of octets, and of a clock beside it.
-pub record Stands (card : Card) (clock : Clock) : Type 0 where
-  pub sound : IsSound card
-  pub are_timed : AreTimed card
-  pub one_each : IsOneEach clock.running
-  pub on_lines : AllByRecursion (λ (x : Expiry). x.line < card.config.lines) clock.running
-  pub run : RunAs as_they_are card clock
-
-happened : (e : Event) (card : Card) (clock : Clock) → IsSound card → AreTimed card → IsOneEach clock.running → AllByRecursion (λ (x : Expiry). x.line < card.config.lines) clock.running
+happened : (e : Event) (card : Card) (clock : Clock) → IsSound card → AreTimed card → IsInOrder is_before clock.running → IsOneEach clock.running → AllByRecursion (λ (x : Expiry). x.line < card.config.lines) clock.running
     → e.line < card.config.lines → RunAs (left_by e) card clock → Stands (after e card) (obeyed e.line (orders_at e card) clock)
-happened e card clock sound are_timed one lines here run = record {
+happened e card clock sound are_timed order one lines here run = record {
   sound = after_is_sound card e sound here;
   are_timed = timed-then card e sound here are_timed;
+  in_order = in-order e.line clock (orders_at e card) order;
   one_each = one-each e.line clock (orders_at e card) one;
   on_lines = all-run (λ (x : Expiry). x.line < card.config.lines) e.line clock (orders_at e card) (λ timer. here) lines;
   run = run-on card e sound here are_timed clock run;
@@ -59,7 +55,7 @@ left : (e : Event) (card : Card) (clock : Clock) → IsNoExpiry e.what → RunAs
 left e card clock may run line timer within = run line timer within ∙ sym (none-expires e.what may e.line line timer (is_running timer (line_at line card)))
 
 may-happen : (e : Event) (card : Card) (clock : Clock) → Stands card clock → e.line < card.config.lines → IsNoExpiry e.what → Stands (after e card) (obeyed e.line (orders_at e card) clock)
-may-happen e card clock h here may = happened e card clock h.sound h.are_timed h.one_each h.on_lines here (left e card clock may h.run)
+may-happen e card clock h here may = happened e card clock h.sound h.are_timed h.in_order h.one_each h.on_lines here (left e card clock may h.run)
 
 -- and what is due falls due
 first-is : (x : Expiry) (running : List Expiry) (now : ℕ) → first_due running now ≡ Some x → (rest : List Expiry) × (running ≡ x ∷ rest)
@@ -73,20 +69,23 @@ falls : (x : Expiry) (card : Card) (clock : Clock) → Stands card clock → due
     → let e = at x.line (line_event.expiry x.timer) in Stands (after e card) (obeyed x.line (orders_at e card) (without_first clock))
 falls x card clock h is =
     let first = first-is x clock.running clock.now is in
+    let order = subst (IsInOrder is_before) first.1 h.in_order in
     let one = subst IsOneEach first.1 h.one_each in
     let lines = subst (λ es. AllByRecursion (λ (y : Expiry). y.line < card.config.lines) es) first.1 h.on_lines in
     happened (at x.line (line_event.expiry x.timer)) card (without_first clock) h.sound h.are_timed
+    (subst (λ es. IsInOrder is_before (drop 1 es)) (sym first.1) order.1)
     (subst (λ es. IsOneEach (drop 1 es)) (sym first.1) one.1)
     (subst (λ es. AllByRecursion (λ (y : Expiry). y.line < card.config.lines) (drop 1 es)) (sym first.1) lines.1)
     lines.0 (taken-left card clock x first.0 first.1 one.0 h.run)
 
 at-moment : (moment : ℕ) (card : Card) (clock : Clock) → Stands card clock → Stands card (at_moment moment clock)
-at-moment moment card clock h = record { sound = h.sound; are_timed = h.are_timed; one_each = h.one_each; on_lines = h.on_lines; run = h.run }
+at-moment moment card clock h = record { sound = h.sound; are_timed = h.are_timed; in_order = h.in_order; one_each = h.one_each; on_lines = h.on_lines; run = h.run }
 
 pub begins : (c : Config) (lengths : Lengths) → IsInRange c → Stands (cards.fresh c) (stopped lengths)
 begins c lengths ranged = record {
   sound = fresh_is_sound c ranged;
   are_timed = timed-fresh c;
+  in_order = tt;
   one_each = tt;
   on_lines = tt;
   run = run-fresh c lengths;
@@ -102,14 +101,13 @@ stepped late (happens e) t h prompt = may-happen e t.card t.clock h prompt.0 pro
 stepped late (time moment) t h prompt = at-moment moment t.card t.clock h
 stepped late falls_due t h prompt = fell t h (due t.clock) refl
 
-all-stand : (late : ℕ) (steps : List (Step Event)) (t : TimedCard) → Stands t.card t.clock → ArePrompt frames late steps t
-    → let u = timed.after_all frames steps t in Stands u.card u.clock
+pub timers_run_on : TimersRunOn
 unfolding timed.after_all ArePrompt
-all-stand late [] t h prompt = h
-all-stand late (s ∷ steps) t h prompt = all-stand late steps (timed.after frames s t) (stepped late s t h prompt.0) prompt.1
+timers_run_on late [] t h prompt = h
+timers_run_on late (s ∷ steps) t h prompt = timers_run_on late steps (timed.after frames s t) (stepped late s t h prompt.0) prompt.1
 
 pub timers_run_the_same : TimersRunTheSame
-timers_run_the_same c lengths late steps ranged prompt = (all-stand late steps (fresh c lengths) (begins c lengths ranged) prompt).run
+timers_run_the_same c lengths late steps ranged prompt = (timers_run_on late steps (fresh c lengths) (begins c lengths ranged) prompt).run
 
 -- A card of octets: what its events mean to the card of frames inside.
 meant-happens : (e : OctetEvent) (m : OctetCard) (clock : Clock) (o : Option Event) → OctetsMean e m o → Stands m.card clock
@@ -152,11 +150,10 @@ octet-stepped late (happens e) t h prompt = octet-happens e t.card t.clock h pro
 octet-stepped late (time moment) t h prompt = at-moment moment t.card.card t.clock h
 octet-stepped late falls_due t h prompt = octet-fell t h (due t.clock) refl
 
-octets-stand : (late : ℕ) (steps : List (Step OctetEvent)) (t : TimedOctetCard) → Stands t.card.card t.clock → ArePrompt octets late steps t
-    → let u = timed.after_all octets steps t in Stands u.card.card u.clock
+pub octet_timers_run_on : OctetTimersRunOn
 unfolding timed.after_all ArePrompt
-octets-stand late [] t h prompt = h
-octets-stand late (s ∷ steps) t h prompt = octets-stand late steps (timed.after octets s t) (octet-stepped late s t h prompt.0) prompt.1
+octet_timers_run_on late [] t h prompt = h
+octet_timers_run_on late (s ∷ steps) t h prompt = octet_timers_run_on late steps (timed.after octets s t) (octet-stepped late s t h prompt.0) prompt.1
 
 pub octet_timers_run_the_same : OctetTimersRunTheSame
-octet_timers_run_the_same c lengths late steps ranged prompt = (octets-stand late steps (octets_fresh c lengths) (begins c lengths ranged) prompt).run
+octet_timers_run_the_same c lengths late steps ranged prompt = (octet_timers_run_on late steps (octets_fresh c lengths) (begins c lengths ranged) prompt).run

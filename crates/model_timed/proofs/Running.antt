@@ -1,6 +1,5 @@
 -- The timers that run at the clock of a card of frames are those that its lines run.
 use Rattle.std.proofs.Common.{arith, ◌≡◌, ℕ, ◌<◌, ◌==◌, ◌&&◌, ◌||◌, Bool, true, false, cond, List, [], ◌∷◌, drop, Option, Some, None, refl, sym, ap, ◌∙◌, subst, eq-eqb, eqb-true, true≢false}
-use Rattle.std.proofs.lemmas.List.{get_or-replicate}
 use Rattle.std.proofs.lemmas.List.Elements.{All-head, All-tail}
 use Rattle.std.proofs.lemmas.Bool.{and_parts}
 use Rattle.std.specs.Prelude.{is_some}
@@ -8,7 +7,6 @@ use Rattle.std.specs.List.{AllByRecursion}
 use Rattle.lapd_clock.specs.Timer.{Timer, Order, Start, Stop, Lengths, is_same}
 use Rattle.lapd_clock.specs.Timers.{Expiry, is_held, is_of}
 use Rattle.lapd_clock.specs.Moments.{moment_of}
-use Rattle.model_link.specs.Link as links
 use Rattle.model_link.specs.Timed as link
 use Rattle.model_link.specs.Timed.{IsTimed}
 use Rattle.model_link.proofs.TimedRows.{timed-after}
@@ -16,22 +14,23 @@ use Rattle.model_line.specs.Event as line_event
 use Rattle.model_line.specs.Event.{Answer, refused}
 use Rattle.model_line.specs.Expiry.{is_running}
 use Rattle.model_line.specs.Laws.{orders_in}
-use Rattle.model_line.specs.Line.{Line, fresh_line, link_at, link_count}
+use Rattle.model_line.specs.Line.{Line, link_at}
 use Rattle.model_line.specs.Machine as lines
 use Rattle.model_line.specs.Runs.{runs_then, ArePlaced}
 use Rattle.model_line.specs.Runs as runs
 use Rattle.model_line.specs.declared.config.Config.{Config}
 use Rattle.model_line.proofs.LinkMoves.{all-after}
 use Rattle.model_line.proofs.Placed.{in-place}
-use Rattle.model_line.proofs.TimersFollow.{runs-follow, all-same, none-run}
+use Rattle.model_line.proofs.TimersFollow.{runs-follow, none-run}
 use Rattle.lapd_tei.specs.Sound.{IsAt}
 use Rattle.model_card.specs.Card.{Card, fresh, line_at}
 use Rattle.model_card.specs.Event.{Event, at}
 use Rattle.model_card.specs.Machine.{after, answer}
 use Rattle.model_card.specs.Run.{IsAtLine, AreAtLines, after_all}
-use Rattle.model_card.specs.Reached.{IsReached}
+use Rattle.model_card.specs.Reached.{AreTimed, IsReached}
 use Rattle.model_card.specs.Sound.{IsSound}
-use Rattle.model_card.proofs.CardSound.{after_is_sound, fresh_is_sound}
+use Rattle.model_card.proofs.CardSound.{after_is_sound}
+use Rattle.model_card.proofs.Reaching.{at-first, fresh-at, past}
 use Rattle.model_card.proofs.Steps.{by_line, has_lines, line_sound}
 use Rattle.model_timed.specs.Clock as clocks
 use Rattle.model_timed.specs.Clock.{Clock}
@@ -93,10 +92,6 @@ held-elsewhere line l t c (Start timer ∷ orders) other =
 held-elsewhere line l t c (Stop timer ∷ orders) other =
     held-elsewhere line l t (clocks.obey line c (Stop timer)) orders other
     ∙ stop-held line l timer t c ∙ ap (λ b. cond (b && is_same timer t) false (is_held l t c.running)) other
-
--- Each link runs at most one timer, and that which its state has it run.
-abbrev pub AreTimed : Card → Type 0
-AreTimed card = (line : ℕ) → line < card.config.lines → (number : ℕ) → IsTimed (link_at number (line_at line card))
 
 -- What an event leaves of a line's TEIs, also of a line that it is not at.
 pub record StaysInPlace (l now : Line) : Type 0 where
@@ -191,7 +186,7 @@ module _ (card : Card) (e : Event) (s : IsSound card) (here : e.line < card.conf
           held-elsewhere e.line line timer clock (orders_in (answer e card)) other ∙ run line timer within
           ∙ left-there e.what line timer (is_running timer (line_at line card)) other ∙ h
 
--- Over runs, from a card that begins.
+-- Over runs.
 timed-all : (card : Card) (events : List Event) → IsSound card → AreTimed card → AreAtLines card events → AreTimed (after_all card events)
 unfolding after_all
 timed-all card [] s timed all = timed
@@ -199,19 +194,8 @@ timed-all card (e ∷ events) s timed all =
     let here = All-head (IsAtLine card) e events all in
     timed-all (after e card) events (after_is_sound card e s here) (timed-then card e s here timed) (All-tail (IsAtLine card) e events all)
 
-fresh-at : (c : Config) (line : ℕ) → line < c.lines → line_at line (fresh c) ≡ fresh_line c
-fresh-at c line within = get_or-replicate c.lines line (fresh_line c) (fresh_line c) within
-
-pub timed-fresh : (c : Config) → AreTimed (fresh c)
-timed-fresh c line within number =
-    subst (λ (l : Line). IsTimed (link_at number l)) (sym (fresh-at c line within))
-    (subst IsTimed (sym (all-same links.fresh (link_count c) number)) (record { timer = refl }))
-
 pub timed-reached : (card : Card) → IsReached card → AreTimed card
-timed-reached card r = subst AreTimed (sym r.same) (timed-all (fresh card.config) r.events (fresh_is_sound card.config r.config) (timed-fresh card.config) (at-fresh r.at_lines))
-  where
-    at-fresh : AreAtLines card r.events → AreAtLines (fresh card.config) r.events
-    at-fresh all = all
+timed-reached card r = let p = past card r in subst AreTimed (sym p.same) (timed-all p.first p.events p.begins.sound p.begins.timed (at-first card p))
 
 pub run-fresh : (c : Config) (lengths : Lengths) → RunAs as_they_are (fresh c) (clocks.stopped lengths)
 run-fresh c lengths line timer within = sym (ap (is_running timer) (fresh-at c line within) ∙ none-run c timer)

@@ -1,5 +1,5 @@
 -- Worked values: a card of frames whose lengths are changed while a timer runs. Each computes.
-use Rattle.std.specs.Prelude.{◌≡◌, List, [], ◌∷◌, ◌++◌, map, None, Some, refl}
+use Rattle.std.specs.Prelude.{◌≡◌, List, [], ◌∷◌, ◌++◌, map, Some, refl}
 use Rattle.lapd_clock.specs.Timer.{Lengths, T200, T203, Call}
 use Rattle.lapd_frame.specs.Reading.{reading, header_of, control_of, unnumbered_of, supervisory_of}
 use Rattle.lapd_frame.specs.Senders.{exchanged, reading as read_by}
@@ -10,9 +10,8 @@ use Rattle.model_line.specs.Event as line
 use Rattle.model_line.specs.Machine as lines
 use Rattle.model_line.specs.Request.{Data}
 use Rattle.model_card.specs.Event.{Event}
-use Rattle.model_timed.specs.Clock.{due}
 use Rattle.model_timed.specs.Timed.{time}
-use Rattle.model_timed.specs.Frames.{TimedCard, fresh, frames}
+use Rattle.model_timed.specs.Frames.{fresh, frames}
 use Rattle.model_timed.specs.LengthsChange.{Change, step, set_lengths, after_changes, told_in, last_begun}
 use Rattle.model_timed.specs.Worked.{usual, lengths, on_0, up}
 

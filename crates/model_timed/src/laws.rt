@@ -1,9 +1,10 @@
 //! What holds of cards that keep their own timers. Each law is the contract of a call that does nothing.
 
-ghost use Rattle.model_timed.specs.Frames.{frames};
+ghost use Rattle.model_timed.specs.Changes.{ChangesAreTold, itself, inside};
+ghost use Rattle.model_timed.specs.Frames.{frames, fresh};
 ghost use Rattle.model_timed.specs.LengthsChange.{TimersKeepLengths};
-ghost use Rattle.model_timed.specs.Octets.{octets};
-ghost use Rattle.model_timed.specs.RunTheSame.{OctetTimersRunTheSame, TimersRunTheSame};
+ghost use Rattle.model_timed.specs.Octets.{octets, fresh as octets_fresh};
+ghost use Rattle.model_timed.specs.RunTheSame.{OctetTimersRunOn, OctetTimersRunTheSame, TimersRunOn, TimersRunTheSame};
 ghost use Rattle.model_timed.specs.TimersAreTrue.{TimersAreTrue};
 
 /// Timers are true. After any steps of a card of either kind its clock is at the moment to which time went on last. Let
@@ -28,4 +29,19 @@ pub fn timers_are_true()
 pub fn timers_run_the_same()
     ensures frames { TimersRunTheSame }
     ensures octets { OctetTimersRunTheSame }
+{}
+
+/// So it stays from any state in which it is so, as that of a restored card.
+#[tactic(auto, using(crate::proofs::RunTheSame::timers_run_on, crate::proofs::RunTheSame::octet_timers_run_on))]
+pub fn timers_run_on()
+    ensures frames { TimersRunOn }
+    ensures octets { OctetTimersRunOn }
+{}
+
+/// What a card notes of a link is its state, and the moment of the last step by which this became another, or 0 if there is
+/// none: after any steps of a fresh card, prompt or not.
+#[tactic(auto, using(crate::proofs::Marking::changes_are_told, crate::proofs::Marking::octet_changes_are_told))]
+pub fn changes_are_told()
+    ensures frames { ChangesAreTold frames itself fresh }
+    ensures octets { ChangesAreTold octets inside octets_fresh }
 {}

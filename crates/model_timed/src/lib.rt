@@ -11,4 +11,4 @@
 
 mod laws;
 
-pub use laws::{timers_are_true, timers_run_the_same};
+pub use laws::{changes_are_told, timers_are_true, timers_run_on, timers_run_the_same};

@@ -1,5 +1,5 @@
 -- A card of octets as it begins.
-use Rattle.lapd_card.proofs.Vocabulary.{◌≡◌, ℕ, zero, suc, ◌<◌, List, [], ◌∷◌, length, replicate, get_or, refl, sym, subst, ◌∙◌, arith, length-replicate, AllByRecursion, Config, Store, Port, PortStands, PortsStand}
+use Rattle.lapd_card.proofs.Vocabulary.{◌≡◌, ℕ, zero, suc, ◌<◌, List, [], ◌∷◌, length, replicate, get_or, refl, sym, subst, ◌∙◌, arith, length-replicate, Option, None, Some, IfSome, AllByRecursion, Config, Store, Port, PortStands, PortsStand}
 use Rattle.model_card.specs.ports.Card.{fresh}
 use Rattle.model_card.specs.ports.Port.{fresh_port}
 use Rattle.model_card.proofs.OfPorts.Reaching.{reached_fresh}
@@ -7,6 +7,11 @@ use Rattle.model_card.specs.Card as cards
 use Rattle.lapd_card.specs.FrameCard as frame_card
 use Rattle.lapd_card.specs.FrameStands.{FrameStands}
 use Rattle.lapd_card.specs.Stands.{OctetCardStands}
+
+-- what is said of a fault, where there was none
+pub no_fault : {F : Type 0} (A B : F → Type 0) (o : Option F) → ((f : F) → A f → ⊥) → IfSome o A → IfSome o B
+no_fault A B None never h = tt
+no_fault A B (Some f) never h = absurd (never f h)
 
 abbrev pub IsFreshPort : ℕ → Port → Type 0
 IsFreshPort n201 x = PortStands n201 x fresh_port

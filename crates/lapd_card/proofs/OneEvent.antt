@@ -1,6 +1,7 @@
 -- An event at a card is one at one of its lines.
-use Rattle.lapd_card.proofs.Vocabulary.{arith, if◌then◌else◌, ◌≡◌, ℕ, ◌<◌, ◌-◌, false, List, [], ◌++◌, length, nat_le, refl, sym, ap, subst, ◌∙◌, Some, None, IsSome, Option, Ok, Err, Result, IfOk, IfErr, IfSome, OnOk, OnErr, lt-ltb, append-nil, set-get_or, set, map, flat_map, sum_by, zip, Refusal, Service, none_counted, BareReport, answer_of_request, told_beside, told_in, Config, refusal, Request}
-use Rattle.lapd_card.proofs.Vocabulary.{slots_of, octets_of, Card, line_at, used, is_full, state, Event, at, wants_room, after, refused_by_the_table, IfErr-weaker, moment_counted, Store, used_slots, stored_octets, used_slots-held, stored_octets-held, slots-machines, octets-machines, slots-pairs, octets-pairs, owned_octets, Owned, FrameLine, config_of, Held, counters_of, IsFit, owned, FrameStands}
+use Rattle.lapd_card.proofs.Vocabulary.{arith, if◌then◌else◌, ◌≡◌, ℕ, ◌<◌, ◌-◌, false, List, [], ◌++◌, length, nat_lt, nat_le, refl, sym, ap, subst, ◌∙◌, Some, None, IsSome, Option, Ok, Err, Result, IfOk, IfErr, IfSome, OnOk, OnErr, lt-ltb, append-nil, set-get_or, set, map, flat_map, sum_by, zip, Refusal, Service, none_counted, BareReport, answer_of_request, told_beside, told_in, Config, refusal}
+use Rattle.lapd_card.proofs.Vocabulary.{Request}
+use Rattle.lapd_card.proofs.Vocabulary.{slots_of, octets_of, Card, line_at, used, is_full, Event, at, wants_room, after, refused_by_the_table, IfErr-weaker, moment_counted, Store, used_slots, stored_octets, used_slots-held, stored_octets-held, slots-machines, octets-machines, slots-pairs, octets-pairs, owned_octets, Owned, FrameLine, config_of, Held, counters_of, IsFit, owned, FrameStands}
 use Rattle.lapd_card.proofs.Vocabulary.{HasPast, Leads, Room, room_in, room, RefusesBy, refuses_by}
 use Rattle.lapd_line.specs.Reports.{octets_of as told_octets}
 use Rattle.lapd_line.specs.Stands as line
@@ -125,12 +126,12 @@ module _ {S : Type 0} (store : S → Store) where
         ∙ ap (λ n. room_in m.config (n - used_slots (store card.shelf)) service tei (line_at i m)) most
         ∙ ap (λ n. room_in m.config (m.config.slots - n) service tei (line_at i m)) taken
 
-    -- the state of a link is that of its line's
-    pub state_is : (service : Service) (tei : ℕ) (r : Option ℕ) → ((others : List Owned) (l : machine.Line) → line.LineStands x (store card.shelf) others l → r ≡ machine.state_of service tei l)
-        → (m : Card) → FrameStands store self m → r ≡ state i service tei m
-    state_is service tei r is m s =
-        one_says store call (λ c l. machine.state_of service tei l) r is m s
-        ∙ ap (λ b. if b then machine.state_of service tei (line_at i m) else None) (sym (lt-ltb i m.config.lines (subst (λ c. i < c.lines) (sym s.config) call.within)))
+    -- what its line tells of a link, the card tells
+    pub told_of_link : {A : Type 0} (asked : machine.Line → Option A) (r : Option A) → ((others : List Owned) (l : machine.Line) → line.LineStands x (store card.shelf) others l → r ≡ asked l)
+        → (m : Card) → FrameStands store self m → r ≡ (if nat_lt i m.config.lines then asked (line_at i m) else None)
+    told_of_link asked r is m s =
+        one_says store call (λ c l. asked l) r is m s
+        ∙ ap (λ b. if b then asked (line_at i m) else None) (sym (lt-ltb i m.config.lines (subst (λ c. i < c.lines) (sym s.config) call.within)))
 
     -- where a TEI is on a line is where it is on the machine's; and no place is past those of a line
     pub place_is : (tei : ℕ) (r : Option ℕ) → ((others : List Owned) (l : machine.Line) → line.LineStands x (store card.shelf) others l → r ≡ machine.place_in l tei)

@@ -1,7 +1,7 @@
 -- What a card's contracts say.
 --
 -- Read after those of `model_card`, in this order: Waiting, which lines have a frame to give; Start; and for a
--- card in the middle of its life FrameCard, Counted, Lines and FrameStands. Of a card of octets, after those of
+-- card in the middle of its life FrameCard, Counted, Lines, FrameStands, Called and Given. Of a card of octets, after those of
 -- `model_card::ports`, Card, Ports and Stands say the same; Reply, Sink, Runs, Drive and Kept (the sink of this crate), what a
 -- sink has taken. Kinds is of a card of either kind.
 pub mod Waiting
@@ -14,6 +14,7 @@ pub mod Lines
 pub mod FrameCard
 pub mod FrameStands
 pub mod Called
+pub mod Given
 pub mod Ports
 pub mod Card
 pub mod Stands

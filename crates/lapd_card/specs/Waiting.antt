@@ -19,6 +19,11 @@ waits_on card number = has_next number card
 abbrev pub next_waiting : ℕ → Card → Option ℕ
 next_waiting from card = find (waits_on card) (range_with_len from (card.config.lines - from))
 
+-- A line of a card that has so many. No card has more than 64 (profile).
+pub record IsLineOf (lines number : ℕ) : Type 0 where
+  pub within : number < lines
+  pub few : number < 64
+
 -- By the answers of the machine: a call for the next frame gives one at that line, and none at those of the card that come
 -- before it, from that one on; where no such line is told, at none of these.
 pub record IsFirstWaiting (from : ℕ) (card : Card) (first : Option ℕ) : Type 0 where

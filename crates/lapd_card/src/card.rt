@@ -1,11 +1,11 @@
 //! The card of octets: a card, and a port for each of its lines.
 
-ghost use Rattle.std.specs.Prelude.{◌≡◌, ◌≤◌, ◌<◌, Some, None, IsSome, IfOk, IfErr, IfNone, IfSome, OnErr, slice_get, drop, length, ◌++◌};
+ghost use Rattle.std.specs.Prelude.{◌≡◌, ◌≤◌, ◌<◌, Some, None, IsSome, IfOk, IfErr, IfNone, IfSome, OnErr, slice_get, length};
 ghost use Rattle.std.specs.Option.{option_copied};
 ghost use Rattle.lapd_card.specs.{report_told, told_beside, pulled_of, RisesByExpiry, RisesByRequest, may_send, refusal, request_of, starts, ended_at, frame_begun_at, head_begun_at, head_heard_at, heard_of};
 ghost use Rattle.model_card.specs.Card as frames;
 ghost use Rattle.model_card.specs.ports.Card as machine;
-ghost use Rattle.model_card.specs.ports.Card.{after, answer};
+ghost use Rattle.model_card.specs.ports.Card.{after, answer, meant};
 ghost use Rattle.model_card.specs.ports.Event.{at};
 ghost use Rattle.model_card.specs.ports.Port as port;
 ghost use Rattle.model_card.specs.ports.Port.{told};
@@ -13,7 +13,7 @@ ghost use Rattle.model_card.specs.ports.Port.{told};
 use crate::frame_card::FrameCard;
 use lapd_bits::Ended;
 use lapd_frame::{Refusal, Service, Timer};
-use lapd_line::{BareReport, Port, Pulled, Report, Request};
+use lapd_line::{BareReport, LinkCounts, Port, Pulled, Report, Request};
 use lapd_store::Shelf;
 use model_bits::{Head, Heard};
 use std::marker::Model;
@@ -50,6 +50,7 @@ impl<S: Shelf> Card<S> {
     ghost use Rattle.lapd_card.specs.contracts.card.Card.{the_row};
     ghost use Rattle.lapd_card.specs.Called.{OctetCalled};
     ghost use Rattle.lapd_card.specs.Card.{line_count};
+    ghost use Rattle.lapd_card.specs.Given.{IsWhole};
     ghost use Rattle.lapd_card.specs.Reply.{answer_of_result};
     ghost use Rattle.lapd_card.specs.Stands.{OctetCardStands, Leads};
 
@@ -94,6 +95,7 @@ impl<S: Shelf> Card<S> {
         requires { line < line_count self.old }
         ensures called { OctetCalled S.store (at line (port.octet octet)) (told (told_if_at self.new.ports line result)) self.old self.new }
         ensures frames { (m : machine.OctetCard) → OctetCardStands S.store self.old m → IsPriced (at line (port.octet octet)) m }
+        ensures silent { IfNone result ((m : machine.OctetCard) → OctetCardStands S.store self.old m → meant (at line (port.octet octet)) m ≡ None) }
     {
         match self.ports[line].octet(octet) {
             Ended::Nothing => None,
@@ -199,6 +201,13 @@ impl<S: Shelf> Card<S> {
         self.frames.state(line, service, tei)
     }
 
+    /// What was counted of the link of a service with this TEI. None where the card has no such line, or the TEI is not on it.
+    pub fn link_counts(&self, line: usize, service: Service, tei: u8) -> Option<LinkCounts>
+        ensures { (m : machine.OctetCard) → OctetCardStands S.store self.now m → result ≡ frames.counts line service tei m.card }
+    {
+        self.frames.link_counts(line, service, tei)
+    }
+
     /// How the frame that a pull of the line began last begins, and how long it is; none if none was begun yet. After a
     /// pull that has begun a frame it is that frame, until a pull begins another.
     pub fn begun(&self, line: usize) -> Option<Head>
@@ -231,9 +240,7 @@ impl<S: Shelf> Card<S> {
         requires { line < line_count self.now }
         ensures none { IfNone result (out.new ≡ out.old) }
         ensures empty { result ≡ Some 0 → out.new ≡ out.old }
-        ensures short { IfNone result ((m : machine.OctetCard) → OctetCardStands S.store self.now m → length out.old < length (frame_begun_at line m)) }
-        ensures written { IfSome result (λ count. (m : machine.OctetCard) → OctetCardStands S.store self.now m
-            → (count ≡ length (frame_begun_at line m)) × (out.new ≡ frame_begun_at line m ++ drop count out.old)) }
+        ensures whole { (m : machine.OctetCard) → OctetCardStands S.store self.now m → IsWhole (frame_begun_at line m) result out.old out.new }
     {
         self.ports[line].write_begun(out)
     }

@@ -1,8 +1,8 @@
 //! The card: one call an event.
 
-ghost use Rattle.std.specs.Prelude.{◌≡◌, ◌≤◌, ◌<◌, ◌↔◌, [], true, length, drop, Some, None, IsSome, IfOk, IfErr, IfSome, IsErr, OnErr, get_or};
+ghost use Rattle.std.specs.Prelude.{◌≡◌, ◌≤◌, ◌<◌, [], true, length, Some, None, IsSome, IfOk, IfErr, IfSome, OnErr, get_or};
 ghost use Rattle.std.specs.Option.{option_copied};
-ghost use Rattle.lapd_card.specs.{none_counted, IsQuiet, answer_of_request, delivered_in, listed, told_beside, told_in, octets_of, gave_in, written, IsClear, latest_in, RisesByHeard, RisesByExpiry, RisesByRequest, FallsByNext, room, RefusesBy, IsFirstWaiting, has_next, next_waiting, came, cause_of, request_of, starts, limit, IsLoaded, orders_taken};
+ghost use Rattle.lapd_card.specs.{none_counted, IsQuiet, answer_of_request, delivered_in, listed, told_beside, told_in, octets_of, gave_in, IsClear, latest_in, RisesByHeard, RisesByExpiry, RisesByRequest, FallsByNext, room, RefusesBy, IsFirstWaiting, has_next, next_waiting, came, cause_of, request_of, starts, limit, IsLoaded, orders_taken};
 ghost use Rattle.model_bits.specs.Stream as stream;
 ghost use Rattle.model_card.specs.Card as machine;
 ghost use Rattle.model_card.specs.Event.{at};
@@ -16,7 +16,7 @@ ghost use Rattle.model_line.specs.Line.{place_in};
 use crate::stored::frame_limit;
 use lapd_count::Counters;
 use lapd_frame::{Order, Refusal, Service, ShortList, Timer};
-use lapd_line::{BareReport, Config, FrameLine, Marks, NextFrame, Port, Request, Room};
+use lapd_line::{BareReport, Config, FrameLine, LinkCounts, Marks, NextFrame, Port, Request, Room};
 use lapd_store::Shelf;
 use model_bits::Cause;
 use model_line::Fault;
@@ -64,6 +64,8 @@ impl<S: Shelf> FrameCard<S> {
     ghost use Rattle.lapd_card.specs.FrameCard.{line_count, room_for_frames};
     ghost use Rattle.lapd_card.specs.Called.{Called};
     ghost use Rattle.lapd_card.specs.FrameStands.{FrameStands, Leads};
+    ghost use Rattle.lapd_card.specs.Given.{GivenIn, NoRoom};
+    ghost use Rattle.lapd_card.specs.Waiting.{IsLineOf};
 
     /// How many lines the card has: 1 to 64.
     pub fn lines(&self) -> usize
@@ -168,14 +170,9 @@ impl<S: Shelf> FrameCard<S> {
         out: &mut [u8],
     ) -> Result<Option<NextFrame>, RoomTooSmall>
         requires { line < line_count self.old }
-        ensures refused { IsErr result ↔ (length out.old < room_for_frames self.old) }
-        ensures room { IfErr result (λ fault. fault.room ≡ room_for_frames self.old) }
-        ensures unchanged { OnErr result (self.new ≡ self.old) }
-        ensures unwritten { OnErr result (out.new ≡ out.old) }
         ensures called { IfOk result (λ given. Called S.store (at line next) (gave_in out.new given) self.old self.new) }
-        ensures fits { IfOk result (λ given. written given ≤ length out.new) }
-        ensures rest { IfOk result (λ given. drop (written given) out.new ≡ drop (written given) out.old) }
-        ensures length { length out.new ≡ length out.old }
+        ensures given { IfOk result (λ given. GivenIn (room_for_frames self.old) given out.old out.new) }
+        ensures refused { IfErr result (λ fault. NoRoom (room_for_frames self.old) fault self.old self.new out.old out.new) }
         // Where it gives a frame, what may be sent falls by one or two; else it stays.
         ensures frames { (m : machine.Card) → FrameStands S.store self.old m → FallsByNext line m }
     {
@@ -221,9 +218,7 @@ impl<S: Shelf> FrameCard<S> {
         ensures next { (m : machine.Card) → FrameStands S.store self.now m → result ≡ next_waiting from m }
         // By the machine's own answers: a call for the next frame of that line gives one, and of those before it none.
         ensures first { (m : machine.Card) → FrameStands S.store self.now m → IsFirstWaiting from m result }
-        ensures within { IfSome result (λ line. line < line_count self.now) }
-        // No card has more lines.
-        ensures few { IfSome result (λ line. line < 64) }
+        ensures line { IfSome result (λ line. IsLineOf (line_count self.now) line) }
     {
         self.waiting.first(from, self.lines())
     }
@@ -285,6 +280,17 @@ impl<S: Shelf> FrameCard<S> {
     {
         if line < self.lines() {
             self.lines[line].state(service, tei)
+        } else {
+            None
+        }
+    }
+
+    /// What was counted of the link of a service with this TEI. None where the card has no such line, or the TEI is not on it.
+    pub fn link_counts(&self, line: usize, service: Service, tei: u8) -> Option<LinkCounts>
+        ensures { (m : machine.Card) → FrameStands S.store self.now m → result ≡ machine.counts line service tei m }
+    {
+        if line < self.lines() {
+            self.lines[line].link_counts(service, tei)
         } else {
             None
         }

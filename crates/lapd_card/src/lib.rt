@@ -63,7 +63,9 @@ pub use kept::{Kept, KeptReply};
 pub use kinds::AnyCard;
 pub use lapd_count::{Counter, Counters, Kind, Way};
 pub use lapd_frame::Side;
-pub use lapd_line::{BareReport, Config, Field, NextFrame, Pulled, Report, Request, Room};
+pub use lapd_line::{
+    BareReport, Config, Field, LinkCounts, NextFrame, Pulled, Report, Request, Room,
+};
 pub use model_bits::Head;
 pub use model_card::CardKind;
 pub use model_card::ports::Event;

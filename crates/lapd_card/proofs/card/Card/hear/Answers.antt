@@ -2,13 +2,15 @@
 use Rattle.lapd_card.proofs.Vocabulary.{◌<◌, None, Some, IsSome, IfSome, refl, sym, ap, subst, latest_in, told_in}
 use Rattle.model_card.specs.Event as frames
 use Rattle.model_line.specs.Event as line
+use Rattle.std.proofs.Common.{◌∙◌, option_map}
+use Rattle.model_card.specs.ports.Card.{meant}
 use Rattle.model_card.specs.ports.Event.{at}
 use Rattle.model_card.specs.ports.Port as port
 use Rattle.lapd_line.specs.Reports.{octets_of}
 use Rattle.lapd_line.proofs.PortSteps.{nothing_heard, is_dropped}
 use Rattle.lapd_card.specs.Called.{Called}
 use Rattle.lapd_card.specs.Card.{line_count}
-use Rattle.lapd_card.proofs.OnePort.{port-there, port-in, port_put, seen, past_after}
+use Rattle.lapd_card.proofs.OnePort.{port-there, port-in, port_put, port_holds, seen, past_after, stood}
 use Rattle.lapd_card.proofs.OneOctet.{Hears, if_hears, ended_something, octet_called, priced}
 use Rattle.lapd_card.proofs.card.Card.hear.Goals as goal
 
@@ -50,3 +52,10 @@ invariant_of-self-in-Frame g c = past_after g.S.Shelf.store (octet_called g.S.Sh
 
 pub returns-in-Frame-clause-frames : goal.returns-in-Frame-clause-frames
 returns-in-Frame-clause-frames g c = λ m s. priced m (at c.args.line (port.octet c.args.octet)) s.reached (subst (λ d. c.args.line < d.lines) (sym s.frames.config) c.requires)
+
+pub returns-in-Nothing-clause-silent : goal.returns-in-Nothing-clause-silent
+unfolding meant
+returns-in-Nothing-clause-silent g c = λ m s.
+    ap (λ h. option_map (frames.at c.args.line) (option_map line.hears h))
+    (c.octet.ensures.gained _ _ (port_holds g.S.Shelf.store (record { past = c.self.invariant; within = (subst (λ d. c.args.line < line_count d) (sym c.self.view_is) c.requires); is = c.index_mut.ensures.value }) m (stood g.S.Shelf.store c.self.view_is m s))
+    ∙ nothing_heard (latest_in c.octet.new.self) c.in-Nothing.ensures.told)

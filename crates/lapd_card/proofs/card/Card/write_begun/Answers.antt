@@ -9,12 +9,14 @@ use Rattle.lapd_card.proofs.card.Card.write_begun.Goals as goal
 pub index-requires : goal.index-requires
 index-requires g c = port-there g.S.Shelf.store _ c.args.self.now c.args.line _ c.self.invariant c.self.view_is c.requires c.self.inside.ports.ok.0
 
-pub returns-clause-short : goal.returns-clause-short
-returns-clause-short g c = if_none c.write_begun.result (λ short m s. short _ _ (port_holds g.S.Shelf.store (record { past = c.self.invariant; within = (subst (λ d. c.args.line < line_count d) (sym c.self.view_is) c.requires); is = c.index.ensures }) m (stood g.S.Shelf.store c.self.view_is m s))) c.write_begun.ensures.short
-  where
-    if_none : {A : Type 0} {P Q : Type 0} (o : Option A) → (P → Q) → IfNone o P → IfNone o Q
-    if_none None so is = so is
-    if_none (Some x) so is = tt
+if_none : {A : Type 0} {P Q : Type 0} (o : Option A) → (P → Q) → IfNone o P → IfNone o Q
+if_none None so is = so is
+if_none (Some x) so is = tt
 
-pub returns-clause-written : goal.returns-clause-written
-returns-clause-written g c = IfSome_then c.write_begun.result c.write_begun.ensures.written (λ count written m s. written _ _ (port_holds g.S.Shelf.store (record { past = c.self.invariant; within = (subst (λ d. c.args.line < line_count d) (sym c.self.view_is) c.requires); is = c.index.ensures }) m (stood g.S.Shelf.store c.self.view_is m s)))
+pub returns-clause-whole : goal.returns-clause-whole
+returns-clause-whole g c = λ m s.
+    let stands = port_holds g.S.Shelf.store (record { past = c.self.invariant; within = (subst (λ d. c.args.line < line_count d) (sym c.self.view_is) c.requires); is = c.index.ensures }) m (stood g.S.Shelf.store c.self.view_is m s) in
+    record {
+      short = if_none c.write_begun.result (λ short. short _ _ stands) c.write_begun.ensures.short;
+      written = IfSome_then c.write_begun.result c.write_begun.ensures.written (λ count written. written _ _ stands);
+    }

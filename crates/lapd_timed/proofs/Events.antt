@@ -16,10 +16,10 @@ use Rattle.model_line.specs.Expiry.{is_running}
 use Rattle.model_timed.specs.Clock.{Clock, obeyed}
 use Rattle.model_timed.specs.Frames.{orders_at, IsNoExpiry}
 use Rattle.model_timed.specs.Octets as octets
-use Rattle.model_timed.specs.RunTheSame.{left_at}
+use Rattle.model_timed.specs.RunTheSame.{as_they_are, left_at}
 use Rattle.model_timed.proofs.OctetsRun.{OctetsMean, octets-mean}
 use Rattle.lapd_timed.specs.Carried.{AreCarriedOut}
-use Rattle.lapd_timed.specs.Stands.{held, AreLeft, TimersStand}
+use Rattle.lapd_timed.specs.Stands.{held, AreKept, AreLeft, HeldTimers, TimersStand}
 use Rattle.lapd_timed.specs.declared.card_timers.CardTimers.{CardTimers}
 use Rattle.lapd_timed.proofs.Carried.{before-all, after-all}
 
@@ -31,6 +31,7 @@ no-orders (order ∷ orders) none = absurd (omega (arith, none))
 pub nothing-ordered : (card : Held Store) (line : ℕ) (timers : CardTimers) → line < timers.lines → AreCarriedOut card line [] timers timers
 nothing-ordered card line timers within = record {
   lines = refl;
+  terminals = refl;
   none = λ _. refl;
   after = λ e m c led is left. after-all shelf_of card (held timers) line within e m c [] (held timers) led is left (before-all shelf_of card (held timers) line within e m c led left);
 }
@@ -71,7 +72,7 @@ module _ (card : Held Store) (line : ℕ) (orders : List Order) (old new : CardT
       go : (o : Option Event) → OctetsMean e m o → TimersStand new (ports.after e m).card (obeyed e.line (octets.orders_at e m) c)
       go None means =
           subst (λ os. TimersStand new (ports.after e m).card (obeyed e.line os c)) (sym means.0)
-          (subst (λ (x : Card). TimersStand new x c) (sym means.1) (subst (λ (t : CardTimers). TimersStand t m.card c) (sym (carried.none (is ∙ means.0))) k))
+          (subst (λ (x : Card). TimersStand new x c) (sym means.1) (subst (λ (h : HeldTimers). AreKept as_they_are h m.card c) (sym (carried.none (is ∙ means.0))) k))
       go (Some f) means =
           meant-so e f m c new means
           (frames-done f (means.0 ∙ at_line) m.card c there (subst (λ (x : Card). FrameStands shelf_of card x) means.2 stands) (is ∙ means.1)

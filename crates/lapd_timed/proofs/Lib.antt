@@ -5,5 +5,14 @@ pub mod Finishing
 pub mod Falling
 pub mod Calls
 pub mod Carried
+pub mod Marked
+pub mod TeisMarked
+pub mod StatesSeen
+pub mod Touching
+pub mod Touched
+pub mod EventKeeps
+pub mod OctetMeans
+pub mod HeardTouches
+pub mod MarkedSteps
 pub mod Events
 pub mod Steps

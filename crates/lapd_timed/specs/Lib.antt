@@ -1,7 +1,10 @@
 -- A card that keeps its own timers.
 --
--- Read after those of `model_timed` and `lapd_moments`: Places, Stands, Carried, Kinds, TimedStands.
+-- Read after those of `model_timed` and `lapd_moments`: Places, Marked, Touches, Named, Stands, Carried, Kinds, TimedStands.
 pub mod Places
+pub mod Marked
+pub mod Touches
+pub mod Named
 pub mod Stands
 pub mod Carried
 pub mod Kinds

@@ -14,7 +14,9 @@ use Rattle.model_card.specs.Machine.{after}
 use Rattle.model_card.specs.Reached.{IsReached}
 use Rattle.model_line.specs.Line.{tei_at}
 use Rattle.model_timed.specs.Clock.{Clock}
+use Rattle.model_timed.specs.Changes.{Marks}
 use Rattle.model_timed.specs.RunTheSame.{RunAs, left_by, as_they_are}
+use Rattle.lapd_timed.specs.Marked.{AreMarks}
 use Rattle.lapd_timed.specs.declared.card_timers.CardTimers.{CardTimers}
 
 -- A TEI is at a place of a line of the card.
@@ -67,3 +69,7 @@ IsOnAmid e m line place tei = IsOn m line place tei ⊎ IsOn (after e m) line pl
 
 abbrev pub AreAmid : Event → CardTimers → Card → Clock → Type 0
 AreAmid e timers m clock = AreAt (IsOnAmid e m) (held timers) m clock
+
+-- And what is noted of the links is so of those of the card.
+abbrev pub ChangesStand : CardTimers → Card → Marks → Type 0
+ChangesStand timers card marks = AreMarks timers.lines (2 * timers.terminals) timers.changes card marks

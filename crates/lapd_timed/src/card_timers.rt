@@ -8,9 +8,11 @@ ghost use Rattle.model_card.specs.Event.{at};
 ghost use Rattle.model_line.specs.Event.{expiry};
 ghost use Rattle.model_line.specs.Sound.{IsInRange};
 ghost use Rattle.model_line.specs.declared.config.Config.{Config};
+ghost use Rattle.model_timed.specs.Changes.{unmarked};
 ghost use Rattle.model_timed.specs.Clock.{Clock, stopped, due, without_first, next_moment, at_moment, with_lengths};
 ghost use Rattle.lapd_timed.specs.Places.{named_by, AreOnLines};
 
+use crate::changes::Changes;
 use lapd_clock::Lengths;
 use lapd_frame::Timer;
 use lapd_moments::Moments;
@@ -31,15 +33,18 @@ pub struct CardTimers {
     pub(crate) lengths: Lengths,
     pub(crate) moment: u64,
     pub(crate) moments: Moments,
+    pub(crate) changes: Changes,
     ghost few_lines: { lines ≤ 64 },
     ghost few_terminals: { terminals ≤ 8 },
     ghost in_time: { moment < 2 ^ 63 },
     ghost size: { length moments ≡ lines * (4 * terminals + 2) },
     ghost of_lines: { AreOnLines lines moments },
+    ghost links: { changes.links ≡ 2 * terminals },
+    ghost marks: { length changes.states ≡ lines * (2 * terminals) },
 }
 
 impl CardTimers {
-    ghost use Rattle.lapd_timed.specs.Stands.{TimersStand, AreLeft};
+    ghost use Rattle.lapd_timed.specs.Stands.{ChangesStand, TimersStand, AreLeft};
 
     /// The timers of a card as it begins, of 1 to 64 lines of 1 to 8 terminals: none runs, and the moment is 0. It takes the
     /// memory for all places; no other call takes any.
@@ -59,14 +64,18 @@ impl CardTimers {
         ensures terminals { IfOk result (λ timers. timers.terminals ≡ terminals) }
         ensures stopped { IfOk result (λ timers. (c : Config) → c.lines ≡ lines → c.terminals ≡ terminals → IsInRange c
             → TimersStand timers (machine.fresh c) (stopped (lengths_of lengths))) }
+        ensures unmarked { IfOk result (λ timers. (c : Config) → c.lines ≡ lines → c.terminals ≡ terminals
+            → ChangesStand timers (machine.fresh c) unmarked) }
     {
         let moments = Moments::idle(alloc, lines, terminals)?;
+        let changes = Changes::start(alloc, lines, 2 * terminals)?;
         Ok(CardTimers {
             lines,
             terminals,
             lengths,
             moment: 0,
             moments,
+            changes,
         })
     }
 
@@ -74,6 +83,7 @@ impl CardTimers {
     pub fn set_lengths(&mut self, lengths: Lengths)
         ensures lines { self.new.lines ≡ self.old.lines }
         ensures terminals { self.new.terminals ≡ self.old.terminals }
+        ensures changes { self.new.changes ≡ self.old.changes }
         ensures after { (m : Card) (c : Clock) → TimersStand self.old m c → TimersStand self.new m (with_lengths (lengths_of lengths) c) }
     {
         self.lengths = lengths;
@@ -94,6 +104,7 @@ impl CardTimers {
         ensures later { result ≡ true ↔ ((self.old.moment ≤ moment) × (moment < 2 ^ 63)) }
         ensures lines { self.new.lines ≡ self.old.lines }
         ensures terminals { self.new.terminals ≡ self.old.terminals }
+        ensures changes { self.new.changes ≡ self.old.changes }
     {
         if moment < self.moment || moment > LAST_MOMENT {
             return false;
@@ -111,6 +122,7 @@ impl CardTimers {
         ensures stays { result ≡ false → self.new ≡ self.old }
         ensures lines { self.new.lines ≡ self.old.lines }
         ensures terminals { self.new.terminals ≡ self.old.terminals }
+        ensures changes { self.new.changes ≡ self.old.changes }
     {
         if !self.moments.is_early(moment) {
             return false;
@@ -129,6 +141,7 @@ impl CardTimers {
         ensures line { IfSome result (λ due. due.0 < self.old.lines) }
         ensures lines { self.new.lines ≡ self.old.lines }
         ensures terminals { self.new.terminals ≡ self.old.terminals }
+        ensures changes { self.new.changes ≡ self.old.changes }
         ensures left { IfSome result (λ due. (m : Card) (c : Clock) → TimersStand self.old m c
             → AreLeft (at due.0 (expiry due.1)) self.new m (without_first c)) }
         ensures none { IfNone result (self.new ≡ self.old) }

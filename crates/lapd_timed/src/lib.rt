@@ -25,15 +25,21 @@
 //! there. The contracts of each call say that the timers stand for its clock (`specs/Stands`), and a card with them for the
 //! timed card of its kind (`specs/TimedStands`).
 //!
-//! - `card_timers`: `CardTimers`; `obeying`: what it is ordered; `places`: where its timers are. `timed_card`: `TimedCard`. `wrong_time`: the time that is refused.
+//! - `card_timers`: `CardTimers`; `obeying`: what it is ordered; `places`: where its timers are.
+//! - `changes`: when the states of links changed; `noting`: these are noted; `touches`: of which TEI.
+//! - `timed_card`: `TimedCard`. `wrong_time`: the time that is refused.
 #![tactic(auto)]
 
 mod card_timers;
+mod changes;
+mod noting;
 mod obeying;
 mod places;
 mod timed_card;
+mod touches;
 mod wrong_time;
 
 pub use card_timers::CardTimers;
 pub use timed_card::TimedCard;
+pub use touches::{tei_of_frame, tei_of_heard, tei_of_request, tei_of_timer};
 pub use wrong_time::WrongTime;

@@ -31,6 +31,7 @@ impl CardTimers {
     pub fn obey<S: Shelf>(&mut self, card: &FrameCard<S>, line: usize, orders: &[Order])
         ensures lines { self.new.lines ≡ self.old.lines }
         ensures terminals { self.new.terminals ≡ self.old.terminals }
+        ensures changes { self.new.changes ≡ self.old.changes }
         // So of each event at that line of which these are the orders, and that led the card to where it is.
         ensures after { (e : Event) (m : Card) (c : Clock) → HasLedTo S.store card.now line e m → orders.now ≡ orders_at e m → AreLeft e self.old m c
             → TimersStand self.new (after e m) (obeyed line orders.now c) }
@@ -51,6 +52,7 @@ impl CardTimers {
     )
         ensures lines { self.new.lines ≡ self.old.lines }
         ensures terminals { self.new.terminals ≡ self.old.terminals }
+        ensures changes { self.new.changes ≡ self.old.changes }
         ensures after { (e : Event) (m : Card) (c : Clock) → HasLedTo S.store card.now line e m → listed orders.now ≡ orders_at e m → AreLeft e self.old m c
             → TimersStand self.new (after e m) (obeyed line (listed orders.now) c) }
     {
@@ -69,6 +71,7 @@ impl CardTimers {
     fn obey_others<S: Shelf>(&mut self, card: &FrameCard<S>, line: usize, orders: &ShortList<Order>)
         ensures lines { self.new.lines ≡ self.old.lines }
         ensures terminals { self.new.terminals ≡ self.old.terminals }
+        ensures changes { self.new.changes ≡ self.old.changes }
         ensures after { (e : Event) (m : Card) (c : Clock) → HasLedTo S.store card.now line e m → listed orders.now ≡ orders_at e m → AreLeft e self.old m c
             → TimersStand self.new (after e m) (obeyed line (listed orders.now) c) }
     {
@@ -90,6 +93,7 @@ impl CardTimers {
     fn obey_more<S: Shelf>(&mut self, card: &FrameCard<S>, line: usize, orders: &[Order])
         ensures lines { self.new.lines ≡ self.old.lines }
         ensures terminals { self.new.terminals ≡ self.old.terminals }
+        ensures changes { self.new.changes ≡ self.old.changes }
         ensures after { (e : Event) (m : Card) (c : Clock) → HasLedTo S.store card.now line e m → orders.now ≡ orders_at e m → AreLeft e self.old m c
             → TimersStand self.new (after e m) (obeyed line orders.now c) }
     {
@@ -103,6 +107,7 @@ impl CardTimers {
     fn obey_in_places<S: Shelf>(&mut self, card: &FrameCard<S>, line: usize, orders: &[Order])
         ensures lines { self.new.lines ≡ self.old.lines }
         ensures terminals { self.new.terminals ≡ self.old.terminals }
+        ensures changes { self.new.changes ≡ self.old.changes }
         ensures after { (e : Event) (m : Card) (c : Clock) → HasLedTo S.store card.now line e m → orders.now ≡ orders_at e m → AreLeft e self.old m c
             → TimersStand self.new (after e m) (obeyed line orders.now c) }
     {
@@ -116,6 +121,7 @@ impl CardTimers {
     fn obey_each<S: Shelf>(&mut self, card: &FrameCard<S>, line: usize, orders: &[Order])
         ensures lines { self.new.lines ≡ self.old.lines }
         ensures terminals { self.new.terminals ≡ self.old.terminals }
+        ensures changes { self.new.changes ≡ self.old.changes }
         ensures after { (e : Event) (m : Card) (c : Clock) → HasLedTo S.store card.now line e m → orders.now ≡ orders_at e m → AreLeft e self.old m c
             → TimersStand self.new (after e m) (obeyed line orders.now c) }
     {
@@ -130,6 +136,7 @@ impl CardTimers {
     fn restart_alone(&mut self, line: usize, orders: &[Order]) -> bool
         ensures lines { self.new.lines ≡ self.old.lines }
         ensures terminals { self.new.terminals ≡ self.old.terminals }
+        ensures changes { self.new.changes ≡ self.old.changes }
         ensures after { result ≡ true → (e : Event) (m : Card) (c : Clock) → e.line ≡ line → line < m.config.lines
             → orders.now ≡ orders_at e m → AreLeft e self.old m c → TimersStand self.new (after e m) (obeyed line orders.now c) }
         ensures unchanged { result ≡ false → self.new ≡ self.old }
@@ -153,6 +160,7 @@ impl CardTimers {
     fn exchange_alone(&mut self, line: usize, orders: &[Order]) -> bool
         ensures lines { self.new.lines ≡ self.old.lines }
         ensures terminals { self.new.terminals ≡ self.old.terminals }
+        ensures changes { self.new.changes ≡ self.old.changes }
         ensures after { result ≡ true → (e : Event) (m : Card) (c : Clock) → e.line ≡ line → line < m.config.lines
             → orders.now ≡ orders_at e m → AreLeft e self.old m c → TimersStand self.new (after e m) (obeyed line orders.now c) }
         ensures unchanged { result ≡ false → self.new ≡ self.old }
@@ -180,6 +188,7 @@ impl CardTimers {
     ) -> bool
         ensures lines { self.new.lines ≡ self.old.lines }
         ensures terminals { self.new.terminals ≡ self.old.terminals }
+        ensures changes { self.new.changes ≡ self.old.changes }
         ensures after { result ≡ true → (e : Event) (m : Card) (c : Clock) → HasLedTo S.store card.now line e m → orders.now ≡ orders_at e m → AreLeft e self.old m c
             → TimersStand self.new (after e m) (obeyed line orders.now c) }
         ensures unchanged { result ≡ false → self.new ≡ self.old }
@@ -218,6 +227,7 @@ impl CardTimers {
         requires card { line < line_count card.now }
         ensures lines { self.new.lines ≡ self.old.lines }
         ensures terminals { self.new.terminals ≡ self.old.terminals }
+        ensures changes { self.new.changes ≡ self.old.changes }
         ensures after { (e : Event) (m : Card) (c : Clock) → HasLedTo S.store card.now line e m → orders.now ≡ orders_at e m → AreLeft e self.old m c
             → TimersStand self.new (after e m) (obeyed line orders.now c) }
     {
@@ -233,6 +243,7 @@ impl CardTimers {
         requires card { line < line_count card.now }
         ensures lines { self.new.lines ≡ self.old.lines }
         ensures terminals { self.new.terminals ≡ self.old.terminals }
+        ensures changes { self.new.changes ≡ self.old.changes }
         ensures after { (e : Event) (m : Card) (c : Clock) → IsReached m → HasLedTo S.store card.now line e m → IsPlaced (line_at line (after e m)) order
             → AreAmid e self.old m c → AreAmid e self.new m (clock.obey line c order) }
     {

@@ -1,28 +1,31 @@
 //! A card that keeps its own timers.
 
-ghost use Rattle.std.specs.Prelude.{◌≡◌, ◌⊎◌, ◌^◌, ◌<◌, ◌≤◌, ◌↔◌, true, None, Some, length, drop, IfOk, IfSome, IfNone, IsErr, OnErr, OnOk, option_map};
-ghost use Rattle.lapd_card.specs.{answer_of_request, came, cause_of, gave_in, listed, octets_of, pulled_of, request_of, starts, told_beside, told_if_at, told_in, written, IsClear, IsQuiet};
+ghost use Rattle.std.specs.Prelude.{◌≡◌, ◌⊎◌, ◌^◌, ◌<◌, ◌≤◌, ◌↔◌, true, None, Some, IfOk, IfErr, IfSome, IfNone, IsErr, OnErr, OnOk, option_map};
+ghost use Rattle.lapd_card.specs.{answer_of_request, came, cause_of, gave_in, octets_of, pulled_of, request_of, told_beside, told_if_at, told_in, IsClear, IsQuiet};
 ghost use Rattle.lapd_clock.specs.Given.{lengths_of};
-ghost use Rattle.lapd_card.specs.Kinds.{config_of, frames_of, kind_of, line_count};
+ghost use Rattle.lapd_card.specs.Kinds.{card_in, config_of, frames_of, kind_of, line_count, AnyStands, Machine};
 ghost use Rattle.model_card.specs.declared.kinds.CardKind.TheVariants.{Frames, Octets};
 ghost use Rattle.model_bits.specs.Stream as stream;
-ghost use Rattle.model_card.specs.Card.{Card};
+ghost use Rattle.model_card.specs.Card.{Card, line_at};
 ghost use Rattle.model_card.specs.Event.{at};
 ghost use Rattle.model_card.specs.ports.Event as octet_event;
 ghost use Rattle.model_card.specs.ports.Port as port;
 ghost use Rattle.model_line.specs.Event as line_event;
-ghost use Rattle.model_line.specs.Event.{told, hears, expiry, next};
+ghost use Rattle.model_line.specs.Event.{told, hears, next};
+ghost use Rattle.model_timed.specs.Changes.{Marks};
 ghost use Rattle.model_timed.specs.Clock.{Clock, due, next_moment, with_lengths};
-ghost use Rattle.model_timed.specs.Timed.{happens, time, falls_due};
-ghost use Rattle.lapd_timed.specs.Places.{named_by};
-ghost use Rattle.lapd_timed.specs.Stands.{TimersStand};
+ghost use Rattle.model_timed.specs.Timed.{falls_due};
+ghost use Rattle.lapd_timed.specs.Marked.{moment_in};
+ghost use Rattle.lapd_timed.specs.Places.{link_on, named_by};
+ghost use Rattle.lapd_timed.specs.Stands.{ChangesStand, TimersStand};
 ghost use Rattle.lapd_timed.specs.Kinds.{ports_of, room_of};
 
 use crate::card_timers::CardTimers;
+use crate::touches::{tei_of_frame, tei_of_heard, tei_of_request, tei_of_timer};
 use crate::wrong_time::WrongTime;
 use lapd_card::{AnyCard, BareReport, Fault, NextFrame, Pulled, Request, RoomTooSmall};
 use lapd_clock::Lengths;
-use lapd_frame::{Order, Refusal, Timer};
+use lapd_frame::{Order, Refusal, Service, Timer};
 
 /// A card of either kind, and the timers of it. Whatever happens to it happens at the moment that it was told last, and what it
 /// orders of its timers is carried out then: of the orders in its answers nothing is left to do.
@@ -37,9 +40,9 @@ pub struct TimedCard {
 }
 
 impl TimedCard {
-    ghost use Rattle.lapd_card.specs.Called.{AnyCalled};
-    ghost use Rattle.lapd_timed.specs.Carried.{AreCarriedOut};
-    ghost use Rattle.lapd_timed.specs.Called.{CalledOfBoth, CalledOfFrames, CalledOfOctets};
+    ghost use Rattle.lapd_card.specs.Given.{GivenIn, NoRoom};
+    ghost use Rattle.lapd_timed.specs.Carried.{AreCarriedOut, AreNoted};
+    ghost use Rattle.lapd_timed.specs.Called.{CalledOfBoth, CalledOfFrames, CalledOfOctets, Fell, Went};
     ghost use Rattle.lapd_timed.specs.TimedStands.{Steps};
 
     /// A card that has just begun, and the timers of it: of as many lines and terminals, none of which runs. With timers of
@@ -82,8 +85,7 @@ impl TimedCard {
     pub fn go_to(&mut self, moment: u64) -> Result<(), WrongTime>
         ensures refused { IsErr result ↔ ((moment < self.old.timers.moment) ⊎ (2 ^ 63 ≤ moment)) }
         ensures unchanged { OnErr result (self.new ≡ self.old) }
-        ensures card { self.new.card ≡ self.old.card }
-        ensures after { OnOk result (Steps (time moment) (time moment) self.old self.new) }
+        ensures went { OnOk result (Went moment self.old self.new) }
     {
         if self.timers.go_to(moment) {
             Ok(())
@@ -97,19 +99,16 @@ impl TimedCard {
     pub fn fall_due(&mut self, report: &mut BareReport) -> Option<(usize, Timer)>
         requires clear { IsClear report.old }
         ensures due { (m : Card) (c : Clock) → TimersStand self.old.timers m c → result ≡ option_map named_by (due c) }
-        ensures line { IfSome result (λ d. d.0 < line_count self.old.card) }
-        ensures called { IfSome result (λ d. AnyCalled (at d.0 (expiry d.1)) (told (told_beside None report.new)) self.old.card self.new.card) }
+        ensures fell { IfSome result (λ d. Fell d report.new self.old.card self.new.card) }
         ensures after { Steps falls_due falls_due self.old self.new }
-        ensures unchanged { IfNone result (self.new ≡ self.old) }
-        ensures untold { IfNone result (report.new ≡ report.old) }
-        // It starts one timer at most, so that what falls due at a moment comes to an end.
-        ensures starts { IfSome result (λ _. starts (listed report.new.orders) ≤ 1) }
+        ensures none { IfNone result ((self.new ≡ self.old) × (report.new ≡ report.old)) }
     {
         let Some((line, timer)) = self.timers.due() else {
             return None;
         };
         self.card.expire(line, timer, report);
         self.carry_out(line, report.orders());
+        self.note(line, tei_of_timer(timer));
         Some((line, timer))
     }
 
@@ -119,6 +118,18 @@ impl TimedCard {
         ensures unchanged { self.new ≡ self.old }
     {
         self.timers.next_moment()
+    }
+
+    /// The moment, in milliseconds, at which the state of a link changed last; 0 if it has not since the start. There are states 4
+    /// to 8, and that its TEI is not on the line counts as one more. So its coming is a change. The answer is `None` where the TEI
+    /// is not on the line.
+    pub fn changed_at(&self, line: usize, service: Service, tei: u8) -> Option<u64>
+        requires within { line < line_count self.now.card }
+        ensures { (m : Machine) (marks : Marks) → AnyStands self.now.card m → ChangesStand self.now.timers (card_in m) marks
+            → result ≡ option_map (moment_in marks line) (link_on service tei (line_at line (card_in m))) }
+    {
+        self.timers
+            .changed_at(self.card.frames(), line, service, tei)
     }
 
     /// Serves a request of layer 3 or management at a line.
@@ -138,8 +149,12 @@ impl TimedCard {
             (answer_of_request result report.new) self.old self.new }
         ensures untold { OnErr result (report.new ≡ report.old) }
     {
+        let touched = tei_of_request(&request);
         self.card.request(line, request, report)?;
         self.carry_out(line, report.orders());
+        if let Some(tei) = touched {
+            self.note(line, tei);
+        }
         Ok(())
     }
 
@@ -154,7 +169,9 @@ impl TimedCard {
         };
         match card.hear(line, octet) {
             Some(report) => {
+                let tei = tei_of_heard(card.ended(line));
                 self.carry_out(line, report.orders());
+                self.note(line, tei);
                 Some(report)
             }
             None => None,
@@ -190,6 +207,7 @@ impl TimedCard {
         };
         let is_quiet = card.frame(line, octets, report);
         self.carry_out(line, report.orders());
+        self.note(line, tei_of_frame(octets));
         is_quiet
     }
 
@@ -221,13 +239,9 @@ impl TimedCard {
     ) -> Result<Option<NextFrame>, RoomTooSmall>
         requires kind { kind_of self.old.card ≡ Frames }
         requires within { line < line_count self.old.card }
-        ensures refused { IsErr result ↔ (length out.old < room_of self.old.card) }
-        ensures unchanged { OnErr result (self.new ≡ self.old) }
-        ensures unwritten { OnErr result (out.new ≡ out.old) }
         ensures called { IfOk result (λ given. CalledOfFrames (at line next) (gave_in out.new given) self.old self.new) }
-        ensures fits { IfOk result (λ given. written given ≤ length out.new) }
-        ensures rest { IfOk result (λ given. drop (written given) out.new ≡ drop (written given) out.old) }
-        ensures length { length out.new ≡ length out.old }
+        ensures given { IfOk result (λ given. GivenIn (room_of self.old.card) given out.old out.new) }
+        ensures refused { IfErr result (λ fault. NoRoom (room_of self.old.card) fault self.old self.new out.old out.new) }
     {
         let AnyCard::Frames(card) = &mut self.card else {
             unreachable!();
@@ -245,9 +259,20 @@ impl TimedCard {
         requires { line < line_count self.old.card }
         ensures card { self.new.card ≡ self.old.card }
         ensures carried { AreCarriedOut (frames_of self.old.card) line orders.now self.old.timers self.new.timers }
+        ensures changes { self.new.timers.changes ≡ self.old.timers.changes }
     {
         if !orders.is_empty() {
             self.timers.obey(self.card.frames(), line, orders);
         }
+    }
+
+    /// Notes the states of the links that an event may have changed: those of a TEI, or of all where it is the group's.
+    #[inline(always)]
+    fn note(&mut self, line: usize, tei: u8)
+        requires { line < line_count self.old.card }
+        ensures card { self.new.card ≡ self.old.card }
+        ensures noted { AreNoted (frames_of self.old.card) line tei self.old.timers self.new.timers }
+    {
+        self.timers.note(self.card.frames(), line, tei);
     }
 }

@@ -14,6 +14,7 @@ loop-order-preserved g c =
     record {
       lines = c.carry_out.ensures.lines ∙ c.loop-order.invariant.lines;
       terminals = c.carry_out.ensures.terminals ∙ c.loop-order.invariant.terminals;
+      changes = c.carry_out.ensures.changes ∙ c.loop-order.invariant.changes;
       amid = λ e m c' led is left.
           subst (λ (k : Clock). AreAmid e c.carry_out.new.self m k)
           (sym (one-more c.args.line c' c.args.orders.now c.loop-order.order-index _ there (get_or_default c.args.orders.now c.loop-order.order-index _ _ there)))

@@ -12,6 +12,7 @@ abbrev pub invariant-loop-order : goal.invariant-loop-order
 invariant-loop-order g l = record {
   lines : l.self.lines ≡ l.fn.self.lines;
   terminals : l.self.terminals ≡ l.fn.self.terminals;
+  changes : l.self.changes ≡ l.fn.self.changes;
   amid : (e : Event) (m : Card) (c : Clock) → HasLedTo g.S.Shelf.store l.card l.line e m → l.orders ≡ orders_at e m → AreLeft e l.fn.self m c
       → AreAmid e l.self m (obeyed l.line (take l.order-index l.orders) c);
 }

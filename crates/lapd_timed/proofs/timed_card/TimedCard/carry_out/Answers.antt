@@ -9,6 +9,7 @@ use Rattle.lapd_timed.proofs.timed_card.TimedCard.carry_out.Goals as goal
 pub returns-then-not-is_empty-clause-carried : goal.returns-then-not-is_empty-clause-carried
 returns-then-not-is_empty-clause-carried c = record {
   lines = c.obey.ensures.lines;
+  terminals = c.obey.ensures.terminals;
   none = λ e. let none : length c.args.orders.now ≡ 0 = ap length e in absurd (grind arith);
   after = λ e m k led is left. c.obey.ensures.after e m k (subst (λ f. HasLedTo shelf_of f c.args.line e m) (sym c.frames.ensures.card) led) is left;
 }

@@ -38,6 +38,10 @@ void asks(lapd::any_card &card) {
     lapd::room room{};
     wants(card.room_of(1, service::call, 64, room) == status::ok && room.pool == 63 && room.queue == 7 && room.va == 0, "a room");
     wants(card.room_of(1, service::call, 65, room) == status::refused_no_link && room.pool == 63, "no room");
+    struct lapd_link_counters counted = {9, 9, 9, 9, 9};
+    wants(card.link_counters(1, service::call, 65, counted) == status::refused_no_link && counted.established == 9, "no counters of a link");
+    wants(card.link_counters(1, service::call, 64, counted) == status::ok && counted.established == 1 && counted.sent_again == 0
+              && counted.t200_expired == 0 && counted.rejects_sent == 0 && counted.rejects_received == 0, "counters of a link");
     lapd::report report;
     while (card.data(1, service::call, 64, {}, report) == status::ok)
         wants(!report.reopened(), "room before contents are refused");
@@ -109,6 +113,8 @@ void asks_timers(lapd::any_card &card) {
     wants(card.assign(1, 64, report) == status::ok && card.fall_due(5000, report) == status::no_timer, "time");
     wants(card.fall_due(4999, report) == status::wrong_time && card.fall_due(uint64_t{1} << 63, report) == status::wrong_time, "wrong times");
     wants(card.establish(1, service::call, 64, report) == status::ok && report.orders().empty() && report.line() == 1 && !report.expired(), "a request without orders");
+    wants(card.changed_at(1, service::call, 64, moment) == status::ok && moment == 5000 && card.changed_at(1, service::packet, 64, moment) == status::ok && moment == 0, "a state has changed");
+    wants(card.changed_at(1, service::call, 65, moment) == status::refused_no_link && card.changed_at(9, service::call, 64, moment) == status::wrong_line && moment == 0, "no state has changed");
     wants(card.next_moment(moment) == status::ok && moment == 6000, "T200 of its own");
     wants(card.fall_due(5999, report) == status::no_timer && card.fall_due(6000, report) == status::ok && report.line() == 1, "it falls due");
     const lapd::timer expired = report.expired_timer();
@@ -132,6 +138,7 @@ void asks_timed(lapd::card &octets, lapd::frame_card &frames) {
     asks_timers(frames);
     wants(frames.start(config) == status::ok && frames.fall_due(0, report) == status::wrong_card && frames.next_moment(moment) == status::wrong_card, "no timers of its own");
     wants(frames.set_lengths(lengths) == status::wrong_card, "lengths of no timers of its own");
+    wants(frames.changed_at(0, service::call, 64, moment) == status::wrong_card, "changes without timers of its own");
     wants(frames.end() == status::ok, "an end without timers");
 }
 

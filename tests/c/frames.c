@@ -398,16 +398,20 @@ static bool knows_the_same(pair *both) {
     uint8_t states[2];
     uint32_t stored[2], limits[2], lines[2];
     struct lapd_room rooms[2];
+    struct lapd_link_counters of_link[2];
     struct lapd_counters counters[2];
     lapd_card *cards[] = {&both->frames, &both->octets};
     bool same = true;
     for (uint8_t link = 0; link < 4; link++) {
         uint32_t answers[2];
         memset(rooms, 0, sizeof rooms);
+        memset(of_link, 0, sizeof of_link);
         for (int i = 0; i < 2; i++) {
             same = lapd_state(cards[i], link % 2, LAPD_CALL, (uint8_t)(64 + link / 2), &states[i]) == LAPD_OK && same;
             answers[i] = lapd_room(cards[i], link % 2, LAPD_CALL, (uint8_t)(64 + link / 2), &rooms[i]);
+            same = lapd_link_counters(cards[i], link % 2, LAPD_CALL, (uint8_t)(64 + link / 2), &of_link[i]) == answers[i] && same;
         }
+        same = same && memcmp(&of_link[0], &of_link[1], sizeof of_link[0]) == 0;
         same = same && states[0] == states[1] && answers[0] == answers[1] && memcmp(&rooms[0], &rooms[1], sizeof rooms[0]) == 0;
     }
     for (uint32_t line = 0; line < LINES; line++) {

@@ -28,8 +28,8 @@ static const uint8_t check_response[] = {0xFC, 0xFF, 0x03, 0x0F, 0x00, 0x00, 0x0
 static const uint8_t removal_of_all[] = {0xFE, 0xFF, 0x03, 0x0F, 0x00, 0x00, 0x06, 0xFF};
 static const uint8_t check_request_65[] = {0xFE, 0xFF, 0x03, 0x0F, 0x00, 0x00, 0x04, 0x83};
 static const uint8_t identity_assigned[] = {0xFE, 0xFF, 0x03, 0x0F, 0x12, 0x34, 0x02, 0x83};
-/* answers that nobody asked for: of TEI 64, TEI 0, and the network; and what the network has verified */
-static const uint8_t stray_ua[] = {0x02, 0x81, 0x73}, stray_ua_0[] = {0x02, 0x01, 0x73}, its_stray_ua[] = {0x00, 0x81, 0x73};
+/* answers that nobody asked for: of TEI 64, TEI 63, and the network; and what the network has verified */
+static const uint8_t stray_ua[] = {0x02, 0x81, 0x73}, stray_ua_63[] = {0x02, 0x7F, 0x73}, its_stray_ua[] = {0x00, 0x81, 0x73};
 static const uint8_t its_sabme[] = {0x02, 0x81, 0x7F}, verify_request[] = {0xFC, 0xFF, 0x03, 0x0F, 0x00, 0x00, 0x07, 0x81};
 
 static gateway own = GATEWAY_NONE;
@@ -274,14 +274,14 @@ static void tells_the_time(void) {
     WANT(gateway_ask(&own, moment - 1, 0, LAPD_BUSY, LAPD_CALL, 64, NULL, 0) == LAPD_WRONG_TIME && own.now == moment);
 }
 
-/* Error C: the TEI is checked, unless it is none that the network assigned. */
+/* Error C: a TEI from 64 on is checked, and none that is set by hand. */
 static void errors_are_managed(void) {
     unsigned before = notes[LAPD_ERROR_INDICATION];
     WANT(gateway_ask(&own, own.now, 0, LAPD_REMOVE, LAPD_CALL, 65, NULL, 0) == LAPD_OK);
-    WANT(gateway_ask(&own, own.now, 0, LAPD_ASSIGN, LAPD_CALL, 0, NULL, 0) == LAPD_OK);
+    WANT(gateway_ask(&own, own.now, 0, LAPD_ASSIGN, LAPD_CALL, 63, NULL, 0) == LAPD_OK);
     while (takes(check_request, sizeof check_request) || !takes_none())
         ; /* the removal goes */
-    WANT(gateway_frame(&own, own.now, 0, stray_ua_0, sizeof stray_ua_0) == LAPD_OK);
+    WANT(gateway_frame(&own, own.now, 0, stray_ua_63, sizeof stray_ua_63) == LAPD_OK);
     WANT(notes[LAPD_ERROR_INDICATION] == before + 1 && takes_none());
     WANT(gateway_frame(&own, own.now, 0, stray_ua, sizeof stray_ua) == LAPD_OK);
     WANT(notes[LAPD_ERROR_INDICATION] == before + 2 && takes(check_request, sizeof check_request));

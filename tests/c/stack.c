@@ -41,6 +41,7 @@ static lapd_link link;
 static struct lapd_room room;
 static lapd_head head;
 static struct lapd_counters counters;
+static struct lapd_link_counters of_link;
 static char text[LAPD_MOST_TEXT];
 static uint32_t status, waiting;
 static uint64_t moment;
@@ -82,6 +83,7 @@ static void timed_start(void) { status = lapd_card_start_timed(&card, &config, &
 static void timed_frames_start(void) { status = lapd_card_start_frames_timed(&card, &config, &lengths); }
 static void fall_due(void) { status = lapd_fall_due(&card, LAPD_LATEST - 1, &report); }
 static void find_moment(void) { status = lapd_next_moment(&card, &moment); }
+static void find_change(void) { status = lapd_changed_at(&card, 0, LAPD_CALL, 64, &moment); }
 static void set_lengths(void) { status = lapd_card_set_lengths(&card, &lengths); }
 static void take_frame(void) { status = lapd_frame(&card, 0, octets, length, &report); }
 static void fail_frame(void) { status = lapd_frame_failed(&card, 0, LAPD_FCS, &report); }
@@ -94,6 +96,7 @@ static void ask_heard(void) { status = lapd_heard(&card, 0, &head); }
 static void ask_begun_frame(void) { status = lapd_begun_frame(&card, 0, whole, sizeof whole, &length); }
 static void ask_heard_frame(void) { status = lapd_heard_frame(&card, 0, whole, sizeof whole, &length); }
 static void ask_counters(void) { status = lapd_counters(&card, 0, &counters); }
+static void ask_of_link(void) { status = lapd_link_counters(&card, 0, LAPD_CALL, 64, &of_link); }
 static void ask_text(void) { status = lapd_frame_text(frame, sizeof frame, LAPD_USER, text, sizeof text); }
 static void exchange(void) { status = lapd_exchange(&card, 0, octets, sizeof octets, given, sizeof given, &steps, &report); }
 
@@ -150,6 +153,7 @@ static void frames(bool is_timed, const uint8_t *const *come, const size_t *octe
     show("lapd_frame_failed", most(0, fail_frame));
     if (is_timed) {
         show("lapd_next_moment", most(0, find_moment));
+        show("lapd_changed_at", most(0, find_change));
         show("lapd_card_set_lengths", most(0, set_lengths));
         show("lapd_fall_due", most(0, fall_due));
     }
@@ -189,6 +193,7 @@ int main(void) {
     show("lapd_begun_frame", most(0, ask_begun_frame));
     show("lapd_heard_frame", heard);
     show("lapd_counters", most(0, ask_counters));
+    show("lapd_link_counters", most(0, ask_of_link));
     frame[1] = 0x81; /* an I-frame */
     show("lapd_frame_text", within(MOST_OF_TEXT, ask_text));
     show("lapd_card_free", most(0, card_free));

@@ -10,7 +10,7 @@
 #include "lapd.h"
 #include "lapd_memory.h"
 
-enum { TURNS = 3000000, MOST_CALLS = 60, MOST_STATUSES = 64, FIELDS = 14 };
+enum { TURNS = 8000000, MOST_CALLS = 60, MOST_STATUSES = 64, FIELDS = 14 };
 
 static struct {
     const char *name;
@@ -179,6 +179,7 @@ static void questions(void) {
     lapd_head head;
     struct lapd_room room;
     struct lapd_counters counters;
+    struct lapd_link_counters of_link;
     char text[LAPD_MOST_TEXT];
     static const uint8_t octets[1029] = {0};
     static uint64_t at;
@@ -190,7 +191,8 @@ static void questions(void) {
     const lapd_lengths lengths = {below(4), 10, 10, 10};
     uint8_t whole[LAPD_MOST_FRAME];
     size_t count;
-    switch (below(16)) {
+    switch (below(17)) {
+    case 16: CALL(lapd_link_counters, &card, line(), service(), tei(), &of_link); break;
     case 15: CALL(lapd_begun_frame, &card, line(), whole, below(3) ? sizeof whole : below(4), &count); break;
     case 14:
         hear(line());
@@ -199,7 +201,10 @@ static void questions(void) {
     case 13: CALL(lapd_card_set_lengths, &card, &lengths); break;
     case 12: CALL(lapd_note_text_of, &note, &config, text, below(30)); break;
     case 11: CALL(lapd_fall_due, &card, at += below(9), &report); break;
-    case 10: CALL(lapd_next_moment, &card, &moment); break;
+    case 10:
+        CALL(lapd_next_moment, &card, &moment);
+        CALL(lapd_changed_at, &card, line(), service(), tei(), &moment);
+        break;
     case 9: CALL(lapd_frame_text, octets, below(3) ? 3 : below(1030), (uint16_t)below(4), text, below(2) ? sizeof text : 10); break;
     case 0: CALL(lapd_state, &card, line(), service(), tei(), &state); break;
     case 1: CALL(lapd_next_link, &card, line(), &place, &link); break;

@@ -305,15 +305,40 @@ static void is_asked(void) {
 
 /* ---- What the cards say of themselves ------------------------------------------------------------------------------- */
 
+/* The state of each link as it was looked at last, and since when it is so. It is 0 if the link's TEI is not on the line. */
+static uint8_t states[LINES][2][LAPD_GROUP_TEI];
+static uint64_t since[LINES][2][LAPD_GROUP_TEI];
+static uint64_t looked; /* the moment of that look */
+
+static void changes(uint32_t line, uint8_t tei, unsigned which) {
+    static const uint8_t services[2] = {LAPD_CALL, LAPD_PACKET};
+    uint8_t state = 0;
+    uint64_t told = 0;
+    wants(lapd_state(&timed, line, services[which], tei, &state) == LAPD_OK, "no state");
+    uint32_t status = lapd_changed_at(&timed, line, services[which], tei, &told);
+    wants(status == (state == 0 ? LAPD_REFUSED_NO_LINK : LAPD_OK), "changes of another link");
+    if (state != 0)
+        wants(told <= now && (told >= looked || (state == states[line][which][tei] && told == since[line][which][tei])), "a change at another moment");
+    states[line][which][tei] = state;
+    since[line][which][tei] = told;
+}
+
 static void same_links(uint32_t line) {
+    for (uint8_t tei = 0; tei < LAPD_GROUP_TEI; tei++)
+        for (unsigned which = 0; which < 2; which++)
+            changes(line, tei, which);
     uint8_t place = 0, at = 0;
     lapd_link link = {0}, other = {0};
     uint32_t status;
     while ((status = lapd_next_link(&timed, line, &place, &link)) == LAPD_OK) {
         struct lapd_room room = {0}, same_room = {0};
+        struct lapd_link_counters counted = {0}, same_counted = {0};
         wants(lapd_next_link(&plain, line, &at, &other) == LAPD_OK && at == place && memcmp(&link, &other, sizeof link) == 0, "another state");
         wants(lapd_room(&timed, line, link.service, link.tei, &room) == LAPD_OK && lapd_room(&plain, line, link.service, link.tei, &same_room) == LAPD_OK
                   && room.pool == same_room.pool && room.queue == same_room.queue && room.va == same_room.va, "another room");
+        wants(lapd_link_counters(&timed, line, link.service, link.tei, &counted) == LAPD_OK
+                  && lapd_link_counters(&plain, line, link.service, link.tei, &same_counted) == LAPD_OK
+                  && memcmp(&counted, &same_counted, sizeof counted) == 0, "other counters of a link");
     }
     wants(status == LAPD_NO_MORE_LINKS && lapd_next_link(&plain, line, &at, &other) == status, "other links");
 }
@@ -327,6 +352,7 @@ static void look(void) {
         same_links(line);
     }
     wants(lapd_stored(&timed, &stored) == LAPD_OK && lapd_stored(&plain, &other_stored) == LAPD_OK && stored == other_stored, "other octets are stored");
+    looked = now;
 }
 
 /* Calls of a card that keeps its own timers, and of one that does not. */
@@ -337,8 +363,13 @@ static void wrong_calls(void) {
     lapd_config bad_config = config;
     lapd_report told = {.line = 9};
     uint64_t moment = 5;
-    wants(lapd_fall_due(&none, 0, &told) == LAPD_NO_CARD && lapd_next_moment(&none, &moment) == LAPD_NO_CARD, "no card");
+    wants(lapd_fall_due(&none, 0, &told) == LAPD_NO_CARD && lapd_next_moment(&none, &moment) == LAPD_NO_CARD
+              && lapd_changed_at(&none, 0, LAPD_CALL, 64, &moment) == LAPD_NO_CARD, "no card");
     wants(lapd_fall_due(&plain, 0, &told) == LAPD_WRONG_CARD && lapd_next_moment(&plain, &moment) == LAPD_WRONG_CARD, "a card without timers");
+    wants(lapd_changed_at(&plain, 0, LAPD_CALL, 64, &moment) == LAPD_WRONG_CARD, "changes of a card without timers");
+    wants(lapd_changed_at(&timed, LINES, LAPD_CALL, 64, &moment) == LAPD_WRONG_LINE && lapd_changed_at(&timed, 0, 1, 64, &moment) == LAPD_WRONG_SERVICE
+              && lapd_changed_at(&timed, 0, LAPD_CALL, 127, &moment) == LAPD_WRONG_TEI
+              && lapd_changed_at(&timed, 0, LAPD_CALL, 64, &moment) == LAPD_REFUSED_NO_LINK && moment == 5, "changes of no link");
     wants(lapd_expire(&timed, 0, &timer, &told) == LAPD_WRONG_CARD, "an expiry that is not its own");
     wants(lapd_fall_due(&timed, LAPD_LATEST, &told) == LAPD_WRONG_TIME && lapd_fall_due(&timed, 0, &told) == LAPD_NO_TIMER, "the latest moment");
     wants(lapd_next_moment(&timed, &moment) == LAPD_NO_TIMER && moment == 5 && told.line == 9, "a wrong call has told something");

@@ -12,7 +12,9 @@ use Rattle.lapd_c.specs.Answers.{ShowsReply}
 use Rattle.lapd_c.specs.BlockMade.{BlocksAreMade, IsEmpty}
 use Rattle.lapd_c.specs.Cards.{StandsIn, card_of}
 use Rattle.lapd_c.specs.Exchange.{ExchangedBy, ExchangedIn, IsThrough, TellsAtLast}
-use Rattle.lapd_c.specs.Kept.{CarryOutAll, TimersStandIn, is_timed, orders_by, reply_seen_by, timed_after, timers_of}
+use Rattle.model_timed.specs.Changes.{Marks, inside, marks_after}
+use Rattle.model_timed.specs.Octets as timed_octets
+use Rattle.lapd_c.specs.Kept.{CarryOutAll, ChangesStandIn, TimersStandIn, happen, is_timed, orders_by, reply_seen_by, timed_after, timers_of}
 use Rattle.lapd_c.specs.Reports.{Shows, ShowsPull}
 use Rattle.lapd_c.specs.declared.plain.reports.PlainReport.{PlainReport}
 use Rattle.lapd_c.proofs.Blocks.{empty_if, quiet_at}
@@ -152,7 +154,14 @@ module _ (timed : Bool) (line from to : ℕ) (taken given given' : List ℕ) (m 
 all_carried : (events : List octet_event.Event) (m : OctetCard) (o n : Option CardTimers) → CarryOutAll events m o n
     → (c : Clock) → TimersStandIn o m.card c → TimersStandIn n (timed_after events m c).card.card (timed_after events m c).clock
 all_carried events m None n h c s = absurd s
-all_carried events m (Some timers) n h c s = h c s
+all_carried events m (Some timers) n h c s = h.timers c s
+
+-- and what is noted of the links
+all_marked : (events : List octet_event.Event) (m : OctetCard) (o n : Option CardTimers) → CarryOutAll events m o n
+    → (c : Clock) (marks : Marks) → TimersStandIn o m.card c → ChangesStandIn o m.card marks
+    → ChangesStandIn n (timed_after events m c).card.card (marks_after timed_octets.octets inside (happen events) (record { card = m; clock = c }) marks)
+all_marked events m None n h c marks s k = absurd s
+all_marked events m (Some timers) n h c marks s k = h.noted c marks s k
 
 pub blocks_are_made : BlocksAreMade
 blocks_are_made line taken from to m old new result given given' r x =
@@ -163,6 +172,7 @@ blocks_are_made line taken from to m old new result given given' r x =
       stands = subst (standing (card_of new)) (run_is_moments.card m (steps_made line taken from (to - from)))
           (subst (λ (k : ℕ). standing (card_of new) (card_after line taken from k m)) many made.there);
       timers = all_carried (steps_made line taken from (to - from)) m (timers_of old) (timers_of new) x.obeyed;
+      links = all_marked (steps_made line taken from (to - from)) m (timers_of old) (timers_of new) x.obeyed;
       octets = made.octets ∙ ap (λ (k : ℕ). given_after line taken from k m given) many;
       counters = x.counted;
       quiet = are_quiet (is_timed old) line from to taken given given' m r (standing (card_of new)) made;

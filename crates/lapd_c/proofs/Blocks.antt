@@ -2,9 +2,7 @@
 use Rattle.std.specs.Prelude.{◌/◌, ◌==◌, zero, not, is_none, get_or, set, if◌then◌else◌}
 use Rattle.lapd_c.proofs.Vocabulary.{◌≡◌, ◌<◌, ◌+◌, ◌*◌, ◌∷◌, ℕ, suc, Bool, true, false, Option, None, Some, List, [], length, inl, inr, refl, ap, subst, ◌∙◌, arith, cases_lt, and_parts, eqb-true, false≢true, OctetCard, LineTold, nothing, answer_after, step_event, tells_nothing, with_step}
 unfoldable use Rattle.lapd_c.proofs.Vocabulary.{AllQuiet, given_after, steps_made}
-use Rattle.lapd_frame.specs.declared.notes.Note.{Note}
 use Rattle.lapd_frame.specs.declared.timers.Order.{Order}
-use Rattle.model_bits.specs.declared.heard.Cause.{Cause}
 use Rattle.model_card.proofs.OfPorts.Fold.{run_is_moments}
 use Rattle.model_card.specs.ports.Event.{at}
 use Rattle.model_card.specs.ports.Port.{Answer, octet, pull, told, refused, pulled}

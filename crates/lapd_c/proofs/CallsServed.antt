@@ -21,6 +21,7 @@ use Rattle.model_card.specs.ports.Card as octets
 use Rattle.model_card.specs.ports.Codec.{meant_in}
 use Rattle.model_card.specs.ports.Event as octet
 use Rattle.model_card.specs.ports.Port as port
+use Rattle.model_timed.specs.Changes.{Marks, noted}
 use Rattle.model_timed.specs.Clock.{Clock, obeyed}
 use Rattle.model_timed.specs.Octets as timed
 use Rattle.lapd_card.specs.Kinds as any
@@ -35,7 +36,7 @@ use Rattle.lapd_c.specs.CardSlots.{HeldCard}
 use Rattle.lapd_c.specs.Cards.{HandleStands, StandsIn, card_of, without_marks}
 use Rattle.lapd_c.specs.Config.{config_in}
 use Rattle.lapd_c.specs.FallsDue.{FellDue}
-use Rattle.lapd_c.specs.Kept.{CarryOut, TimersStandIn, is_timed, orders_by, reply_seen_by, seen_by, timers_of, without_orders}
+use Rattle.lapd_c.specs.Kept.{CarryOut, ChangesStandIn, TimersStandIn, is_timed, orders_by, reply_seen_by, seen_by, timers_of, without_orders}
 use Rattle.lapd_c.specs.Reports.{Shows, ShowsPull, contents_in, contents_or_none, mark_of}
 use Rattle.lapd_c.specs.Statuses.{refusal_status}
 use Rattle.lapd_c.specs.Wanted.{IsOther, OfEach, Wanted, of_any, of_octets, of_frames, of_untimed}
@@ -84,7 +85,13 @@ is_other of_untimed old m s is = not_false (is_timed old) is
 carried : (number : ℕ) (orders : List Order) (m m' : Card) (o n : Option CardTimers) → CarryOut number orders m m' o n
     → (c : Clock) → TimersStandIn o m c → TimersStandIn n m' (obeyed number orders c)
 carried number orders m m' None n h c s = absurd s
-carried number orders m m' (Some timers) n h c s = h c s
+carried number orders m m' (Some timers) n h c s = h.timers c s
+
+-- and what is noted of the links
+marked : (number : ℕ) (orders : List Order) (m m' : Card) (o n : Option CardTimers) → CarryOut number orders m m' o n
+    → (c : Clock) (marks : Marks) → TimersStandIn o m c → ChangesStandIn o m marks → ChangesStandIn n m' (noted (obeyed number orders c).now m' marks)
+marked number orders m m' None n h c marks s k = absurd s
+marked number orders m m' (Some timers) n h c marks s k = h.noted c marks s k
 
 card_after : (e : Event) (m : Machine) → machine.after e (card_in m) ≡ card_in (any.after e m)
 card_after e (with_ports m) = refl
@@ -143,6 +150,9 @@ module _ (asked : Asked) (old new : CardHandle) (result : ℕ) (before r : Plain
     timers = λ clock stood. subst (λ (m' : Card). TimersStandIn (timers_of new) m' (obeyed asked.line orders clock)) (card_after (at asked.line what) m)
         (subst (λ (os : List Order). TimersStandIn (timers_of new) (machine.after (at asked.line what) (card_in m)) (obeyed asked.line os clock)) is
         (carried asked.line (orders_in (machine.answer (at asked.line what) (card_in m))) (card_in m) (machine.after (at asked.line what) (card_in m)) (timers_of old) (timers_of new) s.obeyed clock stood));
+    links = λ clock marks stood stood_marks. subst (λ (m' : Card). ChangesStandIn (timers_of new) m' (noted (obeyed asked.line orders clock).now m' marks)) (card_after (at asked.line what) m)
+        (subst (λ (os : List Order). ChangesStandIn (timers_of new) (machine.after (at asked.line what) (card_in m)) (noted (obeyed asked.line os clock).now (machine.after (at asked.line what) (card_in m)) marks)) is
+        (marked asked.line (orders_in (machine.answer (at asked.line what) (card_in m))) (card_in m) (machine.after (at asked.line what) (card_in m)) (timers_of old) (timers_of new) s.obeyed clock marks stood stood_marks));
     counters = s.counted;
   }
 
@@ -154,6 +164,8 @@ module _ (asked : Asked) (old new : CardHandle) (result : ℕ) (before r : Plain
     stands = s.stands;
     timers = λ clock stood. subst (λ (os : List Order). TimersStandIn (timers_of new) (octets.after (octet.at asked.line what) m).card (obeyed asked.line os clock)) is
         (carried asked.line (timed.orders_in (octets.answer (octet.at asked.line what) m)) m.card (octets.after (octet.at asked.line what) m).card (timers_of old) (timers_of new) s.obeyed clock stood);
+    links = λ clock marks stood stood_marks. subst (λ (os : List Order). ChangesStandIn (timers_of new) (octets.after (octet.at asked.line what) m).card (noted (obeyed asked.line os clock).now (octets.after (octet.at asked.line what) m).card marks)) is
+        (marked asked.line (timed.orders_in (octets.answer (octet.at asked.line what) m)) m.card (octets.after (octet.at asked.line what) m).card (timers_of old) (timers_of new) s.obeyed clock marks stood stood_marks);
     counters = s.counted;
   }
 
@@ -238,6 +250,7 @@ fall_is_served now number timer m c old new result r fell = record {
   ok = fell.ok;
   stands = fell.stands;
   timers = fell.timers;
+  links = fell.noted;
   counters = fell.counted;
   named = (fell.of_line, fell.expired);
   shown = λ t answered. subst (λ a. ShowsAnswer r (without_orders a)) answered fell.shown;
@@ -252,9 +265,9 @@ calls_are_served_by = record {
   handles = handles_are_left_by;
   calls = λ asked old new result before r c. call_is_served asked old new result before r c;
   falls_due = fall_is_served;
-  none_due = λ now m c old new result none. (none.none, none.stands, none.timers, none.marks, none.counters);
+  none_due = λ now m c old new result none. (none.none, none.stands, none.timers, none.marks, none.counters, none.noted);
   starts = λ kind config old new s. (begun_stands (fresh kind (config_in config)) (card_of new) (s.begun refl), s.timed refl);
-  timed_starts = λ kind config lengths old new s. (begun_stands (fresh kind (config_in config)) (card_of new) (s.begun refl), s.timed refl);
+  timed_starts = λ kind config lengths old new s. (begun_stands (fresh kind (config_in config)) (card_of new) (s.begun refl), s.timed refl, s.unmarked refl);
   shows = λ r t s. tells_shown r t s;
   shows_pull = λ r begun more orders s. tells_pull r begun more orders s;
   orders = λ orders. (refl, refl);

@@ -7,22 +7,25 @@ use Rattle.lapd_c.specs.Clocks.{clock_of}
 use Rattle.lapd_c.specs.Cards.{without_marks}
 use Rattle.std.proofs.Common.{⊎_elim}
 use Rattle.lapd_c.proofs.Vocabulary.{◌≡◌, ◌≤◌, ◌<◌, ◌++◌, ℕ, Option, None, Some, List, length, drop, inl, inr, refl, sym, ap, subst, ◌∙◌, false≢true, Machine, card_in}
-use Rattle.std.proofs.lemmas.List.{take-append-drop}
+use Rattle.std.proofs.lemmas.List.{length-replicate, take-append-drop}
 use Rattle.lapd_count.specs.Counters.{count, none_counted, place, value_in}
 use Rattle.lapd_count.specs.declared.counter.Counter.{Counter}
 use Rattle.lapd_count.specs.declared.counters.Counters.{Counters}
 use Rattle.lapd_frame.specs.declared.services.Service.{Service}
 use Rattle.model_line.specs.Event.{NextFrame, given_in}
 use Rattle.model_timed.specs.Clock.{at_moment, due}
-use Rattle.lapd_card.specs.Kinds.{AnyStands, counters_of, line_count}
+use Rattle.lapd_card.specs.Kinds.{with_ports, alone, AnyStands, counters_of, line_count}
 use Rattle.lapd_card.specs.declared.kinds.AnyCard.{AnyCard}
+use Rattle.lapd_card.specs.declared.kinds.AnyCard.TheVariants.{Octets, Frames}
 use Rattle.model_card.specs.declared.kinds.CardKind.{CardKind}
+use Rattle.model_card.specs.Card.{Card}
+use Rattle.model_line.specs.declared.config.Config.{Config}
 use Rattle.lapd_c.specs.CallsWrite.{CallsWrite, HasNothing}
 use Rattle.lapd_c.specs.Answers.{octet_of}
 use Rattle.lapd_c.specs.CardSlots.{HeldCard}
 use Rattle.lapd_c.specs.Cards.{card_of, marks_held, served_card, StandsIn}
-use Rattle.lapd_c.specs.Calls.{HasBegun, IsTimedStart}
-use Rattle.lapd_c.specs.Config.{config_fault}
+use Rattle.lapd_c.specs.Calls.{HasBegun, IsTimedStart, fresh}
+use Rattle.lapd_c.specs.Config.{config_fault, config_in}
 use Rattle.lapd_c.specs.Counted.{counters_held}
 use Rattle.lapd_c.specs.Counters.{plain_counters}
 use Rattle.lapd_c.specs.Frames.{IsGiven, next_at}
@@ -34,6 +37,7 @@ use Rattle.lapd_c.specs.declared.card.CardHandle.{CardHandle}
 use Rattle.lapd_c.specs.declared.plain.config.PlainConfig.{PlainConfig}
 use Rattle.lapd_c.specs.declared.plain.timers.PlainLengths.{PlainLengths}
 use Rattle.lapd_c.proofs.Moments.{first_told, none_runs}
+use Rattle.lapd_c.proofs.Starting.{fresh-card}
 
 -- what holds of what is there
 there : {A : Type 0} (holds : A → Type 0) (o : Option A) (x : A) → IfSome o holds → o ≡ Some x → holds x
@@ -70,8 +74,19 @@ none_there None m begun line = absurd begun
 none_there (Some kept) m begun line =
     ap (λ all. get_or all line none_counted) begun.counters ∙ all_the_same (card_in m).config.lines line none_counted
 
-nothing_there : (h : CardHandle) (m : Machine) → HasBegun m (card_of h) → HasNothing h
-nothing_there h m begun = record {
+-- but each line has a place
+marks_there : (h : HeldCard) (m : Machine) → HasBegun m h → length (marks_held h) ≡ (card_in m).config.lines
+marks_there None m begun = absurd begun
+marks_there (Some kept) m begun = begun.marks.count
+
+counts_there : (h : HeldCard) (m : Machine) → HasBegun m h → length (counters_held h) ≡ (card_in m).config.lines
+counts_there None m begun = absurd begun
+counts_there (Some kept) m begun = ap length begun.counters ∙ length-replicate (card_in m).config.lines none_counted
+
+nothing_there : (h : CardHandle) (kind : CardKind) (c : Config) → HasBegun (fresh kind c) (card_of h) → HasNothing c.lines h
+nothing_there h kind c begun = let m = fresh kind c in let lines = ap (λ (card : Card). card.config.lines) (fresh-card kind c) in record {
+  waits = marks_there (card_of h) m begun ∙ lines;
+  counts = counts_there (card_of h) m begun ∙ lines;
   no_waits = none_marked (card_of h) m begun;
   no_counts = λ line counter. ap (λ k. value_in k counter) (none_there (card_of h) m begun line) ∙ no_value counter;
 }
@@ -80,6 +95,17 @@ nothing_there h m begun = record {
 same_counters : (h : HeldCard) (card : AnyCard) → option_map without_marks h ≡ Some card → counters_held h ≡ counters_of card
 same_counters None card is = absurd (none-some card is)
 same_counters (Some kept) card is = ap counters_of (same_Some kept.card card is)
+
+-- it has as many lines as its machine
+as_many : (card : AnyCard) (m : Machine) → AnyStands card m → line_count card ≡ (card_in m).config.lines
+as_many (Octets card) (with_ports m) stands = sym (ap (λ (c : Config). c.lines) stands.frames.config)
+as_many (Octets card) (alone m) stands = absurd stands
+as_many (Frames card) (with_ports m) stands = absurd stands
+as_many (Frames card) (alone m) stands = sym (ap (λ (c : Config). c.lines) stands.config)
+
+its_lines : (h : HeldCard) (card : AnyCard) (m : Machine) → option_map without_marks h ≡ Some card → StandsIn h m → line_count card ≡ (card_in m).config.lines
+its_lines None card m is stands = absurd stands
+its_lines (Some kept) card m is stands = subst (λ card. line_count card ≡ (card_in m).config.lines) (same_Some kept.card card is) (as_many kept.card m stands)
 
 -- one that is the same but for what waits
 same_stands : (old new : HeldCard) (m : Machine) → option_map without_marks new ≡ option_map without_marks old → StandsIn old m → StandsIn new m
@@ -159,10 +185,11 @@ calls_write_by = record {
   clock_ends = λ old new result clock h is. there (λ _. (result ≡ 0) × (clock_of new ≡ None)) (clock_of old) clock h.freed is;
   no_card_ends = λ old new result h. h.empty;
   no_clock_ends = λ old new result h. h.empty;
-  starts = λ kind config old new h. nothing_there new _ (h.begun refl);
-  timed_starts = λ kind config lengths old new h. nothing_there new _ (h.begun refl);
+  starts = λ kind config old new h. nothing_there new kind (config_in config) (h.begun refl);
+  timed_starts = λ kind config lengths old new h. nothing_there new kind (config_in config) (h.begun refl);
   no_card = λ h none no. no ∙ sym (ap is_some none);
   no_clock = λ h none no. record { said = no ∙ sym (ap is_some none); lines = subst (λ o. IfSome o (λ c. c.lines ≤ 64)) (sym none) tt };
+  lines = λ h card m is stands. its_lines (card_of h) card m is stands;
   counters = λ line result h card written said is within.
       let told = there (λ card. line < line_count card → (result ≡ 0) × (written ≡ plain_counters (get_or (counters_of card) line none_counted))) (served_card h) card said is within in
       (told.0, told.1 ∙ ap (λ all. plain_counters (get_or all line none_counted)) (sym (same_counters (card_of h) card is)));

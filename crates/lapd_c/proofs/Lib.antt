@@ -12,7 +12,9 @@ pub mod Starting
 pub mod Exchanging
 pub mod Linking
 pub mod Reopening
+pub mod Noting
 pub mod Timing
+pub mod NotingAll
 pub mod Moments
 pub mod Ordering
 pub mod WrongStatuses
@@ -33,3 +35,4 @@ pub mod CallsServed
 pub mod CallEvents
 pub mod QuestionsServed
 pub mod QuestionsAnswered
+pub mod FramesComing

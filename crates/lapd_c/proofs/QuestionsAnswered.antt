@@ -1,7 +1,7 @@
 -- What questions are answered.
-use Rattle.std.specs.Prelude.{◌==◌, ◌+◌, ◌-◌, ◌++◌, Result, Err, slice_get, fold, find, flat_map, map, if◌then◌else◌}
-use Rattle.lapd_c.proofs.Vocabulary.{◌≡◌, ◌∷◌, ℕ, Bool, true, false, cond, Option, None, Some, IfSome, Ok, List, [], length, inl, inr, refl, sym, ap, ◌∙◌, arith, not, nat_lt, cases_lt, and_parts, false≢true, Card, Machine, with_ports, alone, card_in, OctetCard, Service, answer, at, next}
-use Rattle.std.proofs.lemmas.Bool.{ltb-true, ne_eqb}
+use Rattle.std.specs.Prelude.{◌==◌, ◌+◌, ◌-◌, ◌++◌, ◌||◌, Result, Err, slice_get, fold, find, flat_map, map, is_some, if◌then◌else◌}
+use Rattle.lapd_c.proofs.Vocabulary.{◌≡◌, ◌∷◌, ◌<◌, ℕ, suc, Bool, true, false, cond, Option, None, Some, IfSome, Ok, option_map, List, [], length, inl, inr, refl, sym, ap, ◌∙◌, arith, not, nat_lt, cases_lt, and_parts, false≢true, Card, Line, Machine, with_ports, alone, card_in, OctetCard, Service, answer, at, next}
+use Rattle.std.proofs.lemmas.Bool.{lt-ltb, ltb-true, ne_eqb}
 use Rattle.std.specs.Option.{option_map_or, unwrap_or}
 use Rattle.model_bits.specs.Heads.{head_of, or_later}
 use Rattle.model_bits.specs.Framer.{last_octets}
@@ -13,9 +13,11 @@ use Rattle.model_bits.specs.Stream.{Event, dropped, heard_in, overlong}
 use Rattle.model_bits.specs.declared.heads.Head.{Head}
 use Rattle.lapd_frame.specs.declared.refusals.Refusal.TheVariants.{BadTei, NoLink}
 use Rattle.lapd_frame.specs.declared.services.Service.TheVariants.{Call, Packet}
+use Rattle.lapd_tei.specs.Table.{has}
+use Rattle.model_link.specs.Link.{fresh}
 use Rattle.model_link.specs.Room as link
 use Rattle.model_line.specs.Counts.{is_given}
-use Rattle.model_line.specs.Line.{has_tei, link_of, terms}
+use Rattle.model_line.specs.Line.{counts_in, counts_of, has_tei, link_in, link_of, place_in, terms}
 use Rattle.model_line.specs.Room.{unless}
 use Rattle.model_card.specs.Card.{line_at, state}
 use Rattle.model_card.specs.Room.{free}
@@ -29,13 +31,26 @@ use Rattle.lapd_card.proofs.Waiting.{first_waiting}
 use Rattle.lapd_c.proofs.LinksTold.{links_are_told_by}
 use Rattle.lapd_c.proofs.QuestionsServed.{questions_change_nothing_by}
 use Rattle.lapd_card.specs.Waiting.{IsFirstWaiting, has_next, next_waiting, waits_on}
-use Rattle.std.specs.List.{range_with_len}
+use Rattle.std.specs.List.{list_any, position, range_with_len}
+use Rattle.lapd_c.specs.Counters.{plain_link_counters}
 use Rattle.lapd_c.specs.Heads.{plain_head}
-use Rattle.lapd_c.specs.QuestionWords.{begun_frame_of, begun_of, heard_frame_of, in_front, or_status, room_at, room_of, room_told, state_of, waiting_from}
-use Rattle.lapd_c.specs.QuestionsAnswered.{GivesNone, HasEnded, IsNoService, WaitsFirst, NoneWaits, QuestionsAreAnswered, beginning, beginning_in, frame_in, frames_in, last_or, octets_heard, octets_of, octets_on_their_way, room_beside, whole_in}
+use Rattle.lapd_c.proofs.FramesComing.{coming}
+use Rattle.lapd_c.specs.QuestionWords.{begun_frame_of, begun_of, heard_frame_of, in_front, link_counters_at, link_counters_of, or_status, room_at, room_of, room_told, state_of, waiting_from}
+use Rattle.lapd_c.specs.Changed.{changed_at, changed_of}
+use Rattle.lapd_c.specs.ChangesAnswered.{ChangesAreAnswered, number_in}
+use Rattle.lapd_c.proofs.Halves.{even, odd}
+use Rattle.lapd_tei.proofs.Tables.{place_of-is}
+use Rattle.lapd_timed.specs.Marked.{moment_in}
+use Rattle.lapd_timed.specs.Places.{number_at}
+use Rattle.model_link.specs.Link.{state_number}
+use Rattle.model_line.specs.Line.{link_at, link_number, place_at, tei_at}
+use Rattle.model_timed.specs.Changes.{Marks, standing}
+use Rattle.lapd_c.specs.QuestionsAnswered.{GivesNone, HasEnded, IsNoService, WaitsFirst, NoneWaits, QuestionsAreAnswered, beginning, beginning_in, counters_beside, frame_in, frames_in, last_or, octets_heard, octets_of, octets_on_their_way, room_beside, whole_in}
 use Rattle.lapd_c.specs.Services.{if_ok, number_of, or_wrong_service}
 use Rattle.lapd_c.specs.Statuses.{wrong_tei}
-use Rattle.lapd_c.specs.Timers.{link_in, with_tei}
+use Rattle.lapd_c.specs.Timers as timers
+use Rattle.lapd_c.specs.Timers.{with_tei}
+use Rattle.lapd_c.specs.declared.plain.counters.PlainLinkCounters.{PlainLinkCounters}
 use Rattle.lapd_c.specs.declared.plain.heads.PlainHead.{PlainHead}
 use Rattle.lapd_c.specs.declared.plain.rooms.PlainRoom.{PlainRoom}
 
@@ -46,7 +61,7 @@ inside (alone m) = refl
 
 -- ---- a link
 
-link_by : (s : Service) (tei : ℕ) → link_in (number_of s) tei ≡ (if nat_lt 126 tei then Err wrong_tei else Ok (s, tei))
+link_by : (s : Service) (tei : ℕ) → timers.link_in (number_of s) tei ≡ (if nat_lt 126 tei then Err wrong_tei else Ok (s, tei))
 link_by Call tei = refl
 link_by Packet tei = refl
 
@@ -82,17 +97,102 @@ room_there line tei s m =
     by_case c false is true on = ap (λ (x : Bool). told_if line tei s c x (has_tei tei (line_at line c))) is ∙ ap (λ (x : Bool). told_if line tei s c false x) on
     by_case c false is false on = ap (λ (x : Bool). told_if line tei s c x (has_tei tei (line_at line c))) is ∙ ap (λ (x : Bool). told_if line tei s c false x) on
 
+-- the place of the first is that of the head, or one of the rest
+first_of : {X : Type 0} (p : X → Bool) (x : X) (xs : List X) → position p (x ∷ xs) ≡ cond (p x) (Some 0) (option_map suc (position p xs))
+first_of p x xs = grind arith
+
+-- a TEI has a place if it is on the line
+has_place : {X : Type 0} (p : X → Bool) (xs : List X) → is_some (position p xs) ≡ list_any p xs
+has_place p [] = refl
+has_place p (x ∷ xs) = ap is_some (first_of p x xs) ∙ go (has_place p xs) (p x)
+  where
+    later : (o : Option ℕ) → is_some (option_map suc o) ≡ is_some o
+    later None = refl
+    later (Some n) = refl
+
+    go : is_some (position p xs) ≡ list_any p xs → (b : Bool) → is_some (cond b (Some 0) (option_map suc (position p xs))) ≡ (b || list_any p xs)
+    go rest true = refl
+    go rest false = later (position p xs) ∙ rest
+
+-- what was counted of a link, by its tests
+abbrev counters_if : ℕ → ℕ → Service → Card → Bool → Result PlainLinkCounters ℕ
+counters_if line tei s c high =
+    let l = line_at line c in if high then Err 16 else if has_tei tei l then Ok (counters_beside (link_of s tei l)) else Err 2
+
+counters_there : (line tei : ℕ) (s : Service) (m : Machine) → line < (frames_in m).config.lines
+    → link_counters_of line (number_of s) tei m ≡ counters_if line tei s (frames_in m) (nat_lt 126 tei)
+counters_there line tei s m within =
+    ap (λ (r : Result (Service × ℕ) ℕ). link_counters_at line (card_in m) r) (link_by s tei)
+    ∙ ap (λ (c : Card). link_counters_at line c (if nat_lt 126 tei then Err wrong_tei else Ok (s, tei))) (inside m)
+    ∙ by_case (frames_in m) within (nat_lt 126 tei)
+  where
+    at_place : (l : Line) (o : Option ℕ) → or_status 2 (option_map plain_link_counters (option_map (counts_in l s) o))
+        ≡ (if is_some o then Ok (counters_beside (option_map_or (link_in l s) o fresh)) else Err 2)
+    at_place l None = refl
+    at_place l (Some place) = refl
+
+    on_line : (l : Line) → or_status 2 (option_map plain_link_counters (counts_of s tei l)) ≡ (if has_tei tei l then Ok (counters_beside (link_of s tei l)) else Err 2)
+    on_line l =
+        at_place l (place_in l tei)
+        ∙ ap (λ (b : Bool). if b then Ok (counters_beside (link_of s tei l)) else Err 2) (has_place (has tei) l.management.places)
+
+    by_case : (c : Card) → line < c.config.lines → (b : Bool) → link_counters_at line c (if b then Err wrong_tei else Ok (s, tei)) ≡ counters_if line tei s c b
+    by_case c there true = refl
+    by_case c there false =
+        ap (λ (b : Bool). or_status 2 (option_map plain_link_counters (if b then counts_of s tei (line_at line c) else None))) (lt-ltb line c.config.lines there)
+        ∙ on_line (line_at line c)
+
 -- a link that numbers do not name
-of_no_link : (line service tei status : ℕ) (m : Machine) → link_in service tei ≡ Err status → (state_of line service tei m ≡ Err status) × (room_of line service tei m ≡ Err status)
+of_no_link : (line service tei status : ℕ) (m : Machine) → timers.link_in service tei ≡ Err status
+    → (state_of line service tei m ≡ Err status) × (room_of line service tei m ≡ Err status) × (link_counters_of line service tei m ≡ Err status)
 of_no_link line service tei status m is = (
   ap (λ (r : Result (Service × ℕ) ℕ). if_ok (λ (link : Service × ℕ). unwrap_or (state line link.0 link.1 (card_in m)) 0) r) is,
   ap (λ (r : Result (Service × ℕ) ℕ). room_at line (card_in m) r) is,
+  ap (λ (r : Result (Service × ℕ) ℕ). link_counters_at line (card_in m) r) is,
 )
 
-service_other : (service tei : ℕ) → IsNoService service → link_in service tei ≡ Err 15
+service_other : (service tei : ℕ) → IsNoService service → timers.link_in service tei ≡ Err 15
 service_other service tei none =
     ap (λ (b : Bool). with_tei tei (or_wrong_service (if b then Some Call else if service == 16 then Some Packet else None))) (ne_eqb service 0 none.0)
     ∙ ap (λ (b : Bool). with_tei tei (or_wrong_service (if b then Some Packet else None))) (ne_eqb service 16 none.1)
+
+-- ---- when its state changed last
+
+changed_there : (line tei : ℕ) (s : Service) (m : Card) (marks : Marks) → let l = line_at line m in changed_of line (number_of s) tei m marks
+    ≡ (if nat_lt 126 tei then Err 16 else if has_tei tei l then Ok (marks line (number_in s tei l)).moment else Err 2)
+changed_there line tei s m marks = ap (λ (r : Result (Service × ℕ) ℕ). changed_at line m marks r) (link_by s tei) ∙ by_case (nat_lt 126 tei)
+  where
+    at_place : (o : Option ℕ) → or_status 2 (option_map (moment_in marks line) (option_map (number_at s) o)) ≡ (if is_some o then Ok (marks line (link_number (unwrap_or o 0) s)).moment else Err 2)
+    at_place None = refl
+    at_place (Some place) = refl
+
+    by_case : (b : Bool) → changed_at line m marks (if b then Err wrong_tei else Ok (s, tei)) ≡ (if b then Err 16 else if has_tei tei (line_at line m) then Ok (marks line (number_in s tei (line_at line m))).moment else Err 2)
+    by_case true = refl
+    by_case false =
+        at_place (place_in (line_at line m) tei) ∙ ap (λ (b : Bool). if b then Ok (marks line (number_in s tei (line_at line m))).moment else Err 2) (has_place (has tei) (line_at line m).management.places)
+
+place_there : (s : Service) (place : ℕ) → place_at (link_number place s) ≡ place
+place_there Call place = (even place).1
+place_there Packet place = (odd place).1
+
+of_link : (tei : ℕ) (s : Service) (l : Line) → has_tei tei l ≡ true → standing (number_in s tei l) l ≡ state_number (link_of s tei l).state
+of_link tei s l on = go (place_in l tei) refl
+  where
+    go : (o : Option ℕ) → place_in l tei ≡ o → standing (link_number (unwrap_or o 0) s) l ≡ state_number (option_map_or (link_in l s) o fresh).state
+    go None e = absurd (false≢true (sym (ap is_some e) ∙ has_place (has tei) l.management.places ∙ on))
+    go (Some place) e =
+        let state = state_number (link_at (link_number place s) l).state in
+        ap (λ (p : ℕ). if is_some (tei_at p l) then state else 0) (place_there s place)
+        ∙ ap (λ (o : Option ℕ). if is_some o then state else 0) ((place_of-is l.management.places tei place e).1)
+
+changes_are_answered : ChangesAreAnswered
+changes_are_answered = record {
+  moment = changed_there;
+  no_service = λ line service tei m marks call packet. ap (λ (r : Result (Service × ℕ) ℕ). changed_at line m marks r) (service_other service tei (call, packet));
+  of_link = of_link;
+  told = λ is result after t. t;
+  not_told = λ wrong result after t. t;
+}
 
 -- ---- frames that begin and are heard
 
@@ -202,12 +302,14 @@ same_sum f g same (p ∷ ps) n = ap (λ k. fold (λ a p. a + f p) (n + k) ps) (s
 
 pub questions_are_answered_by : QuestionsAreAnswered
 questions_are_answered_by = record {
-  served = (questions_change_nothing_by _, questions_change_nothing_by _, questions_change_nothing_by _, questions_change_nothing_by _, questions_change_nothing_by _);
+  served = (questions_change_nothing_by _, questions_change_nothing_by _, questions_change_nothing_by _, questions_change_nothing_by _, questions_change_nothing_by _, questions_change_nothing_by _);
   has = λ line m within. within;
   has_any = λ m. tt;
   lacks = λ line m past. past;
   state = state_told;
   room = room_there;
+  link_counters = counters_there;
+  changes = changes_are_answered;
   no_service = λ line service tei m none. of_no_link line service tei 15 m (service_other service tei none);
   links = links_are_told_by;
   begun = begun_told;
@@ -222,6 +324,7 @@ questions_are_answered_by = record {
   counters = λ c. refl;
   stored = λ m. refl;
   stored_at_ports = λ m. ap (λ n. Ok (of_frames.stored m.card + n)) (same_sum (held_at m.card.config.n201) (octets_on_their_way m.card.config.n201) (held_is m.card.config.n201) m.ports 0);
+  coming = coming;
   stored_alone = λ m. refl;
   limit = λ m. ap (λ (c : Card). Ok (limit c.config)) (inside m);
   lines = λ m. ap (λ (c : Card). Ok c.config.lines) (inside m);

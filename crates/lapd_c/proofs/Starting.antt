@@ -5,15 +5,16 @@ use Rattle.std.proofs.Common.{IsOkAnd, true≢false}
 use Rattle.std.specs.Result.{result_ok}
 use Rattle.model_card.specs.declared.kinds.CardKind.{CardKind}
 use Rattle.model_card.specs.declared.kinds.CardKind.TheVariants as kinds
-use Rattle.lapd_timed.specs.Stands.{TimersStand}
+use Rattle.lapd_timed.specs.Stands.{ChangesStand, TimersStand}
 use Rattle.lapd_timed.specs.declared.card_timers.CardTimers.{CardTimers}
 use Rattle.model_card.specs.Card as cards
+use Rattle.model_timed.specs.Changes.{unmarked}
 use Rattle.model_timed.specs.Clock.{Clock, stopped}
 use Rattle.lapd_clock.specs.Timer.{first_out_of_range}
 use Rattle.lapd_c.specs.Calls.{HasBegun, IsTimedStart, fresh}
 use Rattle.lapd_c.specs.Cards.{IsHandle, card_of}
 use Rattle.lapd_c.specs.Config.{config_fault, config_in}
-use Rattle.lapd_c.specs.Kept.{TimersStandIn, timers_of}
+use Rattle.lapd_c.specs.Kept.{ChangesStandIn, TimersStandIn, timers_of}
 use Rattle.lapd_c.specs.Starts.{IsStart}
 use Rattle.lapd_c.specs.Statuses as status
 use Rattle.lapd_c.specs.Timers.{lengths_in}
@@ -21,7 +22,7 @@ use Rattle.lapd_c.specs.declared.card.CardHandle.{CardHandle}
 use Rattle.lapd_c.specs.declared.plain.config.PlainConfig.{PlainConfig}
 use Rattle.lapd_c.specs.declared.plain.timers.PlainLengths.{PlainLengths}
 
-fresh-card : (kind : CardKind) (d : Config) → card_in (fresh kind d) ≡ cards.fresh d
+pub fresh-card : (kind : CardKind) (d : Config) → card_in (fresh kind d) ≡ cards.fresh d
 fresh-card kinds.Octets d = refl
 fresh-card kinds.Frames d = refl
 
@@ -31,6 +32,13 @@ pub timers-begun : {E : Type 0} (config : Config) (lines terminals : ℕ) (clock
     → config.lines ≡ lines → config.terminals ≡ terminals → IsInRange config → IfSome (result_ok r) (λ timers. (kind : CardKind) → TimersStand timers (card_in (fresh kind config)) clock)
 timers-begun config lines terminals clock (Ok t) h of_lines of_terminals ranged = λ kind. subst (λ m. TimersStand t m clock) (sym (fresh-card kind config)) (h config of_lines of_terminals ranged)
 timers-begun config lines terminals clock (Err e) h of_lines of_terminals ranged = tt
+
+-- and no link of it has changed
+pub marks-begun : {E : Type 0} (config : Config) (lines terminals : ℕ) (r : Result CardTimers E)
+    → IfOk r (λ timers. (d : Config) → d.lines ≡ lines → d.terminals ≡ terminals → ChangesStand timers (cards.fresh d) unmarked)
+    → config.lines ≡ lines → config.terminals ≡ terminals → IfSome (result_ok r) (λ timers. (kind : CardKind) → ChangesStand timers (card_in (fresh kind config)) unmarked)
+marks-begun config lines terminals (Ok t) h of_lines of_terminals = λ kind. subst (λ m. ChangesStand t m unmarked) (sym (fresh-card kind config)) (h config of_lines of_terminals)
+marks-begun config lines terminals (Err e) h of_lines of_terminals = tt
 
 abbrev the-read : {A E : Type 0} → A → Result A E → A
 the-read a (Ok b) = b
@@ -79,8 +87,9 @@ pub timed-starts : {L C : Type 0} (kind : CardKind) (config : PlainConfig) (leng
     → (result ≡ status.ok) ⊎ ((result ≡ status.no_memory) × (new ≡ old))
     → (result ≡ status.ok → HasBegun (fresh kind (config_in config)) (card_of new))
     → (result ≡ status.ok → TimersStandIn (timers_of new) (card_in (fresh kind (config_in config))) (stopped (lengths_in lengths)))
+    → (result ≡ status.ok → ChangesStandIn (timers_of new) (card_in (fresh kind (config_in config))) unmarked)
     → IsTimedStart kind config lengths old new result
-timed-starts kind config lengths old new result wrong r c s l handle none fault is out within ends begun timed = record {
+timed-starts kind config lengths old new result wrong r c s l handle none fault is out within ends begun timed marks = record {
   handle = handle;
   second = holds-none (λ _. (result ≡ status.second_start) × (new ≡ old)) (card_of old) none;
   fault = λ _. none-wrong (λ wrong. (result ≡ wrong) × (new ≡ old)) (config_fault config) r c fault is;
@@ -88,6 +97,7 @@ timed-starts kind config lengths old new result wrong r c s l handle none fault 
   otherwise = λ _ _ _. ends;
   begun = begun;
   timed = timed;
+  unmarked = marks;
 }
 
 any-out : {B : Type 0} {P : Type 0} (o : Option B) → P → IfSome o (λ _. P)
@@ -105,4 +115,5 @@ timed-late kind config lengths old result r c handle none fault is late out = re
   otherwise = λ _ _ within. absurd (out within);
   begun = λ e. absurd (omega (arith, late, e));
   timed = λ e. absurd (omega (arith, late, e));
+  unmarked = λ e. absurd (omega (arith, late, e));
 }

@@ -1,5 +1,5 @@
 -- What becomes of a card's own timers in a call.
-use Rattle.lapd_c.proofs.Vocabulary.{◌≡◌, ℕ, suc, none-some, ◌+◌, ◌-◌, ◌<◌, inl, inr, Bool, true, false, List, [], ◌++◌, ◌∷◌, Option, Some, None, refl, sym, ap, ◌∙◌, subst, arith, and_parts, eqb-true, OctetCard, AnyCard, HeldCard, KeptCard, FrameCardStands, at, tells_nothing, step_event, steps_made, card_after, answer_after, AllQuiet}
+use Rattle.lapd_c.proofs.Vocabulary.{◌≡◌, ℕ, suc, none-some, ◌+◌, ◌<◌, Bool, true, false, List, [], ◌++◌, ◌∷◌, Option, Some, None, refl, sym, ap, ◌∙◌, subst, arith, and_parts, eqb-true, OctetCard, AnyCard, HeldCard, KeptCard, FrameCardStands, at, tells_nothing, step_event, steps_made, card_after, answer_after, AllQuiet}
 use Rattle.std.proofs.Common.{IfSome, length, cond, nat_le, zero, ◌%◌, ◌/◌, ◌==◌, get_or}
 use Rattle.std.proofs.lemmas.Bool.{leb-false}
 use Rattle.lapd_card.specs.Kinds.{frames_of}
@@ -23,9 +23,10 @@ use Rattle.model_timed.specs.Timed.{happens}
 unfoldable use Rattle.model_timed.specs.Timed.{after_all}
 use Rattle.model_timed.proofs.OctetsRun.{OctetsMean, octets-mean}
 use Rattle.lapd_c.proofs.Exchanging.{card-more}
-use Rattle.lapd_c.specs.Exchange.{OrdersLast}
-use Rattle.std.specs.Prelude.{◌⊎◌}
-use Rattle.lapd_c.specs.Kept.{AreLeftIn, CarryOut, CarryOutAll, LedTo, TimersStandIn, timed_after, happen, timers_held}
+use Rattle.std.specs.Prelude.{◌*◌}
+use Rattle.model_card.specs.Reached.{IsReached}
+use Rattle.lapd_c.specs.Kept.{AreLeftIn, CarryOut, CarryOutAll, LedTo, NoteLinks, TimersStandIn, held_in, timed_after, happen, timers_held}
+use Rattle.lapd_c.proofs.Noting.{LeavesOthers, all-still, held-stand, none-carried}
 
 -- where nothing was ordered, they stand as they did
 rests : (t : CardTimers) (e : Event) (m : Card) (c : Clock) → e.line < m.config.lines → orders_at e m ≡ [] → AreLeft e t m c → TimersStand t (after e m) (obeyed e.line (orders_at e m) c)
@@ -49,46 +50,60 @@ Settles card line orders old new =
     (e : Event) (m : Card) (c : Clock) → LedTo card line e m → orders ≡ orders_at e m → AreLeftIn e old m c → TimersStandIn new (after e m) (obeyed line (orders_at e m) c)
 
 -- so a call that is an event of a card of frames
-pub obeys : (card : AnyCard) (line : ℕ) (orders : List Order) (old new : Option CardTimers) → Settles card line orders old new → (old ≡ None → new ≡ None)
-    → (e : Event) (m : Card) → LedTo card line e m → orders ≡ orders_at e m → IsNoExpiry e.what → CarryOut e.line (orders_at e m) m (after e m) old new
-obeys card line orders None new settles none e m led is may = none refl
-obeys card line orders (Some t) new settles none e m led is may = λ c stood.
-    subst (λ n. TimersStandIn new (after e m) (obeyed n (orders_at e m) c)) (sym led.line_is) (settles e m c led is (left-at e.line e.what t m c may stood))
-
-none-carried : (line : ℕ) (m : Card) (timers : Option CardTimers) → CarryOut line [] m m timers timers
-none-carried line m None = refl
-none-carried line m (Some t) = λ c stood. stood
+pub obeys : (card : AnyCard) (line : ℕ) (touched : Option ℕ) (orders : List Order) (old new : Option CardTimers) → Settles card line orders old new → NoteLinks card line touched old new → (old ≡ None → new ≡ None)
+    → (e : Event) (m : Card) → LedTo card line e m → orders ≡ orders_at e m → IsNoExpiry e.what → (IsReached m → LeavesOthers touched line m (after e m)) → CarryOut e.line (orders_at e m) m (after e m) old new
+obeys card line touched orders None new settles notes none e m led is may leaves = none refl
+obeys card line touched orders (Some t) new settles notes none e m led is may leaves = record {
+  timers = timed;
+  noted = λ c marks stood stood_marks. notes m (after e m) (obeyed e.line (orders_at e m) c) marks led.stands led.line_there (leaves stood.reached t.lines (2 * t.terminals)) (timed c stood) stood_marks;
+}
+  where
+    timed : (c : Clock) → TimersStand t m c → TimersStandIn new (after e m) (obeyed e.line (orders_at e m) c)
+    timed c stood = subst (λ n. TimersStandIn new (after e m) (obeyed n (orders_at e m) c)) (sym led.line_is) (settles e m c led is (left-at e.line e.what t m c may stood))
 
 -- and one that is an event of a card of octets
-pub obeys-meaning : (card : AnyCard) (line : ℕ) (orders : List Order) (old new : Option CardTimers) → Settles card line orders old new → (old ≡ None → new ≡ None) → (orders ≡ [] → new ≡ old)
+pub obeys-meaning : (card : AnyCard) (line : ℕ) (touched : Option ℕ) (orders : List Order) (old new : Option CardTimers) → Settles card line orders old new → NoteLinks card line touched old new
+    → (old ≡ None → new ≡ None) → (orders ≡ [] → held_in new ≡ held_in old)
     → (e : octet_event.Event) (m : OctetCard) → e.line ≡ line → line < m.card.config.lines → FrameCardStands (frames_of card) (ports.after e m).card → orders ≡ timed_octets.orders_at e m
-    → timed_octets.IsNoExpiry e.what → CarryOut e.line (timed_octets.orders_at e m) m.card (ports.after e m).card old new
-obeys-meaning card line orders old new settles none still e m at_line within stands is may = go (ports.meant e m) (octets-mean e m)
+    → timed_octets.IsNoExpiry e.what → ((f : Event) → ports.meant e m ≡ Some f → f.line ≡ line → IsReached m.card → LeavesOthers touched line m.card (after f m.card))
+    → CarryOut e.line (timed_octets.orders_at e m) m.card (ports.after e m).card old new
+obeys-meaning card line touched orders old new settles notes none still e m at_line within stands is may leaves = go (ports.meant e m) refl (octets-mean e m)
   where
-    go : (o : Option Event) → OctetsMean e m o → CarryOut e.line (timed_octets.orders_at e m) m.card (ports.after e m).card old new
-    go None h =
+    go : (o : Option Event) → ports.meant e m ≡ o → OctetsMean e m o → CarryOut e.line (timed_octets.orders_at e m) m.card (ports.after e m).card old new
+    go None meant h =
         subst (λ m'. CarryOut e.line (timed_octets.orders_at e m) m.card m' old new) (sym h.1)
         (subst (λ os. CarryOut e.line os m.card m.card old new) (sym h.0)
-        (subst (λ timers. CarryOut e.line [] m.card m.card old timers) (sym (still (is ∙ h.0))) (none-carried e.line m.card old)))
-    go (Some f) h =
+        (none-carried card e.line line touched m.card old new (still (is ∙ h.0)) notes (subst (FrameCardStands (frames_of card)) h.1 stands) within))
+    go (Some f) meant h =
         subst (λ m'. CarryOut e.line (timed_octets.orders_at e m) m.card m' old new) (sym h.2)
         (subst (λ os. CarryOut e.line os m.card (after f m.card) old new) (sym h.1)
         (subst (λ n. CarryOut n (orders_at f m.card) m.card (after f m.card) old new) h.0
-        (obeys card line orders old new settles none f m.card
-        (record { line_is = h.0 ∙ at_line; line_there = within; stands = subst (FrameCardStands (frames_of card)) h.2 stands }) (is ∙ h.1) (h.3 may))))
+        (obeys card line touched orders old new settles notes none f m.card
+        (record { line_is = h.0 ∙ at_line; line_there = within; stands = subst (FrameCardStands (frames_of card)) h.2 stands }) (is ∙ h.1) (h.3 may) (leaves f meant (h.0 ∙ at_line)))))
 
--- also where nothing was ordered, and they are as they were
-pub obeys-nothing : (card : AnyCard) (line : ℕ) (old new : Option CardTimers) → new ≡ old → (e : octet_event.Event) (m : OctetCard) → e.line ≡ line → line < m.card.config.lines
-    → FrameCardStands (frames_of card) (ports.after e m).card → [] ≡ timed_octets.orders_at e m → timed_octets.IsNoExpiry e.what
-    → CarryOut e.line (timed_octets.orders_at e m) m.card (ports.after e m).card old new
-obeys-nothing card line old new same e m at_line within stands is may =
-    subst (λ timers. CarryOut e.line (timed_octets.orders_at e m) m.card (ports.after e m).card old timers) (sym same)
-    (obeys-meaning card line [] old old settles (λ none. none) (λ _. refl) e m at_line within stands is may)
+-- so it is of the clock alone, whatever is noted
+pub timed-meaning : (card : AnyCard) (line : ℕ) (orders : List Order) (t : CardTimers) (new : Option CardTimers) → Settles card line orders (Some t) new → (orders ≡ [] → held_in new ≡ held_in (Some t))
+    → (e : octet_event.Event) (m : OctetCard) → e.line ≡ line → line < m.card.config.lines → FrameCardStands (frames_of card) (ports.after e m).card → orders ≡ timed_octets.orders_at e m
+    → timed_octets.IsNoExpiry e.what → (c : Clock) → TimersStand t m.card c → TimersStandIn new (ports.after e m).card (obeyed e.line (timed_octets.orders_at e m) c)
+timed-meaning card line orders t new settles still e m at_line within stands is may c stood = go (ports.meant e m) (octets-mean e m)
   where
-    settles : Settles card line [] old old
-    settles f m' c led is left =
-        subst (λ n. TimersStandIn old (after f m') (obeyed n (orders_at f m') c)) led.line_is
-        (rests-in old f m' c (subst (λ n. n < m'.config.lines) (sym led.line_is) led.line_there) (sym is) left)
+    go : (o : Option Event) → OctetsMean e m o → TimersStandIn new (ports.after e m).card (obeyed e.line (timed_octets.orders_at e m) c)
+    go None h =
+        subst (λ m'. TimersStandIn new m' (obeyed e.line (timed_octets.orders_at e m) c)) (sym h.1)
+        (subst (λ os. TimersStandIn new m.card (obeyed e.line os c)) (sym h.0) (held-stand (Some t) new m.card c (still (is ∙ h.0)) stood))
+    go (Some f) h =
+        subst (λ m'. TimersStandIn new m' (obeyed e.line (timed_octets.orders_at e m) c)) (sym h.2)
+        (subst (λ os. TimersStandIn new (after f m.card) (obeyed e.line os c)) (sym h.1)
+        (subst (λ n. TimersStandIn new (after f m.card) (obeyed n (orders_at f m.card) c)) (sym at_line)
+        (settles f m.card c (record { line_is = h.0 ∙ at_line; line_there = within; stands = subst (FrameCardStands (frames_of card)) h.2 stands }) (is ∙ h.1) (left-at f.line f.what t m.card c (h.3 may) stood))))
+
+-- also where an octet means nothing, and they are as they were
+pub obeys-nothing : (old new : Option CardTimers) → new ≡ old → (e : octet_event.Event) (m : OctetCard) → ports.meant e m ≡ None → CarryOut e.line (timed_octets.orders_at e m) m.card (ports.after e m).card old new
+obeys-nothing old new same e m silent =
+    let h = subst (OctetsMean e m) silent (octets-mean e m) in
+    subst (λ m'. CarryOut e.line (timed_octets.orders_at e m) m.card m' old new) (sym h.1)
+    (subst (λ os. CarryOut e.line os m.card m.card old new) (sym h.0)
+    (subst (λ timers. CarryOut e.line [] m.card m.card old timers) (sym same) (all-still e.line m.card old)))
 
 -- the timers of the card that C holds, where it lies
 pub carried-there : {held : HeldCard} {kept : KeptCard} → held ≡ Some kept → (line : ℕ) (orders : List Order) (m m' : Card) (new : Option CardTimers) → CarryOut line orders m m' kept.timers new
@@ -132,7 +147,7 @@ no-expiry line taken step = go (step % 2 == 0)
     go false = tt
 
 -- one event more
-one-more : (events : List octet_event.Event) (e : octet_event.Event) (t : TimedOctetCard) → timed_octets.after_all (happen (events ++ e ∷ [])) t ≡ timed_octets.after (happens e) (timed_octets.after_all (happen events) t)
+pub one-more : (events : List octet_event.Event) (e : octet_event.Event) (t : TimedOctetCard) → timed_octets.after_all (happen (events ++ e ∷ [])) t ≡ timed_octets.after (happens e) (timed_octets.after_all (happen events) t)
 unfolding after_all
 one-more [] e t = refl
 one-more (x ∷ events) e t = one-more events e (timed_octets.after (happens x) t)
@@ -146,7 +161,7 @@ module _ (line : ℕ) (taken : List ℕ) (from : ℕ) (m : OctetCard) (t : CardT
     pub stand : TimersStand t (card_after line taken from n m).card c
     pub same : timed_after (steps_made line taken from n) m c ≡ beside (card_after line taken from n m) c
 
-  its-line : (n : ℕ) → Rested n → line < (card_after line taken from n m).card.config.lines
+  pub its-line : (n : ℕ) → Rested n → line < (card_after line taken from n m).card.config.lines
   its-line n h = subst (λ k. line < k) (stood.clock_is.lines ∙ sym h.stand.clock_is.lines) within
 
   pub rested : (n : ℕ) → AllQuiet line taken from n m → Rested n
@@ -176,40 +191,20 @@ module _ (line : ℕ) (taken : List ℕ) (from : ℕ) (m : OctetCard) (t : CardT
   abbrev pub Stand : Option CardTimers → ℕ → Type 0
   Stand new k = TimersStandIn new (timed_after (steps_made line taken from k) m c).card.card (timed_after (steps_made line taken from k) m c).clock
 
-  at-rest : (n : ℕ) (new : Option CardTimers) → new ≡ Some t → Rested n → Stand new n
+  pub at-rest : (n : ℕ) (new : Option CardTimers) → held_in new ≡ held_in (Some t) → Rested n → Stand new n
   at-rest n new same r =
       subst (λ (u : TimedOctetCard). TimersStandIn new u.card.card u.clock) (sym r.same)
-      (subst (λ timers. TimersStandIn timers (card_after line taken from n m).card c) (sym same) r.stand)
+      (held-stand (Some t) new (card_after line taken from n m).card c same r.stand)
 
-  at-last : (n : ℕ) (card : AnyCard) (orders : List Order) (new : Option CardTimers) → Settles card line orders (Some t) new → (Some t ≡ None → new ≡ None) → (orders ≡ [] → new ≡ Some t) → Rested n
+  pub at-last : (n : ℕ) (card : AnyCard) (orders : List Order) (new : Option CardTimers) → Settles card line orders (Some t) new → (orders ≡ [] → held_in new ≡ held_in (Some t)) → Rested n
       → FrameCardStands (frames_of card) (card_after line taken from (suc n) m).card → orders ≡ timed_octets.orders_in (answer_after line taken from n m) → Stand new (suc n)
-  at-last n card orders new settles none still r stands is =
+  at-last n card orders new settles still r stands is =
       let e = step_event line taken (from + n) in
       let there = card_after line taken from n m in
       subst (λ (u : TimedOctetCard). TimersStandIn new u.card.card u.clock) (sym (step-more n r))
       (subst (λ (m' : OctetCard). TimersStandIn new m'.card (obeyed line (timed_octets.orders_in (answer_after line taken from n m)) c)) (card-more line taken from m n)
-      (obeys-meaning card line orders (Some t) new settles none still e there refl (its-line n r)
+      (timed-meaning card line orders t new settles still e there refl (its-line n r)
       (subst (λ (m' : OctetCard). FrameCardStands (frames_of card) m'.card) (sym (card-more line taken from m n)) stands) is (no-expiry line taken (from + n)) c r.stand))
-
--- so what several octets of an exchange have ordered
-pub exchanged : (card : AnyCard) (line : ℕ) (taken : List ℕ) (from : ℕ) (m : OctetCard) (to : ℕ) (orders : List Order) (old new : Option CardTimers) → Settles card line orders old new
-    → (old ≡ None → new ≡ None) → (orders ≡ [] → new ≡ old) → line < m.card.config.lines → FrameCardStands (frames_of card) (card_after line taken from (to - from) m).card
-    → OrdersLast line taken from m to orders → CarryOutAll (steps_made line taken from (to - from)) m old new
-exchanged card line taken from m to orders None new settles none still within stands last = none refl
-exchanged card line taken from m to orders (Some t) new settles none still within stands last = λ c stood. go c stood last.ended
-  where
-    go : (c : Clock) (stood : TimersStand t m.card c)
-        → ((to ≡ from + last.before) × (orders ≡ [])) ⊎ ((to ≡ from + suc last.before) × (orders ≡ timed_octets.orders_in (answer_after line taken from last.before m)))
-        → Stand line taken from m t c within stood new (to - from)
-    go c stood (inl h) =
-        let made = h.0 in let less : last.before ≡ to - from = omega arith in
-        subst (Stand line taken from m t c within stood new) less
-        (at-rest line taken from m t c within stood last.before new (still h.1) (rested line taken from m t c within stood last.before last.quiet))
-    go c stood (inr h) =
-        let made = h.0 in let less : suc last.before ≡ to - from = omega arith in
-        subst (Stand line taken from m t c within stood new) less
-        (at-last line taken from m t c within stood last.before card orders new settles none still (rested line taken from m t c within stood last.before last.quiet)
-        (subst (λ k. FrameCardStands (frames_of card) (card_after line taken from k m).card) (sym less) stands) h.1)
 
 -- ---- time
 

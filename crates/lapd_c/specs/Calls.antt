@@ -19,11 +19,12 @@ use Rattle.lapd_c.specs.declared.plain.timers.PlainLengths.{PlainLengths}
 use Rattle.lapd_c.specs.CardSlots.{HeldCard}
 use Rattle.lapd_c.specs.Cards.{card_of, IsHandle}
 use Rattle.lapd_c.specs.Config.{config_fault, config_in}
-use Rattle.lapd_c.specs.Kept.{is_timed, timers_of, TimersStandIn}
+use Rattle.lapd_c.specs.Kept.{is_timed, timers_of, ChangesStandIn, TimersStandIn}
 use Rattle.lapd_c.specs.LinkMarks.{AreUnmarked}
 use Rattle.lapd_c.specs.Starts.{IsStart}
 use Rattle.lapd_c.specs.Statuses as status
 use Rattle.lapd_c.specs.Timers.{lengths_in}
+use Rattle.model_timed.specs.Changes.{unmarked}
 use Rattle.model_timed.specs.Clock.{stopped}
 
 -- The machine of a card that begins, by its kind.
@@ -48,8 +49,8 @@ pub record IsCardStart (kind : CardKind) (config : PlainConfig) (old new : CardH
   pub begun : result ≡ status.ok → HasBegun (fresh kind (config_in config)) (card_of new)
   pub timed : result ≡ status.ok → is_timed new ≡ false
 
--- And of one that keeps its own: none of them runs, and the moment is 0. A length that is out of range is told after what is
--- wrong with the configuration.
+-- And of one that keeps its own: none of them runs, the moment is 0, and no link has changed. A length that is out of range is
+-- told after what is wrong with the configuration.
 pub record IsTimedStart (kind : CardKind) (config : PlainConfig) (lengths : PlainLengths) (old new : CardHandle) (result : ℕ) : Type 0 where
   pub handle : IsHandle new
   pub second : IfSome (card_of old) (λ _. (result ≡ status.second_start) × (new ≡ old))
@@ -61,6 +62,7 @@ pub record IsTimedStart (kind : CardKind) (config : PlainConfig) (lengths : Plai
   pub begun : result ≡ status.ok → HasBegun (fresh kind (config_in config)) (card_of new)
   pub timed : result ≡ status.ok
       → TimersStandIn (timers_of new) (card_in (fresh kind (config_in config))) (stopped (lengths_in lengths))
+  pub unmarked : result ≡ status.ok → ChangesStandIn (timers_of new) (card_in (fresh kind (config_in config))) unmarked
 
 -- Why a request at a line is refused, if it is.
 abbrev pub refusal_at : ℕ → Request → Card → Option Refusal

@@ -17,6 +17,7 @@ use Rattle.model_card.specs.ports.Card.{OctetCard}
 use Rattle.model_card.specs.ports.Codec.{meant_in}
 use Rattle.model_card.specs.ports.Event as octet
 use Rattle.model_card.specs.ports.Port as port
+use Rattle.model_timed.specs.Changes.{Marks, noted, unmarked}
 use Rattle.model_timed.specs.Clock.{Clock, at_moment, obeyed, stopped, without_first}
 use Rattle.lapd_card.specs.Kinds.{Machine, with_ports, alone, after, card_in}
 use Rattle.lapd_c.specs.declared.card.CardHandle.{CardHandle}
@@ -33,7 +34,7 @@ use Rattle.lapd_c.specs.Config.{config_in}
 use Rattle.lapd_c.specs.Counted.{counters_at}
 use Rattle.lapd_c.specs.FallsDue.{FellDue, NoneDue}
 use Rattle.lapd_c.specs.HandlesLeft.{HandlesAreLeft}
-use Rattle.lapd_c.specs.Kept.{TimersStandIn, is_timed, orders_by, timers_of}
+use Rattle.lapd_c.specs.Kept.{ChangesStandIn, TimersStandIn, is_timed, orders_by, timers_of}
 use Rattle.lapd_c.specs.Notes.{cause_number, plain_note}
 use Rattle.lapd_c.specs.Reopened.{TellsReopened, WaitsFor}
 use Rattle.lapd_c.specs.Reports.{Shows, ShowsPull}
@@ -64,12 +65,14 @@ pub record IsRefused (status : ℕ) (m : Machine) (old new : CardHandle) (result
   pub counters : counters_at new ≡ counters_at old
   pub report : r ≡ before
 
--- The call is OK: the card stands for the machine after it; its own timers, if it keeps them, have carried out the orders; and these
--- moments are counted.
+-- The call is OK: the card stands for the machine after it; its own timers, if it keeps them, have carried out the orders, and
+-- what is noted of its links is as after the event; and these moments are counted.
 pub record IsDone (line : ℕ) (orders : List Order) (counted : List Moment) (m m' : Machine) (old new : CardHandle) (result : ℕ) : Type 0 where
   pub told : result ≡ 0
   pub stands : HandleStands new m'
   pub timers : (c : Clock) → TimersStandIn (timers_of old) (card_in m) c → TimersStandIn (timers_of new) (card_in m') (obeyed line orders c)
+  pub links : (c : Clock) (marks : Marks) → TimersStandIn (timers_of old) (card_in m) c → ChangesStandIn (timers_of old) (card_in m) marks
+      → ChangesStandIn (timers_of new) (card_in m') (noted (obeyed line orders c).now (card_in m') marks)
   pub counters : counters_at new ≡ all_counted (counters_at old) counted
 
 -- A report tells this; and of a frame that goes whether one has begun, and whether another waits.
@@ -119,21 +122,27 @@ pub record CallIsServed (asked : Asked) (old new : CardHandle) (result : ℕ) (b
       (with_ports (octets.after (octet.at asked.line what) m)) old new result
       × ShowsPull r begun false (orders_by (is_timed old) orders)
 
--- A timer of a line has fallen due first. The card stands for the machine after its expiry. Its timers stand for the clock that no longer
--- has it, and has carried out the orders. The report tells the timer, the line and the answer.
+-- A timer of a line has fallen due first. The card stands for the machine after its expiry. Its timers stand for the clock that
+-- no longer has it, and has carried out the orders. What is noted of its links is as after the time has gone on, and then after
+-- the expiry. The report tells the timer, the line and the answer.
 pub record FallIsServed (now number : ℕ) (timer : Timer) (m : Machine) (c : Clock) (old new : CardHandle) (result : ℕ) (r : PlainReport) : Type 0 where
   pub ok : result ≡ 0
   pub stands : HandleStands new (after (at number (line.expiry timer)) m)
   pub timers : TimersStandIn (timers_of new) (card_in (after (at number (line.expiry timer)) m))
       (obeyed number (orders_in (answer (at number (line.expiry timer)) (card_in m))) (without_first (at_moment now c)))
+  pub links : (marks : Marks) → ChangesStandIn (timers_of old) (card_in m) marks
+      → ChangesStandIn (timers_of new) (card_in (after (at number (line.expiry timer)) m))
+      (noted (obeyed number (orders_in (answer (at number (line.expiry timer)) (card_in m))) (without_first (at_moment now c))).now
+      (card_in (after (at number (line.expiry timer)) m)) (noted now (card_in m) marks))
   pub counters : counters_at new ≡ all_counted (counters_at old) (moment_of (card_in m) (at number (line.expiry timer)) ∷ [])
   pub named : (r.line ≡ number) × (r.expired ≡ plain_timer timer)
   pub shown : (t : LineTold) → answer (at number (line.expiry timer)) (card_in m) ≡ line.told t → Shows r (record t { orders = [] })
   pub reopened : TellsReopened number (card_in (after (at number (line.expiry timer)) m)) (marks_at old) (marks_at new) r
 
--- Each call is the event that `lapd.h` says, and is served so, at a machine of either kind. So is what falls due at a card with its
--- own timers. Each leaves a handle for the next call. A start begins the machine of its configuration; if the card keeps its own timers, none runs. What a report shows it
--- tells, without orders if the card keeps its own timers.
+-- Each call is the event that `lapd.h` says, and is served so, at a machine of either kind. So is what falls due at a card with
+-- its own timers. Each leaves a handle for the next call. A start begins the machine of its configuration; if the card keeps
+-- its own timers, none runs, and no link has changed. What a report shows it tells, without orders if the card keeps its own
+-- timers.
 pub record CallsAreServed : Type 0 where
   pub events : CallsAreEvents
   pub both_kinds : BothKindsAreServed
@@ -145,10 +154,12 @@ pub record CallsAreServed : Type 0 where
   pub none_due : (now : ℕ) (m : Machine) (c : Clock) (old new : CardHandle) (result : ℕ) → NoneDue now m c old new result
       → (result ≡ 23) × HandleStands new m × TimersStandIn (timers_of new) (card_in m) (at_moment now c)
       × (marks_at new ≡ marks_at old) × (counters_at new ≡ counters_at old)
+      × ((marks : Marks) → ChangesStandIn (timers_of old) (card_in m) marks → ChangesStandIn (timers_of new) (card_in m) (noted now (card_in m) (noted now (card_in m) marks)))
   pub starts : (kind : CardKind) (config : PlainConfig) (old new : CardHandle) → IsCardStart kind config old new 0
       → HandleStands new (fresh kind (config_in config)) × (is_timed new ≡ false)
   pub timed_starts : (kind : CardKind) (config : PlainConfig) (lengths : PlainLengths) (old new : CardHandle) → IsTimedStart kind config lengths old new 0
       → HandleStands new (fresh kind (config_in config)) × TimersStandIn (timers_of new) (card_in (fresh kind (config_in config))) (stopped (lengths_in lengths))
+      × ChangesStandIn (timers_of new) (card_in (fresh kind (config_in config))) unmarked
   pub shows : (r : PlainReport) (t : LineTold) → Shows r t → Tells t false false r
   pub shows_pull : (r : PlainReport) (begun more : Bool) (orders : List Order) → ShowsPull r begun more orders → Tells (record nothing { orders = orders }) begun more r
   pub orders : (orders : List Order) → (orders_by false orders ≡ orders) × (orders_by true orders ≡ [])

@@ -53,8 +53,10 @@ pub record IsOnTime (now : ℕ) (h : CardHandle) (m : Machine) (c : Clock) : Typ
   pub not_before : c.now ≤ now
   pub not_after : now < 2 ^ 63
 
--- No link waits for room, and nothing is counted.
-pub record HasNothing (h : CardHandle) : Type 0 where
+-- No link waits for room, and nothing is counted. But each of so many lines has a place for both.
+pub record HasNothing (lines : ℕ) (h : CardHandle) : Type 0 where
+  pub waits : length (marks_at h) ≡ lines
+  pub counts : length (counters_at h) ≡ lines
   pub no_waits : (line tei : ℕ) (service : Service) → Waits (marks_at h) line service tei → ⊥
   pub no_counts : (line : ℕ) (counter : Counter) → value_in (get_or (counters_at h) line none_counted) counter ≡ 0
 
@@ -134,11 +136,12 @@ pub record CallsWrite : Type 0 where
   pub no_card_ends : (old new : CardHandle) (result : ℕ) → IsFreed IsHandle card_of 11 old new result → card_of old ≡ None → (result ≡ 11) × (new ≡ old)
   pub no_clock_ends : (old new : ClockHandle) (result : ℕ) → IsFreed clocks.IsHandle clock_of 12 old new result → clock_of old ≡ None → (result ≡ 12) × (new ≡ old)
   -- A card begins with nothing. What holds no card, and no clock, may be given to a call.
-  pub starts : (kind : CardKind) (config : PlainConfig) (old new : CardHandle) → IsCardStart kind config old new 0 → HasNothing new
-  pub timed_starts : (kind : CardKind) (config : PlainConfig) (lengths : PlainLengths) (old new : CardHandle) → IsTimedStart kind config lengths old new 0 → HasNothing new
+  pub starts : (kind : CardKind) (config : PlainConfig) (old new : CardHandle) → IsCardStart kind config old new 0 → HasNothing config.lines new
+  pub timed_starts : (kind : CardKind) (config : PlainConfig) (lengths : PlainLengths) (old new : CardHandle) → IsTimedStart kind config lengths old new 0 → HasNothing config.lines new
   pub no_card : (h : CardHandle) → card_of h ≡ None → h.started ≡ false → IsHandle h
   pub no_clock : (h : ClockHandle) → clock_of h ≡ None → h.started ≡ false → clocks.IsHandle h
-  -- Counters are those of the line.
+  -- Counters are those of the line. A card has as many lines as its machine.
+  pub lines : (h : CardHandle) (card : AnyCard) (m : Machine) → served_card h ≡ Some card → HandleStands h m → line_count card ≡ (card_in m).config.lines
   pub counters : (line result : ℕ) (h : CardHandle) (card : AnyCard) (written : PlainCounters)
       → IfSome (served_card h) (λ card. line < line_count card → (result ≡ 0) × (written ≡ plain_counters (get_or (counters_of card) line none_counted)))
       → served_card h ≡ Some card → line < line_count card → (result ≡ 0) × (written ≡ plain_counters (get_or (counters_at h) line none_counted))

@@ -2,8 +2,10 @@
 use Rattle.std.specs.Prelude.{◌≡◌, ◌≢◌, ◌⊎◌, ◌≤◌, ◌<◌, ◌^◌, ℕ, false, Option, None, Some, IfSome}
 use Rattle.lapd_frame.specs.declared.timers.Timer.{Timer}
 use Rattle.lapd_card.specs.Kinds.{Machine, after, answer, card_in}
+use Rattle.model_card.specs.Card.{Card}
 use Rattle.model_card.specs.Event.{Event, at}
 use Rattle.model_line.specs.Event.{expiry}
+use Rattle.model_timed.specs.Changes.{Marks, noted}
 use Rattle.model_timed.specs.Clock.{Clock, at_moment, next_moment, obeyed, without_first}
 use Rattle.model_timed.specs.Frames.{orders_at}
 use Rattle.lapd_c.specs.declared.card.CardHandle.{CardHandle}
@@ -11,7 +13,7 @@ use Rattle.lapd_c.specs.declared.plain.reports.PlainReport.{PlainReport}
 use Rattle.lapd_c.specs.Answers.{ShowsAnswer}
 use Rattle.lapd_c.specs.Cards.{card_of, kind_in, marks_at, served_card, IsHandle, HandleStands}
 use Rattle.lapd_c.specs.Counted.{Counts, counters_at}
-use Rattle.lapd_c.specs.Kept.{TimersStandIn, is_timed, timers_of, without_orders}
+use Rattle.lapd_c.specs.Kept.{ChangesStandIn, TimersStandIn, is_timed, timers_of, without_orders}
 use Rattle.lapd_c.specs.Reopened.{TellsReopened}
 use Rattle.lapd_c.specs.Statuses as status
 use Rattle.lapd_c.specs.Timers.{plain_timer}
@@ -39,6 +41,7 @@ pub record IsTimersCall (old new : CardHandle) (result : ℕ) : Type 0 where
   pub card : served_card new ≡ served_card old
   pub marks : marks_at new ≡ marks_at old
   pub timed : is_timed new ≡ is_timed old
+  pub noted : (m : Card) (marks : Marks) → ChangesStandIn (timers_of old) m marks → ChangesStandIn (timers_of new) m marks
   pub no_card : card_of old ≡ None → (result ≡ status.no_card) × (new ≡ old)
   pub wrong_card : is_timed old ≡ false → (card_of old ≡ None) ⊎ ((result ≡ status.wrong_card) × (card_of new ≡ card_of old))
 
@@ -47,11 +50,16 @@ abbrev pub TellsMoment : Option ℕ → ℕ → ℕ → Type 0
 TellsMoment None result moment = result ≡ status.no_timer
 TellsMoment (Some first) result moment = (result ≡ status.ok) × (moment ≡ first)
 
+-- What is noted of the links of a card that keeps its own timers, once the time has gone on.
+abbrev pub gone : ℕ → Machine → Marks → Marks
+gone now m marks = noted now (card_in m) marks
+
 -- Nothing is due: the time is now, and the first timer that runs falls due later.
 pub record NoneDue (now : ℕ) (m : Machine) (c : Clock) (old new : CardHandle) (result : ℕ) : Type 0 where
   pub none : result ≡ status.no_timer
   pub stands : HandleStands new m
   pub timers : TimersStandIn (timers_of new) (card_in m) (at_moment now c)
+  pub noted : (marks : Marks) → ChangesStandIn (timers_of old) (card_in m) marks → ChangesStandIn (timers_of new) (card_in m) (gone now m (gone now m marks))
   pub later : IfSome (next_moment (at_moment now c)) (λ first. now < first)
   pub marks : marks_at new ≡ marks_at old
   pub counters : counters_at new ≡ counters_at old
@@ -68,5 +76,7 @@ pub record FellDue (now line : ℕ) (timer : Timer) (m : Machine) (c : Clock) (o
   pub stands : HandleStands new (after (expires line timer) m)
   pub timers : TimersStandIn (timers_of new) (card_in (after (expires line timer) m))
       (obeyed line (orders_at (expires line timer) (card_in m)) (without_first (at_moment now c)))
+  pub noted : (marks : Marks) → ChangesStandIn (timers_of old) (card_in m) marks → ChangesStandIn (timers_of new) (card_in (after (expires line timer) m))
+      (gone (obeyed line (orders_at (expires line timer) (card_in m)) (without_first (at_moment now c))).now (after (expires line timer) m) (gone now m marks))
   pub counted : Counts (expires line timer) (card_in m) (counters_at old) (counters_at new)
   pub reopened : TellsReopened line (card_in (after (expires line timer) m)) (marks_at old) (marks_at new) r

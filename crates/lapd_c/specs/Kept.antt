@@ -1,5 +1,5 @@
 -- A card in C that keeps its own timers.
-use Rattle.std.specs.Prelude.{◌≡◌, ℕ, List, [], map, Bool, true, false, is_some, Option, None, Some}
+use Rattle.std.specs.Prelude.{◌≡◌, ◌<◌, ◌*◌, ℕ, List, [], map, option_map, Bool, true, false, is_some, Option, None, Some}
 use Rattle.lapd_frame.specs.declared.timers.Order.{Order}
 use Rattle.model_line.specs.Event as line
 use Rattle.model_card.specs.Card.{Card}
@@ -9,14 +9,16 @@ use Rattle.model_card.specs.ports.Card as octets
 use Rattle.model_card.specs.ports.Card.{OctetCard}
 use Rattle.model_card.specs.ports.Event as octet_event
 use Rattle.model_card.specs.ports.Port as port
+use Rattle.model_timed.specs.Changes.{Marks, inside, marks_after, noted}
 use Rattle.model_timed.specs.Clock.{Clock, obeyed}
 use Rattle.model_timed.specs.Frames.{orders_at}
 use Rattle.model_timed.specs.Octets as timed_octets
 use Rattle.model_timed.specs.Octets.{TimedOctetCard}
 use Rattle.model_timed.specs.Timed.{Step, happens}
-use Rattle.lapd_card.specs.Kinds.{frames_of, shelf_of}
+use Rattle.lapd_card.specs.Kinds.{frames_of, shelf_of, FrameCardStands}
 use Rattle.lapd_card.specs.declared.kinds.AnyCard.{AnyCard}
-use Rattle.lapd_timed.specs.Stands.{AreLeft, HasLedTo, TimersStand}
+use Rattle.lapd_timed.specs.Marked.{IsSameBut, IsTouched}
+use Rattle.lapd_timed.specs.Stands.{AreLeft, ChangesStand, HasLedTo, HeldTimers, TimersStand, held}
 use Rattle.lapd_timed.specs.declared.card_timers.CardTimers.{CardTimers}
 use Rattle.lapd_c.specs.declared.card.CardHandle.{CardHandle}
 use Rattle.lapd_c.specs.declared.plain.reports.PlainReport.{PlainReport}
@@ -44,15 +46,51 @@ abbrev pub AreLeftIn : Event → Option CardTimers → Card → Clock → Type 0
 AreLeftIn e None m c = ⊥
 AreLeftIn e (Some timers) m c = AreLeft e timers m c
 
+-- What is noted of the links of the card is so, too.
+abbrev pub ChangesStandIn : Option CardTimers → Card → Marks → Type 0
+ChangesStandIn None m marks = ⊥
+ChangesStandIn (Some timers) m marks = ChangesStand timers m marks
+
 -- An event at a line of a card has led it to where it is.
 abbrev pub LedTo : AnyCard → ℕ → Event → Card → Type 0
 LedTo card line e m = HasLedTo shelf_of (frames_of card) line e m
 
--- What an event at a line makes of them: of none, none. Those that stood for a clock beside the card stand for that which has
--- carried out the orders of the answer, beside the card after the event.
+-- What an event at a line makes of them. Those that stood for a clock beside the card stand for that which has carried out the
+-- orders of the answer, beside the card after the event. And the states in which this has left the links are noted.
+pub record CarriesOut (line : ℕ) (orders : List Order) (m m' : Card) (old : CardTimers) (new : Option CardTimers) : Type 0 where
+  pub timers : (c : Clock) → TimersStand old m c → TimersStandIn new m' (obeyed line orders c)
+  pub noted : (c : Clock) (marks : Marks) → TimersStand old m c → ChangesStand old m marks → ChangesStandIn new m' (noted (obeyed line orders c).now m' marks)
+
+-- Of none, none.
 abbrev pub CarryOut : ℕ → List Order → Card → Card → Option CardTimers → Option CardTimers → Type 0
 CarryOut line orders m m' None new = new ≡ None
-CarryOut line orders m m' (Some timers) new = (c : Clock) → TimersStand timers m c → TimersStandIn new m' (obeyed line orders c)
+CarryOut line orders m m' (Some timers) new = CarriesOut line orders m m' timers new
+
+-- What is held of them without the marks of the links: if nothing is ordered, this stays as it is.
+abbrev pub held_in : Option CardTimers → Option HeldTimers
+held_in timers = option_map held timers
+
+-- The marks of the links stay: carrying out orders changes none of them.
+pub record SameMarks (old new : CardTimers) : Type 0 where
+  pub lines : new.lines ≡ old.lines
+  pub terminals : new.terminals ≡ old.terminals
+  pub changes : new.changes ≡ old.changes
+
+abbrev pub AreSameMarks : Option CardTimers → Option CardTimers → Type 0
+AreSameMarks None new = new ≡ None
+AreSameMarks (Some old) None = ⊥
+AreSameMarks (Some old) (Some new) = SameMarks old new
+
+-- The links of a line that an event of this TEI may have changed; none, if it is of no TEI.
+abbrev pub Touches : Option ℕ → ℕ → Card → ℕ → Type 0
+Touches None line new number = ⊥
+Touches (Some tei) line new number = IsTouched line tei new number
+
+-- After an event that has changed these links alone, the marks are those of the card as it is, at the moment of its clock.
+abbrev pub NoteLinks : AnyCard → ℕ → Option ℕ → Option CardTimers → Option CardTimers → Type 0
+NoteLinks card line touched None new = new ≡ None
+NoteLinks card line touched (Some timers) new = (m m' : Card) (c : Clock) (marks : Marks) → FrameCardStands (frames_of card) m' → line < m'.config.lines
+    → IsSameBut timers.lines (2 * timers.terminals) line (Touches touched line m') m m' → TimersStandIn new m' c → ChangesStand timers m marks → ChangesStandIn new m' (noted c.now m' marks)
 
 -- So a call that is an event of a card: of the card of frames, of one of octets; and a call that is several of the latter.
 abbrev pub Obeys : Event → Card → CardHandle → CardHandle → Type 0
@@ -67,10 +105,25 @@ happen events = map happens events
 abbrev pub timed_after : List octet_event.Event → OctetCard → Clock → TimedOctetCard
 timed_after events m c = timed_octets.after_all (happen events) (record { card = m; clock = c })
 
+pub record AllCarriedOut (events : List octet_event.Event) (m : OctetCard) (old : CardTimers) (new : Option CardTimers) : Type 0 where
+  pub timers : (c : Clock) → TimersStand old m.card c → TimersStandIn new (timed_after events m c).card.card (timed_after events m c).clock
+  pub noted : (c : Clock) (marks : Marks) → TimersStand old m.card c → ChangesStand old m.card marks
+      → ChangesStandIn new (timed_after events m c).card.card (marks_after timed_octets.octets inside (happen events) (record { card = m; clock = c }) marks)
+
 abbrev pub CarryOutAll : List octet_event.Event → OctetCard → Option CardTimers → Option CardTimers → Type 0
 CarryOutAll events m None new = new ≡ None
-CarryOutAll events m (Some timers) new =
-    (c : Clock) → TimersStand timers m.card c → TimersStandIn new (timed_after events m c).card.card (timed_after events m c).clock
+CarryOutAll events m (Some timers) new = AllCarriedOut events m timers new
+
+-- What octets leave noted of the links before the orders of the last are carried out, where those before it order nothing.
+pub record AllNoted (events : List octet_event.Event) (m : OctetCard) (old new : CardTimers) : Type 0 where
+  pub held : held new ≡ held old
+  pub noted : (c : Clock) (marks : Marks) → TimersStand old m.card c → ChangesStand old m.card marks
+      → ChangesStand new (timed_after events m c).card.card (marks_after timed_octets.octets inside (happen events) (record { card = m; clock = c }) marks)
+
+abbrev pub NoteAll : List octet_event.Event → OctetCard → Option CardTimers → Option CardTimers → Type 0
+NoteAll events m None new = new ≡ None
+NoteAll events m (Some old) None = ⊥
+NoteAll events m (Some old) (Some new) = AllNoted events m old new
 
 abbrev pub ObeysAll : List octet_event.Event → OctetCard → CardHandle → CardHandle → Type 0
 ObeysAll events m old new = CarryOutAll events m (timers_of old) (timers_of new)

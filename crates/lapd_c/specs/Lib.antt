@@ -37,6 +37,7 @@ pub mod Asked
 pub mod QuestionWords
 pub mod Questions
 pub mod FallsDue
+pub mod Changed
 pub mod Texts
 pub mod AsBefore
 pub mod Said
@@ -52,6 +53,7 @@ pub mod HandlesLeft
 pub mod CallsServed
 pub mod CallEvents
 pub mod QuestionsServed
+pub mod ChangesAnswered
 pub mod QuestionsAnswered
 -- the words of the contracts, from where they are defined
 pub use Rattle.lapd_card.specs.Counted.{counters_in}
@@ -76,17 +78,18 @@ pub use Rattle.lapd_c.specs.Wanted.{FramesWithLine, of_any, of_frames, of_octets
 pub use Rattle.lapd_c.specs.Calls.{Begins, fresh, IsCardStart, IsTimedStart, refusal_at}
 pub use Rattle.lapd_c.specs.Asked.{expire_asked, expiry_at, failed_asked, frame_asked, next_frame_asked, octet_asked, pull_asked, request_asked, request_at}
 pub use Rattle.lapd_c.specs.CalledBy.{at_port, Called, inside, IsCallOf, Served}
-pub use Rattle.lapd_c.specs.Questions.{begun_frame_of, begun_of, heard_frame_of, heard_of, in_front, IsQuestion, limit_of, lines_of, Questioned, room_of, state_of, stored_of, waiting_from}
+pub use Rattle.lapd_c.specs.Questions.{begun_frame_of, begun_of, heard_frame_of, heard_of, in_front, IsQuestion, limit_of, lines_of, link_counters_of, Questioned, room_of, state_of, stored_of, waiting_from}
+pub use Rattle.lapd_c.specs.Changed.{TellsWord, WithMarks, changed_of}
 pub use Rattle.lapd_c.specs.FallsDue.{AtMoment, FellDue, IsMomentCall, IsTimersCall, NoneDue, TellsMoment, WithClock}
 pub use Rattle.lapd_c.specs.Starts.{IsFreed}
 pub use Rattle.lapd_c.specs.Cards.{card_of, FramesStand, IsHandle, kind_in, marks_at, served_card}
 pub use Rattle.lapd_c.specs.Config.{config_fault, config_in, reading_in, sapi_in, seed_in, side_in}
 pub use Rattle.lapd_c.specs.Counted.{counters_at, Counts}
-pub use Rattle.lapd_c.specs.Counters.{plain_counters}
+pub use Rattle.lapd_c.specs.Counters.{plain_counters, plain_link_counters}
 pub use Rattle.lapd_c.specs.Exchange.{Exchanged, Exchanges, is_exchange, OrdersLast, tells_nothing, step_event, steps_made, with_step}
 pub use Rattle.lapd_c.specs.Frames.{frame_comes, fails, goes, IsGiven, next_at}
 pub use Rattle.lapd_c.specs.Heads.{plain_head}
-pub use Rattle.lapd_c.specs.Kept.{is_timed, Obeys, orders_seen, timers_of, TimersStandIn}
+pub use Rattle.lapd_c.specs.Kept.{ChangesStandIn, is_timed, Obeys, orders_seen, timers_of, TimersStandIn}
 pub use Rattle.lapd_c.specs.LinkMarks.{AreMarked, AreUnmarked, marks_of, MarksBecome}
 pub use Rattle.lapd_c.specs.Links.{FirstFrom, IsNext, NoneFrom}
 pub use Rattle.lapd_c.specs.Notes.{plain_note}

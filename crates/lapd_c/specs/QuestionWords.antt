@@ -1,9 +1,10 @@
 -- By which word of the machine each question to a card is answered, or which status says why not.
-use Rattle.std.specs.Prelude.{◌==◌, nat_lt, if◌then◌else◌, ℕ, List, ◌++◌, length, drop, Option, Some, None, Result, Ok, Err}
+use Rattle.std.specs.Prelude.{◌==◌, nat_lt, if◌then◌else◌, ℕ, List, ◌++◌, length, drop, Option, Some, None, option_map, Result, Ok, Err}
 use Rattle.std.specs.Option.{unwrap_or}
 use Rattle.lapd_frame.specs.declared.refusals.Refusal.{Refusal}
+use Rattle.lapd_frame.specs.declared.refusals.Refusal.TheVariants.{NoLink}
 use Rattle.lapd_frame.specs.declared.services.Service.{Service}
-use Rattle.model_card.specs.Card.{Card, state}
+use Rattle.model_card.specs.Card.{Card, counts, state}
 use Rattle.model_card.specs.Room.{room}
 use Rattle.model_card.specs.ports.Begun.{frame_begun_at, head_begun_at}
 use Rattle.model_card.specs.ports.FrameHeard.{frame_heard_at}
@@ -12,8 +13,10 @@ use Rattle.model_card.specs.ports.Stored.{limit}
 use Rattle.model_link.specs.declared.rooms.Room.{Room}
 use Rattle.lapd_card.specs.Kinds.{Machine, with_ports, alone, card_in, stored}
 use Rattle.lapd_card.specs.Waiting.{next_waiting}
+use Rattle.lapd_c.specs.declared.plain.counters.PlainLinkCounters.{PlainLinkCounters}
 use Rattle.lapd_c.specs.declared.plain.heads.PlainHead.{PlainHead}
 use Rattle.lapd_c.specs.declared.plain.rooms.PlainRoom.{PlainRoom}
+use Rattle.lapd_c.specs.Counters.{plain_link_counters}
 use Rattle.lapd_c.specs.Heads.{plain_head}
 use Rattle.lapd_c.specs.Rooms.{plain_room}
 use Rattle.lapd_c.specs.Services.{if_ok}
@@ -67,6 +70,14 @@ room_at line m (Err wrong) = Err wrong
 
 abbrev pub room_of : ℕ → ℕ → ℕ → Machine → Result PlainRoom ℕ
 room_of line service tei m = room_at line (card_in m) (link_in service tei)
+
+-- What was counted of a link, if its TEI is on the line.
+abbrev pub link_counters_at : ℕ → Card → Result (Service × ℕ) ℕ → Result PlainLinkCounters ℕ
+link_counters_at line m (Ok link) = or_status (refusal_status NoLink) (option_map plain_link_counters (counts line link.0 link.1 m))
+link_counters_at line m (Err wrong) = Err wrong
+
+abbrev pub link_counters_of : ℕ → ℕ → ℕ → Machine → Result PlainLinkCounters ℕ
+link_counters_of line service tei m = link_counters_at line (card_in m) (link_in service tei)
 
 -- How many octets a card stores, and stores at most; and how many lines it has.
 abbrev pub stored_of : Machine → Result ℕ ℕ

@@ -3,7 +3,7 @@ use Rattle.std.specs.Prelude.{◌≡◌, ◌≢◌, ◌≤◌, ◌<◌, ℕ, Opt
 use Rattle.lapd_card.specs.Kinds.{Machine, card_in}
 use Rattle.lapd_c.specs.declared.card.CardHandle.{CardHandle}
 use Rattle.lapd_c.specs.Cards.{card_of, IsHandle}
-pub use Rattle.lapd_c.specs.QuestionWords.{begun_frame_of, begun_of, heard_frame_of, heard_of, in_front, limit_of, lines_of, or_status, room_at, room_of, room_told, state_of, stored_of, waiting_from}
+pub use Rattle.lapd_c.specs.QuestionWords.{begun_frame_of, begun_of, heard_frame_of, heard_of, in_front, limit_of, lines_of, link_counters_at, link_counters_of, or_status, room_at, room_of, room_told, state_of, stored_of, waiting_from}
 use Rattle.lapd_c.specs.Statuses as status
 use Rattle.lapd_c.specs.Wanted.{Wanted, IsOther, OfEach}
 

@@ -1,11 +1,13 @@
 -- What questions are answered, in words of their own: those of `lapd.h` and of the machine.
-use Rattle.std.specs.Prelude.{◌≡◌, ◌≢◌, ◌≤◌, ◌<◌, ◌==◌, ℕ, ◌+◌, ◌-◌, ◌*◌, ◌%◌, nat_lt, List, [], ◌∷◌, ◌++◌, length, take, drop, flat_map, map, replicate, sum_by, Some, None, Result, Ok, Err, codes, refl, if◌then◌else◌}
+use Rattle.std.specs.Prelude.{◌≡◌, ◌≢◌, ◌≤◌, ◌<◌, ◌==◌, ℕ, ◌+◌, ◌-◌, ◌*◌, ◌%◌, nat_lt, Bool, List, [], ◌∷◌, ◌++◌, length, take, drop, flat_map, map, replicate, sum_by, Some, None, Result, Ok, Err, codes, refl, if◌then◌else◌}
 use Rattle.std.specs.Option.{unwrap_or}
+use Rattle.model_bits.specs.Bits.{bits, flag}
 use Rattle.model_bits.specs.OpenGap.{octets_held}
 use Rattle.model_bits.specs.Sent as item
 use Rattle.model_bits.specs.Sent.{Item, idle}
 use Rattle.model_bits.specs.Stream as stream
 use Rattle.model_bits.specs.Stream.{Event, dropped, heard_in, overlong}
+use Rattle.model_bits.specs.Stuffing.{stuffed}
 use Rattle.lapd_frame.specs.declared.addresses.Side.TheVariants.{User, Network}
 use Rattle.lapd_frame.specs.declared.services.Service.{Service}
 use Rattle.lapd_frame.specs.Reading.{reading}
@@ -23,19 +25,23 @@ use Rattle.model_card.specs.Card.{Card, fresh, line_at, used}
 use Rattle.model_card.specs.Event.{at}
 use Rattle.model_card.specs.Machine.{after, answer}
 use Rattle.model_card.specs.Stored as of_frames
+use Rattle.model_timed.specs.Changes.{noted, unmarked}
 use Rattle.model_card.specs.ports.Card.{OctetCard, port_at}
 use Rattle.model_card.specs.ports.Port.{Port, left_of}
 use Rattle.model_card.specs.ports.Stored as of_octets
 use Rattle.lapd_card.specs.Kinds.{Machine, with_ports, alone, card_in}
 use Rattle.lapd_c.specs.Counters.{plain_counters}
 use Rattle.lapd_c.specs.LinksTold.{LinksAreTold}
+use Rattle.lapd_c.specs.Changed.{changed_of}
+use Rattle.lapd_c.specs.ChangesAnswered.{ChangesAreAnswered}
 use Rattle.lapd_c.specs.Services.{number_of}
 use Rattle.lapd_c.specs.Questions.{Has, Lacks}
 use Rattle.lapd_c.specs.QuestionsServed.{QuestionsChangeNothing}
-use Rattle.lapd_c.specs.QuestionWords.{begun_frame_of, begun_of, heard_frame_of, heard_of, limit_of, lines_of, room_of, state_of, stored_of, waiting_from}
+use Rattle.lapd_c.specs.QuestionWords.{begun_frame_of, begun_of, heard_frame_of, heard_of, limit_of, lines_of, link_counters_of, room_of, state_of, stored_of, waiting_from}
 use Rattle.lapd_c.specs.Texts.{text_of}
 use Rattle.lapd_count.specs.declared.counters.Counters.{Counters}
 use Rattle.lapd_c.specs.declared.plain.counters.PlainCounters.{PlainCounters}
+use Rattle.lapd_c.specs.declared.plain.counters.PlainLinkCounters.{PlainLinkCounters}
 use Rattle.lapd_c.specs.declared.plain.heads.PlainHead.{PlainHead}
 use Rattle.lapd_c.specs.declared.plain.rooms.PlainRoom.{PlainRoom}
 
@@ -51,6 +57,16 @@ IsNoService number = (number ≢ 0) × (number ≢ 16)
 -- The room beside a link: slots of the pool that are free, places of its queue that contents which are not acknowledged leave, and V(A).
 abbrev pub room_beside : Link → Card → PlainRoom
 room_beside l card = record { pool = card.config.slots - used card; queue = card.config.queue - length (drop l.a l.contents); va = l.a % 128 }
+
+-- The counters of a link, as they are.
+abbrev pub counters_beside : Link → PlainLinkCounters
+counters_beside l = record {
+  sent_again = l.counts.sent_again;
+  t200_expired = l.counts.t200_expired;
+  rejects_sent = l.counts.rejects_sent;
+  rejects_received = l.counts.rejects_received;
+  established = l.counts.established;
+}
 
 -- How a frame begins: its first four octets, with 0 after its end. Of none, its length is 0.
 abbrev pub beginning : List ℕ → PlainHead
@@ -123,19 +139,24 @@ octets_on_their_way n201 p = octets_held n201 p.received + (if nat_lt (length (l
 pub record QuestionsAreAnswered : Type 0 where
   -- A question changes nothing and is told its word, whatever it asks for.
   pub served : QuestionsChangeNothing ℕ × QuestionsChangeNothing PlainHead × QuestionsChangeNothing (List ℕ × ℕ) × QuestionsChangeNothing PlainRoom
-      × QuestionsChangeNothing PlainCounters
+      × QuestionsChangeNothing PlainCounters × QuestionsChangeNothing PlainLinkCounters
   -- A question of a line is asked if the card has that line. One of the whole card is always asked.
   pub has : (line : ℕ) (m : Machine) → line < (card_in m).config.lines → Has (Some line) m
   pub has_any : (m : Machine) → Has None m
   pub lacks : (line : ℕ) (m : Machine) → (card_in m).config.lines ≤ line → Lacks (Some line) m
-  -- A link's state is told by its number, and 0 if its TEI is not on the line; its room, if it is. No TEI of a
-  -- terminal is over 126.
+  -- A link's state is told by its number, and 0 if its TEI is not on the line; its room, and what was counted of it, if it
+  -- is. No TEI of a terminal is over 126.
   pub state : (line tei : ℕ) (s : Service) (m : Machine) → state_of line (number_of s) tei m
       ≡ (if nat_lt 126 tei then Err 16 else Ok (unwrap_or (cards.state line s tei (frames_in m)) 0))
   pub room : (line tei : ℕ) (s : Service) (m : Machine) → let l = line_at line (frames_in m) in room_of line (number_of s) tei m
       ≡ (if nat_lt 126 tei then Err 16 else if has_tei tei l then Ok (room_beside (link_of s tei l) (frames_in m)) else Err 2)
-  pub no_service : (line service tei : ℕ) (m : Machine) → IsNoService service → (state_of line service tei m ≡ Err 15) × (room_of line service tei m ≡ Err 15)
-  -- So is which links a line has.
+  pub link_counters : (line tei : ℕ) (s : Service) (m : Machine) → line < (frames_in m).config.lines → let l = line_at line (frames_in m) in
+      link_counters_of line (number_of s) tei m
+      ≡ (if nat_lt 126 tei then Err 16 else if has_tei tei l then Ok (counters_beside (link_of s tei l)) else Err 2)
+  pub no_service : (line service tei : ℕ) (m : Machine) → IsNoService service
+      → (state_of line service tei m ≡ Err 15) × (room_of line service tei m ≡ Err 15) × (link_counters_of line service tei m ≡ Err 15)
+  -- So is when its state changed last, of a card that keeps its own timers; and which links a line has.
+  pub changes : ChangesAreAnswered
   pub links : LinksAreTold
   -- The frame that has begun is the last one that was put on the line; and of those that were heard the last is told. A card of frames
   -- has neither.
@@ -157,6 +178,9 @@ pub record QuestionsAreAnswered : Type 0 where
   -- slot N201 octets.
   pub stored : (m : OctetCard) → stored_of (with_ports m) ≡ Ok (of_octets.stored m)
   pub stored_at_ports : (m : OctetCard) → stored_of (with_ports m) ≡ Ok (of_frames.stored m.card + sum_by (octets_on_their_way m.card.config.n201) m.ports)
+  -- Of a frame that comes so many octets are held as have come whole behind its flag, while it and its check have room.
+  pub coming : (n201 : ℕ) (octets part : List ℕ) (before : List Bool) → bits octets ≡ before ++ (flag ++ stuffed (bits part)) → length part ≤ n201 + 6
+      → octets_held n201 octets ≡ length part
   pub stored_alone : (m : Card) → stored_of (alone m) ≡ Ok (of_frames.stored m)
   pub limit : (m : Machine) → let c = (frames_in m).config in
       limit_of m ≡ Ok (c.lines * (8 * c.control * c.terminals + most_of_messages c) + c.slots * c.n201 + c.lines * (2 * c.n201 + 10))
@@ -180,6 +204,15 @@ not_on_the_line = refl
 all_is_left : room_of 0 16 64 (alone with_tei) ≡ Ok (record { pool = 64; queue = 8; va = 0 })
 unfolding lines.after lines.takes_slot teis.course teis.refusal
 all_is_left = refl
+
+none_counted : link_counters_of 0 0 64 (alone with_tei)
+    ≡ Ok (record { sent_again = 0; t200_expired = 0; rejects_sent = 0; rejects_received = 0; established = 0 })
+unfolding lines.after lines.takes_slot teis.course teis.refusal
+none_counted = refl
+
+changed_told : changed_of 0 0 64 with_tei (noted 7 with_tei unmarked) ≡ Ok 7
+unfolding lines.after lines.takes_slot teis.course teis.refusal
+changed_told = refl
 
 abbrev sabme : OctetCard
 sabme = record { card = with_tei; ports = record { received = []; items = item.frame (2 ∷ 129 ∷ 127 ∷ []) ∷ idle ∷ []; given = [] } ∷ [] }

@@ -8,9 +8,10 @@ ghost use Rattle.model_card.specs.declared.kinds.CardKind.{CardKind as Kind};
 ghost use Rattle.model_card.specs.declared.kinds.CardKind.TheVariants as kinds;
 ghost use Rattle.lapd_c.specs.Statuses as status;
 ghost use Rattle.lapd_clock.specs.Given.{lengths_of};
+ghost use Rattle.model_timed.specs.Changes.{unmarked};
 ghost use Rattle.model_timed.specs.Clock.{stopped};
 ghost use Rattle.lapd_card.specs.Kinds.{card_in};
-ghost use Rattle.lapd_c.specs.{TimersStandIn};
+ghost use Rattle.lapd_c.specs.{ChangesStandIn, TimersStandIn};
 
 use crate::card_slot::CardSlot;
 use crate::kept::KeptCard;
@@ -192,7 +193,8 @@ fn start_timed(
 // The timers of a card of a configuration that is in range, if there is memory for them.
 fn timers_started(alloc: Global, config: Config, lengths: Lengths) -> Option<CardTimers>
     requires { first_fault config ≡ None }
-    ensures { IfSome result (λ timers. (kind : Kind) → TimersStandIn (Some timers) (card_in (fresh kind config)) (stopped (lengths_of lengths))) }
+    ensures stopped { IfSome result (λ timers. (kind : Kind) → TimersStandIn (Some timers) (card_in (fresh kind config)) (stopped (lengths_of lengths))) }
+    ensures unmarked { IfSome result (λ timers. (kind : Kind) → ChangesStandIn (Some timers) (card_in (fresh kind config)) unmarked) }
 {
     let (lines, terminals) = (usize::from(config.lines), usize::from(config.terminals));
     CardTimers::start(alloc, lines, terminals, lengths).ok()

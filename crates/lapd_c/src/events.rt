@@ -12,6 +12,7 @@ use crate::plain::{
 };
 use lapd_card::BareReport;
 use lapd_frame::LAST_TEI;
+use lapd_timed::tei_of_request;
 
 /// A timer of a line expired. One that does not run has no effect, and nothing is told.
 #[unsafe(no_mangle)]
@@ -96,11 +97,12 @@ fn ask(
 {
     lend!(kept of handle, line);
     let asked = or_answer!(request_in(request, service, tei, contents));
+    let touched = tei_of_request(&asked);
     let mut told = BareReport::nothing();
     match kept.card.request(line, asked, &mut told) {
         Ok(()) => {
             report.show(&told, None);
-            kept.settle(line, told.orders(), report);
+            kept.settle(line, touched, told.orders(), report);
             OK
         }
         Err(why) => {

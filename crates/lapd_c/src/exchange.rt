@@ -1,9 +1,11 @@
 //! Octets taken and given in turn.
 
-ghost use Rattle.std.specs.Prelude.{◌≡◌, ◌≢◌, ◌≤◌, ◌<◌, ◌*◌, ◌-◌, true, false, not, length, is_some, IfSome};
+ghost use Rattle.std.specs.Prelude.{ℕ, Option, ◌≡◌, ◌≢◌, ◌≤◌, ◌<◌, ◌*◌, ◌-◌, ◌∷◌, [], true, false, not, length, is_some, IfSome};
 ghost use Rattle.std.specs.Option.{option_copied};
 ghost use Rattle.lapd_c.specs.{card_of, Exchanges, is_exchange, IsCallOf, IsHandle, OctetsWithLine, of_octets};
 ghost use Rattle.lapd_c.specs.{all_counted, CardStands, contents_or_none, counters_in, Exchanged, Leads, listed, meant_all, moments, octet_of, OrdersLast, shelf_of, Shows, ShowsReply, step_event, steps_made, tells_nothing, told_at, told_beside, with_step};
+ghost use Rattle.lapd_c.specs.Kept.{NoteAll};
+ghost use Rattle.lapd_timed.specs.declared.card_timers.CardTimers.{CardTimers as Timers};
 ghost use Rattle.model_timed.specs.Octets.{orders_in};
 ghost use Rattle.model_card.specs.ports.Card as machine;
 ghost use Rattle.model_card.specs.ports.Card.{answer};
@@ -18,6 +20,7 @@ use crate::plain::{OK, PlainReport, WRONG_LENGTH};
 use lapd_card::{BareReport, Card};
 use lapd_frame::{Order, ShortList};
 use lapd_store::RawShelf;
+use lapd_timed::{CardTimers, tei_of_heard};
 
 /// Takes and gives octets in turn: step 2i takes octet i of those taken, step 2i + 1 gives octet i of those given. Goes
 /// on from a step, up to and with the first that has something to tell.
@@ -43,14 +46,17 @@ pub extern "C" fn lapd_exchange(
     if taken.len() != given.len() || *steps > 2 * taken.len() {
         return WRONG_LENGTH;
     }
-    let orders = exchange(card, line, taken, given, steps, report);
-    kept.settle(line, orders.as_slice(), report);
+    let orders = exchange(card, &mut kept.timers, line, taken, given, steps, report);
+    // What the octets have left otherwise is noted by then.
+    kept.settle(line, None, orders.as_slice(), report);
     OK
 }
 
-// Makes steps, up to and with the first that has something to tell, and answers what the last has ordered.
+// Makes steps, up to and with the first that has something to tell, and answers what the last has ordered. Of the timers that
+// are there, if any are, each step notes the states of the links that it has left otherwise.
 fn exchange(
     card: &mut Card<RawShelf>,
+    timers: &mut Option<CardTimers>,
     line: usize,
     taken: &[u8],
     given: &mut [u8],
@@ -64,10 +70,12 @@ fn exchange(
     ensures ordered { (m : machine.OctetCard) → CardStands card.old m → OrdersLast line taken.now steps.old m steps.new (listed result) }
     ensures counted { (m : machine.OctetCard) → CardStands card.old m
         → counters_in card.new.frames.lines ≡ all_counted (counters_in card.old.frames.lines) (moments m.card (meant_all m (steps_made line taken.now steps.old (steps.new - steps.old)))) }
+    ensures there { is_some timers.new ≡ is_some timers.old }
+    ensures noted { (m : machine.OctetCard) → CardStands card.old m → NoteAll (steps_made line taken.now steps.old (steps.new - steps.old)) m timers.old timers.new }
 {
     let end = 2 * taken.len();
     for step in *steps..end {
-        if let Some(orders) = make_step(card, line, taken, given, step, report) {
+        if let Some(orders) = make_step(card, timers, line, taken, given, step, report) {
             *steps = step + 1;
             return orders;
         }
@@ -80,6 +88,7 @@ fn exchange(
 // Makes one step, and answers what it has ordered if there is anything to tell; else no report is written.
 fn make_step(
     card: &mut Card<RawShelf>,
+    timers: &mut Option<CardTimers>,
     line: usize,
     taken: &[u8],
     given: &mut [u8],
@@ -99,9 +108,11 @@ fn make_step(
         → ShowsReply report.new (answer (step_event line taken.now step) m) }
     ensures ordered { IfSome result (λ orders. (m : machine.OctetCard) → CardStands card.old m
         → listed orders ≡ orders_in (answer (step_event line taken.now step) m)) }
+    ensures there { is_some timers.new ≡ is_some timers.old }
+    ensures noted { (m : machine.OctetCard) → CardStands card.old m → NoteAll (step_event line taken.now step ∷ []) m timers.old timers.new }
 {
     if step % 2 == 0 {
-        return tells_taken(card, line, taken[step / 2], report);
+        return tells_taken(card, timers, line, taken[step / 2], report);
     }
     tells_given(card, line, &mut given[step / 2], report)
 }
@@ -109,6 +120,7 @@ fn make_step(
 // Takes an octet, and answers what was ordered if there is anything to tell; else nothing is written.
 fn tells_taken(
     card: &mut Card<RawShelf>,
+    timers: &mut Option<CardTimers>,
     line: usize,
     octet: u8,
     report: &mut PlainReport,
@@ -121,13 +133,29 @@ fn tells_taken(
         → ShowsReply report.new (answer (at line (port.octet octet)) m) }
     ensures ordered { IfSome result (λ orders. (m : machine.OctetCard) → CardStands card.old m → listed orders ≡ orders_in (answer (at line (port.octet octet)) m)) }
     ensures unchanged { is_some result ≡ false → report.new ≡ report.old }
+    ensures there { is_some timers.new ≡ is_some timers.old }
+    ensures noted { (m : machine.OctetCard) → CardStands card.old m → NoteAll (at line (port.octet octet) ∷ []) m timers.old timers.new }
 {
     let told = card.hear(line, octet)?;
+    note_ended(card, timers, line);
     if tells_ended(card, line, &told, report) {
         Some(told.orders)
     } else {
         None
     }
+}
+
+// Notes the states of the links that what an octet has ended may have left otherwise, if timers are there.
+fn note_ended(card: &Card<RawShelf>, timers: &mut Option<CardTimers>, line: usize)
+    requires { line < line_count card.now }
+    ensures there { is_some timers.new ≡ is_some timers.old }
+    ensures noted { (octet : ℕ) (m : machine.OctetCard) → line < length m.ports → line < m.card.config.lines
+        → CardStands card.now (machine.after (at line (port.octet octet)) m) → NoteAll (at line (port.octet octet) ∷ []) m timers.old timers.new }
+{
+    let Some(timers) = timers else {
+        return;
+    };
+    timers.note_within(card.frames(), line, tei_of_heard(card.ended(line)));
 }
 
 // Shows what an octet has ended, if that is anything to tell. It stands apart from the loop, since few octets end anything.
@@ -153,7 +181,9 @@ fn tells_ended(
     true
 }
 
-// Gives an octet, and answers what was ordered if there is anything to tell; else no report is written.
+// Gives an octet, and answers what was ordered if there is anything to tell; else no report is written. It leaves all links as
+// they stand, so nothing has to be noted.
+#[tactic(auto, using(crate::proofs::NotingAll::pull_notes))]
 fn tells_given(
     card: &mut Card<RawShelf>,
     line: usize,
@@ -170,6 +200,7 @@ fn tells_given(
         → ShowsReply report.new (answer (at line port.pull) m) }
     ensures ordered { IfSome result (λ orders. (m : machine.OctetCard) → CardStands card.old m → listed orders ≡ orders_in (answer (at line port.pull) m)) }
     ensures unchanged { is_some result ≡ false → report.new ≡ report.old }
+    ensures noted { (timers : Option Timers) (m : machine.OctetCard) → CardStands card.old m → NoteAll (at line port.pull ∷ []) m timers timers }
 {
     let pulled = card.pull(line);
     *octet = pulled.octet;

@@ -18,6 +18,7 @@ use crate::lend::{lend, or_answer};
 use crate::plain::{NO_FRAME, OK, PlainReport, WRONG_LENGTH, fault_in};
 use lapd_card::{BareReport, FrameCard};
 use lapd_store::RawShelf;
+use lapd_timed::tei_of_frame;
 
 /// Takes a frame that came from a line, from its address to its information, without its check.
 #[unsafe(no_mangle)]
@@ -48,11 +49,11 @@ fn frame(handle: &mut CardHandle, line: u32, octets: &[u8], report: &mut PlainRe
     lend!(kept of handle, Frames(card), line);
     if card.frame(line, octets, &mut told) {
         // Mostly it leads to nothing but orders, and then nothing else is looked for.
-        kept.settle_orders(line, &told.orders, report);
+        kept.settle_orders(line, Some(tei_of_frame(octets)), &told.orders, report);
         return OK;
     }
     show_delivered(card, line, octets, &told, report);
-    kept.settle(line, told.orders(), report);
+    kept.settle(line, Some(tei_of_frame(octets)), told.orders(), report);
     OK
 }
 
@@ -104,7 +105,7 @@ fn frame_failed(handle: &mut CardHandle, line: u32, cause: u8, report: &mut Plai
     let mut told = BareReport::nothing();
     card.failed(line, fault, &mut told);
     report.show(&told, None);
-    kept.settle(line, told.orders(), report);
+    kept.settle(line, None, told.orders(), report);
     OK
 }
 

@@ -7,7 +7,7 @@ ghost use Rattle.model_card.specs.Event.{Event};
 ghost use Rattle.model_card.specs.Machine.{after};
 ghost use Rattle.model_timed.specs.Clock.{Clock, obeyed};
 ghost use Rattle.model_timed.specs.Frames.{orders_at};
-ghost use Rattle.lapd_c.specs.Kept.{LedTo, AreLeftIn, TimersStandIn, orders_by, settled};
+ghost use Rattle.lapd_c.specs.Kept.{AreLeftIn, AreSameMarks, LedTo, NoteLinks, TimersStandIn, held_in, orders_by, settled};
 ghost use Rattle.lapd_c.specs.{listed, no_timer, nothing, Shows, ShowsPull, first_fault, AreMarked, AreUnmarked, MarksBecome, marks_of, IsFirstOpen, TellsReopened, WaitsFor, is_open, is_there, waits_on, waits_there, with_reopened};
 ghost use Rattle.model_card.specs.Card as machine;
 ghost use Rattle.lapd_card.specs.FrameCard.{line_count};
@@ -54,9 +54,16 @@ impl KeptCard {
     }
 
     /// Ends a call of a line, in whose report the answer to an event is shown. If the card keeps its own timers, the orders of
-    /// the answer are carried out, and the report has none. Then it tells as [`KeptCard::tell_reopened`].
+    /// the answer are carried out, and the report has none; and the states of the links are noted that the event may have left
+    /// otherwise, which are those of this TEI, if of one. Then it tells as [`KeptCard::tell_reopened`].
     #[inline(always)]
-    pub(crate) fn settle(&mut self, line: usize, orders: &[Order], report: &mut PlainReport)
+    pub(crate) fn settle(
+        &mut self,
+        line: usize,
+        touched: Option<u8>,
+        orders: &[Order],
+        report: &mut PlainReport,
+    )
         ensures card { self.new.card ≡ self.old.card }
         ensures rest { report.new ≡ settled self.old.timers report.new report.old }
         ensures expired { report.new.expired ≡ no_timer }
@@ -64,13 +71,16 @@ impl KeptCard {
             → TellsReopened line (card_in m) self.old.refused self.new.refused report.new }
         ensures untimed { self.old.timers ≡ None → self.new.timers ≡ None }
         ensures there { is_some self.new.timers ≡ is_some self.old.timers }
-        ensures none { orders.now ≡ [] → self.new.timers ≡ self.old.timers }
+        ensures none { orders.now ≡ [] → held_in self.new.timers ≡ held_in self.old.timers }
+        ensures noted { NoteLinks self.old.card line touched self.old.timers self.new.timers }
+        ensures unnoted { touched ≡ None → AreSameMarks self.old.timers self.new.timers }
         // So of each event at that line of which these are the orders, and that led the card to where it is.
         ensures timed { (e : Event) (m : Card) (c : Clock) → LedTo self.old.card line e m → orders.now ≡ orders_at e m
             → AreLeftIn e self.old.timers m c → TimersStandIn self.new.timers (after e m) (obeyed line (orders_at e m) c) }
     {
         if self.timers.is_some() {
             self.carry_out(line, orders);
+            self.note(line, touched);
             report.order_count = 0;
         }
         self.tell_reopened(line, report);
@@ -82,6 +92,7 @@ impl KeptCard {
     pub(crate) fn settle_orders(
         &mut self,
         line: usize,
+        touched: Option<u8>,
         orders: &ShortList<Order>,
         report: &mut PlainReport,
     )
@@ -92,12 +103,14 @@ impl KeptCard {
             → TellsReopened line (card_in m) self.old.refused self.new.refused report.new }
         ensures untimed { self.old.timers ≡ None → self.new.timers ≡ None }
         ensures there { is_some self.new.timers ≡ is_some self.old.timers }
+        ensures noted { NoteLinks self.old.card line touched self.old.timers self.new.timers }
         // So of each event at that line of which these are the orders, and that led the card to where it is.
         ensures timed { (e : Event) (m : Card) (c : Clock) → LedTo self.old.card line e m → listed orders.now ≡ orders_at e m
             → AreLeftIn e self.old.timers m c → TimersStandIn self.new.timers (after e m) (obeyed line (orders_at e m) c) }
     {
         if self.timers.is_some() {
             self.carry_out_list(line, orders);
+            self.note(line, touched);
             report.show_nothing();
         } else {
             report.show_orders(orders);
@@ -122,6 +135,7 @@ impl KeptCard {
             → TellsReopened line (card_in m) self.old.refused self.new.refused report.new }
         ensures untimed { self.old.timers ≡ None → self.new.timers ≡ None }
         ensures there { is_some self.new.timers ≡ is_some self.old.timers }
+        ensures noted { NoteLinks self.old.card line None self.old.timers self.new.timers }
         // So of each event at that line of which these are the orders, and that led the card to where it is.
         ensures timed { (e : Event) (m : Card) (c : Clock) → LedTo self.old.card line e m → listed orders.now ≡ orders_at e m
             → AreLeftIn e self.old.timers m c → TimersStandIn self.new.timers (after e m) (obeyed line (orders_at e m) c) }
@@ -138,6 +152,7 @@ impl KeptCard {
         ensures refused { self.new.refused ≡ self.old.refused }
         ensures shown { (begun more : Bool) → ShowsPull report.old begun more []
             → ShowsPull report.new begun more (orders_by (is_some self.old.timers) (listed orders.now)) }
+        ensures changes { AreSameMarks self.old.timers self.new.timers }
         ensures there { is_some self.new.timers ≡ is_some self.old.timers }
         ensures timed { (e : Event) (m : Card) (c : Clock) → LedTo self.old.card line e m → listed orders.now ≡ orders_at e m
             → AreLeftIn e self.old.timers m c → TimersStandIn self.new.timers (after e m) (obeyed line (orders_at e m) c) }
@@ -155,6 +170,7 @@ impl KeptCard {
         ensures refused { self.new.refused ≡ self.old.refused }
         ensures shown { (begun more : Bool) → ShowsPull report.old begun more []
             → ShowsPull report.new begun more (orders_by (is_some self.old.timers) (listed orders)) }
+        ensures changes { AreSameMarks self.old.timers self.new.timers }
         ensures there { is_some self.new.timers ≡ is_some self.old.timers }
         ensures timed { (e : Event) (m : Card) (c : Clock) → LedTo self.old.card line e m → listed orders ≡ orders_at e m
             → AreLeftIn e self.old.timers m c → TimersStandIn self.new.timers (after e m) (obeyed line (orders_at e m) c) }
@@ -171,6 +187,7 @@ impl KeptCard {
     fn carry_out_list(&mut self, line: usize, orders: &ShortList<Order>)
         ensures card { self.new.card ≡ self.old.card }
         ensures refused { self.new.refused ≡ self.old.refused }
+        ensures changes { AreSameMarks self.old.timers self.new.timers }
         ensures there { is_some self.new.timers ≡ is_some self.old.timers }
         ensures timed { (e : Event) (m : Card) (c : Clock) → LedTo self.old.card line e m → listed orders.now ≡ orders_at e m
             → AreLeftIn e self.old.timers m c → TimersStandIn self.new.timers (after e m) (obeyed line (orders_at e m) c) }
@@ -186,6 +203,7 @@ impl KeptCard {
     fn carry_out(&mut self, line: usize, orders: &[Order])
         ensures card { self.new.card ≡ self.old.card }
         ensures refused { self.new.refused ≡ self.old.refused }
+        ensures changes { AreSameMarks self.old.timers self.new.timers }
         ensures there { is_some self.new.timers ≡ is_some self.old.timers }
         ensures none { orders.now ≡ [] → self.new.timers ≡ self.old.timers }
         ensures timed { (e : Event) (m : Card) (c : Clock) → LedTo self.old.card line e m → orders.now ≡ orders_at e m
@@ -197,6 +215,26 @@ impl KeptCard {
         let frames = self.card.frames();
         if let Some(timers) = &mut self.timers {
             timers.obey(frames, line, orders);
+        }
+    }
+
+    // Notes the states of the links of a TEI of a line, or where it is the group's those of all of them, if the card keeps its
+    // own timers.
+    #[inline(always)]
+    fn note(&mut self, line: usize, touched: Option<u8>)
+        ensures card { self.new.card ≡ self.old.card }
+        ensures refused { self.new.refused ≡ self.old.refused }
+        ensures there { is_some self.new.timers ≡ is_some self.old.timers }
+        ensures held { held_in self.new.timers ≡ held_in self.old.timers }
+        ensures unnoted { touched ≡ None → self.new.timers ≡ self.old.timers }
+        ensures noted { NoteLinks self.old.card line touched self.old.timers self.new.timers }
+    {
+        let Some(tei) = touched else {
+            return;
+        };
+        let frames = self.card.frames();
+        if let Some(timers) = &mut self.timers {
+            timers.note_within(frames, line, tei);
         }
     }
 

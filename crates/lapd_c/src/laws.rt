@@ -56,19 +56,21 @@ pub fn numbers_are_given()
 /// frame, a fault, a call for the next frame, the expiry of each timer, and each request. At a card of octets a request and an expiry
 /// are those events of its machine, of which the laws of octets speak, and at a card of frames each event is itself.
 ///
-/// A call that is an event is served: the card stands for the machine after it, and the report tells the machine's answer, place by
-/// place; without orders if the card keeps its own timers, whose clock then has carried them out. If arguments are wrong, or the machine
-/// refuses the event, the status says so, and nothing changes. A card begins as the fresh machine of its configuration. Whatever its
-/// status, a call leaves a handle for the next one, and a start that is not OK changes nothing.
+/// A call that is an event is served: the card stands for the machine after it, and the report tells the machine's answer,
+/// place by place; without orders if the card keeps its own timers, whose clock then has carried them out. What is noted of its
+/// links is as after the event. If arguments are wrong, or the machine refuses the event, the status says so, and nothing
+/// changes. A card begins as the fresh machine of its configuration. Whatever its status, a call leaves a handle for the next
+/// one, and a start that is not OK changes nothing.
 #[tactic(auto, using(crate::proofs::CallsServed::calls_are_served_by))]
 pub fn calls_are_served()
     ensures { CallsAreServed }
 {}
 
-/// Questions are answered as `include/lapd.h` says: a link's state and room, the frames that have begun and that were heard, the first
-/// line on which a frame waits, counters, what is stored and may be, lines, and octets in words. A question changes nothing.
-/// If one has no answer, its status says why, and nothing is written. Links are told one after the other: each that is on the line from a place on, by TEI, call control before packet, with
-/// its state; and that there is no more, only if no TEI that a terminal can have has one.
+/// Questions are answered as `include/lapd.h` says: a link's state, when that changed last, and its room, the frames that have
+/// begun and that were heard, the first line on which a frame waits, counters, what is stored and may be, lines, and octets in
+/// words. A question changes nothing. If one has no answer, its status says why, and nothing is written. Links are told one
+/// after the other: each that is on the line from a place on, by TEI, call control before packet, with its state; and that
+/// there is no more, only if no TEI that a terminal can have has one.
 #[tactic(auto, using(crate::proofs::QuestionsAnswered::questions_are_answered_by))]
 pub fn questions_are_answered()
     ensures { QuestionsAreAnswered }

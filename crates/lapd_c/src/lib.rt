@@ -12,8 +12,8 @@
 //!   line, `link_marks` mark. `card_slot`: where it lies.
 //! - `events`: what happens at a card of either kind. `octets`: one octet that comes and one that goes, with the frames that these
 //!   begin and end. `exchange`: octets taken and given in turn. `frames`: frames that come and go, and on which lines one waits.
-//! - `questions`: what a card answers about itself, what was counted of a line, and how many contents more a link takes. `links`:
-//!   which links it has.
+//! - `questions`: what a card answers about itself, what was counted of a line and of a link, and how many contents more a link
+//!   takes. `links`: which links it has.
 //! - `clock`: a clock in C, and its exports; `clock_reports`, the orders of a report; `clock_slot`, where it lies.
 //! - `laws`: what holds of the machine's answers, so that a report has room for each.
 //! - `plain`: the structs and numbers of C, and what they mean.

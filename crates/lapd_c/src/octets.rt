@@ -11,6 +11,7 @@ ghost use Rattle.lapd_c.specs.Statuses as status;
 use crate::card::CardHandle;
 use crate::lend::lend;
 use crate::plain::{NO_FRAME, OK, PlainHead, PlainReport, WRONG_LENGTH};
+use lapd_timed::tei_of_heard;
 use model_bits::Heard;
 
 /// Takes an octet that came from a line, low bit first.
@@ -46,7 +47,8 @@ fn take_octet(handle: &mut CardHandle, line: u32, octet: u8, report: &mut PlainR
         }
         Some(told) => {
             report.show(&told, card.contents(line, &told));
-            kept.settle(line, told.orders(), report);
+            let tei = tei_of_heard(card.ended(line));
+            kept.settle(line, Some(tei), told.orders(), report);
             OK
         }
     }
@@ -82,7 +84,7 @@ fn pull(handle: &mut CardHandle, line: u32, octet: &mut u8, report: &mut PlainRe
     let pulled = card.pull(line);
     *octet = pulled.octet;
     report.show_pull(pulled.begun, pulled.orders());
-    kept.settle(line, pulled.orders(), report);
+    kept.settle(line, None, pulled.orders(), report);
     OK
 }
 

@@ -1,13 +1,15 @@
 //! What a card answers about itself.
 
 ghost use Rattle.std.specs.Prelude.{◌≡◌, ◌≤◌, ◌<◌, Some, None, IfSome, get_or};
-ghost use Rattle.lapd_c.specs.{IsHandle, IsQuestion, limit_of, lines_of, none_counted, of_any, plain_counters, Questioned, room_of, served_card, state_of, stored_of};
+ghost use Rattle.lapd_c.specs.{IsHandle, IsQuestion, limit_of, lines_of, link_counters_of, none_counted, of_any, plain_counters, Questioned, room_of, served_card, state_of, stored_of};
 ghost use Rattle.lapd_c.specs.Statuses as status;
 ghost use Rattle.lapd_card.specs.Kinds.{counters_of, line_count};
 
 use crate::card::CardHandle;
 use crate::lend::{lend, or_answer};
-use crate::plain::{OK, PlainCounters, PlainRoom, link_in, refusal_status};
+use crate::plain::{
+    OK, PlainCounters, PlainLinkCounters, PlainRoom, REFUSED_NO_LINK, link_in, refusal_status,
+};
 
 /// The most lines of a card.
 const MOST_LINES: usize = 64;
@@ -101,5 +103,27 @@ pub extern "C" fn lapd_counters(
 {
     lend!(kept of handle, line);
     *counters = PlainCounters::of(kept.card.frames().counters(line));
+    OK
+}
+
+/// What was counted of the link of a service with a TEI.
+#[unsafe(no_mangle)]
+pub extern "C" fn lapd_link_counters(
+    handle: &mut CardHandle,
+    line: u32,
+    service: u8,
+    tei: u8,
+    counters: &mut PlainLinkCounters,
+) -> u32
+    requires { IsHandle handle.old }
+    ensures { Questioned of_any (Some line) (link_counters_of line service tei) handle.old handle.new result counters.old counters.new }
+{
+    lend!(kept of handle, line);
+    let (service, tei) = or_answer!(link_in(service, tei));
+    let counts = or_answer!(
+        kept.card.frames().link_counts(line, service, tei),
+        REFUSED_NO_LINK
+    );
+    *counters = PlainLinkCounters::of(counts);
     OK
 }

@@ -4,14 +4,17 @@ ghost use Rattle.std.specs.Prelude.{◌≡◌, ◌≤◌, ◌<◌, ◌^◌, ◌�
 ghost use Rattle.model_card.specs.Card as machine;
 ghost use Rattle.lapd_clock.specs.Timer.{first_out_of_range};
 ghost use Rattle.model_timed.specs.Clock.{Clock, at_moment, due, next_moment, with_lengths};
-ghost use Rattle.lapd_c.specs.{AtMoment, FellDue, IsHandle, IsMomentCall, IsQuestion, IsTimersCall, NoneDue, TellsMoment, TimersStandIn, WithClock, card_of, is_timed, of_any, timers_of};
+ghost use Rattle.lapd_c.specs.{AtMoment, FellDue, IsHandle, IsMomentCall, IsQuestion, IsTimersCall, NoneDue, TellsMoment, TellsWord, TimersStandIn, WithClock, WithMarks, card_of, changed_of, is_timed, of_any, timers_of};
 ghost use Rattle.lapd_c.specs.Timers.{lengths_in};
 ghost use Rattle.lapd_c.specs.Statuses as status;
 
 use crate::card::CardHandle;
-use crate::lend::{lend, or_answer};
-use crate::plain::{NO_TIMER, OK, PlainLengths, PlainReport, WRONG_CARD, WRONG_TIME};
+use crate::lend::{lend, or_answer, within};
+use crate::plain::{
+    NO_TIMER, OK, PlainLengths, PlainReport, REFUSED_NO_LINK, WRONG_CARD, WRONG_TIME, link_in,
+};
 use lapd_card::BareReport;
+use lapd_timed::tei_of_timer;
 
 /// The time is now a moment; and the timer that is due first, if one is, expires: the report tells which it was, of which line, and
 /// what its expiry led to.
@@ -63,7 +66,7 @@ fn fall_due(handle: &mut CardHandle, now: u64, report: &mut PlainReport) -> u32
     let mut told = BareReport::nothing();
     kept.card.expire(line, timer, &mut told);
     report.show(&told, None);
-    kept.settle(line, told.orders(), report);
+    kept.settle(line, Some(tei_of_timer(timer)), told.orders(), report);
     report.show_expired(timer);
     OK
 }
@@ -82,6 +85,33 @@ pub extern "C" fn lapd_next_moment(handle: &mut CardHandle, moment: &mut u64) ->
         return WRONG_CARD;
     };
     *moment = or_answer!(timers.next_moment(), NO_TIMER);
+    OK
+}
+
+/// The moment at which the state of the link of a service with a TEI changed last. Beside states 4 to 8, that its TEI is not on
+/// the line counts as one, so its coming is a change. 0 if it has been so since the start.
+#[unsafe(no_mangle)]
+pub extern "C" fn lapd_changed_at(
+    handle: &mut CardHandle,
+    line: u32,
+    service: u8,
+    tei: u8,
+    moment: &mut u64,
+) -> u32
+    requires { IsHandle handle.old }
+    ensures question { IsQuestion of_any handle.old handle.new result moment.old moment.new }
+    ensures wrong_card { is_timed handle.old ≡ false → (card_of handle.old ≡ None) ⊎ (result ≡ status.wrong_card) }
+    ensures wrong_line { WithMarks handle.old (λ m marks. m.config.lines ≤ line → result ≡ status.wrong_line) }
+    ensures told { WithMarks handle.old (λ m marks. line < m.config.lines → TellsWord (changed_of line service tei m marks) result moment.new) }
+{
+    lend!(kept of handle);
+    let Some(timers) = &mut kept.timers else {
+        return WRONG_CARD;
+    };
+    within!(line, kept.card);
+    let (service, tei) = or_answer!(link_in(service, tei));
+    let changed = timers.changed_within(kept.card.frames(), line, service, tei);
+    *moment = or_answer!(changed, REFUSED_NO_LINK);
     OK
 }
 

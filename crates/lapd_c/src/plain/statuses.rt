@@ -8,6 +8,8 @@ use model_line::Field;
 
 /// The call did what it says.
 pub const OK: u32 = 0;
+/// The TEI is not on the line.
+pub const REFUSED_NO_LINK: u32 = 2;
 /// A request was refused because the queue was full.
 pub const REFUSED_QUEUE_FULL: u32 = 5;
 /// No card is there: it was not started, or was freed.

@@ -10,6 +10,7 @@ use Rattle.lapd_c.proofs.Reopening.{settled_answered, still_stands}
 use Rattle.lapd_c.proofs.Calling.{nothing_refused, shown_given}
 use Rattle.lapd_c.proofs.Served.{counts, if_ok, if_some, led_any, seen_there, there}
 use Rattle.lapd_c.proofs.Timing.{carried-there, obeys}
+use Rattle.lapd_c.proofs.Noting.{leaves-request}
 use Rattle.lapd_c.proofs.events.ask.Goals as goal
 
 pub returns-in-Ok-request-clause-served : goal.returns-in-Ok-request-clause-served
@@ -25,8 +26,9 @@ returns-in-Ok-request-clause-served c = λ m s w.
       shown = shown_given _ c.settle.new.report _ (answer e m) (seen_there c.in-Some.ensures.card c.settle.new.report _ (settled_answered _ c.settle.new.report c.show.new.self _ c.settle.ensures.rest
           (subst (ShowsAnswer c.show.new.self) told (c.show.ensures (omega arith)))));
       obeyed = carried-there c.in-Some.ensures.card c.args.line (orders_at e (card_in m)) (card_in m) (machine.after e (card_in m)) c.settle.new.self.timers
-          (obeys c.request.new.self c.args.line _ _ c.settle.new.self.timers c.settle.ensures.timed c.settle.ensures.untimed e (card_in m)
-          (led_any c.args.line what m c.request.new.self w stands) (c.orders.ensures ∙ ap orders_in told) tt);
+          (obeys c.request.new.self c.args.line c.tei_of_request-touched.result _ _ c.settle.new.self.timers c.settle.ensures.timed c.settle.ensures.noted c.settle.ensures.untimed e (card_in m)
+          (led_any c.args.line what m c.request.new.self w stands) (c.orders.ensures ∙ ap orders_in told) tt
+          (λ reached. leaves-request (card_in m) reached c.args.line w (request_of c.in-Ok.value) c.tei_of_request-touched.result c.tei_of_request-touched.ensures));
       counted = counts c.in-Some.ensures.card e (card_in m) c.request.new.self c.settle.new.self.card c.settle.ensures.card (c.request.ensures.called.leads.counted m t);
     })
 

@@ -11,7 +11,8 @@ use Rattle.lapd_c.specs.Kept.{is_timed, timers_held}
 use Rattle.lapd_c.proofs.Exchanging.{stands-to}
 use Rattle.lapd_c.proofs.Reopening.{settled_exchanged}
 use Rattle.lapd_c.proofs.Served.{octets_there}
-use Rattle.lapd_c.proofs.Timing.{all-there, exchanged}
+use Rattle.lapd_c.proofs.NotingAll.{exchanged}
+use Rattle.lapd_c.proofs.Timing.{all-there}
 use Rattle.lapd_c.proofs.exchange.lapd_exchange.Goals as goal
 
 pub returns-clause-exchanged : goal.returns-clause-exchanged
@@ -23,9 +24,10 @@ returns-clause-exchanged c = λ m s w ok.
       ok = refl;
       exchanged = subst (λ (card : AnyCard). ExchangedBy (is_timed c.args.handle.now) line taken from m card given given' to told) (sym c.settle.ensures.card)
           (subst (λ timers. Exchanged (is_some timers) line taken from m c.exchange-orders.new.card given given' to told) (sym (ap timers_held c.in-Some.ensures.card))
-          (settled_exchanged _ line from taken m c.exchange-orders.new.card given given' to told c.exchange-orders.new.report c.settle.ensures.rest made));
+          (subst (λ b. Exchanged b line taken from m c.exchange-orders.new.card given given' to told) c.exchange-orders.ensures.there
+          (settled_exchanged _ line from taken m c.exchange-orders.new.card given given' to told c.exchange-orders.new.report c.settle.ensures.rest made)));
       obeyed = all-there c.in-Some.ensures.card (steps_made line taken from (to - from)) m c.settle.new.self.timers
-          (exchanged (Octets c.exchange-orders.new.card) line taken from m to _ _ c.settle.new.self.timers c.settle.ensures.timed c.settle.ensures.untimed c.settle.ensures.none w
+          (exchanged (Octets c.exchange-orders.new.card) line taken from m to _ _ c.exchange-orders.new.timers c.settle.new.self.timers (c.exchange-orders.ensures.noted m t) c.settle.ensures.timed (c.settle.ensures.unnoted refl) c.settle.ensures.untimed c.settle.ensures.none w
           (stands-to line taken from m c.exchange-orders.new.card _ _ to _ made).frames
           (subst (OrdersLast line taken from m to) (sym c.as_slice.ensures) (c.exchange-orders.ensures.ordered m t)));
       counted = ap counters_of c.settle.ensures.card ∙ c.exchange-orders.ensures.counted m t

@@ -1,8 +1,11 @@
 -- Hand-written answers for `tells_taken`.
-use Rattle.lapd_c.proofs.Vocabulary.{◌∙◌, subst, ap, ShowsReply}
+use Rattle.lapd_c.proofs.Vocabulary.{◌<◌, ◌∙◌, subst, sym, ap, ShowsReply}
 use Rattle.model_card.specs.ports.Event.{at}
 use Rattle.model_card.specs.ports.Port as port
 use Rattle.model_timed.specs.Octets.{orders_in}
+use Rattle.model_line.specs.declared.config.Config.{Config}
+use Rattle.lapd_timed.proofs.HeardTouches.{ports-there}
+use Rattle.lapd_c.proofs.NotingAll.{note-silent}
 use Rattle.lapd_c.proofs.Served.{small_reply}
 use Rattle.lapd_c.proofs.exchange.tells_taken.Goals as goal
 
@@ -13,3 +16,15 @@ returns-then-tells_ended-clause-shown c = λ m s on.
 
 pub returns-then-tells_ended-clause-ordered : goal.returns-then-tells_ended-clause-ordered
 returns-then-tells_ended-clause-ordered c = λ m s. c.tells_ended.ensures.ordered ∙ ap orders_in (c.in_ok-told.ensures.called.answers m s)
+
+-- what it has ended is noted of the links
+pub returns-in_err-told-clause-noted : goal.returns-in_err-told-clause-noted
+returns-in_err-told-clause-noted c = λ m s. note-silent (at c.args.line (port.octet c.args.octet)) m c.args.timers.now (c.in_err-told.ensures.silent m s)
+
+pub returns-then-tells_ended-clause-noted : goal.returns-then-tells_ended-clause-noted
+returns-then-tells_ended-clause-noted c = λ m s. c.note_ended.ensures.noted c.args.octet m (ports-there c.args.card.now m c.args.line s c.requires)
+    (subst (λ (d : Config). c.args.line < d.lines) (sym s.frames.config) c.requires) (c.hear.ensures.called.leads.stands m s)
+
+pub returns-else-tells_ended-clause-noted : goal.returns-else-tells_ended-clause-noted
+returns-else-tells_ended-clause-noted c = λ m s. c.note_ended.ensures.noted c.args.octet m (ports-there c.args.card.now m c.args.line s c.requires)
+    (subst (λ (d : Config). c.args.line < d.lines) (sym s.frames.config) c.requires) (c.hear.ensures.called.leads.stands m s)

@@ -13,6 +13,9 @@ use Rattle.lapd_c.proofs.WholeFrames.{comes_at}
 use Rattle.lapd_c.proofs.Calling.{shown_given}
 use Rattle.lapd_c.proofs.Served.{frames_there, heard_count, led_to, seen_there, shown_told}
 use Rattle.lapd_c.proofs.Timing.{carried-there, obeys}
+use Rattle.model_card.specs.Card.{line_at}
+use Rattle.lapd_timed.proofs.EventKeeps.{frame-keeps}
+use Rattle.lapd_c.proofs.Noting.{leaves-others}
 use Rattle.lapd_c.proofs.frames.frame.Goals as goal
 
 -- all of it is shown, and its orders are carried out
@@ -31,9 +34,10 @@ returns-clause-served c = λ m s w.
           (subst (λ (n : ℕ). length (contents_or_none (delivered_in (octets n) c.frame.new.report)) ≤ 260
           → Shows c.show_delivered.new.report (told_beside (delivered_in (octets n) c.frame.new.report) c.frame.new.report)) n201 c.show_delivered.ensures))));
       obeyed = carried-there c.in-Some.ensures.card c.args.line (orders_at e m) m (after e m) c.settle.new.self.timers
-          (obeys (Frames c.frame.new.self) c.args.line _ _ c.settle.new.self.timers c.settle.ensures.timed c.settle.ensures.untimed e m
+          (obeys (Frames c.frame.new.self) c.args.line (Some c.tei_of_frame-2.result) _ _ c.settle.new.self.timers c.settle.ensures.timed c.settle.ensures.noted c.settle.ensures.untimed e m
           (led_to c.args.line (hears (came m.config.n201 c.args.octets.now)) m c.frame.new.self w stands)
-          (c.orders.ensures ∙ ap orders_in (c.frame.ensures.called.answers m t ∙ ap (λ (e : Event). answer e m) is)) tt);
+          (c.orders.ensures ∙ ap orders_in (c.frame.ensures.called.answers m t ∙ ap (λ (e : Event). answer e m) is)) tt
+          (λ reached. leaves-others m reached e w c.tei_of_frame-2.result (frame-keeps m.config.n201 c.args.octets.now c.tei_of_frame-2.result c.tei_of_frame-2.ensures m.config (line_at c.args.line m))));
       counted = heard_count c.in-Some.ensures.card c.in-Frames.is is m c.frame.new.self c.settle.new.self.card c.settle.ensures.card (c.frame.ensures.called.leads.counted m t);
     }
 
@@ -52,8 +56,9 @@ returns-then-frame-clause-served c = λ m s w.
           (ap told (sym (quiet_told octets c.frame.new.report (c.frame.ensures.quiet c.if-frame.true))) ∙ c.frame.ensures.called.answers m t ∙ ap (λ (e : Event). answer e m) is)
           c.settle_orders.ensures.shown));
       obeyed = carried-there c.in-Some.ensures.card c.args.line (orders_at e m) m (after e m) c.settle_orders.new.self.timers
-          (obeys (Frames c.frame.new.self) c.args.line _ _ c.settle_orders.new.self.timers c.settle_orders.ensures.timed c.settle_orders.ensures.untimed e m
+          (obeys (Frames c.frame.new.self) c.args.line (Some c.tei_of_frame.result) _ _ c.settle_orders.new.self.timers c.settle_orders.ensures.timed c.settle_orders.ensures.noted c.settle_orders.ensures.untimed e m
           (led_to c.args.line (hears (came m.config.n201 c.args.octets.now)) m c.frame.new.self w stands)
-          (ap orders_in (c.frame.ensures.called.answers m t ∙ ap (λ (e : Event). answer e m) is)) tt);
+          (ap orders_in (c.frame.ensures.called.answers m t ∙ ap (λ (e : Event). answer e m) is)) tt
+          (λ reached. leaves-others m reached e w c.tei_of_frame.result (frame-keeps m.config.n201 c.args.octets.now c.tei_of_frame.result c.tei_of_frame.ensures m.config (line_at c.args.line m))));
       counted = heard_count c.in-Some.ensures.card c.in-Frames.is is m c.frame.new.self c.settle_orders.new.self.card c.settle_orders.ensures.card (c.frame.ensures.called.leads.counted m t);
     }

@@ -1,5 +1,5 @@
 -- Hand-written answers for `drop_gone`.
-use Rattle.lapd_c.proofs.Vocabulary.{◌≡◌, Bool, true, false, nat_lt, refl, sym, ap, subst, arith, ◌∙◌, ◌&&◌, ltb-false}
+use Rattle.lapd_c.proofs.Vocabulary.{◌≡◌, true, false, nat_lt, refl, sym, ap, subst, arith, ◌∙◌, ◌&&◌, ltb-false}
 use Rattle.std.proofs.lemmas.Bool.{ltb-true}
 use Rattle.lapd_c.specs.LinkMarks.{SetsLink, is_marked}
 use Rattle.lapd_c.specs.Reopened.{is_there, waits_there}

@@ -9,6 +9,8 @@ use Rattle.lapd_c.specs.Reports.{ShowsPull}
 use Rattle.lapd_c.proofs.Reopening.{settled_replied, still_stands}
 use Rattle.lapd_c.proofs.Served.{octets_count, octets_there, replied_there}
 use Rattle.lapd_c.proofs.Timing.{carried-there, obeys-meaning}
+use Rattle.std.proofs.Common.{None}
+use Rattle.lapd_c.proofs.Noting.{pull-leaves}
 use Rattle.lapd_c.proofs.octets.pull.Goals as goal
 
 pub returns-clause-served : goal.returns-clause-served
@@ -22,8 +24,8 @@ returns-clause-served c = λ m s w.
           (subst (ShowsReply c.show_pull.new.self) (c.pull-pulled.ensures.called.answers m t)
           (subst (λ os. ShowsPull c.show_pull.new.self c.pull-pulled.result.begun false os) c.orders.ensures c.show_pull.ensures)));
       obeyed = carried-there c.in-Some.ensures.card c.args.line (orders_at e m) m.card (after e m).card c.settle.new.self.timers
-          (obeys-meaning (Octets c.pull-pulled.new.self) c.args.line _ _ c.settle.new.self.timers c.settle.ensures.timed c.settle.ensures.untimed c.settle.ensures.none e m refl w
-          stands.frames (c.orders-2.ensures ∙ ap orders_in (c.pull-pulled.ensures.called.answers m t)) tt);
+          (obeys-meaning (Octets c.pull-pulled.new.self) c.args.line None _ _ c.settle.new.self.timers c.settle.ensures.timed c.settle.ensures.noted c.settle.ensures.untimed c.settle.ensures.none e m refl w
+          stands.frames (c.orders-2.ensures ∙ ap orders_in (c.pull-pulled.ensures.called.answers m t)) tt (pull-leaves c.args.line m w));
       counted = octets_count c.in-Some.ensures.card c.in-Octets.is e m c.pull-pulled.new.self c.settle.new.self.card c.settle.ensures.card (c.pull-pulled.ensures.called.leads.counted m t);
     }
 

@@ -17,6 +17,16 @@ use Rattle.lapd_timed.specs.Places.{named_by}
 use Rattle.lapd_c.proofs.Reopening.{answered_still, reopened_still, settled_answered, still_stands}
 use Rattle.lapd_c.specs.FallsDue.{expires}
 use Rattle.lapd_c.proofs.Served.{counts, if_fell, led_any, none_due, still_within, there, timed_any, timers_there}
+use Rattle.std.proofs.Common.{◌≢◌, ◌*◌}
+use Rattle.model_card.specs.Card.{line_at}
+use Rattle.model_card.specs.Machine as machine
+use Rattle.model_line.specs.Machine as lines
+use Rattle.model_timed.specs.Changes.{noted}
+use Rattle.lapd_timed.specs.Stands.{ChangesStand}
+use Rattle.lapd_timed.proofs.EventKeeps.{expiry-keeps}
+use Rattle.lapd_timed.proofs.Touching.{KeepsOthers}
+use Rattle.lapd_c.specs.Kept.{SameMarks}
+use Rattle.lapd_c.proofs.Noting.{leaves-others, marks_there, noted_any, once-in, twice-in}
 use Rattle.lapd_c.proofs.Timing.{due-later}
 use Rattle.lapd_c.proofs.WholeFrames.{none_said}
 use Rattle.lapd_c.proofs.timed.fall_due.Goals as goal
@@ -29,6 +39,10 @@ returns-in-None-due-clause-none c = λ m clock s stood later before none.
       none = refl;
       stands = there c.in-Some.ensures.card m s;
       timers = subst (λ timers. TimersStand timers (card_in m) (at_moment c.args.now clock)) (sym c.in-None-due.ensures.none) gone;
+      noted = λ marks stood_marks.
+          subst (λ timers. ChangesStand timers (card_in m) (noted c.args.now (card_in m) (noted c.args.now (card_in m) marks))) (sym c.in-None-due.ensures.none)
+          (twice-in c.in-Some-timers.is c.go_to.new.self (card_in m) c.args.now marks (record { lines = c.if-not-go_to.ensures.lines; terminals = c.if-not-go_to.ensures.terminals; changes = c.if-not-go_to.ensures.changes })
+          (marks_there c.in-Some.ensures.card (card_in m) marks stood_marks));
       later = due-later clock.running c.args.now none;
       marks = sym (ap marks_held c.in-Some.ensures.card);
       counters = sym (ap counters_held c.in-Some.ensures.card);
@@ -72,6 +86,20 @@ returns-clause-due c = λ m clock s stood later before.
           (led_any line (expiry timer) m c.expire.new.self within led)
           (c.orders.ensures ∙ ap orders_in (c.expire.ensures.called.answers m stands))
           (c.in-Some-due.ensures.left (card_in m) (at_moment c.args.now clock) gone));
+      noted = λ marks stood_marks.
+          let left : SameMarks c.go_to.new.self c.due.new.self = record { lines = c.in-Some-due.ensures.lines; terminals = c.in-Some-due.ensures.terminals; changes = c.in-Some-due.ensures.changes } in
+          let kept = once-in c.in-Some-timers.is c.go_to.new.self c.due.new.self (card_in m) c.args.now marks
+          (record { lines = c.if-not-go_to.ensures.lines; terminals = c.if-not-go_to.ensures.terminals; changes = c.if-not-go_to.ensures.changes }) left
+          (marks_there c.in-Some.ensures.card (card_in m) marks stood_marks) in
+          noted_any line (expiry timer) m c.settle.new.self.timers _ (noted c.args.now (card_in m) marks)
+          (c.settle.ensures.noted (card_in m) (machine.after e (card_in m)) (obeyed line (orders_at e (card_in m)) (without_first (at_moment c.args.now clock))) (noted c.args.now (card_in m) marks)
+          (led_any line (expiry timer) m c.expire.new.self within led).stands within
+          (leaves-others (card_in m) gone.reached e within c.tei_of_timer.result
+          (subst (λ n. n ≢ 127 → KeepsOthers n (line_at line (card_in m)) (lines.after (card_in m).config (expiry timer) (line_at line (card_in m)))) (sym c.tei_of_timer.ensures) (expiry-keeps timer (card_in m).config (line_at line (card_in m)))) c.due.new.self.lines (2 * c.due.new.self.terminals))
+          (c.settle.ensures.timed e (card_in m) (without_first (at_moment c.args.now clock))
+          (led_any line (expiry timer) m c.expire.new.self within led)
+          (c.orders.ensures ∙ ap orders_in (c.expire.ensures.called.answers m stands))
+          (c.in-Some-due.ensures.left (card_in m) (at_moment c.args.now clock) gone)) kept);
       counted = counts c.in-Some.ensures.card e (card_in m) c.expire.new.self c.settle.new.self.card c.settle.ensures.card (c.expire.ensures.called.leads.counted m stands);
       reopened = subst (TellsReopened line (card_in (after e m)) (marks_held c.args.handle.now.slot.card) c.settle.new.self.refused) (sym c.show_expired.ensures)
           (reopened_still line (card_in (after e m)) (marks_held c.args.handle.now.slot.card) c.settle.new.self.refused c.settle.new.report (plain_timer timer)

@@ -4,6 +4,7 @@ use Rattle.lapd_c.specs.Cards.{marks_held}
 use Rattle.lapd_c.specs.Counted.{counters_held}
 use Rattle.lapd_c.specs.Kept.{TimersStandIn}
 use Rattle.lapd_c.proofs.Served.{there, timers_there}
+use Rattle.lapd_c.proofs.Noting.{marks_there, twice-in}
 use Rattle.lapd_c.proofs.Timing.{due-later}
 use Rattle.lapd_c.proofs.WholeFrames.{none_said}
 use Rattle.lapd_c.proofs.timed.lapd_fall_due.Goals as goal
@@ -23,6 +24,9 @@ returns-then-pass-clause-none c = λ m clock s stood later before none.
       none = refl;
       stands = there c.in-Some.ensures.card m s;
       timers = (c.pass.ensures.passed c.if-pass.true (card_in m) clock t).3;
+      noted = λ marks stood_marks.
+          twice-in c.in-Some-timers.is c.pass.new.self (card_in m) c.args.now marks (record { lines = c.pass.ensures.lines; terminals = c.pass.ensures.terminals; changes = c.pass.ensures.changes })
+          (marks_there c.in-Some.ensures.card (card_in m) marks stood_marks);
       later = due-later clock.running c.args.now none;
       marks = sym (ap marks_held c.in-Some.ensures.card);
       counters = sym (ap counters_held c.in-Some.ensures.card);

@@ -1,5 +1,6 @@
 -- What each event makes of the contents of a link, of V(A) and of V(S).
 use Rattle.laws_link.proofs.Vocabulary.{◌≡◌, ℕ, ◌+◌, ◌≤◌, Bool, true, false, cond, List, [], ◌∷◌, ◌++◌, length, take, drop, Option, Some, None, is_some, refl, ◌⊎◌, inl, inr, sym, subst, true≢false, arith, length-take-le, append-nil, drop-drop, add-zero, ⊎_elim, All, nat_lt, nat_le, option_map_or, drop_all, drop-append-le, All-head, Control, Ui, ErrorCode, Refusal, WrongState, State, TeiAssigned}
+use Rattle.laws_link.proofs.Vocabulary.{LinkCounts, with_counted, expire_running}
 use Rattle.laws_link.proofs.Vocabulary.{AwaitingEstablishment, AwaitingRelease, Established, TimerRecovery, LinkTimer, T200, ControlFrame, Terms, Link, is_multiple_frame, IsSettledIn, IsSound, IsWaitingFrame, Course, begun, Step, ◌then◌, nothing, changed, Leads, nothing_leads, number_of, acknowledged_by, contents_asked, is_release, tells_loss, Share, share, left_by, with_share, unit_due}
 use Rattle.laws_link.proofs.Vocabulary.{is_i_frame, i_frames, begin_anew, deliver_unit, long_unit_in_7_8, malformed_down, pending_is, start, unit_data, give_information, give_waiting, is_awaiting_acknowledgement, may_send_information, offer_among, send_acknowledgement, with_one_sent, course, expired_in, expired_step, frame_in, frame_step, given_of, is_running, malformed_in, told_of_clearing}
 use Rattle.laws_link.proofs.Vocabulary.{both_ways, ap, ◌∙◌, ◌||◌, zero-add}
@@ -109,11 +110,15 @@ module _ (t : Terms) (l : Link) (h : IsSound t l) where
   unmoved : Moved 0 (begun l)
   unmoved = unmoved-by nothing nothing_leads
 
-  expired-in : (here : State) → l.state ≡ here → (timer : LinkTimer) → Moved 0 (expired_in here timer t (begun l))
+  expired-in : (change : LinkCounts → LinkCounts) (here : State) → l.state ≡ here → (timer : LinkTimer) → Moved 0 (expired_in here timer t (begun (with_counted change l)))
   unfolding Moved
-  expired-in here e timer = grind (arith, unmoved, t200_in_5, t200_in_6, settled, timer_in_7, t200_in_8)
+  expired-in change AwaitingEstablishment e T200 = t200_in_5 t (with_counted change l) h.ordered h.accepted
+  expired-in change AwaitingRelease e T200 = t200_in_6 t (with_counted change l) h.ordered h.accepted (settled AwaitingRelease e)
+  expired-in change Established e timer = timer_in_7 t (with_counted change l) h.ordered h.accepted timer
+  expired-in change TimerRecovery e T200 = t200_in_8 t (with_counted change l) h.ordered h.accepted
+  expired-in change here e timer = still t (with_counted change l) h.ordered h.accepted nothing nothing_leads
 
-  expires : (b : Bool) (timer : LinkTimer) → Moved 0 (cond b (expired_in l.state timer t (begun l)) (begun l))
+  expires : (b : Bool) (timer : LinkTimer) → Moved 0 (cond b (expire_running timer t (begun l)) (begun l))
   expires b timer = grind (arith, expired-in, unmoved)
 
   -- Requests of layer 3.

@@ -22,4 +22,7 @@ pub mod Follows
 pub mod Knowing
 pub mod KnownRows
 pub mod Restarts
+pub mod Tallying
+pub mod TallyMoves
+pub mod TallyKept
 pub mod OfTwo

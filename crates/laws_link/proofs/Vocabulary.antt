@@ -53,6 +53,9 @@ pub use Rattle.model_link.specs.Told.{orders_for, runs, timer_at}
 pub use Rattle.model_link.specs.TwoEnds.{Step as EndStep, Agree, Begins, StepAt, Endpoint, Ends, IsUp, acting, requests, at_far, at_near, doing, expires, frame_given, loses, receives, sends, turned, without_first, with_first_of, with_link, with_sent}
 unfoldable pub use Rattle.model_link.specs.TwoEnds.{StayUp, doing_all}
 pub use Rattle.model_link.specs.Words.{acknowledge, answer, asked_is, begin_anew, by_number, clear_flags, command, deliver, deliver_unit, discard, enquire, enter, error, establish_confirm, establish_indication, has_room, leave_unserved, no_timer, note, own_busy_is, peer_busy_is, pending_is, re_establish, rr_or_rnr, release_confirm, release_indication, repeated, report_receiver_status, response}
+pub use Rattle.model_link.specs.Words.{with_counted, with_next_sent}
+pub use Rattle.model_link.specs.Counts.{with_expiry, with_information_sent, with_reject_received}
+pub use Rattle.model_link.specs.declared.counts.LinkCounts.{LinkCounts}
 pub use Rattle.model_link.specs.Words.{malformed as malformed_down, read_as, send, send_again_from, start, unit_data, zero_numbers}
 pub use Rattle.model_link.specs.declared.frames.ControlFrame.{ControlFrame}
 pub use Rattle.model_link.specs.declared.states.State.{State}

@@ -12,6 +12,7 @@ pub mod Waiting
 pub mod Flags
 pub mod Telling
 pub mod Following
+pub mod Counting
 pub mod Samples
 pub mod WorkedWords
 pub mod WorkedRelease
@@ -24,6 +25,7 @@ pub mod WorkedSending
 pub mod WorkedBeginning
 pub mod WorkedExpiries
 pub mod WorkedFollowing
+pub mod WorkedCounting
 pub mod WorkedReadings
 pub mod Known
 pub mod two

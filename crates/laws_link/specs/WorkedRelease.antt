@@ -2,6 +2,7 @@
 use Rattle.std.specs.Prelude.{◌≡◌, true, false, [], ◌∷◌, None, Some, refl}
 use Rattle.laws_link.specs.WorkedWords.{seq, distance_of, named, Call, Packet, Start, Stop, WrongState, supervisory_of, unnumbered_of, control_of, header_of, reading, TeiAssigned, AwaitingEstablishment, Established, T200, T203, fresh, Establish, Release, expired, offer, cleared, refusal, after, after_all, told, price_of_all, usual_terms, with_n200, packet, frame_comes, ask, out, notes, lost}
 use Rattle.laws_link.specs.WorkedWords.{told_after, sabme, up}
+use Rattle.model_link.specs.Counts.{none_counted}
 use Rattle.lapd_frame.specs.declared.notes.Note.TheVariants as tell
 use Rattle.lapd_frame.specs.declared.notes.ErrorCode.TheVariants as code
 use Rattle.lapd_frame.specs.declared.timers.Timer.TheVariants as timer
@@ -18,7 +19,7 @@ unfolding seq distance_of named reading header_of control_of unnumbered_of super
 refused_thrice_notes = refl
 
 refused_thrice_state : after_all usual_terms (ask Establish ∷ offer ∷ expired T200 ∷ offer ∷ expired T200 ∷ offer ∷ expired T200 ∷ offer ∷ expired T200 ∷ offer ∷ []) fresh
-    ≡ record fresh { asked = true; repeats = 3 }
+    ≡ record fresh { asked = true; repeats = 3; counts = record none_counted { t200_expired = 4 } }
 unfolding seq distance_of named reading header_of control_of unnumbered_of supervisory_of after_all out notes lost price_of_all
 refused_thrice_state = refl
 
@@ -99,7 +100,7 @@ unfolding seq distance_of named reading header_of control_of unnumbered_of super
 established_out = refl
 
 established_state : up
-    ≡ record fresh { state = Established; running = Some T203 }
+    ≡ record fresh { state = Established; running = Some T203; counts = record none_counted { established = 1 } }
 unfolding seq distance_of named reading header_of control_of unnumbered_of supervisory_of after_all out notes lost price_of_all
 established_state = refl
 

@@ -17,13 +17,16 @@
 //!
 //! - `sending`: the effects of a request that is granted, and how contents leave a link;
 //! - `following`: what an event leaves of a link, its state, its flags and what waits, and what it tells;
+//! - `counting`: what is counted of a link;
 //! - `two`: progress of a link, and of two links that face each other.
 #![tactic(auto)]
 
+mod counting;
 mod following;
 mod sending;
 mod two;
 
+pub use counting::counts_are_true;
 pub use following::{flags_follow, frames_follow, notes_follow, states_follow};
 pub use sending::{losses_are_told, requests_take_effect};
 pub use two::{

@@ -5,7 +5,7 @@ use Rattle.laws_wire.proofs.Answered.{takes-granted, gives-granted}
 use Rattle.laws_wire.proofs.BothHalf as half
 use Rattle.laws_wire.proofs.BothHalf.{lower}
 use Rattle.laws_wire.proofs.Calling.{sabme, ua, its_ua, awaiting, caller, end, sound-caller, with_ua_waiting, with_ua_first}
-use Rattle.laws_wire.proofs.Ringing.{ringing, its_sabme}
+use Rattle.laws_wire.proofs.Ringing.{ringing, its_sabme, none_tried}
 use Rattle.laws_wire.proofs.Speaking.{said_by}
 use Rattle.laws_wire.proofs.Standing.{StationStands}
 use Rattle.laws_wire.proofs.Talking.{Face, Past, unheard, after_note, Holds, none-told, holds-given, holds-lost, takes as takes_frame, Took}
@@ -37,7 +37,7 @@ other_way t returns = ua t ∷ []
 other_way t other = []
 
 abbrev pub crossing : Terms → Place → Place → LinkEndpoint
-crossing t own other = end t (ringing 0 (own_ring own ++ other_ring other)) (own_way t own ++ other_way t other)
+crossing t own other = end t (ringing none_tried (own_ring own ++ other_ring other)) (own_way t own ++ other_way t other)
 
 -- Of one end what waits goes in order: its SABME goes before its UA.
 abbrev NotWaiting : Place → Type 0
@@ -67,10 +67,10 @@ turns_left returns = 1
 
 module _ (t : Terms) (ranges : IsInRange t) (u : Terms) where
   -- SABME: UA waits, and nothing is told
-  hears-sabme : (ws : List ControlFrame) → length ws < 2 → after t (received (frame (sabme u))) (ringing 0 ws) ≡ ringing 0 (ws ++ its_ua ∷ [])
+  hears-sabme : (ws : List ControlFrame) → length ws < 2 → after t (received (frame (sabme u))) (ringing none_tried ws) ≡ ringing none_tried (ws ++ its_ua ∷ [])
   hears-sabme ws few = grind (arith, lt-ltb, ringing, its_ua)
 
-  told-of-crossing : (ws : List ControlFrame) → length ws < 2 → said_by (course t (received (frame (sabme u))) (ringing 0 ws)) ≡ []
+  told-of-crossing : (ws : List ControlFrame) → length ws < 2 → said_by (course t (received (frame (sabme u))) (ringing none_tried ws)) ≡ []
   told-of-crossing ws few = grind (arith, lt-ltb, said_by, ringing)
 
 module _ (service : Service) (tei : ℕ) (c d : Config) (p q : ℕ) (face : Face c d) (back : Face d c) (rt : IsInRange (terms c service tei)) (ru : IsInRange (terms d service tei)) where
@@ -222,7 +222,7 @@ module _ (service : Service) (tei : ℕ) (c d : Config) (p q : ℕ) (face : Face
   gives-step w weight own other order both is = gives-none w weight own other order both is refl
 
   -- SABME is heard, whatever has become of the own one
-  hears-crossing : (own : Place) → with_link (received (frame (sabme u))) (crossing t own under_way) ≡ end t (ringing 0 ((own_ring own ++ []) ++ its_ua ∷ [])) (own_way t own ++ [])
+  hears-crossing : (own : Place) → with_link (received (frame (sabme u))) (crossing t own under_way) ≡ end t (ringing none_tried ((own_ring own ++ []) ++ its_ua ∷ [])) (own_way t own ++ [])
   hears-crossing own = ap (λ y. end t y (own_way t own ++ [])) (hears-sabme t rt u (own_ring own ++ []) (grind arith))
 
   takes-step : (w : Wire) (weight : ℕ) (own other : Place) → InOrder own other → Both service tei c d p q unheard unheard w (crossing t own other) (crossing u other own) → weight ≡ turns_left own + turns_left other

@@ -1,6 +1,7 @@
 -- An establishment between two links, before both are up: SABME waits and goes, then UA; behind it I-frames may be on their way.
 use Rattle.laws_wire.proofs.Vocabulary.{◌≡◌, ℕ, true, false, cond, List, [], ◌∷◌, ◌++◌, None, Some, ap, subst, arith, nat_lt, lt-ltb, Sabme, Ua, Parts, T203, ControlFrame, Terms, Link, fresh, frame_of, received, requested, offer, course, IsInRange, begun, LinkEndpoint, with_sent, command, response, sound-after, sound-fresh, Steady, Pair, T200, after, refusal, IsSound, indicated}
 use Rattle.model_link.specs.declared.states.State.TheVariants as state
+use Rattle.model_link.specs.Counts.{none_counted, with_establishment}
 use Rattle.model_link.specs.Events.{frame, Establish, Data}
 use Rattle.laws_wire.proofs.Speaking.{said_by}
 
@@ -18,11 +19,11 @@ abbrev pub awaiting : Link
 awaiting = record asked { waiting = [] }
 
 abbrev pub caller : Link
-caller = record fresh { state = state.Established; asked = true; running = Some T203 }
+caller = record fresh { state = state.Established; asked = true; running = Some T203; counts = with_establishment none_counted }
 
 -- The other link: UA waits, and went.
 abbrev pub answering : Link
-answering = record fresh { state = state.Established; running = Some T203; waiting = response (Ua true) ∷ [] }
+answering = record fresh { state = state.Established; running = Some T203; waiting = response (Ua true) ∷ []; counts = with_establishment none_counted }
 
 abbrev pub called : Link
 called = record answering { waiting = [] }

@@ -1,9 +1,10 @@
 -- Two stations of which one releases the link where both rest: what each thing that is done makes of them.
-use Rattle.laws_wire.proofs.Vocabulary.{◌≡◌, ℕ, ◌+◌, ◌<◌, Bool, true, false, List, [], ◌∷◌, ◌++◌, cond, refl, sym, ap, subst, ◌∙◌, ◌⊎◌, inl, inr, append-nil, arith, All, nat_lt, flat_map, lt-ltb, All-head, All-tail, Service, Timer, Parts, spelling, Established, ControlFrame, Terms, LinkTimer, T203, Link, may_repeat, frame_of, course, LinkEndpoint, with_link, response, Ua, Dm, IsInRange, begun}
+use Rattle.laws_wire.proofs.Vocabulary.{◌≡◌, ℕ, Bool, true, false, List, [], ◌∷◌, ◌++◌, cond, refl, sym, ap, subst, ◌∙◌, ◌⊎◌, inl, inr, append-nil, arith, All, nat_lt, flat_map, lt-ltb, All-head, All-tail, Service, Timer, Parts, spelling, Established, ControlFrame, Terms, LinkTimer, T203, Link, may_repeat, frame_of, course, LinkEndpoint, with_link, response, Ua, Dm, IsInRange, begun}
 use Rattle.laws_wire.proofs.Vocabulary.{Config}
 use Rattle.laws_wire.proofs.Vocabulary.{LineTold, expiry, next, terms, HasNothingToSend, awaits_answer, T200, Endpoint, Wire, happens, EndStep, requests, expires, sends, receives, loses, acting, turned, StepAt, at_near, at_far, doing, doing_all, is_poll, is_final, IsTimelyOf, for_layer_3, IsLeaving, IsTimelyThere, StayTimelyThere, release_confirmed, release_indicated, map, expired, timer_T200}
 use Rattle.laws_wire.proofs.Vocabulary.{timer_T203, own_side}
 use Rattle.laws_wire.proofs.Awaited.{NoneOpen, may-there, long-there, waits-first, goes-first}
+use Rattle.laws_wire.proofs.Ringing.{Tries, once_more}
 use Rattle.laws_wire.proofs.Leaving.{its_disc, disc, leaving, left, gone, hears-disc, told-disc, repeats-disc, repeats-untold, told-again}
 use Rattle.laws_wire.proofs.LossyPhases.{for-timer, Aims}
 use Rattle.laws_wire.proofs.Speaking.{said_by}
@@ -33,10 +34,10 @@ module _ (service : Service) (tei : ℕ) where
     room' : nat_lt 0 u.control ≡ true
     room' = let low = ru.control_low in lt-ltb 0 u.control (omega (arith, low))
 
-    abbrev N : ℕ → List ControlFrame → List Parts → LinkEndpoint
+    abbrev N : Tries → List ControlFrame → List Parts → LinkEndpoint
     N k ws way = record { terms = t; link = leaving ln k ws; way = way; delivered = [] }
 
-    abbrev N4 : ℕ → LinkEndpoint
+    abbrev N4 : Tries → LinkEndpoint
     N4 k = record { terms = t; link = left ln k; way = []; delivered = [] }
 
     abbrev M : LinkEndpoint
@@ -60,16 +61,16 @@ module _ (service : Service) (tei : ℕ) where
       pub far : T d q b w.far m
 
     abbrev First : Wire → Type 0
-    First w = (k : ℕ) × (Are (N k (its_disc ∷ []) []) M hn hm w ⊎ Are (N k [] (disc t ∷ [])) M hn hm w ⊎ Are (N k [] []) M hn hm w)
+    First w = (k : Tries) × (Are (N k (its_disc ∷ []) []) M hn hm w ⊎ Are (N k [] (disc t ∷ [])) M hn hm w ⊎ Are (N k [] []) M hn hm w)
 
     abbrev Told : Wire → Type 0
     Told w =
-        (k : ℕ) × (b : Bool) × (Are (N k [] []) (G (reply b ∷ []) []) hn indicated_then w ⊎ Are (N k [] []) (G [] (frame_of u (reply b) ∷ [])) hn indicated_then w
+        (k : Tries) × (b : Bool) × (Are (N k [] []) (G (reply b ∷ []) []) hn indicated_then w ⊎ Are (N k [] []) (G [] (frame_of u (reply b) ∷ [])) hn indicated_then w
         ⊎ Are (N k [] []) (G [] []) hn indicated_then w ⊎ Are (N k (its_disc ∷ []) []) (G [] []) hn indicated_then w
         ⊎ Are (N k [] (disc t ∷ [])) (G [] []) hn indicated_then w)
 
     abbrev Last : Wire → Type 0
-    Last w = (k : ℕ) × Are (N4 k) (G [] []) confirmed_then indicated_then w
+    Last w = (k : Tries) × Are (N4 k) (G [] []) confirmed_then indicated_then w
 
     abbrev pub Phase : Wire → Type 0
     Phase w = First w ⊎ Told w ⊎ Last w
@@ -109,7 +110,7 @@ module _ (service : Service) (tei : ℕ) where
     -- ---- what moves
 
     -- DISC goes, or is lost
-    module _ (k : ℕ) (m : LinkEndpoint) (b : List LineTold) (w : Wire) where
+    module _ (k : Tries) (m : LinkEndpoint) (b : List LineTold) (w : Wire) where
       gives-disc : Are (N k (its_disc ∷ []) []) m hn b w → Are (N k [] (disc t ∷ [])) m hn b (acting sends w)
       gives-disc h = record { near = as-end service tei c p hn hn (happens next w.near) _ (N k [] (disc t ∷ [])) (t-given service tei c p hn w.near (N k (its_disc ∷ []) []) h.near) refl refl; far = h.far }
 
@@ -117,9 +118,9 @@ module _ (service : Service) (tei : ℕ) where
       loses-disc h = record { near = grind (arith, IsCarried); far = h.far }
 
       -- and goes again
-      asks-again : may_repeat t (N k [] []).link ≡ true → Are (N k [] []) m hn b w → Are (N (k + 1) (its_disc ∷ []) []) m hn b (acting (expires (timer_T200 service tei)) w)
+      asks-again : may_repeat t (N k [] []).link ≡ true → Are (N k [] []) m hn b w → Are (N (once_more k) (its_disc ∷ []) []) m hn b (acting (expires (timer_T200 service tei)) w)
       asks-again few h = record {
-        near = as-end service tei c p _ hn (happens (expiry (timer_T200 service tei)) w.near) (with_link (expired T200) (N k [] [])) (N (k + 1) (its_disc ∷ []) [])
+        near = as-end service tei c p _ hn (happens (expiry (timer_T200 service tei)) w.near) (with_link (expired T200) (N k [] [])) (N (once_more k) (its_disc ∷ []) [])
             (t-expired service tei c p hn w.near (N k [] []) h.near (timer_T200 service tei) T200 (λ l. refl))
             (λ i. record (N k [] []) { link = repeats-disc t room ln k few i })
             (ap (λ ts. hn ++ flat_map for_layer_3 ts) (repeats-untold t room ln k few) ∙ append-nil hn);
@@ -127,7 +128,7 @@ module _ (service : Service) (tei : ℕ) where
       }
 
     -- the other takes it
-    module _ (k : ℕ) (w : Wire) where
+    module _ (k : Tries) (w : Wire) where
       takes-disc : Are (N k [] (disc t ∷ [])) M hn hm w → Are (N k [] []) (G (reply true ∷ []) []) hn indicated_then (turned (acting receives (turned w)))
       takes-disc h =
           let way = first-carried service tei c p hn w.near (N k [] (disc t ∷ [])) (disc t) refl h.near in
@@ -141,11 +142,15 @@ module _ (service : Service) (tei : ℕ) where
           grind (arith, disc, as-end, room', flat_map, told-again, append-nil)
 
     -- the answer goes, is lost, or comes
-    module _ (k : ℕ) (w : Wire) where
+    module _ (k : Tries) (w : Wire) where
       gives-reply : (b : Bool) → Are (N k [] []) (G (reply b ∷ []) []) hn indicated_then w → Are (N k [] []) (G [] (frame_of u (reply b) ∷ [])) hn indicated_then (turned (acting sends (turned w)))
-      gives-reply b h = record {
+      gives-reply true h = record {
         near = h.near;
-        far = as-end service tei d q indicated_then indicated_then (happens next w.far) _ (G [] (frame_of u (reply b) ∷ [])) (t-given service tei d q indicated_then w.far (G (reply b ∷ []) []) h.far) refl refl;
+        far = as-end service tei d q indicated_then indicated_then (happens next w.far) _ (G [] (frame_of u (reply true) ∷ [])) (t-given service tei d q indicated_then w.far (G (reply true ∷ []) []) h.far) refl refl;
+      }
+      gives-reply false h = record {
+        near = h.near;
+        far = as-end service tei d q indicated_then indicated_then (happens next w.far) _ (G [] (frame_of u (reply false) ∷ [])) (t-given service tei d q indicated_then w.far (G (reply false ∷ []) []) h.far) refl refl;
       }
 
       loses-reply : (b : Bool) → Are (N k [] []) (G [] (frame_of u (reply b) ∷ [])) hn indicated_then w → Are (N k [] []) (G [] []) hn indicated_then (turned (acting loses (turned w)))
@@ -164,7 +169,7 @@ module _ (service : Service) (tei : ℕ) where
     open-now : (n m : LinkEndpoint) (a b : List LineTold) (w : Wire) → Are n m a b w → awaits_answer n.link.state ≡ true → IsTimelyOf (expires (timer_T200 service tei)) w → NoneOpen n m
     open-now n m a b w h awaits x = long-there service tei c d p q w.near w.far n m h.near.stands h.far.stands x.0 awaits
 
-    first-near : (k : ℕ) (w : Wire) → Are (N k (its_disc ∷ []) []) M hn hm w ⊎ Are (N k [] (disc t ∷ [])) M hn hm w ⊎ Are (N k [] []) M hn hm w
+    first-near : (k : Tries) (w : Wire) → Are (N k (its_disc ∷ []) []) M hn hm w ⊎ Are (N k [] (disc t ∷ [])) M hn hm w ⊎ Are (N k [] []) M hn hm w
         → (act : EndStep) → IsLeaving service tei (at_near act) → IsTimelyOf act w → First (acting act w)
     first-near k w h (requests r) is x = absurd is
     first-near k w (inl h) (expires timer) is x =
@@ -183,13 +188,13 @@ module _ (service : Service) (tei : ℕ) where
     first-near k w (inr (inl h)) loses is x = (k, inr (inr (loses-disc k M hm w h)))
     first-near k w (inr (inr h)) (expires timer) is x =
         each-timer service tei (λ timer. IsTimelyOf (expires timer) w → First (acting (expires timer) w))
-        (λ x. (k + 1, inl (asks-again k M hm w (may-there service tei c p w.near (N k [] []) h.near.stands x.1 refl refl) h)))
+        (λ x. (once_more k, inl (asks-again k M hm w (may-there service tei c p w.near (N k [] []) h.near.stands x.1 refl refl) h)))
         (λ x. (k, inr (inr (near-unmoved (N k [] []) M hn hm w h (timer_T203 service tei) T203 (λ l. refl) refl)))) timer is x
     first-near k w (inr (inr h)) sends is x = (k, inr (inr (near-silent (N k [] []) M hn hm w h (record { waiting = refl; information = refl; pending = refl }))))
     first-near k w (inr (inr h)) receives is x = (k, inr (inr (near-takes-none (N k [] []) M hn hm w h refl)))
     first-near k w (inr (inr h)) loses is x = (k, inr (inr (near-loses-none (N k [] []) M hn hm w h refl)))
 
-    first-far : (k : ℕ) (w : Wire) → Are (N k (its_disc ∷ []) []) M hn hm w ⊎ Are (N k [] (disc t ∷ [])) M hn hm w ⊎ Are (N k [] []) M hn hm w
+    first-far : (k : Tries) (w : Wire) → Are (N k (its_disc ∷ []) []) M hn hm w ⊎ Are (N k [] (disc t ∷ [])) M hn hm w ⊎ Are (N k [] []) M hn hm w
         → (act : EndStep) → IsLeaving service tei (at_far act) → Phase (turned (acting act (turned w)))
     first-far k w (inl h) sends is = inl (k, inl (far-silent (N k (its_disc ∷ []) []) M hn hm w h quiet))
     first-far k w (inl h) receives is = inl (k, inl (far-takes-none (N k (its_disc ∷ []) []) M hn hm w h refl))
@@ -205,7 +210,7 @@ module _ (service : Service) (tei : ℕ) where
     abbrev I : List LineTold
     I = indicated_then
 
-    told-near : (k : ℕ) (b : Bool) (w : Wire)
+    told-near : (k : Tries) (b : Bool) (w : Wire)
         → Are (N k [] []) (G (reply b ∷ []) []) hn I w ⊎ Are (N k [] []) (G [] (frame_of u (reply b) ∷ [])) hn I w ⊎ Are (N k [] []) (G [] []) hn I w
         ⊎ Are (N k (its_disc ∷ []) []) (G [] []) hn I w ⊎ Are (N k [] (disc t ∷ [])) (G [] []) hn I w
         → (act : EndStep) → IsLeaving service tei (at_near act) → IsTimelyOf act w → Phase (acting act w)
@@ -226,7 +231,7 @@ module _ (service : Service) (tei : ℕ) where
     told-near k b w (inr (inl h)) loses is x = inr (inl (k, b, inr (inl (near-loses-none (N k [] []) (G [] (frame_of u (reply b) ∷ [])) hn I w h refl))))
     told-near k b w (inr (inr (inl h))) (expires timer) is x =
         each-timer service tei (λ timer. IsTimelyOf (expires timer) w → Phase (acting (expires timer) w))
-        (λ x. inr (inl (k + 1, b, inr (inr (inr (inl (asks-again k (G [] []) I w (may-there service tei c p w.near (N k [] []) h.near.stands x.1 refl refl) h)))))))
+        (λ x. inr (inl (once_more k, b, inr (inr (inr (inl (asks-again k (G [] []) I w (may-there service tei c p w.near (N k [] []) h.near.stands x.1 refl refl) h)))))))
         (λ x. inr (inl (k, b, inr (inr (inl (near-unmoved (N k [] []) (G [] []) hn I w h (timer_T203 service tei) T203 (λ l. refl) refl)))))) timer is x
     told-near k b w (inr (inr (inl h))) sends is x = inr (inl (k, b, inr (inr (inl (near-silent (N k [] []) (G [] []) hn I w h (record { waiting = refl; information = refl; pending = refl }))))))
     told-near k b w (inr (inr (inl h))) receives is x = inr (inl (k, b, inr (inr (inl (near-takes-none (N k [] []) (G [] []) hn I w h refl)))))
@@ -246,7 +251,7 @@ module _ (service : Service) (tei : ℕ) where
     told-near k b w (inr (inr (inr (inr h)))) receives is x = inr (inl (k, b, inr (inr (inr (inr (near-takes-none (N k [] (disc t ∷ [])) (G [] []) hn I w h refl))))))
     told-near k b w (inr (inr (inr (inr h)))) loses is x = inr (inl (k, b, inr (inr (inl (loses-disc k (G [] []) I w h)))))
 
-    told-far : (k : ℕ) (b : Bool) (w : Wire)
+    told-far : (k : Tries) (b : Bool) (w : Wire)
         → Are (N k [] []) (G (reply b ∷ []) []) hn I w ⊎ Are (N k [] []) (G [] (frame_of u (reply b) ∷ [])) hn I w ⊎ Are (N k [] []) (G [] []) hn I w
         ⊎ Are (N k (its_disc ∷ []) []) (G [] []) hn I w ⊎ Are (N k [] (disc t ∷ [])) (G [] []) hn I w
         → (act : EndStep) → IsLeaving service tei (at_far act) → Told (turned (acting act (turned w)))

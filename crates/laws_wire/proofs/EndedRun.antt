@@ -6,7 +6,8 @@ use Rattle.model_line.specs.Refusal.{refusal}
 use Rattle.model_card.specs.Event.{at as event_at}
 use Rattle.laws_wire.proofs.Awaited.{runs-is, runs-up}
 use Rattle.laws_wire.proofs.Ended.{Phase, ends}
-use Rattle.laws_wire.proofs.Leaving.{its_disc, disc, leaving, releases, releases-untold}
+use Rattle.laws_wire.proofs.Ringing.{Tries}
+use Rattle.laws_wire.proofs.Leaving.{its_disc, disc, leaving, untried, releases, releases-untold}
 use Rattle.laws_wire.proofs.Loose.{Loose, loose-turned, loose-came}
 use Rattle.laws_wire.proofs.LooseUp.{LooseUp}
 use Rattle.laws_wire.proofs.Speaking.{said_by}
@@ -93,9 +94,9 @@ module _ (service : Service) (tei : ℕ) (few : tei ≤ 126) (c d : Config) (p q
 
   leaves : Phase_ released
   leaves = inl (
-    0,
+    untried n.link,
     inl (record {
-      near = as-end service tei c p _ (heard_in w.near) s' (with_link (requested LinkRelease false) n) (record { terms = t; link = leaving n.link 0 (its_disc ∷ []); way = []; delivered = [] })
+      near = as-end service tei c p _ (heard_in w.near) s' (with_link (requested LinkRelease false) n) (record { terms = t; link = leaving n.link (untried n.link) (its_disc ∷ []); way = []; delivered = [] })
           (record {
             stands = subst (λ k. StationStands k service tei p s' (with_link (requested LinkRelease false) n)) h.near.config granted.stands;
             told = ap (flat_map for_layer_3) granted.told ∙ flat_map-append for_layer_3 w.near.told (said_by (course n.terms (requested LinkRelease false) n.link));
@@ -108,7 +109,7 @@ module _ (service : Service) (tei : ℕ) (few : tei ≤ 126) (c d : Config) (p q
 
   -- what is told then
   module _ (last : Wire) where
-    runs-on : (k : ℕ) (ws : List Rattle.model_link.specs.declared.frames.ControlFrame.ControlFrame) (way : List Rattle.lapd_frame.specs.Grammar.Parts) (hs : List LineTold)
+    runs-on : (k : Tries) (ws : List Rattle.model_link.specs.declared.frames.ControlFrame.ControlFrame) (way : List Rattle.lapd_frame.specs.Grammar.Parts) (hs : List LineTold)
         → Tells service tei c p hs last.near (record { terms = t; link = leaving n.link k ws; way = way; delivered = [] }) → (A : Type 0) → runs_t200 service tei last.near ≡ false → A
     runs-on k ws way hs x A stopped =
         absurd (true≢false (sym (runs-is service tei c p last.near (record { terms = t; link = leaving n.link k ws; way = way; delivered = [] }) x.stands (λ e. cc e)) ∙ stopped))

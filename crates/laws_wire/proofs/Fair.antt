@@ -5,6 +5,8 @@ use Rattle.model_link.specs.Words
 use Rattle.model_link.specs.MultipleFrame
 use Rattle.model_link.specs.Established
 use Rattle.model_link.specs.TimerRecovery
+use Rattle.model_link.specs.Counts.{with_expiry}
+use Rattle.model_link.specs.Words.{with_counted}
 use Rattle.model_link.specs.Machine
 
 abbrev pub HasError : List Note → Type 0
@@ -127,8 +129,9 @@ module _ (t : Terms) where
     expired-in : (here : State) → IsTrue (is_multiple_frame here) → (timer : LinkTimer) → Fair t (Machine.expired_in here timer t (begun l))
     expired-in here is timer = grind (arith, at-first)
 
+  module _ (l : Link) (up : IsTrue (is_multiple_frame l.state)) where
     pub timer-fair : (timer : LinkTimer) → Fair t (Machine.course t (expired timer) l)
-    timer-fair timer = grind (arith, expired-in l.state up timer)
+    timer-fair timer = grind (arith, expired-in (with_counted (with_expiry timer) l) up l.state up timer, at-first)
 
     -- SABME is an error
     pub sabme-error : (f : Parts) (p : Bool) → f.control ≡ Sabme p → HasError (Machine.course t (received (frame f)) l).notes

@@ -2,6 +2,9 @@
 use Rattle.laws_wire.proofs.Vocabulary.{◌≡◌, ℕ, Bool, cond, IsTrue, List, [], ◌∷◌, ◌++◌, length, drop, None, refl, sym, ap, ◌∙◌, append_assoc, append-nil, arith, option_to_list, front_rest, Parts, State, Established, LinkTimer, ControlFrame, Terms, received, expired, offer, Link, is_multiple_frame, course, IsInRange, begun, LinkEndpoint, with_link, with_sent, event-delivers, frames_of}
 use Rattle.laws_wire.proofs.Vocabulary.{frames-append, sender-goes, receiver-goes, sender-loses, receiver-loses, Reports, Up, no-reports, any_number, still, timer_7_up, t200_8_up, at-first, sender-hears, receiver-hears, Means, Rising, Gave, offer-gave, frame-taken, none-delivered, frame, after, IsSound, Course}
 use Rattle.model_link.specs.Machine
+use Rattle.model_link.specs.Counts.{with_expiry}
+use Rattle.model_link.specs.Words.{with_counted}
+use Rattle.model_link.specs.declared.counts.LinkCounts.{LinkCounts}
 use Rattle.model_link.proofs.Direction.{Direction, line_of}
 
 -- An end with this on its line.
@@ -85,8 +88,15 @@ module _ (t : Terms) (l : Link) where
       → IsTrue (is_multiple_frame (cond b u v).link.state) → Goes l (cond b u v).link []
   either b u v x y up = grind arith
 
+-- what is counted doesn't matter
+recounted : (change : LinkCounts → LinkCounts) (l l' : Link) → Goes (with_counted change l) l' [] → Goes l l' []
+recounted change l l' h = record { same = h.same; still = h.still; received = h.received; reports = h.reports }
+
+module _ (t : Terms) (l : Link) where
   pub timer-goes : IsTrue (is_multiple_frame l.state) → (timer : LinkTimer) → IsTrue (is_multiple_frame (after t (expired timer) l).state) → Goes l (after t (expired timer) l) []
-  timer-goes before timer up = either (Machine.is_running timer l) _ _ (λ x. expired-goes l.state before timer x) (λ x. stays) up
+  timer-goes before timer up =
+      either t l (Machine.is_running timer l) _ _
+      (λ x. recounted (with_expiry timer) l _ (expired-goes t (with_counted (with_expiry timer) l) l.state before timer x)) (λ x. stays t l) up
 
   pub timer-delivers : (timer : LinkTimer) → (course t (expired timer) l).delivered ≡ None
   timer-delivers timer = none-delivered t l (course t (expired timer) l) (event-delivers t l (expired timer))

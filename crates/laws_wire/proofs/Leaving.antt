@@ -1,7 +1,9 @@
 -- A link that is released, and the one that is told of it: what each event makes of them.
-use Rattle.laws_wire.proofs.Vocabulary.{arith, ◌≡◌, ℕ, ◌+◌, ◌<◌, Bool, true, false, cond, List, [], ◌∷◌, take, None, Some, sym, ap, ◌∙◌, nat_lt, lt-ltb, Disc, Ua, Parts, TeiAssigned, AwaitingRelease, Established, ControlFrame, Terms, received, expired, requested, Link, may_repeat, frame_of, course, begun, ◌then◌, command, response, T200, after, Course, release_indicated, code_H}
+use Rattle.laws_wire.proofs.Vocabulary.{arith, ◌≡◌, ℕ, Bool, true, false, cond, List, [], ◌∷◌, take, None, Some, sym, ap, ◌∙◌, nat_lt, Disc, Ua, Parts, TeiAssigned, AwaitingRelease, Established, ControlFrame, Terms, received, expired, requested, Link, may_repeat, frame_of, course, begun, ◌then◌, command, response, T200, after, Course, release_indicated, code_H}
+use Rattle.model_link.specs.Counts.{with_expiry}
 use Rattle.model_link.specs.Events.{frame, Release}
 use Rattle.model_link.specs.Words
+use Rattle.laws_wire.proofs.Ringing.{Tries, once_more}
 use Rattle.laws_wire.proofs.Speaking.{said_by}
 
 abbrev pub its_disc : ControlFrame
@@ -10,17 +12,21 @@ its_disc = command (Disc true)
 abbrev pub disc : Terms → Parts
 disc t = frame_of t its_disc
 
+-- DISC was not repeated
+abbrev pub untried : Link → Tries
+untried l = record { repeats = 0; counts = l.counts }
+
 -- state 6, as often as DISC was repeated and whatever waits
-abbrev pub leaving : Link → ℕ → List ControlFrame → Link
+abbrev pub leaving : Link → Tries → List ControlFrame → Link
 leaving l k ws =
-    record l { state = AwaitingRelease; contents = take l.a l.contents; s = l.a; pending = false; repeats = k; running = Some T200; waiting = ws }
+    record l { state = AwaitingRelease; contents = take l.a l.contents; s = l.a; again = 0; pending = false; repeats = k.repeats; running = Some T200; waiting = ws; counts = k.counts }
 
 -- state 4, behind that, and of the other end
-abbrev pub left : Link → ℕ → Link
+abbrev pub left : Link → Tries → Link
 left l k = record (leaving l k []) { state = TeiAssigned; running = None }
 
 abbrev pub gone : Link → List ControlFrame → Link
-gone l ws = record l { state = TeiAssigned; contents = take l.a l.contents; s = l.a; pending = false; running = None; waiting = ws }
+gone l ws = record l { state = TeiAssigned; contents = take l.a l.contents; s = l.a; again = 0; pending = false; running = None; waiting = ws }
 
 module _ (t : Terms) (room : nat_lt 0 t.control ≡ true) (l : Link) where
   -- up, and nothing waits
@@ -28,7 +34,7 @@ module _ (t : Terms) (room : nat_lt 0 t.control ≡ true) (l : Link) where
     same : record l { state = Established; waiting = [] } ≡ l
     same = λ i. record l { state = sym state i; waiting = sym none i }
 
-    pub releases : after t (requested Release false) l ≡ leaving l 0 (its_disc ∷ [])
+    pub releases : after t (requested Release false) l ≡ leaving l (untried l) (its_disc ∷ [])
     releases = grind (arith, same)
 
     pub releases-untold : said_by (course t (requested Release false) l) ≡ []
@@ -41,17 +47,17 @@ module _ (t : Terms) (room : nat_lt 0 t.control ≡ true) (l : Link) where
     told-disc u = grind (arith, said_by, same)
 
   -- DISC again
-  module _ (k : ℕ) where
+  module _ (k : Tries) where
     abbrev again : Bool → Course
-    again b = record (begun (leaving l (k + 1) (cond b (its_disc ∷ []) []))) { started = Some T200; lost = cond {A = ℕ} b 0 1 }
+    again b = record (begun (leaving l (once_more k) (cond b (its_disc ∷ []) []))) { started = Some T200; lost = cond {A = ℕ} b 0 1 }
 
     abbrev over : Course
-    over = (Words.error t code_H then Words.release_confirm t then Words.no_timer then Words.enter TeiAssigned) (begun (leaving l k []))
+    over = (Words.count (with_expiry T200) then Words.error t code_H then Words.release_confirm t then Words.no_timer then Words.enter TeiAssigned) (begun (leaving l k []))
 
     repeats : may_repeat t (leaving l k []) ≡ true → course t (expired T200) (leaving l k []) ≡ again true
     repeats few = ap (λ b. cond b (again (nat_lt 0 t.control)) over) few ∙ ap again room
 
-    pub repeats-disc : may_repeat t (leaving l k []) ≡ true → after t (expired T200) (leaving l k []) ≡ leaving l (k + 1) (its_disc ∷ [])
+    pub repeats-disc : may_repeat t (leaving l k []) ≡ true → after t (expired T200) (leaving l k []) ≡ leaving l (once_more k) (its_disc ∷ [])
     repeats-disc few = ap (λ (c : Course). c.link) (repeats few)
 
     pub repeats-untold : may_repeat t (leaving l k []) ≡ true → said_by (course t (expired T200) (leaving l k [])) ≡ []

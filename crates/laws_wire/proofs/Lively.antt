@@ -1,11 +1,12 @@
 -- Where T200 runs in state 7 something is not acknowledged, at an end whose other is not taken for busy: after what it hears, and after an
 -- offer.
-use Rattle.laws_wire.proofs.Vocabulary.{arith, ◌≡◌, ℕ, ◌<◌, ◌≤◌, Bool, true, false, cond, IsTrue, List, [], ◌∷◌, Some, refl, ap, sym, ◌∙◌, ◌⊎◌, inl, inr, true≢false, nat_lt, lt-ltb, ltb-true, ltb-false, eq-eqb, eqb-true, Seq, Control, Information, ReceiveReady, Reject, State, Established, TimerRecovery, T200, T203, ControlFrame, Terms, Link, is_multiple_frame, Course, offer, Option, None, length}
-use Rattle.laws_wire.proofs.Vocabulary.{◌then◌, code_J, code_O, begun, Step, c-7, c-8, runs, named, named-within, NoAlien, kind_of}
+use Rattle.laws_wire.proofs.Vocabulary.{arith, ◌≡◌, ℕ, ◌<◌, ◌≤◌, Bool, true, false, cond, IsTrue, List, [], ◌∷◌, Some, refl, sym, ◌∙◌, ◌⊎◌, inl, true≢false, nat_lt, ltb-true, ltb-false, eq-eqb, eqb-true, Seq, Control, Information, ReceiveReady, Reject, State, Established, TimerRecovery, T203, ControlFrame, Terms, Link, is_multiple_frame, Course, offer, Option, None, length}
+use Rattle.laws_wire.proofs.Vocabulary.{◌then◌, code_J, code_O, begun, Step, c-7, c-8, named, named-within, NoAlien, kind_of}
+use Rattle.model_link.specs.Counts.{with_reject_received}
 use Rattle.model_link.specs.Established.{acknowledged_in_7, acknowledged_by_information_in_7, acknowledged_by_rej_in_7, frame_in_7}
 use Rattle.model_link.specs.MultipleFrame
 use Rattle.model_link.specs.TimerRecovery.{acknowledged_in_8, frame_in_8}
-use Rattle.model_link.specs.Words.{acknowledge, by_number, error, re_establish}
+use Rattle.model_link.specs.Words.{acknowledge, by_number, error, re_establish, with_counted}
 use Rattle.model_link.specs.Machine
 use Rattle.model_link.specs.Offers
 use Rattle.laws_wire.proofs.Tame.{IsFree}
@@ -64,7 +65,7 @@ module _ (t : Terms) (l : Link) where
   in-7 free b octets (ReceiveReady nr pf) known calm up =
       by-one nr acknowledged_in_7 (c-7 t l false b pf) (λ n low high. acked-lively (c-7 t l false b pf) n low high) up
   in-7 free false octets (Reject nr false) known calm up =
-      by-one nr acknowledged_by_rej_in_7 (c-7 t l false false false) (λ n low high at. inl refl) up
+      by-one nr acknowledged_by_rej_in_7 (c-7 t (with_counted with_reject_received l) false false false) (λ n low high at. inl refl) up
   in-7 free b octets other known calm up = grind arith
 
   in-8 : (b : Bool) (octets : List ℕ) (control : Control) → NoAlien (kind_of b control) → IsFree control → l.state ≡ TimerRecovery → IsUpIn (frame_in_8 t b octets control (begun l))
@@ -72,7 +73,7 @@ module _ (t : Terms) (l : Link) where
   in-8 b octets (Information ns nr false) known calm at up = informed ns nr octets acknowledge (λ c n same low high in_7. cc (same.state, at, in_7)) up
   in-8 b octets (ReceiveReady nr pf) known calm at up = grind (arith, by-one)
   in-8 false octets (Reject nr false) known calm at up =
-      by-one nr (acknowledged_in_8 T203 false) (c-8 t l false false false) (λ n low high in_7. cc (at, in_7)) up
+      by-one nr (acknowledged_in_8 T203 false) (c-8 t (with_counted with_reject_received l) false false false) (λ n low high in_7. cc (at, in_7)) up
   in-8 b octets other known calm at up = grind arith
 
   pub lively-heard : IsTrue (is_multiple_frame l.state) → l.peer_busy ≡ false → (b : Bool) (octets : List ℕ) (control : Control) → NoAlien (kind_of b control) → IsFree control

@@ -2,6 +2,7 @@
 -- allow.
 use Rattle.laws_wire.proofs.Vocabulary.{◌≡◌, ℕ, ◌+◌, ◌*◌, ◌≤◌, Bool, true, false, cond, ◌&&◌, IsTrue, List, length, Option, Some, None, refl, sym, subst, ◌⊎◌, inl, inr, true≢false, arith, nat_lt, Seq, named, Control, ReceiveReady, ReceiveNotReady, Reject, Parts, State, Established, TimerRecovery, LinkTimer, T203, Terms, Link, is_multiple_frame, received, course, begun, Step, ◌then◌, by_bit, Means}
 use Rattle.laws_wire.proofs.Vocabulary.{named-within, T200, frame, IsSound, code_J, code_O}
+use Rattle.model_link.specs.Counts.{with_reject_received}
 use Rattle.model_link.specs.Machine
 use Rattle.model_link.specs.Steps.{Course, nothing}
 use Rattle.model_link.specs.Words
@@ -26,6 +27,10 @@ module _ (w : ℕ) (t : Terms) (l : Link) (sound : IsSound t l) (wide : 2 * t.k 
 
   at-first : Costs 0 (load w l) (begun l)
   at-first = record { contents = refl; first = refl; next = refl; state = refl; received = omega arith; within = omega arith }
+
+  -- REJ is counted
+  counted-first : Costs 0 (load w l) (Words.count with_reject_received (begun l))
+  counted-first = record { contents = refl; first = refl; next = refl; state = refl; received = at-first.received; within = at-first.within }
 
   more : (g b b' : ℕ) (c : Course) → b ≤ b' → Costs g b c → Costs g b' c
   more g b b' c le h = let less = h.within in record { contents = h.contents; first = h.first; next = h.next; state = h.state; received = h.received; within = omega (arith, le, less) }
@@ -94,13 +99,13 @@ module _ (w : ℕ) (t : Terms) (l : Link) (sound : IsSound t l) (wide : 2 * t.k 
   supervised : (own : MultipleFrame.Particulars) (busy b pf : Bool) (nr : Seq) (effect : Bool → ℕ → Step) (x : ℕ)
       → ((final : Bool) (g b : ℕ) (c : Course) → Costs g b c → Costs g b (own.told_of final c))
       → ((final : Bool) (n b : ℕ) → Effect n b (b + x) (effect final n))
-      → Ends 0 (load w l + answer_to (b && pf) + x) (MultipleFrame.supervisory t own busy b pf nr effect (begun l))
-  supervised own busy b pf nr effect x told does =
+      → (c : Course) → Costs 0 (load w l) c → Ends 0 (load w l + answer_to (b && pf) + x) (MultipleFrame.supervisory t own busy b pf nr effect c)
+  supervised own busy b pf nr effect x told does c h =
       let total = load w l + answer_to (b && pf) in
-      let c1 = Words.peer_busy_is busy (begun l) in
+      let c1 = Words.peer_busy_is busy c in
       let c2 = MultipleFrame.answered t b pf c1 in
       let final = MultipleFrame.is_final b pf in
-      let h1 : Costs 0 (load w l) c1 = peer_busy_costs busy 0 (load w l) (begun l) at-first in
+      let h1 : Costs 0 (load w l) c1 = peer_busy_costs busy 0 (load w l) c h in
       let h2 : Costs 0 total c2 = answered (b && pf) 0 (load w l) c1 h1 in
       by-number nr (effect final) 0 total (total + x) (λ n. does final n total) (own.told_of final c2) (told final 0 total c2 h2)
 
@@ -173,11 +178,11 @@ module _ (w : ℕ) (t : Terms) (l : Link) (sound : IsSound t l) (wide : 2 * t.k 
 
   frames-7 : (b : Bool) (octets : List ℕ) (m : ℕ) (control : Control) → Means m control → Hears (load w l + brings w b control) (Established.frame_in_7 t b octets control (begun l))
   frames-7 b octets m (ReceiveReady nr pf) e =
-      within _ _ _ (omega arith) (hears-0 _ _ (supervised (Established.particulars_in_7 t) false b pf nr (Established.particulars_in_7 t).by_rr 0 unsolicited_costs (λ final n b. unchanged n b (Established.acknowledged_in_7 n) (in_7 n b))))
+      within _ _ _ (omega arith) (hears-0 _ _ (supervised (Established.particulars_in_7 t) false b pf nr (Established.particulars_in_7 t).by_rr 0 unsolicited_costs (λ final n b. unchanged n b (Established.acknowledged_in_7 n) (in_7 n b)) (begun l) at-first))
   frames-7 b octets m (ReceiveNotReady nr pf) e =
-      within _ _ _ (omega arith) (hears-0 _ _ (supervised (Established.particulars_in_7 t) true b pf nr (Established.particulars_in_7 t).by_rnr 0 unsolicited_costs (λ final n b. unchanged n b (Established.acknowledged_by_rnr_in_7 n) (rnr_7 n b))))
+      within _ _ _ (omega arith) (hears-0 _ _ (supervised (Established.particulars_in_7 t) true b pf nr (Established.particulars_in_7 t).by_rnr 0 unsolicited_costs (λ final n b. unchanged n b (Established.acknowledged_by_rnr_in_7 n) (rnr_7 n b)) (begun l) at-first))
   frames-7 b octets m (Reject nr pf) e =
-      within _ _ _ (omega arith) (hears-0 _ _ (supervised (Established.particulars_in_7 t) false b pf nr (Established.particulars_in_7 t).by_rej w unsolicited_costs (λ final n b. rej_7 n b)))
+      within _ _ _ (omega arith) (hears-0 _ _ (supervised (Established.particulars_in_7 t) false b pf nr (Established.particulars_in_7 t).by_rej w unsolicited_costs (λ final n b. rej_7 n b) (Words.count with_reject_received (begun l)) counted-first))
   frames-7 b octets m control e = grind (arith, information, by_information_7)
 
   solicited_costs : (final : Bool) (g b : ℕ) (c : Course) → Costs g b c → Costs g b (TimerRecovery.solicited final c)
@@ -187,13 +192,13 @@ module _ (w : ℕ) (t : Terms) (l : Link) (sound : IsSound t l) (wide : 2 * t.k 
       → Hears (load w l + brings w b control) (TimerRecovery.frame_in_8 t b octets control (begun l))
   frames-8 here b octets m (ReceiveReady nr pf) e =
       within _ _ _ (omega arith) (hears-0 _ _ (supervised (TimerRecovery.particulars_in_8 t) false b pf nr (TimerRecovery.particulars_in_8 t).by_rr 0 solicited_costs
-      (λ final n b. unchanged n b (TimerRecovery.acknowledged_in_8 T203 final n) (in_8 here T203 final n b))))
+      (λ final n b. unchanged n b (TimerRecovery.acknowledged_in_8 T203 final n) (in_8 here T203 final n b)) (begun l) at-first))
   frames-8 here b octets m (ReceiveNotReady nr pf) e =
       within _ _ _ (omega arith) (hears-0 _ _ (supervised (TimerRecovery.particulars_in_8 t) true b pf nr (TimerRecovery.particulars_in_8 t).by_rnr 0 solicited_costs
-      (λ final n b. unchanged n b (TimerRecovery.acknowledged_in_8 T200 final n) (in_8 here T200 final n b))))
+      (λ final n b. unchanged n b (TimerRecovery.acknowledged_in_8 T200 final n) (in_8 here T200 final n b)) (begun l) at-first))
   frames-8 here b octets m (Reject nr pf) e =
       within _ _ _ (omega arith) (hears-0 _ _ (supervised (TimerRecovery.particulars_in_8 t) false b pf nr (TimerRecovery.particulars_in_8 t).by_rej w solicited_costs
-      (λ final n b. looser n b (b + w) (TimerRecovery.acknowledged_in_8 T203 final n) (omega arith) (in_8 here T203 final n b))))
+      (λ final n b. looser n b (b + w) (TimerRecovery.acknowledged_in_8 T203 final n) (omega arith) (in_8 here T203 final n b)) (Words.count with_reject_received (begun l)) counted-first))
   frames-8 here b octets m control e = grind (arith, information, acknowledged)
 
   frames-in : (here : State) → l.state ≡ here → IsTrue (is_multiple_frame here) → (b : Bool) (octets : List ℕ) (m : ℕ) (control : Control) → Means m control

@@ -7,7 +7,7 @@ use Rattle.laws_wire.proofs.Acting.{UpAt}
 use Rattle.laws_wire.proofs.Calling.{ua, end, caller}
 use Rattle.laws_wire.proofs.Held.{Held, Erred}
 use Rattle.laws_wire.proofs.Joint.{Joint}
-use Rattle.laws_wire.proofs.Ringing.{ringing, IsSabme, AreSabmes}
+use Rattle.laws_wire.proofs.Ringing.{ringing, IsSabme, AreSabmes, Tries}
 use Rattle.laws_wire.proofs.Standing.{IsCarried}
 use Rattle.laws_wire.proofs.Answered.{lost-none, takes-none}
 
@@ -51,7 +51,7 @@ module _ (service : Service) (tei : ℕ) where
     -- ---- the phases
 
     pub record IsRinging (w : Wire) : Type 0 where
-      pub repeats : ℕ
+      pub repeats : Tries
       pub waiting : List ControlFrame
       pub way : List Parts
       pub near : Held c service tei p [] w.near (end t (ringing repeats waiting) way)
@@ -62,7 +62,7 @@ module _ (service : Service) (tei : ℕ) where
     UaOrNone first = (first ≡ []) ⊎ (first ≡ ua u ∷ [])
 
     pub record IsHalf (w : Wire) : Type 0 where
-      pub repeats : ℕ
+      pub repeats : Tries
       pub waiting : List ControlFrame
       pub way : List Parts
       pub near : Held c service tei p [] w.near (end t (ringing repeats waiting) way)

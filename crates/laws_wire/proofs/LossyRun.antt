@@ -1,5 +1,5 @@
 -- A whole call in which frames are lost and timers expire: what layer 3 of each was told, as long as no error was.
-use Rattle.laws_wire.proofs.Vocabulary.{arith, ◌≡◌, ℕ, List, [], ◌∷◌, ◌++◌, map, take, refl, sym, ap, ◌∙◌, inl, inr, append-nil, All, flat_map, All-nil, All-cons, All-head, All-tail, Service, other_side, fresh, IsInRange, LinkEndpoint, Config, LineTold, terms, terms_in_range, Endpoint, Wire, EndStep, StepAt, at_near, at_far, acting, doing, doing_all, calling, CanCall, confirmed, indicated}
+use Rattle.laws_wire.proofs.Vocabulary.{arith, ◌≡◌, ℕ, List, [], ◌∷◌, ◌++◌, map, take, refl, sym, ap, ◌∙◌, inl, inr, append-nil, All, flat_map, All-nil, All-cons, All-head, All-tail, Service, fresh, IsInRange, LinkEndpoint, Config, LineTold, terms, terms_in_range, Endpoint, Wire, EndStep, StepAt, at_near, at_far, acting, doing, doing_all, calling, CanCall, confirmed, indicated}
 use Rattle.laws_wire.proofs.Vocabulary.{data_told, IsBeginningOf, for_layer_3, heard_in, HasNoError, IsRoughTalk, CallsAreToldInOrder, list_any-append}
 use Rattle.laws_wire.proofs.Beginning.{calls, answers}
 use Rattle.laws_wire.proofs.Calling.{asked, sabme, end}
@@ -8,7 +8,7 @@ use Rattle.laws_wire.proofs.LossyHalf.{half-near, half-far}
 use Rattle.laws_wire.proofs.LossyPhases.{IsRinging, Goes, HasErred, Went}
 use Rattle.laws_wire.proofs.LossyRinging.{ringing-near, ringing-far}
 use Rattle.laws_wire.proofs.LossyUp.{up-near_acts, up-far_acts}
-use Rattle.laws_wire.proofs.Ringing.{ringing, IsSabme}
+use Rattle.laws_wire.proofs.Ringing.{ringing, IsSabme, none_tried}
 use Rattle.laws_wire.proofs.SoFar.{at-first, then-data}
 use Rattle.laws_wire.proofs.Spelled.{sides-turned}
 use Rattle.laws_wire.proofs.Talking.{Face, unheard, Holds, none-told}
@@ -92,7 +92,7 @@ setting service c d line other tei can =
 
 abbrev pub rings : (service : Service) (c d : Config) (line other tei : ℕ) → Setting service c d line other tei → IsRinging service tei c d 0 0 (calling service tei c line d other)
 rings service c d line other tei x = record {
-  repeats = 0;
+  repeats = none_tried;
   waiting = asked.waiting;
   way = [];
   near = x.near_held;

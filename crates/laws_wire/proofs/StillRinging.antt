@@ -8,7 +8,7 @@ use Rattle.laws_wire.proofs.Calling.{end, sabme, ua, answering, takes-sabme, tol
 use Rattle.laws_wire.proofs.Fair.{HasError}
 use Rattle.laws_wire.proofs.Held.{Held, TellsIt, Erred, now-erred, held-given, held-lost, held-first, held-taken, taken-told, taken-stands, expired-told, held-expired, held-asked}
 use Rattle.laws_wire.proofs.LossyPhases.{Aims, first-way}
-use Rattle.laws_wire.proofs.Ringing.{ringing, answered, Ignores, ignores, IsSabme, AreSabmes, Rings, t200-rings, t203-rings, RingsOn, gives-sabme, one-sabme_more, one-sabme_less}
+use Rattle.laws_wire.proofs.Ringing.{ringing, answered, Ignores, ignores, IsSabme, AreSabmes, Rings, t200-rings, t203-rings, RingsOn, gives-sabme, one-sabme_more, one-sabme_less, Tries}
 use Rattle.laws_wire.proofs.Spelled.{carried-short}
 use Rattle.laws_wire.proofs.Standing.{StationStands}
 use Rattle.laws_wire.proofs.Talking.{Face}
@@ -18,13 +18,13 @@ module _ (service : Service) (tei : ℕ) (c : Config) (p : ℕ) where
   t = terms c service tei
 
   pub record StillRings (s : Endpoint) : Type 0 where
-    pub repeats : ℕ
+    pub repeats : Tries
     pub waiting : List ControlFrame
     pub way : List Parts
     pub held : Held c service tei p [] s (end t (ringing repeats waiting) way)
     pub sabmes : AreSabmes t way waiting
 
-  module _ (s : Endpoint) (k : ℕ) (ws : List ControlFrame) (way : List Parts) (h : Held c service tei p [] s (end t (ringing k ws) way)) (sabmes : AreSabmes t way ws) where
+  module _ (s : Endpoint) (k : Tries) (ws : List ControlFrame) (way : List Parts) (h : Held c service tei p [] s (end t (ringing k ws) way)) (sabmes : AreSabmes t way ws) where
     abbrev rung : LinkEndpoint
     rung = end t (ringing k ws) way
 
@@ -68,7 +68,7 @@ module _ (service : Service) (tei : ℕ) (c : Config) (p : ℕ) where
         let x : RingsOn t k ws way = gives-sabme t k ws way in
         let kept : (with_sent rung).link.contents ≡ rung.link.contents = ap (λ y. y.link.contents) x.is in
         record {
-          repeats = k;
+          repeats = x.tries;
           waiting = x.waiting;
           way = x.went;
           held = subst (Held c service tei p [] (happens next s)) x.is (held-given service tei p [] c s rung h kept);
@@ -88,7 +88,7 @@ module _ (service : Service) (tei : ℕ) (c : Config) (p : ℕ) where
 
 module _ (service : Service) (tei : ℕ) (c d : Config) (p q : ℕ) (face : Face c d) where
   -- frames of an end that is up
-  module _ (w : Wire) (k : ℕ) (ws : List ControlFrame) (way : List Parts) (near : Held c service tei p [] w.near (end (terms c service tei) (ringing k ws) way)) (past : List LineTold) (M : LinkEndpoint)
+  module _ (w : Wire) (k : Tries) (ws : List ControlFrame) (way : List Parts) (near : Held c service tei p [] w.near (end (terms c service tei) (ringing k ws) way)) (past : List LineTold) (M : LinkEndpoint)
       (far : Held d service tei q past w.far M) where
     abbrev it : LinkEndpoint
     it = end (terms c service tei) (ringing k ws) way

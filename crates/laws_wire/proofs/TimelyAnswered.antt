@@ -8,7 +8,7 @@ use Rattle.laws_wire.proofs.Calling.{its_ua, ua, end, with_ua_waiting, with_ua_f
 use Rattle.laws_wire.proofs.Firm.{Firm, firm-turned, firm-sends, firm-asks, firm-expires}
 use Rattle.laws_wire.proofs.Held.{Held, held-given, held-lost, held-asked}
 use Rattle.laws_wire.proofs.LossyPhases.{made, for-data, Aims, empty}
-use Rattle.laws_wire.proofs.Ringing.{ringing, answered}
+use Rattle.laws_wire.proofs.Ringing.{ringing, answered, Tries}
 use Rattle.laws_wire.proofs.StillRinging.{hears-ua}
 use Rattle.laws_wire.proofs.Talking.{Face}
 use Rattle.laws_wire.proofs.TimelyFirst.{takes-none, loses-none, gives-nothing, asks-refused}
@@ -40,7 +40,7 @@ module _ (service : Service) (tei : ℕ) (c d : Config) (p q : ℕ) (face : Face
   as-comes m h = inr (inr (inl (record { m = m; is = h })))
 
   -- it is asked to send more
-  module _ (k : ℕ) (m : LinkEndpoint) (its : LinkEndpoint → LinkEndpoint) (form : (octets : List ℕ) → with_more octets (its m) ≡ its (with_more octets m))
+  module _ (k : Tries) (m : LinkEndpoint) (its : LinkEndpoint → LinkEndpoint) (form : (octets : List ℕ) → with_more octets (its m) ≡ its (with_more octets m))
       (same : (octets : List ℕ) → refusal m.terms m.link false (LinkData octets) ≡ refusal (its m).terms (its m).link false (LinkData octets))
       (w : Wire) (held : Held d service tei q (indicated service tei ∷ []) w.far (its m)) (firm : Firm (end t (answered k []) []) m) (octets : List ℕ) where
     record More (s' : Endpoint) : Type 0 where

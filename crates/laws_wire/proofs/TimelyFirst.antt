@@ -6,14 +6,14 @@ use Rattle.laws_wire.proofs.Calling.{end, called, sound-called}
 use Rattle.laws_wire.proofs.Tame.{WaitsSo, IsFreeFrame}
 use Rattle.laws_wire.proofs.Firm.{Firm}
 use Rattle.laws_wire.proofs.Held.{Held, held-given, held-asked}
-use Rattle.laws_wire.proofs.Ringing.{answered}
+use Rattle.laws_wire.proofs.Ringing.{answered, Tries}
 use Rattle.laws_wire.proofs.Standing.{StationStands, asks-stands}
 use Rattle.laws_wire.proofs.Up.{stays}
 pub use Rattle.laws_wire.proofs.Answered.{lost-none, takes-none}
 
 -- ---- the ends
 
-module _ (t u : Terms) (rt : IsInRange t) (ru : IsInRange u) (same : t.n201 ≡ u.n201) (k : ℕ) where
+module _ (t u : Terms) (rt : IsInRange t) (ru : IsInRange u) (same : t.n201 ≡ u.n201) (k : Tries) where
   abbrev pub near_end : LinkEndpoint
   near_end = end t (answered k []) []
 

@@ -4,7 +4,7 @@ use Rattle.laws_wire.proofs.Awaited.{NoneOpen, long-there}
 use Rattle.laws_wire.proofs.Calling.{end, with_ua_waiting, with_ua_first}
 use Rattle.laws_wire.proofs.Firm.{Firm}
 use Rattle.laws_wire.proofs.Held.{Held}
-use Rattle.laws_wire.proofs.Ringing.{ringing, answered}
+use Rattle.laws_wire.proofs.Ringing.{ringing, answered, Tries}
 use Rattle.laws_wire.proofs.TimelyUp.{AreUp}
 use Rattle.laws_wire.proofs.UaLost.{RingingAt}
 
@@ -21,7 +21,7 @@ module _ (service : Service) (tei : ℕ) (c d : Config) (p q : ℕ) where
 
   -- the other is up, its UA waits, or is on its way before all else
   pub record UaWaits (m : LinkEndpoint) (w : Wire) : Type 0 where
-    pub repeats : ℕ
+    pub repeats : Tries
     pub waiting : m.link.waiting ≡ []
     pub way : m.way ≡ []
     pub near : Held c service tei p [] w.near (end t (ringing repeats []) [])
@@ -29,7 +29,7 @@ module _ (service : Service) (tei : ℕ) (c d : Config) (p q : ℕ) where
     pub firm : Firm (end t (answered repeats []) []) m
 
   pub record UaGoes (m : LinkEndpoint) (w : Wire) : Type 0 where
-    pub repeats : ℕ
+    pub repeats : Tries
     pub near : Held c service tei p [] w.near (end t (ringing repeats []) [])
     pub far : Held d service tei q (indicated service tei ∷ []) w.far (with_ua_first m)
     pub firm : Firm (end t (answered repeats []) []) m
@@ -46,6 +46,6 @@ module _ (service : Service) (tei : ℕ) (c d : Config) (p q : ℕ) where
   Goes w = RingingAt service tei c p Down w ⊎ Waits w ⊎ Comes w ⊎ AreUp service tei c d p q (confirmed service tei ∷ []) (indicated service tei ∷ []) w
 
   -- while it rings no answer is to come as T200 expires
-  pub ringing-open : (k : ℕ) (ws : List ControlFrame) (way : List Parts) (w : Wire) (m : LinkEndpoint) (past : List LineTold) → Held c service tei p [] w.near (end t (ringing k ws) way) → Held d service tei q past w.far m
+  pub ringing-open : (k : Tries) (ws : List ControlFrame) (way : List Parts) (w : Wire) (m : LinkEndpoint) (past : List LineTold) → Held c service tei p [] w.near (end t (ringing k ws) way) → Held d service tei q past w.far m
       → IsLongEnough service tei w.near w.far → NoneOpen (end t (ringing k ws) way) m
   ringing-open k ws way w m past near far long = long-there service tei c d p q w.near w.far (end t (ringing k ws) way) m near.stands far.stands long refl

@@ -6,7 +6,7 @@ use Rattle.laws_wire.proofs.Awaited.{NoneOpen, may-there, open-here}
 use Rattle.laws_wire.proofs.Calling.{end, called, sabme}
 use Rattle.laws_wire.proofs.Held.{held-given, held-expired}
 use Rattle.laws_wire.proofs.LossyRun.{Setting, setting}
-use Rattle.laws_wire.proofs.Ringing.{answered, its_sabme}
+use Rattle.laws_wire.proofs.Ringing.{answered, its_sabme, Tries, none_tried}
 use Rattle.laws_wire.proofs.Ringing.{ringing as ringing_as}
 use Rattle.laws_wire.proofs.Talking.{Face}
 use Rattle.laws_wire.proofs.TimelyFirst.{near-ready, far-ready, there-taken, back-taken}
@@ -157,7 +157,7 @@ module _ (service : Service) (tei : ℕ) (c d : Config) (p q : ℕ) (face : Face
 
     -- the first round
     record First (w' : Wire) : Type 0 where
-      repeats : ℕ
+      repeats : Tries
       up : BothUp service tei c d p q (confirmed service tei ∷ []) (indicated service tei ∷ []) w' (end (terms c service tei) (answered repeats []) []) (end (terms d service tei) called [])
 
     first : First (doing_all round expired)
@@ -229,7 +229,7 @@ module _ (service : Service) (tei : ℕ) (c d : Config) (p q : ℕ) (face : Face
 
 -- a call as it begins
 pub starts : (service : Service) (c d : Config) (line other tei : ℕ) → Setting service c d line other tei → Goes service tei c d 0 0 (calling service tei c line d other)
-starts service c d line other tei x = inl (inr (inl (record { repeats = 0; near = x.near_held; far = x.far_held })))
+starts service c d line other tei x = inl (inr (inl (record { repeats = none_tried; near = x.near_held; far = x.far_held })))
 
 pub what-is-lost-arrives : WhatIsLostArrives
 what-is-lost-arrives service c d line other tei ds can talk = λ timely.

@@ -1,8 +1,9 @@
 -- The link of the end that is called, before its caller is up: it has received nothing but SABME.
-use Rattle.laws_wire.proofs.Vocabulary.{◌≡◌, ℕ, ◌+◌, ◌<◌, ◌≤◌, Bool, true, false, cond, ◌||◌, IsTrue, List, [], ◌∷◌, ◌++◌, Option, None, Some, refl, sym, ap, subst, ◌∙◌, ◌⊎◌, inl, inr, append_assoc, eqb-true, ne_eqb, arith, flat_map, list_any, All, All-head, front_rest, Refusal, Parts, State, Established, TimerRecovery, Sabme, LinkTimer, T203, ControlFrame, Terms, Link, is_multiple_frame}
+use Rattle.laws_wire.proofs.Vocabulary.{◌≡◌, ℕ, ◌+◌, ◌≤◌, Bool, true, false, cond, ◌||◌, IsTrue, List, [], ◌∷◌, ◌++◌, Option, None, Some, refl, sym, ap, subst, ◌∙◌, ◌⊎◌, inl, inr, append_assoc, eqb-true, ne_eqb, arith, flat_map, list_any, All, All-head, front_rest, Refusal, Parts, State, Established, TimerRecovery, Sabme, LinkTimer, T203, ControlFrame, Terms, Link, is_multiple_frame}
 use Rattle.laws_wire.proofs.Vocabulary.{may_repeat}
 use Rattle.laws_wire.proofs.Vocabulary.{has_outstanding, received, requested, expired, offer, course, given, given_of, is_running, begun, frame_given, IsInRange, IsWaitingFrame, LinkEndpoint, frame_of, frames_of, frames-append, kinds-append, has_room, Reports, still, at-first, offer-gave, Calm, Kind, enquiry, report, kind_of, kinds_of, tally, tally-push, one_enquiry, one_answer, one_rejection}
 use Rattle.laws_wire.proofs.Vocabulary.{line, most, is_recovering, Sane, frame, after, Course, ◌then◌, for_layer_3, LinkClearBusy, LinkEvent, LinkRequest, LinkSetBusy, F, granted, refusal, error_f, renewed, carried-reports, rising-reports, timer-stays, timed-after, heeds-after, expires-goes, IsSound, is_information, Every, every-push, Behind, calm-rise}
+use Rattle.model_link.specs.Counts.{with_establishment}
 use Rattle.model_link.specs.Machine
 use Rattle.model_link.specs.Offers
 use Rattle.model_link.specs.Words
@@ -10,7 +11,7 @@ use Rattle.model_link.proofs.Facing.{AreReports, IsReport, set_busy_up, clear_bu
 use Rattle.laws_wire.proofs.Calling.{end, its_ua, sabme}
 use Rattle.laws_wire.proofs.Joint.{Goes, by-up, stays, timer-goes}
 use Rattle.laws_wire.proofs.Loose.{Loose}
-use Rattle.laws_wire.proofs.Ringing.{answered}
+use Rattle.laws_wire.proofs.Ringing.{answered, Tries}
 use Rattle.laws_wire.proofs.Speaking.{said_by}
 use Rattle.laws_wire.proofs.TimelyFirst.{firm-first, near-ready}
 use Rattle.laws_wire.proofs.Fair.{or-true}
@@ -139,7 +140,7 @@ behind-calm : (ks : List Kind) → Every Calm ks → Behind one_enquiry Calm ks
 behind-calm [] h = tt
 behind-calm (k ∷ ks) h = (λ some. h.1, behind-calm ks h.1)
 
-module _ (t u : Terms) (rt : IsInRange t) (ru : IsInRange u) (same : t.n201 ≡ u.n201) (k : ℕ) (l : Link) (post : List ControlFrame) (waits : l.waiting ≡ post) (sound : IsSound u l)
+module _ (t u : Terms) (rt : IsInRange t) (ru : IsInRange u) (same : t.n201 ≡ u.n201) (k : Tries) (l : Link) (post : List ControlFrame) (waits : l.waiting ≡ post) (sound : IsSound u l)
     (h : Poised u l post) where
   abbrev n : LinkEndpoint
   n = end t (answered k []) []
@@ -182,12 +183,14 @@ again room contents l = record l {
   a = 0;
   s = 0;
   r = 0;
+  again = 0;
   peer_busy = false;
   own_busy = false;
   rejecting = false;
   pending = false;
   running = Some T203;
   waiting = cond room (l.waiting ++ its_ua ∷ []) l.waiting;
+  counts = with_establishment l.counts;
 }
 
 pub record Renews (t : Terms) (l : Link) (sent : Bool) (x : Course) : Type 0 where

@@ -1,6 +1,6 @@
 -- The phases of a call in which UA may be lost: one end rings, and the other is down; or it is up, and its UA waits, is on its way, or is
 -- not to come.
-use Rattle.laws_wire.proofs.Vocabulary.{◌≡◌, ℕ, ◌+◌, ◌<◌, ◌≤◌, Bool, true, false, not, List, [], ◌∷◌, ◌++◌, map, take, refl, sym, ap, subst, ◌∙◌, ◌⊎◌, inl, inr, arith, nat_lt, option_to_list, lt-ltb, All, All-head, All-drop, Control, Service, Parts, ControlFrame, Terms, may_repeat, course, IsInRange, LinkEndpoint, with_link, Config, LineTold, expiry, request, terms, Request, Rising, kind_of, T203}
+use Rattle.laws_wire.proofs.Vocabulary.{◌≡◌, ℕ, ◌≤◌, Bool, true, false, not, List, [], ◌∷◌, ◌++◌, map, take, refl, sym, ap, subst, ◌∙◌, ◌⊎◌, inl, inr, arith, nat_lt, option_to_list, lt-ltb, All, All-head, All-drop, Control, Service, Parts, ControlFrame, Terms, may_repeat, course, IsInRange, LinkEndpoint, with_link, Config, LineTold, expiry, request, terms, Request, Rising, kind_of, T203}
 use Rattle.laws_wire.proofs.Vocabulary.{one_enquiry, tally, line, HasNo, T200, Course, Endpoint, Wire, happens, without_first, EndStep, requests, expires, sends, receives, loses, acting, IsStill, confirmed, heard_in, is_poll, IsTimelyOf, IsFullTalkOf, timer_T200, timer_T203, NoteData}
 use Rattle.model_link.specs.Events as link
 use Rattle.laws_wire.proofs.Awaited.{awaits-is, may-there, none-there, goes-first, waits-first}
@@ -8,7 +8,7 @@ use Rattle.laws_wire.proofs.Calling.{sabme, end}
 use Rattle.laws_wire.proofs.Held.{TellsIt, Held, held-given, held-lost, held-expired}
 use Rattle.laws_wire.proofs.LooseUp.{for-asked}
 use Rattle.laws_wire.proofs.LossyPhases.{empty}
-use Rattle.laws_wire.proofs.Ringing.{ringing, its_sabme, repeated, t200-repeats}
+use Rattle.laws_wire.proofs.Ringing.{ringing, its_sabme, repeated, t200-repeats, Tries, once_more}
 use Rattle.laws_wire.proofs.StillRinging.{ignores-frame}
 use Rattle.laws_wire.proofs.Talking.{Face}
 use Rattle.laws_wire.proofs.TimelyFirst.{takes-none, loses-none, gives-nothing, asks-refused, busy-refused, ready-refused}
@@ -38,7 +38,7 @@ taken-none r xs e le = ap (λ xs. take r xs) e ∙ (let none : r ≡ 0 = omega (
 
 module _ (service : Service) (tei : ℕ) (c : Config) (p : ℕ) where
   pub record RingsAt (P : Endpoint → Type 0) (ws : List ControlFrame) (way : List Parts) (w : Wire) : Type 0 where
-    pub repeats : ℕ
+    pub repeats : Tries
     pub near : Held c service tei p [] w.near (end (terms c service tei) (ringing repeats ws) way)
     pub far : P w.far
 
@@ -50,7 +50,7 @@ module _ (service : Service) (tei : ℕ) (c : Config) (p : ℕ) where
   rings-untold P w o = grind arith
 
   -- T203 does not run
-  pub silent-t203 : (k : ℕ) (ws : List ControlFrame) (way : List Parts) (s : Endpoint) → Held c service tei p [] s (end (terms c service tei) (ringing k ws) way)
+  pub silent-t203 : (k : Tries) (ws : List ControlFrame) (way : List Parts) (s : Endpoint) → Held c service tei p [] s (end (terms c service tei) (ringing k ws) way)
       → Held c service tei p [] (happens (expiry (timer_T203 service tei)) s) (end (terms c service tei) (ringing k ws) way)
   silent-t203 k ws way s h =
       held-expired service tei p [] c s (end (terms c service tei) (ringing k ws) way) h (timer_T203 service tei) T203 (λ l. refl) (record { its_notes = refl; no_unit = refl }) refl
@@ -72,7 +72,7 @@ module _ (service : Service) (tei : ℕ) (c d : Config) (p q : ℕ) (face : Face
   Ringing P w = RingingAt service tei c p P w
 
   -- what is asked of it is refused
-  asks-held : (ws : List ControlFrame) (way : List Parts) (k : ℕ) (s : Endpoint) → Held c service tei p [] s (end t (ringing k ws) way) → (r : Request) → IsFullTalkOf service tei (requests r)
+  asks-held : (ws : List ControlFrame) (way : List Parts) (k : Tries) (s : Endpoint) → Held c service tei p [] s (end t (ringing k ws) way) → (r : Request) → IsFullTalkOf service tei (requests r)
       → Held c service tei p [] (happens (request r) s) (end t (ringing k ws) way)
   asks-held ws way k s h r is =
       let n = end t (ringing k ws) way in
@@ -82,7 +82,7 @@ module _ (service : Service) (tei : ℕ) (c d : Config) (p q : ℕ) (face : Face
       (subst (λ s. Held c service tei p [] s n) (sym (ready-refused service tei c p [] s n h refl)) h) r is
 
   -- while UA is to come T200 does not expire
-  pub near-waits : (k : ℕ) (w : Wire) → Held c service tei p [] w.near (end t (ringing k []) []) → (IsTimelyOf (expires (timer_T200 service tei)) w → ⊥) → (act : EndStep)
+  pub near-waits : (k : Tries) (w : Wire) → Held c service tei p [] w.near (end t (ringing k []) []) → (IsTimelyOf (expires (timer_T200 service tei)) w → ⊥) → (act : EndStep)
       → (act ≡ receives → ⊥) → IsFullTalkOf service tei act → IsTimelyOf act w → Held c service tei p [] (acting act w).near (end t (ringing k []) [])
   near-waits k w h never (requests r) not is x = asks-held [] [] k w.near h r is
   near-waits k w h never (expires timer) not is x =
@@ -141,10 +141,10 @@ module _ (service : Service) (tei : ℕ) (c d : Config) (p q : ℕ) (face : Face
           no_unit = ap (λ (y : Course). y.unit) is;
         } in
         let kept : x.link.contents ≡ [] = ap (λ (y : Course). y.link.contents) is in
-        let becomes : with_link (link.expired T200) rung ≡ end t (ringing (h.repeats + 1) (its_sabme ∷ [])) [] =
+        let becomes : with_link (link.expired T200) rung ≡ end t (ringing (once_more h.repeats) (its_sabme ∷ [])) [] =
         (λ i. record rung { link = (is i).link; delivered = option_to_list (is i).delivered }) in
         record {
-          repeats = h.repeats + 1;
+          repeats = once_more h.repeats;
           near = subst (Held c service tei p [] s') becomes (held-expired service tei p [] c w.near rung h.near (timer_T200 service tei) T200 (λ l. refl) tells kept);
           far = h.far;
         }

@@ -11,7 +11,8 @@ use Rattle.laws_wire.proofs.Calling.{its_ua, ua, end}
 use Rattle.laws_wire.proofs.Held.{Held, held-given, held-lost}
 use Rattle.laws_wire.proofs.Loose.{Loose, loose-turned, loose-after}
 use Rattle.laws_wire.proofs.LooseUp.{LooseUp}
-use Rattle.laws_wire.proofs.Ringing.{ringing, answered}
+use Rattle.model_link.specs.Offers.{with_waiting_rest}
+use Rattle.laws_wire.proofs.Ringing.{ringing, answered, Tries}
 use Rattle.laws_wire.proofs.StillRinging.{ignores-frame, hears-ua}
 use Rattle.laws_wire.proofs.Talking.{Face}
 use Rattle.laws_wire.proofs.UaCalled.{sane-after, Poised, PoisedOn, poised-on, loose-poised}
@@ -55,7 +56,7 @@ module _ (service : Service) (tei : ℕ) (c d : Config) (p q : ℕ) (face : Face
 
   -- it is on its way
   pub record Comes (b : Bool) (w : Wire) : Type 0 where
-    pub repeats : ℕ
+    pub repeats : Tries
     pub near : Held c service tei p [] w.near (end t (ringing repeats []) [])
     pub m : LinkEndpoint
     pub stale : List Parts
@@ -182,7 +183,7 @@ module _ (service : Service) (tei : ℕ) (c d : Config) (p q : ℕ) (face : Face
 
     module _ (f : ControlFrame) (fs : List ControlFrame) (e : M'.link.waiting ≡ f ∷ fs) where
       abbrev went : LinkEndpoint
-      went = record { terms = u; link = record M'.link { waiting = fs }; way = M'.way ++ frame_of u f ∷ []; delivered = [] }
+      went = record { terms = u; link = with_waiting_rest f fs M'.link; way = M'.way ++ frame_of u f ∷ []; delivered = [] }
 
       pub rest-held : Its (happens next v.near) went
       rest-held = held-given service tei q past d v.near (laid (f ∷ fs)) (subst (Its v.near) (is-laid (f ∷ fs) e) h.held) refl
@@ -202,7 +203,7 @@ module _ (service : Service) (tei : ℕ) (c d : Config) (p q : ℕ) (face : Face
       }
 
     -- it is UA
-    module _ (repeats : ℕ) (w : Wire) (near : Held c service tei p [] w.near (end t (ringing repeats []) [])) (same : w.far ≡ happens next v.near) where
+    module _ (repeats : Tries) (w : Wire) (near : Held c service tei p [] w.near (end t (ringing repeats []) [])) (same : w.far ≡ happens next v.near) where
       ua-goes : M'.link.waiting ≡ its_ua ∷ h.post → h.old ≡ [] → Comes (b || gives_information v.near) w
       ua-goes e none =
           let m = end u (record M'.link { waiting = h.post }) [] in

@@ -5,7 +5,7 @@ use Rattle.laws_wire.proofs.Answered.{takes-granted}
 use Rattle.laws_wire.proofs.Calling.{its_ua, sabme, end}
 use Rattle.laws_wire.proofs.Held.{Held, held-lost, taken-told, taken-stands}
 use Rattle.laws_wire.proofs.LossyPhases.{first-way}
-use Rattle.laws_wire.proofs.Ringing.{ringing}
+use Rattle.laws_wire.proofs.Ringing.{ringing, Tries}
 use Rattle.laws_wire.proofs.Speaking.{said_by}
 use Rattle.laws_wire.proofs.Standing.{IsCarried, StationStands}
 use Rattle.laws_wire.proofs.Talking.{Face}
@@ -24,11 +24,11 @@ module _ (service : Service) (tei : ℕ) (c d : Config) (p q : ℕ) (face : Face
   pub record TookSabme (past : List LineTold) (b : Bool) (w w' : Wire) : Type 0 where
     pub v : Wire
     pub is : w' ≡ with_before (cond b w.far.granted []) v
-    pub repeats : ℕ
+    pub repeats : Tries
     pub near : Held c service tei p [] v.near (end t (ringing repeats []) [])
     pub far : IsWaiting service tei c d p q face back rt ru (more_told b past) false v.far ⊎ IsAway service tei c d p q face back rt ru (more_told b past) false v.far
 
-  module _ (past : List LineTold) (w : Wire) (repeats : ℕ) (near : Held c service tei p [] w.near (end t (ringing repeats []) (sabme t ∷ []))) (bit : Bool)
+  module _ (past : List LineTold) (w : Wire) (repeats : Tries) (near : Held c service tei p [] w.near (end t (ringing repeats []) (sabme t ∷ []))) (bit : Bool)
       (h : IsAway service tei c d p q face back rt ru past bit w.far) where
     abbrev M : LinkEndpoint
     M = h.M

@@ -9,7 +9,7 @@ use Rattle.laws_wire.proofs.Awaited.{may-there}
 use Rattle.laws_wire.proofs.Calling.{end, its_ua, sabme, ua, takes-sabme}
 use Rattle.laws_wire.proofs.Held.{Held, held-given, held-lost, held-first, taken-told, taken-stands}
 use Rattle.laws_wire.proofs.LossyPhases.{first-way}
-use Rattle.laws_wire.proofs.Ringing.{ringing, answered as answered_link, its_sabme}
+use Rattle.laws_wire.proofs.Ringing.{ringing, answered as answered_link, its_sabme, Tries}
 use Rattle.laws_wire.proofs.Standing.{IsCarried, StationStands, gives-stands}
 use Rattle.laws_wire.proofs.Talking.{Face}
 use Rattle.laws_wire.proofs.UaCalled.{renews}
@@ -22,7 +22,7 @@ module _ (service : Service) (tei : ℕ) (c d : Config) (p q : ℕ) (face : Face
   abbrev u : Terms
   u = terms d service tei
 
-  abbrev Rung : ℕ → List ControlFrame → List Parts → Endpoint → Type 0
+  abbrev Rung : Tries → List ControlFrame → List Parts → Endpoint → Type 0
   Rung k ws way s = Held c service tei p [] s (end t (ringing k ws) way)
 
   abbrev event : link.Event
@@ -39,7 +39,7 @@ module _ (service : Service) (tei : ℕ) (c d : Config) (p q : ℕ) (face : Face
   -- ---- a round
 
   -- SABME waits at the one, and nothing at the other
-  module _ (k : ℕ) (w : Wire) (near : Rung k (its_sabme ∷ []) [] w.near) (past : List LineTold) (M : LinkEndpoint) (held : Held d service tei q past w.far M) (way : M.way ≡ []) (answers : (after M.terms event M.link).waiting ≡ its_ua ∷ []) where
+  module _ (k : Tries) (w : Wire) (near : Rung k (its_sabme ∷ []) [] w.near) (past : List LineTold) (M : LinkEndpoint) (held : Held d service tei q past w.far M) (way : M.way ≡ []) (answers : (after M.terms event M.link).waiting ≡ its_ua ∷ []) where
     -- SABME goes
     abbrev w1 : Wire
     w1 = acting sends w

@@ -6,7 +6,7 @@ use Rattle.laws_wire.proofs.Calling.{end, sabme}
 use Rattle.laws_wire.proofs.Held.{Held}
 use Rattle.laws_wire.proofs.LooseUp.{loose-turned-up, loose-told, loose-rests}
 use Rattle.laws_wire.proofs.LossyRun.{setting}
-use Rattle.laws_wire.proofs.Ringing.{ringing, its_sabme}
+use Rattle.laws_wire.proofs.Ringing.{ringing, its_sabme, Tries, none_tried}
 use Rattle.laws_wire.proofs.Talking.{Face}
 use Rattle.laws_wire.proofs.UaLost.{not-told}
 use Rattle.laws_wire.proofs.UaLostRun.{its_near, Away, Rs, Down, Up, IsCalled, Phase, Goes, patient-runs}
@@ -75,7 +75,7 @@ module _ (service : Service) (tei : ℕ) (c d : Config) (p q : ℕ) (face : Face
 
   -- ---- where no turn is left, and T200 runs at neither end
 
-  stops : (A : Type 0) (v : Wire) (k : ℕ) (ws : List ControlFrame) (way : List Parts) → Held c service tei p [] v.near (end (terms c service tei) (ringing k ws) way)
+  stops : (A : Type 0) (v : Wire) (k : Tries) (ws : List ControlFrame) (way : List Parts) → Held c service tei p [] v.near (end (terms c service tei) (ringing k ws) way)
       → runs_t200 service tei v.near ≡ false → A
   stops A v k ws way h none =
       absurd (true≢false (sym (runs-is service tei c p v.near (end (terms c service tei) (ringing k ws) way) h.stands (λ e. cc e)) ∙ none))
@@ -139,7 +139,7 @@ patient-goes service c d line other tei ds can talk patient =
       earlier = [];
       is = refl;
       given_up = refl;
-      phase = inl (refl, refl, inr (inl (record { repeats = 0; near = x.near_held; far = x.far_held })));
+      phase = inl (refl, refl, inr (inl (record { repeats = none_tried; near = x.near_held; far = x.far_held })));
     })
 
 pub lossy-calls-come-through : LossyCallsComeThrough

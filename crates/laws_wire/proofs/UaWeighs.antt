@@ -11,7 +11,7 @@ use Rattle.laws_wire.proofs.LoadsHeard.{frame-hears}
 use Rattle.laws_wire.proofs.Loose.{Loose, loose-turned, loose-after}
 use Rattle.laws_wire.proofs.LossyPhases.{first-way}
 use Rattle.laws_wire.proofs.Rested.{TakesWell, takes-nothing, takes-well}
-use Rattle.laws_wire.proofs.Ringing.{ringing, its_sabme, untouched}
+use Rattle.laws_wire.proofs.Ringing.{ringing, its_sabme, untouched, Tries}
 use Rattle.laws_wire.proofs.Standing.{StationStands}
 use Rattle.laws_wire.proofs.Talking.{Face}
 use Rattle.laws_wire.proofs.UaCalled.{again, renews}
@@ -30,7 +30,7 @@ module _ (service : Service) (tei : ℕ) (c d : Config) (p q : ℕ) (face : Face
   abbrev P : ℕ → ℕ → ℕ → Wire → Wire → Type 0
   P moved expired reported w w' = Pays service tei v moved expired reported w w'
 
-  abbrev Rung : ℕ → List ControlFrame → List Parts → Endpoint → Type 0
+  abbrev Rung : Tries → List ControlFrame → List Parts → Endpoint → Type 0
   Rung k ws way s = Held c service tei p [] s (end t (ringing k ws) way)
 
   abbrev moved_by : EndStep → Wire → ℕ
@@ -91,7 +91,7 @@ module _ (service : Service) (tei : ℕ) (c d : Config) (p q : ℕ) (face : Face
 
   -- ---- the near end takes
 
-  module _ (k : ℕ) (ws : List ControlFrame) (way : List Parts) (w : Wire) (near : Rung k ws way w.near) (f : FarEnd w.far) where
+  module _ (k : Tries) (ws : List ControlFrame) (way : List Parts) (w : Wire) (near : Rung k ws way w.near) (f : FarEnd w.far) where
     nothing-takes : f.m.way ≡ [] → P (moved_by receives w) 0 0 w (acting receives w)
     nothing-takes e =
         from-then service tei c d p q [] f.past face v w (end t (ringing k ws) way) f.m near f.held f.none (acting receives w) (moved_by receives w) 0
@@ -180,14 +180,14 @@ module _ (service : Service) (tei : ℕ) (c d : Config) (p q : ℕ) (face : Face
   abbrev FarTakes : Wire → Type 0
   FarTakes w = P (moved_by receives (turned w)) 0 0 w (turned (acting receives (turned w)))
 
-  far-takes-nothing : (k : ℕ) (ws : List ControlFrame) (w : Wire) → Rung k ws [] w.near → FarEnd w.far → FarTakes w
+  far-takes-nothing : (k : Tries) (ws : List ControlFrame) (w : Wire) → Rung k ws [] w.near → FarEnd w.far → FarTakes w
   far-takes-nothing k ws w near f =
       pays-turned service tei v (moved_by receives (turned w)) 0 0 w (acting receives (turned w))
       (from-then service tei d c q p f.past [] back v (turned w) f.m (end t (ringing k ws) []) f.held near (omega arith) (acting receives (turned w)) (moved_by receives (turned w)) 0
       (takes-nothing service tei d c q p f.past [] back v (turned w) f.m (end t (ringing k ws) []) f.held near (omega arith) refl))
 
   -- SABME, for the first time
-  first-sabme : (k : ℕ) (w : Wire) → Rung k [] (sabme t ∷ []) w.near → Down service tei c d p q face back rt ru w.far → FarTakes w
+  first-sabme : (k : Tries) (w : Wire) → Rung k [] (sabme t ∷ []) w.near → Down service tei c d p q face back rt ru w.far → FarTakes w
   first-sabme k w near h =
       let n = end t (ringing k []) (sabme t ∷ []) in
       let m = end u fresh [] in
@@ -198,7 +198,7 @@ module _ (service : Service) (tei : ℕ) (c d : Config) (p q : ℕ) (face : Face
       (takes-well service tei d c q p [] [] back v (turned w) m n h near (omega arith) (sabme t) [] refl well.0 well.1))
 
   -- and again: UA waits, where there is room, for which SABME stood
-  module _ (past : List LineTold) (b : Bool) (k : ℕ) (w : Wire) (near : Rung k [] (sabme t ∷ []) w.near) (h : Away service tei c d p q face back rt ru past b w.far) where
+  module _ (past : List LineTold) (b : Bool) (k : Tries) (w : Wire) (near : Rung k [] (sabme t ∷ []) w.near) (h : Away service tei c d p q face back rt ru past b w.far) where
     abbrev M : LinkEndpoint
     M = h.M
 

@@ -27,7 +27,7 @@ use Rattle.model_card.proofs.OfPorts.PortGoesOn.{frames_among-append}
 use Rattle.model_card.proofs.OfPorts.Pulls.{pulls_are_takes}
 use Rattle.model_card.proofs.OfPorts.Reaching.{reached_sound, reached_after_all}
 use Rattle.model_card.proofs.OfPorts.Steps.{moments-append, config_stays as octets_config_stays}
-use Rattle.model_card.specs.ports.Pulls.{pulls_behind, most_pulls_behind, pulls_of}
+use Rattle.model_card.specs.ports.Pulls.{most_pulls_behind, pulls_of}
 use Rattle.laws_line.proofs.OfCard.Spelling.{head}
 use Rattle.lapd_frame.specs.Grammar.{head_of}
 use Rattle.lapd_frame.specs.Senders.{renamed}
@@ -256,8 +256,7 @@ waiting_heard m events r all number link tei few some on up enough =
     let n = most_frames_before c + priority_added_at number m.card meant + 1 in
     let s = reached_sound m r in
     let fs = (link_at link (line_at number m.card)).waiting in
-    let most = pulls_are_takes.most c r.events number r.config r.at_lines few n in
-    let pulls = subst (λ m. pulls_behind c.n201 (port_at number m) n ≤ most_pulls_behind c.n201 n) (sym r.same) most in
+    let pulls = pulls_are_takes.most m number r few n in
     subst (AreHeardSince c.n201 (port_at number m).given (port_at number (after_all m events)).given)
     (all-octets (control_text c link tei) (text-octets m.card number link tei s.card few (stays-now number link tei m.card meant on)) fs)
     (given_heard m events number (map (control_text c link tei) fs) r all few

@@ -1,10 +1,10 @@
 -- Own busy begins at one of two ends that are ready: RNR goes to the other, and then what the busy end gives arrives.
 use Rattle.laws_link.proofs.Vocabulary.{◌≡◌, ℕ, suc, ◌+◌, ◌-◌, ◌<◌, ◌≤◌, Bool, true, false, cond, List, [], ◌∷◌, ◌++◌, length, take, Option, Some, refl, sym, ap, subst, ◌∙◌, append-nil, arith, nat_lt, slice_get, unwrap_or, lt-ltb, le-ltb, ltb-true, and_parts, seq, named, LinkTimer, T200, ControlFrame, Terms, Link, frame, received, requested, SetBusy, Course, begun, Endpoint, Ends, with_link}
-use Rattle.laws_link.proofs.Vocabulary.{with_first_of, without_first, sound-after, IsReady, IsTaken, HasUnsent, rounds, GetsThrough, with_near_busy, with_far_busy, ErrorCode, State, by_number, failed, acknowledged_by_information_in_7, may_send_information}
+use Rattle.laws_link.proofs.Vocabulary.{LinkCounts, with_information_sent, with_first_of, without_first, sound-after, IsReady, IsTaken, HasUnsent, rounds, GetsThrough, with_near_busy, with_far_busy, ErrorCode, State, by_number, failed, acknowledged_by_information_in_7, may_send_information}
 use Rattle.laws_link.proofs.OfTwo.Plain.{plain, plain_end, is_plain, with_information, information_frame, acknowledgement_frame, gives-information, gives-acknowledgement, gives-nothing}
 use Rattle.laws_link.proofs.OfTwo.Halves.{named-number, fits-at}
 use Rattle.laws_link.proofs.OfTwo.Arriving.{near_moves, far_moves}
-use Rattle.laws_link.proofs.OfTwo.Shapes.{in_7_with, having}
+use Rattle.laws_link.proofs.OfTwo.Shapes.{in_7_with, having, tallied}
 use Rattle.laws_link.proofs.OfTwo.Acknowledging.{Acknowledges, by-rr, by-information}
 use Rattle.laws_link.proofs.OfTwo.Recovering.{Sounds, sounds-near, sounds-far}
 use Rattle.laws_link.proofs.OfTwo.Recovery.{after-round}
@@ -63,20 +63,20 @@ module _ (u : ℕ) (n m : Endpoint) (hn : IsReady n) (hm : IsReady m) (there : I
   delivered = there.delivered ∙ ap (λ i. take i n.link.contents) there.received
 
   -- the busy end gives its report: then they are a pair
-  abbrev reported : ℕ → ℕ → Bool → Option LinkTimer → Ends
-  reported a s' p running =
-      record { near = in_7_with true false n [] a n.link.s false running n.delivered; far = in_7_with false true m [] n.link.r s' p (Some T200) m.delivered }
+  abbrev reported : ℕ → LinkCounts → ℕ → ℕ → Bool → Option LinkTimer → Ends
+  reported g k a s' p running =
+      record { near = in_7_with true false n [] a n.link.s false running n.delivered; far = in_7_with false true (tallied g k m) [] n.link.r s' p (Some T200) m.delivered }
 
-  pair : (a s' : ℕ) (p : Bool) (running : Option LinkTimer) → m.link.s ≤ s' → (a < n.link.s → p ≡ true) → Sounds (reported a s' p running)
-      → Paired true n.link.r n.delivered n.link.contents m.link.contents (reported a s' p running).near (reported a s' p running).far
-  pair a s' p running up owed s = grind (arith, delivered)
+  pair : (g : ℕ) (k : LinkCounts) (a s' : ℕ) (p : Bool) (running : Option LinkTimer) → m.link.s ≤ s' → (a < n.link.s → p ≡ true) → Sounds (reported g k a s' p running)
+      → Paired true n.link.r n.delivered n.link.contents m.link.contents (reported g k a s' p running).near (reported g k a s' p running).far
+  pair g k a s' p running up owed s = grind (arith, delivered)
 
   -- The busy end is near.
   module _ where
     abbrev near_first : Ends
     near_first = record { near = reporting n; far = m }
 
-    near-one : near_moves near_first ≡ reported n.link.a m.link.s m.link.pending n.link.running
+    near-one : near_moves near_first ≡ reported m.link.again m.link.counts n.link.a m.link.s m.link.pending n.link.running
     near-one =
         ap (λ y. near_moves (record { near = reporting n; far = y })) (is_plain m hm)
         ∙ ap (λ y. record { near = in_7_with true false n [] n.link.a n.link.s false n.link.running n.delivered; far = y })
@@ -84,8 +84,8 @@ module _ (u : ℕ) (n m : Endpoint) (hn : IsReady n) (hm : IsReady m) (there : I
 
     pub near-begun : Sounds near_first → Done true n.link.r n.delivered n.link.contents m.link.contents (rounds (u + 2) near_first).near (rounds (u + 2) near_first).far
     near-begun h =
-        let e1 = reported n.link.a m.link.s m.link.pending n.link.running in
-        let p = pair n.link.a m.link.s m.link.pending n.link.running (omega arith) there.owed (subst Sounds near-one (sounds-near near_first h)) in
+        let e1 = reported m.link.again m.link.counts n.link.a m.link.s m.link.pending n.link.running in
+        let p = pair m.link.again m.link.counts n.link.a m.link.s m.link.pending n.link.running (omega arith) there.owed (subst Sounds near-one (sounds-near near_first h)) in
         let x = first-open u true n.link.r n.delivered n.link.contents m.link.contents e1.near e1.far p un in
         one-passed (λ e. Done true n.link.r n.delivered n.link.contents m.link.contents e.near e.far) u near_first
         (subst (λ e. Done true n.link.r n.delivered n.link.contents m.link.contents (rounds (u + 1) (far_moves e)).near (rounds (u + 1) (far_moves e)).far) (sym near-one)
@@ -96,23 +96,23 @@ module _ (u : ℕ) (n m : Endpoint) (hn : IsReady n) (hm : IsReady m) (there : I
     abbrev far_first : Ends
     far_first = record { near = m; far = reporting n }
 
-    abbrev far_heard : ℕ → ℕ → Bool → Option LinkTimer → Option LinkTimer → Ends
-    far_heard a s' p running running' =
-        record { near = in_7_with false false m [] m.link.a s' p running' m.delivered; far = in_7_with true false n (busy_report n.link.r ∷ []) a n.link.s false running n.delivered }
+    abbrev far_heard : ℕ → LinkCounts → ℕ → ℕ → Bool → Option LinkTimer → Option LinkTimer → Ends
+    far_heard g k a s' p running running' =
+        record { near = in_7_with false false (tallied g k m) [] m.link.a s' p running' m.delivered; far = in_7_with true false n (busy_report n.link.r ∷ []) a n.link.s false running n.delivered }
 
     abbrev FarDone : Ends → Type 0
     FarDone e = Done true n.link.r n.delivered n.link.contents m.link.contents (rounds (u + 1) (far_moves e)).far (rounds (u + 1) (far_moves e)).near
 
-    after-heard : (a s' : ℕ) (p : Bool) (running running' : Option LinkTimer) → m.link.s ≤ s' → s' ≤ m.link.a + 127 → (a < n.link.s → p ≡ true)
-        → Sounds (far_heard a s' p running running') → FarDone (far_heard a s' p running running')
-    after-heard a s' p running running' up within owed h =
-        let e2 = reported a s' p running in
-        let next : far_moves (far_heard a s' p running running') ≡ record { near = e2.far; far = e2.near } =
-        ap (λ x. record { near = x; far = e2.near }) (learns-7 m false [] m.link.a s' p running' m.delivered n.terms n.link.r n.link.r (names-r s' up within)) in
-        let s = subst Sounds next (sounds-far (far_heard a s' p running running') h) in
+    after-heard : (g : ℕ) (k : LinkCounts) (a s' : ℕ) (p : Bool) (running running' : Option LinkTimer) → m.link.s ≤ s' → s' ≤ m.link.a + 127 → (a < n.link.s → p ≡ true)
+        → Sounds (far_heard g k a s' p running running') → FarDone (far_heard g k a s' p running running')
+    after-heard g k a s' p running running' up within owed h =
+        let e2 = reported g k a s' p running in
+        let next : far_moves (far_heard g k a s' p running running') ≡ record { near = e2.far; far = e2.near } =
+        ap (λ x. record { near = x; far = e2.near }) (learns-7 (tallied g k m) false [] m.link.a s' p running' m.delivered n.terms n.link.r n.link.r (names-r s' up within)) in
+        let s = subst Sounds next (sounds-far (far_heard g k a s' p running running') h) in
         subst (λ e. Done true n.link.r n.delivered n.link.contents m.link.contents (rounds (u + 1) e).far (rounds (u + 1) e).near) (sym next)
         (from-far u true n.link.r n.delivered n.link.contents m.link.contents (record { near = e2.far; far = e2.near })
-        (pair a s' p running up owed (record { near_ranges = s.far_ranges; far_ranges = s.near_ranges; near = s.far; far = s.near })) un)
+        (pair g k a s' p running up owed (record { near_ranges = s.far_ranges; far_ranges = s.near_ranges; near = s.far; far = s.near })) un)
 
     abbrev giving : Endpoint → Ends
     giving x = record { near = without_first x; far = with_first_of x.way (reporting n) }
@@ -129,21 +129,21 @@ module _ (u : ℕ) (n m : Endpoint) (hn : IsReady n) (hm : IsReady m) (there : I
         let d = drops n (busy_report n.link.r ∷ []) n.link.a n.link.s false n.link.running n.delivered m.terms m.link n.link.s (grind (arith, named-number)) hn.sound.ordered
         (le-ltb n.terms.n201 (length (unwrap_or (slice_get m.link.contents m.link.s) [])) (fits-at n.terms.n201 m.link.contents m.link.s back.sizes)) in
         let running' = (with_information m.link).running in
-        let next : near_moves far_first ≡ far_heard n.link.s (m.link.s + 1) false d.running running' =
+        let next : near_moves far_first ≡ far_heard (m.link.again - 1) (with_information_sent m.link.again m.link.counts) n.link.s (m.link.s + 1) false d.running running' =
         plain-first ∙ ap giving (gives-information false false m may) ∙ ap (λ y. record { near = record m { link = with_information m.link; way = [] }; far = y }) d.is in
-        subst FarDone (sym next) (after-heard n.link.s (m.link.s + 1) false d.running running' (omega arith) (omega arith) (λ less. absurd (omega (arith, less))) (subst Sounds next (sounds-near far_first h)))
+        subst FarDone (sym next) (after-heard (m.link.again - 1) (with_information_sent m.link.again m.link.counts) n.link.s (m.link.s + 1) false d.running running' (omega arith) (omega arith) (λ less. absurd (omega (arith, less))) (subst Sounds next (sounds-near far_first h)))
 
     acknowledges : may_send_information m.terms (plain m.link) ≡ false → m.link.pending ≡ true → Sounds far_first → FarDone (near_moves far_first)
     acknowledges may owed h =
         let d = notes n (busy_report n.link.r ∷ []) n.link.a n.link.s false n.link.running n.delivered m.terms m.link n.link.s (grind (arith, named-number)) hn.sound.ordered in
-        let next : near_moves far_first ≡ far_heard n.link.s m.link.s false d.running m.link.running =
+        let next : near_moves far_first ≡ far_heard m.link.again m.link.counts n.link.s m.link.s false d.running m.link.running =
         plain-first ∙ ap giving (gives-acknowledgement false false m may owed) ∙ ap (λ y. record { near = record m { link = record (plain m.link) { pending = false }; way = [] }; far = y }) d.is in
-        subst FarDone (sym next) (after-heard n.link.s m.link.s false d.running m.link.running (omega arith) within-m (λ less. absurd (omega (arith, less))) (subst Sounds next (sounds-near far_first h)))
+        subst FarDone (sym next) (after-heard m.link.again m.link.counts n.link.s m.link.s false d.running m.link.running (omega arith) within-m (λ less. absurd (omega (arith, less))) (subst Sounds next (sounds-near far_first h)))
 
     rests : may_send_information m.terms (plain m.link) ≡ false → m.link.pending ≡ false → Sounds far_first → FarDone (near_moves far_first)
     rests may owed h =
-        let next : near_moves far_first ≡ far_heard n.link.a m.link.s false n.link.running m.link.running = plain-first ∙ ap giving (gives-nothing false false m may owed) in
-        subst FarDone (sym next) (after-heard n.link.a m.link.s false n.link.running m.link.running (omega arith) within-m (λ less. sym owed ∙ there.owed less) (subst Sounds next (sounds-near far_first h)))
+        let next : near_moves far_first ≡ far_heard m.link.again m.link.counts n.link.a m.link.s false n.link.running m.link.running = plain-first ∙ ap giving (gives-nothing false false m may owed) in
+        subst FarDone (sym next) (after-heard m.link.again m.link.counts n.link.a m.link.s false n.link.running m.link.running (omega arith) within-m (λ less. sym owed ∙ there.owed less) (subst Sounds next (sounds-near far_first h)))
 
     by-flags : (may owed : Bool) → may_send_information m.terms (plain m.link) ≡ may → m.link.pending ≡ owed → Sounds far_first → FarDone (near_moves far_first)
     by-flags may owed e p = grind (arith, informs, acknowledges, rests)

@@ -1,10 +1,11 @@
 -- After the loss of all frames, an end that is busy itself and the other, of which each asks or has nothing outstanding:
 -- after a round or two both are in state 7, and what was sent is taken.
 use Rattle.laws_link.proofs.Vocabulary.{◌≡◌, ℕ, suc, ◌+◌, ◌-◌, ◌<◌, ◌≤◌, Bool, true, false, cond, ◌==◌, List, [], ◌∷◌, ◌++◌, length, take, Option, Some, refl, sym, ap, subst, ◌∙◌, eq-eqb, arith, nat_lt, slice_get, unwrap_or, le-ltb, ltb-true, and_parts, seq, named, LinkTimer, T200, T203, IsSound, Endpoint, Ends, with_first_of, without_first, HasUnsent, may_send_information}
+use Rattle.laws_link.proofs.Vocabulary.{LinkCounts, with_information_sent}
 use Rattle.laws_link.proofs.OfTwo.Plain.{plain, plain_with, plain_end, plain_end_with, with_information_with, gives-information, gives-acknowledgement, gives-nothing}
 use Rattle.laws_link.proofs.OfTwo.Halves.{named-number, fits-at, take-one}
 use Rattle.laws_link.proofs.OfTwo.Arriving.{near_moves, far_moves}
-use Rattle.laws_link.proofs.OfTwo.Shapes.{enquiry, reply, enquiry_with, reply_with, in_8, in_8_with, in_7, in_7_with, with_one_more, asked-8, answered-8, acknowledged-8, informed-8, asked-7}
+use Rattle.laws_link.proofs.OfTwo.Shapes.{enquiry, reply, enquiry_with, reply_with, in_8, in_8_with, in_7, in_7_with, going_back, tallied, with_one_more, asked-8, answered-8, acknowledged-8, informed-8, asked-7}
 use Rattle.laws_link.proofs.OfTwo.Recovering.{Sounds, sounds-near, sounds-far, Between, room-0, room-1, names-a, names-r}
 use Rattle.laws_link.proofs.OfTwo.BusyShapes.{heeds-8, heeds-7, learns-8, drops-8}
 use Rattle.laws_link.proofs.OfTwo.BusyRounds.{Paired}
@@ -33,10 +34,10 @@ module _ (u v : ℕ) (cn cm : List (List ℕ)) (n m : Endpoint) (there : Between
     asking_m = in_8 m (enquiry m.link.r ∷ []) bm m.link.a false m.delivered
 
     abbrev answered_n : Endpoint
-    answered_n = in_7_with true false n [] m.link.r m.link.r false (Some T203) n.delivered
+    answered_n = in_7_with true false (going_back m.link.r n) [] m.link.r m.link.r false (Some T203) n.delivered
 
     abbrev answered_m : Endpoint
-    answered_m = in_7_with false true m [] n.link.r n.link.r false (Some T200) m.delivered
+    answered_m = in_7_with false true (going_back n.link.r m) [] n.link.r n.link.r false (Some T200) m.delivered
 
     -- the busy end is near
     abbrev n_1 : Ends
@@ -46,7 +47,7 @@ module _ (u v : ℕ) (cn cm : List (List ℕ)) (n m : Endpoint) (there : Between
     n_2 = record { near = in_8_with true n (reply_with true n.link.r ∷ []) false m.link.r false n.delivered; far = in_8 m (reply m.link.r ∷ []) true n.link.r false m.delivered }
 
     abbrev n_3 : Ends
-    n_3 = record { near = in_8_with true n [] false m.link.r false n.delivered; far = in_7_with false true m (reply m.link.r ∷ []) n.link.r n.link.r false (Some T200) m.delivered }
+    n_3 = record { near = in_8_with true n [] false m.link.r false n.delivered; far = in_7_with false true (going_back n.link.r m) (reply m.link.r ∷ []) n.link.r n.link.r false (Some T200) m.delivered }
 
     near-1 : near_moves (record { near = asking_n; far = asking_m }) ≡ n_1
     near-1 =
@@ -85,7 +86,7 @@ module _ (u v : ℕ) (cn cm : List (List ℕ)) (n m : Endpoint) (there : Between
     f_2 = record { near = in_8 m (reply m.link.r ∷ []) true n.link.r false m.delivered; far = in_8_with true n (reply_with true n.link.r ∷ []) false m.link.r false n.delivered }
 
     abbrev f_3 : Ends
-    f_3 = record { near = in_8 m [] true n.link.r false m.delivered; far = in_7_with true false n (reply_with true n.link.r ∷ []) m.link.r m.link.r false (Some T203) n.delivered }
+    f_3 = record { near = in_8 m [] true n.link.r false m.delivered; far = in_7_with true false (going_back m.link.r n) (reply_with true n.link.r ∷ []) m.link.r m.link.r false (Some T203) n.delivered }
 
     far-1 : near_moves (record { near = asking_m; far = asking_n }) ≡ f_1
     far-1 =
@@ -125,7 +126,7 @@ module _ (u v : ℕ) (cn cm : List (List ℕ)) (n m : Endpoint) (there : Between
     other_replies = record { near = in_8_with true n [] bn n.link.a false n.delivered; far = in_7_with false true m (reply m.link.r ∷ []) n.link.r m.link.s false (Some T200) m.delivered }
 
     abbrev busy_answered : Ends
-    busy_answered = record { near = in_7_with true false n [] m.link.r m.link.r false (Some T203) n.delivered; far = in_7_with false true m [] n.link.r m.link.s false (Some T200) m.delivered }
+    busy_answered = record { near = in_7_with true false (going_back m.link.r n) [] m.link.r m.link.r false (Some T203) n.delivered; far = in_7_with false true m [] n.link.r m.link.s false (Some T200) m.delivered }
 
     busy-1 : near_moves busy_asks ≡ other_replies
     busy-1 =
@@ -154,7 +155,7 @@ module _ (u v : ℕ) (cn cm : List (List ℕ)) (n m : Endpoint) (there : Between
     busy_replies = record { near = in_8 m [] bm m.link.a false m.delivered; far = in_7_with true false n (reply_with true n.link.r ∷ []) n.link.a n.link.s false later n.delivered }
 
     abbrev other_answered : Ends
-    other_answered = record { near = in_7_with false true m [] n.link.r n.link.r false (Some T200) m.delivered; far = in_7_with true false n [] n.link.a n.link.s false later n.delivered }
+    other_answered = record { near = in_7_with false true (going_back n.link.r m) [] n.link.r n.link.r false (Some T200) m.delivered; far = in_7_with true false n [] n.link.a n.link.s false later n.delivered }
 
     other-1 : near_moves other_asks ≡ busy_replies
     other-1 =
@@ -180,32 +181,32 @@ module _ (u v : ℕ) (cn cm : List (List ℕ)) (n m : Endpoint) (there : Between
     with_received r q = record m { link = record m.link { r = r; rejecting = q } }
 
     -- what far has made of near's frame, if there was one
-    abbrev heard : ℕ → ℕ → Bool → Bool → Bool → Option LinkTimer → List (List ℕ) → Ends
-    heard r' a' q b p running ds =
-        record { near = in_7_with true false n [] n.link.a r' false running n.delivered; far = in_8 (with_received r' q) (enquiry m.link.r ∷ []) b a' p ds }
+    abbrev heard : ℕ → LinkCounts → ℕ → ℕ → Bool → Bool → Bool → Option LinkTimer → List (List ℕ) → Ends
+    heard g k r' a' q b p running ds =
+        record { near = in_7_with true false (tallied g k n) [] n.link.a r' false running n.delivered; far = in_8 (with_received r' q) (enquiry m.link.r ∷ []) b a' p ds }
 
-    module _ (r' a' : ℕ) (q b p : Bool) (running : Option LinkTimer) (ds : List (List ℕ)) where
+    module _ (g : ℕ) (k : LinkCounts) (r' a' : ℕ) (q b p : Bool) (running : Option LinkTimer) (ds : List (List ℕ)) where
       abbrev then_later : Option LinkTimer
       then_later = cond (n.link.a == r') (Some T203) running
 
       abbrev then_replied : Ends
-      then_replied = record { near = in_7_with true false n (reply_with true n.link.r ∷ []) n.link.a r' false then_later n.delivered; far = in_8 (with_received r' q) [] b a' p ds }
+      then_replied = record { near = in_7_with true false (tallied g k n) (reply_with true n.link.r ∷ []) n.link.a r' false then_later n.delivered; far = in_8 (with_received r' q) [] b a' p ds }
 
       abbrev then_answered : Ends
-      then_answered = record { near = in_7_with true false n [] n.link.a r' false then_later n.delivered; far = in_7_with false true (with_received r' q) [] n.link.r n.link.r p (Some T200) ds }
+      then_answered = record { near = in_7_with true false (tallied g k n) [] n.link.a r' false then_later n.delivered; far = in_7_with false true (going_back n.link.r (with_received r' q)) [] n.link.r n.link.r p (Some T200) ds }
 
       heard-near : named a' m.link.s (seq n.link.r) ≡ Some n.link.r → n.link.a ≤ r' → r' ≤ n.link.a + 127 → ds ≡ take r' n.link.contents → (n.link.a < r' → p ≡ true)
-          → length n.link.contents ≤ r' + u → Sounds (heard r' a' q b p running ds) → NearReady true (near_moves (far_moves (heard r' a' q b p running ds)))
+          → length n.link.contents ≤ r' + u → Sounds (heard g k r' a' q b p running ds) → NearReady true (near_moves (far_moves (heard g k r' a' q b p running ds)))
       heard-near names up within delivered owed left h =
-          let one : far_moves (heard r' a' q b p running ds) ≡ then_replied =
+          let one : far_moves (heard g k r' a' q b p running ds) ≡ then_replied =
           ap (λ x. record { near = x; far = in_8 (with_received r' q) [] b a' p ds })
-          (asked-7 true n n.link.a r' false running n.delivered m.terms m.link.r (room-0 n there.ranges)
+          (asked-7 true (tallied g k n) n.link.a r' false running n.delivered m.terms m.link.r (room-0 n there.ranges)
           (subst (λ i. named n.link.a r' (seq i) ≡ Some n.link.a) (grind arith) (named-number n.link.a r' n.link.a (omega arith) up within))) in
           let two : near_moves then_replied ≡ then_answered =
-          ap (λ y. record { near = in_7_with true false n [] n.link.a r' false then_later n.delivered; far = y })
+          ap (λ y. record { near = in_7_with true false (tallied g k n) [] n.link.a r' false then_later n.delivered; far = y })
           (learns-8 (with_received r' q) [] b a' p ds n.terms n.link.r n.link.r names) in
           let both = ap near_moves one ∙ two in
-          let s = subst Sounds both (sounds-near (far_moves (heard r' a' q b p running ds)) (sounds-far (heard r' a' q b p running ds) h)) in
+          let s = subst Sounds both (sounds-near (far_moves (heard g k r' a' q b p running ds)) (sounds-far (heard g k r' a' q b p running ds) h)) in
           grind arith
 
     abbrev BeganReady : Type 0
@@ -218,26 +219,26 @@ module _ (u v : ℕ) (cn cm : List (List ℕ)) (n m : Endpoint) (there : Between
         let octets = unwrap_or (slice_get n.link.contents n.link.s) [] in
         let running = (with_information_with true false n.link).running in
         let one : suc n.link.s ≡ m.link.r + 1 = omega arith in
-        let next : near_moves other_began ≡ heard (m.link.r + 1) n.link.r false bm true running (m.delivered ++ octets ∷ []) =
+        let next : near_moves other_began ≡ heard (n.link.again - 1) (with_information_sent n.link.again n.link.counts) (m.link.r + 1) n.link.r false bm true running (m.delivered ++ octets ∷ []) =
         ap (λ x. record { near = without_first x; far = with_first_of x.way (in_8 m (enquiry m.link.r ∷ []) bm m.link.a false m.delivered) }) (gives-information true false n may)
         ∙ ap (λ y. record { near = record n { link = with_information_with true false n.link; way = [] }; far = y })
         (informed-8 m (enquiry m.link.r ∷ []) bm m.link.a false m.delivered n.terms n.link n.link.r
         (le-ltb m.terms.n201 (length octets) (fits-at m.terms.n201 n.link.contents n.link.s there.sizes))
         (eq-eqb (seq n.link.s).value (seq m.link.r).value (ap (λ i. (seq i).value) (grind arith))) (names-a m n back))
-        ∙ ap (λ i. record { near = in_7_with true false n [] n.link.a (i + 1) false running n.delivered; far = in_8 (with_one_more m) (enquiry m.link.r ∷ []) bm n.link.r true (m.delivered ++ octets ∷ []) }) (grind arith) in
+        ∙ ap (λ i. record { near = in_7_with true false (tallied (n.link.again - 1) (with_information_sent n.link.again n.link.counts) n) [] n.link.a (i + 1) false running n.delivered; far = in_8 (with_one_more m) (enquiry m.link.r ∷ []) bm n.link.r true (m.delivered ++ octets ∷ []) }) (grind arith) in
         let left : length n.link.contents ≤ m.link.r + u = there.left in
         subst (λ e. NearReady true (near_moves (far_moves e))) (sym next)
-        (heard-near (m.link.r + 1) n.link.r false bm true running (m.delivered ++ octets ∷ []) (names-r m n back) (omega arith) (omega arith)
+        (heard-near (n.link.again - 1) (with_information_sent n.link.again n.link.counts) (m.link.r + 1) n.link.r false bm true running (m.delivered ++ octets ∷ []) (names-r m n back) (omega arith) (omega arith)
         (ap (λ ds. ds ++ octets ∷ []) (there.delivered ∙ ap (λ i. take i n.link.contents) (sym (grind arith))) ∙ take-one n.link.contents n.link.s unsent ∙ ap (λ i. take i n.link.contents) one)
         (λ less. refl) (omega (arith, left)) (subst Sounds next (sounds-near other_began sounds)))
 
     began-nothing : may_send_information n.terms (plain_with true false n.link) ≡ false → Sounds other_began → BeganReady
     began-nothing may sounds =
-        let next : near_moves other_began ≡ heard m.link.r m.link.a m.link.rejecting bm false n.link.running m.delivered =
+        let next : near_moves other_began ≡ heard n.link.again n.link.counts m.link.r m.link.a m.link.rejecting bm false n.link.running m.delivered =
         ap (λ x. record { near = without_first x; far = with_first_of x.way (in_8 m (enquiry m.link.r ∷ []) bm m.link.a false m.delivered) }) (gives-nothing true false n may quiet)
         ∙ ap (λ i. record { near = in_7_with true false n [] n.link.a i false n.link.running n.delivered; far = in_8 m (enquiry m.link.r ∷ []) bm m.link.a false m.delivered }) (grind arith) in
         subst (λ e. NearReady true (near_moves (far_moves e))) (sym next)
-        (heard-near m.link.r m.link.a m.link.rejecting bm false n.link.running m.delivered (names-a m n back) there.low (omega arith) there.delivered
+        (heard-near n.link.again n.link.counts m.link.r m.link.a m.link.rejecting bm false n.link.running m.delivered (names-a m n back) there.low (omega arith) there.delivered
         (λ less. absurd (omega (arith, less))) there.left (subst Sounds next (sounds-near other_began sounds)))
 
     pub other-began : Sounds other_began → BeganReady
@@ -249,29 +250,29 @@ module _ (u v : ℕ) (cn cm : List (List ℕ)) (n m : Endpoint) (there : Between
     busy_began = record { near = plain_end m; far = in_8_with true n (enquiry_with true n.link.r ∷ []) bn n.link.a false n.delivered }
 
     -- what far has made of near's frame, if there was one
-    abbrev noted : ℕ → ℕ → Bool → Option LinkTimer → Ends
-    noted s' a' b running =
-        record { near = in_7 m [] m.link.a s' false running m.delivered; far = in_8_with true n (enquiry_with true n.link.r ∷ []) b a' false n.delivered }
+    abbrev noted : ℕ → LinkCounts → ℕ → ℕ → Bool → Option LinkTimer → Ends
+    noted g k s' a' b running =
+        record { near = in_7 (tallied g k m) [] m.link.a s' false running m.delivered; far = in_8_with true n (enquiry_with true n.link.r ∷ []) b a' false n.delivered }
 
-    module _ (s' a' : ℕ) (b : Bool) (running : Option LinkTimer) where
+    module _ (g : ℕ) (k : LinkCounts) (s' a' : ℕ) (b : Bool) (running : Option LinkTimer) where
       abbrev noted_replied : Ends
-      noted_replied = record { near = in_7_with false true m (reply m.link.r ∷ []) n.link.r s' false (Some T200) m.delivered; far = in_8_with true n [] b a' false n.delivered }
+      noted_replied = record { near = in_7_with false true (tallied g k m) (reply m.link.r ∷ []) n.link.r s' false (Some T200) m.delivered; far = in_8_with true n [] b a' false n.delivered }
 
       abbrev noted_answered : Ends
-      noted_answered = record { near = in_7_with false true m [] n.link.r s' false (Some T200) m.delivered; far = in_7_with true false n [] m.link.r m.link.r false (Some T203) n.delivered }
+      noted_answered = record { near = in_7_with false true (tallied g k m) [] n.link.r s' false (Some T200) m.delivered; far = in_7_with true false (going_back m.link.r n) [] m.link.r m.link.r false (Some T203) n.delivered }
 
-      noted-far : named a' n.link.s (seq m.link.r) ≡ Some m.link.r → m.link.s ≤ s' → s' ≤ m.link.a + 127 → Sounds (noted s' a' b running)
-          → FarReady true (near_moves (far_moves (noted s' a' b running)))
+      noted-far : named a' n.link.s (seq m.link.r) ≡ Some m.link.r → m.link.s ≤ s' → s' ≤ m.link.a + 127 → Sounds (noted g k s' a' b running)
+          → FarReady true (near_moves (far_moves (noted g k s' a' b running)))
       noted-far names up within h =
           let low : m.link.a ≤ n.link.r = back.low in
-          let one : far_moves (noted s' a' b running) ≡ noted_replied =
+          let one : far_moves (noted g k s' a' b running) ≡ noted_replied =
           ap (λ x. record { near = x; far = in_8_with true n [] b a' false n.delivered })
-          (heeds-7 m false [] m.link.a s' false running m.delivered n.terms n.link.r n.link.r (room-0 m back.ranges) (named-number m.link.a s' n.link.r low (omega arith) within)) in
+          (heeds-7 (tallied g k m) false [] m.link.a s' false running m.delivered n.terms n.link.r n.link.r (room-0 m back.ranges) (named-number m.link.a s' n.link.r low (omega arith) within)) in
           let two : near_moves noted_replied ≡ noted_answered =
-          ap (λ y. record { near = in_7_with false true m [] n.link.r s' false (Some T200) m.delivered; far = y })
+          ap (λ y. record { near = in_7_with false true (tallied g k m) [] n.link.r s' false (Some T200) m.delivered; far = y })
           (answered-8 true n [] b a' false n.delivered m.terms m.link.r m.link.r names) in
           let both = ap near_moves one ∙ two in
-          let s = subst Sounds both (sounds-near (far_moves (noted s' a' b running)) (sounds-far (noted s' a' b running) h)) in
+          let s = subst Sounds both (sounds-near (far_moves (noted g k s' a' b running)) (sounds-far (noted g k s' a' b running) h)) in
           grind arith
 
     abbrev NotedReady : Type 0
@@ -283,28 +284,28 @@ module _ (u v : ℕ) (cn cm : List (List ℕ)) (n m : Endpoint) (there : Between
     noted-information : may_send_information m.terms (plain m.link) ≡ true → Sounds busy_began → NotedReady
     noted-information may sounds =
         let running = (with_information_with false false m.link).running in
-        let next : near_moves busy_began ≡ noted (m.link.s + 1) m.link.r bn running =
+        let next : near_moves busy_began ≡ noted (m.link.again - 1) (with_information_sent m.link.again m.link.counts) (m.link.s + 1) m.link.r bn running =
         ap giving_far (gives-information false false m may)
         ∙ ap (λ y. record { near = record m { link = with_information_with false false m.link; way = [] }; far = y })
         (drops-8 n (enquiry_with true n.link.r ∷ []) bn n.link.a false n.delivered m.terms m.link m.link.r
         (le-ltb n.terms.n201 (length (unwrap_or (slice_get m.link.contents m.link.s) [])) (fits-at n.terms.n201 m.link.contents m.link.s back.sizes)) (names-a n m there)) in
         subst (λ e. FarReady true (near_moves (far_moves e))) (sym next)
-        (noted-far (m.link.s + 1) m.link.r bn running (names-r n m there) (omega arith) (omega (arith, all)) (subst Sounds next (sounds-near busy_began sounds)))
+        (noted-far (m.link.again - 1) (with_information_sent m.link.again m.link.counts) (m.link.s + 1) m.link.r bn running (names-r n m there) (omega arith) (omega (arith, all)) (subst Sounds next (sounds-near busy_began sounds)))
 
     noted-note : may_send_information m.terms (plain m.link) ≡ false → m.link.pending ≡ true → Sounds busy_began → NotedReady
     noted-note may owed sounds =
-        let next : near_moves busy_began ≡ noted m.link.s m.link.r false m.link.running =
+        let next : near_moves busy_began ≡ noted m.link.again m.link.counts m.link.s m.link.r false m.link.running =
         ap giving_far (gives-acknowledgement false false m may owed)
         ∙ ap (λ y. record { near = record m { link = record (plain m.link) { pending = false }; way = [] }; far = y })
         (acknowledged-8 true n (enquiry_with true n.link.r ∷ []) bn n.link.a false n.delivered m.terms m.link m.link.r (names-a n m there)) in
         subst (λ e. FarReady true (near_moves (far_moves e))) (sym next)
-        (noted-far m.link.s m.link.r false m.link.running (names-r n m there) (omega arith) back.near (subst Sounds next (sounds-near busy_began sounds)))
+        (noted-far m.link.again m.link.counts m.link.s m.link.r false m.link.running (names-r n m there) (omega arith) back.near (subst Sounds next (sounds-near busy_began sounds)))
 
     noted-nothing : may_send_information m.terms (plain m.link) ≡ false → m.link.pending ≡ false → Sounds busy_began → NotedReady
     noted-nothing may owed sounds =
-        let next : near_moves busy_began ≡ noted m.link.s n.link.a bn m.link.running = ap giving_far (gives-nothing false false m may owed) in
+        let next : near_moves busy_began ≡ noted m.link.again m.link.counts m.link.s n.link.a bn m.link.running = ap giving_far (gives-nothing false false m may owed) in
         subst (λ e. FarReady true (near_moves (far_moves e))) (sym next)
-        (noted-far m.link.s n.link.a bn m.link.running (names-a n m there) (omega arith) back.near (subst Sounds next (sounds-near busy_began sounds)))
+        (noted-far m.link.again m.link.counts m.link.s n.link.a bn m.link.running (names-a n m there) (omega arith) back.near (subst Sounds next (sounds-near busy_began sounds)))
 
     pub busy-began : Sounds busy_began → NotedReady
     busy-began = grind (arith, noted-information, noted-note, noted-nothing)

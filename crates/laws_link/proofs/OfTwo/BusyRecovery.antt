@@ -1,5 +1,5 @@
 -- After the loss of all frames, what an end that is busy itself gives arrives, from the expiry of T200 on.
-use Rattle.laws_link.proofs.Vocabulary.{◌≡◌, ℕ, suc, ◌+◌, ◌≤◌, Bool, true, false, [], ◌∷◌, length, Some, refl, sym, ap, subst, ◌∙◌, ◌⊎◌, inl, inr, arith, T200, T203, Endpoint, Ends, sound-after, rounds, IsCutOff, IsCutOffWith, HasMissing, with_t200_expired, GetsThrough}
+use Rattle.laws_link.proofs.Vocabulary.{LinkCounts, ◌≡◌, ℕ, suc, ◌+◌, ◌≤◌, Bool, true, false, [], ◌∷◌, length, Some, refl, sym, ap, subst, ◌∙◌, ◌⊎◌, inl, inr, arith, T200, T203, Endpoint, Ends, sound-after, rounds, IsCutOff, IsCutOffWith, HasMissing, with_t200_expired, GetsThrough}
 use Rattle.laws_link.proofs.OfTwo.Plain.{plain_end, plain_end_with}
 use Rattle.laws_link.proofs.OfTwo.Halves.{giver_of, taker_of}
 use Rattle.laws_link.proofs.OfTwo.Arriving.{near_moves, far_moves, no-more}
@@ -49,11 +49,11 @@ module _ (u : ℕ) (n m : Endpoint) (hn : IsCutOffWith true n m) (hm : IsCutOff 
   abbrev v : ℕ
   v = length m.link.contents
 
-  there : (b c : ℕ) → Between u n.link.contents (with_count b n) (with_count c m)
-  there b c = between true u u n m b c hn un (omega arith)
+  there : (b : ℕ) (j : LinkCounts) (c : ℕ) (k : LinkCounts) → Between u n.link.contents (with_count b j n) (with_count c k m)
+  there b j c k = between true u u n m b j c k hn un (omega arith)
 
-  back : (b c : ℕ) → Between v m.link.contents (with_count c m) (with_count b n)
-  back b c = between false v v m n c b hm (omega arith) (omega arith)
+  back : (b : ℕ) (j : LinkCounts) (c : ℕ) (k : LinkCounts) → Between v m.link.contents (with_count c k m) (with_count b j n)
+  back b j c k = between false v v m n c k b j hm (omega arith) (omega arith)
 
 -- The busy end is near.
 module _ (u : ℕ) (e : Ends) (hn : IsCutOffWith true e.near e.far) (hm : IsCutOff e.far e.near) (un : HasMissing u e.near e.far) where
@@ -65,22 +65,22 @@ module _ (u : ℕ) (e : Ends) (hn : IsCutOffWith true e.near e.far) (hm : IsCutO
 
   near-both : (x : Asking true e.near (with_t200_expired e).near) (y : Asking false e.far (with_t200_expired e).far) → NearResult
   near-both x y =
-      let n = with_count x.count e.near in
-      let m = with_count y.count e.far in
+      let n = with_count x.count x.counts e.near in
+      let m = with_count y.count y.counts e.far in
       let e0 : Ends = record { near = in_8_with true n (enquiry_with true n.link.r ∷ []) n.link.peer_busy n.link.a false n.delivered; far = in_8 m (enquiry m.link.r ∷ []) m.link.peer_busy m.link.a false m.delivered } in
       let is : with_t200_expired e ≡ e0 = λ i. record { near = x.is i; far = y.is i } in
-      let h = both-near u (v u e.near e.far hn hm un) n.link.contents m.link.contents n m (there u e.near e.far hn hm un x.count y.count) (back u e.near e.far hn hm un x.count y.count) n.link.peer_busy m.link.peer_busy (subst Sounds is (sounds true false e hn hm)) in
+      let h = both-near u (v u e.near e.far hn hm un) n.link.contents m.link.contents n m (there u e.near e.far hn hm un x.count x.counts y.count y.counts) (back u e.near e.far hn hm un x.count x.counts y.count y.counts) n.link.peer_busy m.link.peer_busy (subst Sounds is (sounds true false e hn hm)) in
       subst (λ e'. NearFinished (rounds (u + 3) e')) (sym is)
       (two-passed NearFinished u e0
       (record { busy = true; done = from-near u true n.link.r n.delivered n.link.contents m.link.contents (far_moves (near_moves (far_moves (near_moves e0)))) h.0 h.1; knows = λ some. refl }))
 
   near-one : (x : Asking true e.near (with_t200_expired e).near) (y : Resting false e.far (with_t200_expired e).far) → NearResult
   near-one x y =
-      let n = with_count x.count e.near in
-      let m = with_count e.far.link.repeats e.far in
+      let n = with_count x.count x.counts e.near in
+      let m = with_count e.far.link.repeats e.far.link.counts e.far in
       let e0 : Ends = record { near = in_8_with true n (enquiry_with true n.link.r ∷ []) n.link.peer_busy n.link.a false n.delivered; far = in_7 m [] m.link.a m.link.s m.link.pending y.running m.delivered } in
       let is : with_t200_expired e ≡ e0 = λ i. record { near = x.is i; far = y.is i } in
-      let h = busy-near u (v u e.near e.far hn hm un) n.link.contents m.link.contents n m (there u e.near e.far hn hm un x.count e.far.link.repeats) (back u e.near e.far hn hm un x.count e.far.link.repeats) n.link.peer_busy m.link.pending y.running (subst Sounds is (sounds true false e hn hm)) in
+      let h = busy-near u (v u e.near e.far hn hm un) n.link.contents m.link.contents n m (there u e.near e.far hn hm un x.count x.counts e.far.link.repeats e.far.link.counts) (back u e.near e.far hn hm un x.count x.counts e.far.link.repeats e.far.link.counts) n.link.peer_busy m.link.pending y.running (subst Sounds is (sounds true false e hn hm)) in
       subst (λ e'. NearFinished (rounds (u + 3) e')) (sym is)
       (one-passed NearFinished u e0
       (record { busy = true; done = from-near (u + 1) true n.link.r n.delivered n.link.contents m.link.contents (far_moves (near_moves e0)) h.0 (omega (arith, h.1)); knows = λ some. refl }))
@@ -88,11 +88,11 @@ module _ (u : ℕ) (e : Ends) (hn : IsCutOffWith true e.near e.far) (hm : IsCutO
   near-other : (x : Resting true e.near (with_t200_expired e).near) (y : Asking false e.far (with_t200_expired e).far) → NearResult
   near-other x y =
       let n : Endpoint = record e.near { link = record e.near.link { running = x.running; pending = false } } in
-      let m = with_count y.count e.far in
+      let m = with_count y.count y.counts e.far in
       let e0 : Ends = record { near = plain_end_with true false n; far = in_8 m (enquiry m.link.r ∷ []) m.link.peer_busy m.link.a false m.delivered } in
       let is : with_t200_expired e ≡ e0 = λ i. record { near = (x.is ∙ ap (λ p. in_7_with true false e.near [] e.near.link.a e.near.link.s p x.running e.near.delivered) (hn.sound.owes_nothing hn.own_busy)) i; far = y.is i } in
-      let t = there u e.near e.far hn hm un e.near.link.repeats y.count in
-      let b = back u e.near e.far hn hm un e.near.link.repeats y.count in
+      let t = there u e.near e.far hn hm un e.near.link.repeats e.near.link.counts y.count y.counts in
+      let b = back u e.near e.far hn hm un e.near.link.repeats e.near.link.counts y.count y.counts in
       let t' : Between u n.link.contents n m = record { ranges = t.ranges; kept = t.kept; low = t.low; high = t.high; near = t.near; delivered = t.delivered; sizes = t.sizes; left = t.left } in
       let b' : Between (v u e.near e.far hn hm un) m.link.contents m n = record { ranges = b.ranges; kept = b.kept; low = b.low; high = b.high; near = b.near; delivered = b.delivered; sizes = b.sizes; left = b.left } in
       let e1 = near_moves (far_moves (near_moves e0)) in
@@ -104,12 +104,12 @@ module _ (u : ℕ) (e : Ends) (hn : IsCutOffWith true e.near e.far) (hm : IsCutO
 
   near-none : (x : Resting true e.near (with_t200_expired e).near) (y : Resting false e.far (with_t200_expired e).far) → NearResult
   near-none x y =
-      let n = with_count e.near.link.repeats e.near in
-      let m = with_count e.far.link.repeats e.far in
+      let n = with_count e.near.link.repeats e.near.link.counts e.near in
+      let m = with_count e.far.link.repeats e.far.link.counts e.far in
       let e0 : Ends = record { near = in_7_with true false n [] n.link.a n.link.s false x.running n.delivered; far = in_7 m [] m.link.a m.link.s m.link.pending y.running m.delivered } in
       let is : with_t200_expired e ≡ e0 = λ i. record { near = (x.is ∙ ap (λ p. in_7_with true false e.near [] e.near.link.a e.near.link.s p x.running e.near.delivered) (hn.sound.owes_nothing hn.own_busy)) i; far = y.is i } in
       let s = subst Sounds is (sounds true false e hn hm) in
-      let h = none-asks u (v u e.near e.far hn hm un) n.link.contents m.link.contents n m (there u e.near e.far hn hm un e.near.link.repeats e.far.link.repeats) (back u e.near e.far hn hm un e.near.link.repeats e.far.link.repeats) m.link.pending x.running y.running x.all s.near s.far in
+      let h = none-asks u (v u e.near e.far hn hm un) n.link.contents m.link.contents n m (there u e.near e.far hn hm un e.near.link.repeats e.near.link.counts e.far.link.repeats e.far.link.counts) (back u e.near e.far hn hm un e.near.link.repeats e.near.link.counts e.far.link.repeats e.far.link.counts) m.link.pending x.running y.running x.all s.near s.far in
       let low : n.link.a ≤ m.link.r = hn.low in
       subst (λ e'. NearFinished (rounds (u + 3) e')) (sym is)
       (none-passed NearFinished u e0
@@ -135,23 +135,23 @@ module _ (u : ℕ) (e : Ends) (hn : IsCutOffWith true e.far e.near) (hm : IsCutO
 
   far-both : (x : Asking true e.far (with_t200_expired e).far) (y : Asking false e.near (with_t200_expired e).near) → FarResult
   far-both x y =
-      let n = with_count x.count e.far in
-      let m = with_count y.count e.near in
+      let n = with_count x.count x.counts e.far in
+      let m = with_count y.count y.counts e.near in
       let e0 : Ends = record { near = in_8 m (enquiry m.link.r ∷ []) m.link.peer_busy m.link.a false m.delivered; far = in_8_with true n (enquiry_with true n.link.r ∷ []) n.link.peer_busy n.link.a false n.delivered } in
       let is : with_t200_expired e ≡ e0 = λ i. record { near = y.is i; far = x.is i } in
-      let h = both-far u (v u e.far e.near hn hm un) n.link.contents m.link.contents n m (there u e.far e.near hn hm un x.count y.count) (back u e.far e.near hn hm un x.count y.count) n.link.peer_busy m.link.peer_busy (subst Sounds is (sounds false true e hm hn)) in
+      let h = both-far u (v u e.far e.near hn hm un) n.link.contents m.link.contents n m (there u e.far e.near hn hm un x.count x.counts y.count y.counts) (back u e.far e.near hn hm un x.count x.counts y.count y.counts) n.link.peer_busy m.link.peer_busy (subst Sounds is (sounds false true e hm hn)) in
       subst (λ e'. FarFinished (rounds (u + 3) e')) (sym is)
       (two-passed FarFinished u e0
       (record { busy = true; done = from-far u true n.link.r n.delivered n.link.contents m.link.contents (far_moves (near_moves (far_moves (near_moves e0)))) h.0 h.1; knows = λ some. refl }))
 
   far-one : (x : Asking true e.far (with_t200_expired e).far) (y : Resting false e.near (with_t200_expired e).near) → FarResult
   far-one x y =
-      let n = with_count x.count e.far in
+      let n = with_count x.count x.counts e.far in
       let m : Endpoint = record e.near { link = record e.near.link { running = y.running } } in
       let e0 : Ends = record { near = plain_end m; far = in_8_with true n (enquiry_with true n.link.r ∷ []) n.link.peer_busy n.link.a false n.delivered } in
       let is : with_t200_expired e ≡ e0 = λ i. record { near = y.is i; far = x.is i } in
-      let t = there u e.far e.near hn hm un x.count e.near.link.repeats in
-      let b = back u e.far e.near hn hm un x.count e.near.link.repeats in
+      let t = there u e.far e.near hn hm un x.count x.counts e.near.link.repeats e.near.link.counts in
+      let b = back u e.far e.near hn hm un x.count x.counts e.near.link.repeats e.near.link.counts in
       let t' : Between u n.link.contents n m = record { ranges = t.ranges; kept = t.kept; low = t.low; high = t.high; near = t.near; delivered = t.delivered; sizes = t.sizes; left = t.left } in
       let b' : Between (v u e.far e.near hn hm un) m.link.contents m n = record { ranges = b.ranges; kept = b.kept; low = b.low; high = b.high; near = b.near; delivered = b.delivered; sizes = b.sizes; left = b.left } in
       let e1 = near_moves (far_moves (near_moves e0)) in
@@ -165,23 +165,23 @@ module _ (u : ℕ) (e : Ends) (hn : IsCutOffWith true e.far e.near) (hm : IsCutO
 
   far-other : (x : Resting true e.far (with_t200_expired e).far) (y : Asking false e.near (with_t200_expired e).near) → FarResult
   far-other x y =
-      let n = with_count e.far.link.repeats e.far in
-      let m = with_count y.count e.near in
+      let n = with_count e.far.link.repeats e.far.link.counts e.far in
+      let m = with_count y.count y.counts e.near in
       let e0 : Ends = record { near = in_8 m (enquiry m.link.r ∷ []) m.link.peer_busy m.link.a false m.delivered; far = in_7_with true false n [] n.link.a n.link.s false x.running n.delivered } in
       let is : with_t200_expired e ≡ e0 = λ i. record { near = y.is i; far = (x.is ∙ ap (λ p. in_7_with true false e.far [] e.far.link.a e.far.link.s p x.running e.far.delivered) (hn.sound.owes_nothing hn.own_busy)) i } in
-      let h = other-near u (v u e.far e.near hn hm un) n.link.contents m.link.contents n m (there u e.far e.near hn hm un e.far.link.repeats y.count) (back u e.far e.near hn hm un e.far.link.repeats y.count) m.link.peer_busy x.running x.all (subst Sounds is (sounds false true e hm hn)) in
+      let h = other-near u (v u e.far e.near hn hm un) n.link.contents m.link.contents n m (there u e.far e.near hn hm un e.far.link.repeats e.far.link.counts y.count y.counts) (back u e.far e.near hn hm un e.far.link.repeats e.far.link.counts y.count y.counts) m.link.peer_busy x.running x.all (subst Sounds is (sounds false true e hm hn)) in
       subst (λ e'. FarFinished (rounds (u + 3) e')) (sym is)
       (one-passed FarFinished u e0
       (record { busy = true; done = from-far (u + 1) true n.link.r n.delivered n.link.contents m.link.contents (far_moves (near_moves e0)) h.0 (omega (arith, h.1)); knows = λ some. refl }))
 
   far-none : (x : Resting true e.far (with_t200_expired e).far) (y : Resting false e.near (with_t200_expired e).near) → FarResult
   far-none x y =
-      let n = with_count e.far.link.repeats e.far in
-      let m = with_count e.near.link.repeats e.near in
+      let n = with_count e.far.link.repeats e.far.link.counts e.far in
+      let m = with_count e.near.link.repeats e.near.link.counts e.near in
       let e0 : Ends = record { near = in_7 m [] m.link.a m.link.s m.link.pending y.running m.delivered; far = in_7_with true false n [] n.link.a n.link.s false x.running n.delivered } in
       let is : with_t200_expired e ≡ e0 = λ i. record { near = y.is i; far = (x.is ∙ ap (λ p. in_7_with true false e.far [] e.far.link.a e.far.link.s p x.running e.far.delivered) (hn.sound.owes_nothing hn.own_busy)) i } in
       let s = subst Sounds is (sounds false true e hm hn) in
-      let h = none-asks u (v u e.far e.near hn hm un) n.link.contents m.link.contents n m (there u e.far e.near hn hm un e.far.link.repeats e.near.link.repeats) (back u e.far e.near hn hm un e.far.link.repeats e.near.link.repeats) m.link.pending x.running y.running x.all s.far s.near in
+      let h = none-asks u (v u e.far e.near hn hm un) n.link.contents m.link.contents n m (there u e.far e.near hn hm un e.far.link.repeats e.far.link.counts e.near.link.repeats e.near.link.counts) (back u e.far e.near hn hm un e.far.link.repeats e.far.link.counts e.near.link.repeats e.near.link.counts) m.link.pending x.running y.running x.all s.far s.near in
       let low : n.link.a ≤ m.link.r = hn.low in
       subst (λ e'. FarFinished (rounds (u + 3) e')) (sym is)
       (none-passed FarFinished u e0

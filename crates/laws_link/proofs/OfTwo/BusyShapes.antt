@@ -1,7 +1,7 @@
 -- An end that is busy itself, and the other end: what each makes of the other's frames in states 7 and 8.
 use Rattle.laws_link.proofs.Vocabulary.{arith, ◌≡◌, ℕ, Bool, true, false, List, [], ◌∷◌, ◌++◌, length, Option, Some, append-nil, nat_lt, slice_get, unwrap_or, seq, named, ReceiveNotReady, LinkTimer, T200, ControlFrame, Terms, Link, frame_of, frame, received, Endpoint, with_link, response}
 use Rattle.laws_link.proofs.OfTwo.Plain.{information_frame}
-use Rattle.laws_link.proofs.OfTwo.Shapes.{enquiry_with, reply, reply_with, in_8, in_8_with, in_7_with, effect, having, replied}
+use Rattle.laws_link.proofs.OfTwo.Shapes.{enquiry_with, reply, reply_with, in_8, in_8_with, in_7_with, going_back, effect, having, replied}
 
 -- RNR with F=0, which tells that own busy has begun.
 abbrev pub busy_report : ℕ → ControlFrame
@@ -22,7 +22,7 @@ heeds-7 m busy ws a s p running ds t w x room names = grind (arith, in_7_with, h
 -- its answer in state 8
 pub learns-8 : (m : Endpoint) (ws : List ControlFrame) (busy : Bool) (a : ℕ) (p : Bool) (ds : List (List ℕ)) (t : Terms) (w x : ℕ)
     → named a m.link.s (seq w) ≡ Some x
-    → with_link (received (frame (frame_of t (reply_with true w)))) (in_8 m ws busy a p ds) ≡ in_7_with false true m ws x x p (Some T200) ds
+    → with_link (received (frame (frame_of t (reply_with true w)))) (in_8 m ws busy a p ds) ≡ in_7_with false true (going_back x m) ws x x p (Some T200) ds
 learns-8 m ws busy a p ds t w x names = grind (arith, in_8, having, effect, in_7_with, append-nil)
 
 -- its report in state 7

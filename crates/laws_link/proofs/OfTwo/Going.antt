@@ -1,5 +1,6 @@
 -- What requests, expiries and offers do to a link that stays in states 7 and 8, and to what is on its line.
 use Rattle.laws_link.proofs.Vocabulary.{arith, ◌≡◌, ◌+◌, Bool, true, cond, IsTrue, List, [], ◌∷◌, ◌++◌, Option, None, Some, refl, ap, append_assoc, append-nil, ◌⊎◌, inl, nat_lt, slice_get, unwrap_or, and_parts, seq, Refusal, WrongState, Parts, State, Established, TimerRecovery, LinkTimer, T200, ControlFrame, Terms, Link, is_multiple_frame, frame_of, Request, Establish, expired, requested, offer}
+use Rattle.laws_link.proofs.Vocabulary.{inr, LinkCounts, with_counted, with_expiry}
 use Rattle.laws_link.proofs.Vocabulary.{Course, begun, frame_given, frames_of, IsNotRelease, ErrorCode, both_ways, command, enquire, has_room, rr_or_rnr, repeated, start, failed, granted, give_waiting, is_awaiting_acknowledgement, may_send_information, next_information, offer_among, send_acknowledgement, with_one_sent, course, expire_running, expired_in, given_of, is_running}
 use Rattle.laws_link.proofs.OfTwo.Staying.{refused}
 use Rattle.laws_link.proofs.OfTwo.Trains.{Kind, numbered, enquiry, report, kind_of, kinds_of, kinds-append}
@@ -73,8 +74,16 @@ module _ (t : Terms) (l : Link) where
   ran : (timer : LinkTimer) (b : Bool) (u : Course) → is_running timer l ≡ b → (IsUpIn u → Expires u) → IsUpIn (cond b u (begun l)) → RanOut timer (cond b u (begun l))
   ran timer b u e x up = grind (arith, running, unchanged)
 
-  pub expires-goes : IsTrue (is_multiple_frame l.state) → (timer : LinkTimer) → IsUpIn (course t (expired timer) l) → RanOut timer (course t (expired timer) l)
-  expires-goes before timer up = ran timer (is_running timer l) (expire_running timer t (begun l)) refl (expires-in l.state refl before timer) up
+  -- what is counted doesn't matter
+  uncounted : (change : LinkCounts → LinkCounts) (c : Course) → Kept (with_counted change l) c.link ⊎ Asked (with_counted change l) c.link → Expires c
+  uncounted change c (inl k) = inl (record { state = k.state; s = k.s; r = k.r; rejecting = k.rejecting; waiting = k.waiting })
+  uncounted change c (inr a) = inr (record { state = a.state; s = a.s; r = a.r; rejecting = a.rejecting; waiting = a.waiting })
+
+module _ (t : Terms) (l : Link) where
+  pub expires-goes : IsTrue (is_multiple_frame l.state) → (timer : LinkTimer) → IsUpIn (course t (expired timer) l) → RanOut t l timer (course t (expired timer) l)
+  expires-goes before timer up =
+      ran t l timer (is_running timer l) (expire_running timer t (begun l)) refl
+      (λ u. uncounted t l (with_expiry timer) (expire_running timer t (begun l)) (expires-in t (with_counted (with_expiry timer) l) l.state refl before timer u)) up
 
   -- An offer.
   at-end : (way : List Parts) (f : Parts) (ws : List ControlFrame) → ws ≡ [] → kinds_of ((way ++ f ∷ []) ++ frames_of t ws) ≡ line t way ws ++ kind_of f.address.command f.control ∷ []

@@ -27,7 +27,7 @@ acknowledgement_frame t l = frame_of t (response (ReceiveReady (seq l.r) false))
 
 -- What the end is after each offer.
 abbrev pub with_information_with : Bool → Bool → Link → Link
-with_information_with own busy l = record (plain_with own busy l) { s = l.s + 1; pending = false; running = cond (runs T200 l.running) l.running (Some T200) }
+with_information_with own busy l = record (with_one_sent (plain_with own busy l)) { pending = false; running = cond (runs T200 l.running) l.running (Some T200) }
 
 abbrev pub with_information : Link → Link
 with_information l = with_information_with false false l
@@ -53,7 +53,7 @@ module _ (own busy : Bool) (n : Endpoint) where
   otherwise = cond n.link.pending (send_acknowledgement first) first
 
   timed : (a : Bool) → runs T200 n.link.running ≡ a
-      → giving (cond a informing (start T200 informing)) ≡ record n { link = record (plain_with own busy n.link) { s = n.link.s + 1; pending = false; running = cond a n.link.running (Some T200) }; way = information_frame n.terms n.link ∷ [] }
+      → giving (cond a informing (start T200 informing)) ≡ record n { link = record (with_one_sent (plain_with own busy n.link)) { pending = false; running = cond a n.link.running (Some T200) }; way = information_frame n.terms n.link ∷ [] }
   timed a e = grind arith
 
   pub gives-information : may_send_information n.terms (plain_with own busy n.link) ≡ true

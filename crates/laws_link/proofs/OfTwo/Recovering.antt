@@ -1,10 +1,10 @@
 -- Two ends of which each asks or has nothing outstanding: after a round or two both are ready, and nothing is missing.
 use Rattle.laws_link.proofs.Vocabulary.{◌≡◌, ℕ, suc, ◌+◌, ◌-◌, ◌<◌, ◌≤◌, Bool, true, false, cond, ◌==◌, List, [], ◌∷◌, ◌++◌, length, take, Option, Some, refl, sym, ap, subst, ◌∙◌, eq-eqb, arith, All, nat_lt, slice_get, unwrap_or, lt-ltb, le-ltb, ltb-true, and_parts, seq, named, Parts, LinkTimer, T203, frame, received, offer, IsInRange, IsSound, Endpoint, Ends, with_first_of, without_first}
-use Rattle.laws_link.proofs.Vocabulary.{sound-after, IsReady, IsTaken, HasUnsent, may_send_information}
+use Rattle.laws_link.proofs.Vocabulary.{LinkCounts, with_information_sent, sound-after, IsReady, IsTaken, HasUnsent, may_send_information}
 use Rattle.laws_link.proofs.OfTwo.Plain.{plain, plain_end, with_information, with_acknowledgement, gives-information, gives-acknowledgement, gives-nothing}
 use Rattle.laws_link.proofs.OfTwo.Halves.{named-number, fits-at, take-one, moves, ready-giver, ready-taker, takes, taken}
 use Rattle.laws_link.proofs.OfTwo.Arriving.{near_moves, far_moves, no-more}
-use Rattle.laws_link.proofs.OfTwo.Shapes.{enquiry, reply, in_8, in_7, with_one_more, asked-8, answered-8, acknowledged-8, informed-8, asked-7}
+use Rattle.laws_link.proofs.OfTwo.Shapes.{enquiry, reply, in_8, in_7, going_back, tallied, with_one_more, asked-8, answered-8, acknowledged-8, informed-8, asked-7}
 
 -- Both ends stay sound, with their parameters in range.
 pub record Sounds (e : Ends) : Type 0 where
@@ -87,7 +87,8 @@ module _ (u : ℕ) (cn cm : List (List ℕ)) (n m : Endpoint) (there : Between u
     both_ask = record { near = in_8 n (enquiry n.link.r ∷ []) bn n.link.a false n.delivered; far = in_8 m (enquiry m.link.r ∷ []) bm m.link.a false m.delivered }
 
     abbrev both_answered : Ends
-    both_answered = record { near = in_7 n [] m.link.r m.link.r false (Some T203) n.delivered; far = in_7 m [] n.link.r n.link.r false (Some T203) m.delivered }
+    both_answered =
+        record { near = in_7 (going_back m.link.r n) [] m.link.r m.link.r false (Some T203) n.delivered; far = in_7 (going_back n.link.r m) [] n.link.r n.link.r false (Some T203) m.delivered }
 
     abbrev ask_1 : Ends
     ask_1 = record { near = in_8 n [] bn n.link.a false n.delivered; far = in_8 m (enquiry m.link.r ∷ reply m.link.r ∷ []) false n.link.r false m.delivered }
@@ -96,7 +97,7 @@ module _ (u : ℕ) (cn cm : List (List ℕ)) (n m : Endpoint) (there : Between u
     ask_2 = record { near = in_8 n (reply n.link.r ∷ []) false m.link.r false n.delivered; far = in_8 m (reply m.link.r ∷ []) false n.link.r false m.delivered }
 
     abbrev ask_3 : Ends
-    ask_3 = record { near = in_8 n [] false m.link.r false n.delivered; far = in_7 m (reply m.link.r ∷ []) n.link.r n.link.r false (Some T203) m.delivered }
+    ask_3 = record { near = in_8 n [] false m.link.r false n.delivered; far = in_7 (going_back n.link.r m) (reply m.link.r ∷ []) n.link.r n.link.r false (Some T203) m.delivered }
 
     one : near_moves both_ask ≡ ask_1
     one =
@@ -115,7 +116,7 @@ module _ (u : ℕ) (cn cm : List (List ℕ)) (n m : Endpoint) (there : Between u
 
     four : far_moves ask_3 ≡ both_answered
     four =
-        ap (λ x. record { near = x; far = in_7 m [] n.link.r n.link.r false (Some T203) m.delivered })
+        ap (λ x. record { near = x; far = in_7 (going_back n.link.r m) [] n.link.r n.link.r false (Some T203) m.delivered })
         (answered-8 false n [] false m.link.r false n.delivered m.terms m.link.r m.link.r (names-r n m there))
 
     all-four : far_moves (near_moves (far_moves (near_moves both_ask))) ≡ both_answered
@@ -135,7 +136,7 @@ module _ (u : ℕ) (cn cm : List (List ℕ)) (n m : Endpoint) (there : Between u
     replies = record { near = in_8 n [] bn n.link.a false n.delivered; far = in_7 m (reply m.link.r ∷ []) m.link.a m.link.s false (cond (m.link.a == m.link.s) (Some T203) running) m.delivered }
 
     abbrev near_answered : Ends
-    near_answered = record { near = in_7 n [] m.link.r m.link.r false (Some T203) n.delivered; far = in_7 m [] m.link.a m.link.s false (cond (m.link.a == m.link.s) (Some T203) running) m.delivered }
+    near_answered = record { near = in_7 (going_back m.link.r n) [] m.link.r m.link.r false (Some T203) n.delivered; far = in_7 m [] m.link.a m.link.s false (cond (m.link.a == m.link.s) (Some T203) running) m.delivered }
 
     asks : near_moves near_asks ≡ replies
     asks =
@@ -166,34 +167,34 @@ module _ (u : ℕ) (cn cm : List (List ℕ)) (n m : Endpoint) (there : Between u
     left : length n.link.contents ≤ s' + u
 
   module _ (all : n.link.s ≤ n.link.a) where
-    abbrev heard : Endpoint → ℕ → ℕ → Bool → Bool → Option LinkTimer → List (List ℕ) → Ends
-    heard m' s' a' b p running ds = record { near = in_7 n [] n.link.a s' false running n.delivered; far = in_8 m' (enquiry m.link.r ∷ []) b a' p ds }
+    abbrev heard : ℕ → LinkCounts → Endpoint → ℕ → ℕ → Bool → Bool → Option LinkTimer → List (List ℕ) → Ends
+    heard g k m' s' a' b p running ds = record { near = in_7 (tallied g k n) [] n.link.a s' false running n.delivered; far = in_8 m' (enquiry m.link.r ∷ []) b a' p ds }
 
-    module _ (m' : Endpoint) (s' a' : ℕ) (b p : Bool) (running : Option LinkTimer) (ds : List (List ℕ)) (up : n.link.a ≤ s') (few : s' ≤ n.link.a + 127) (h : Heard m' s' a' p ds) where
+    module _ (g : ℕ) (k : LinkCounts) (m' : Endpoint) (s' a' : ℕ) (b p : Bool) (running : Option LinkTimer) (ds : List (List ℕ)) (up : n.link.a ≤ s') (few : s' ≤ n.link.a + 127) (h : Heard m' s' a' p ds) where
       abbrev later : Option LinkTimer
       later = cond (n.link.a == s') (Some T203) running
 
       abbrev replied : Ends
-      replied = record { near = in_7 n (reply n.link.r ∷ []) n.link.a s' false later n.delivered; far = in_8 m' [] b a' p ds }
+      replied = record { near = in_7 (tallied g k n) (reply n.link.r ∷ []) n.link.a s' false later n.delivered; far = in_8 m' [] b a' p ds }
 
       abbrev far_answered : Ends
-      far_answered = record { near = in_7 n [] n.link.a s' false later n.delivered; far = in_7 m' [] n.link.r n.link.r p (Some T203) ds }
+      far_answered = record { near = in_7 (tallied g k n) [] n.link.a s' false later n.delivered; far = in_7 (going_back n.link.r m') [] n.link.r n.link.r p (Some T203) ds }
 
-      asked : far_moves (heard m' s' a' b p running ds) ≡ replied
+      asked : far_moves (heard g k m' s' a' b p running ds) ≡ replied
       asked =
           let at : n.link.a ≡ m.link.r = omega (arith, all) in
           ap (λ x. record { near = x; far = in_8 m' [] b a' p ds })
-          (asked-7 false n n.link.a s' false running n.delivered m'.terms m.link.r (room-0 n there.ranges)
+          (asked-7 false (tallied g k n) n.link.a s' false running n.delivered m'.terms m.link.r (room-0 n there.ranges)
           (subst (λ i. named n.link.a s' (seq i) ≡ Some n.link.a) at (named-number n.link.a s' n.link.a (omega arith) up few)))
 
       answered : near_moves replied ≡ far_answered
       answered =
-          ap (λ y. record { near = in_7 n [] n.link.a s' false later n.delivered; far = y })
+          ap (λ y. record { near = in_7 (tallied g k n) [] n.link.a s' false later n.delivered; far = y })
           (answered-8 false m' [] b a' p ds n.terms n.link.r n.link.r (subst (λ s. named a' s (seq n.link.r) ≡ Some n.link.r) (sym h.sent) h.names))
 
-      far-recovered : Sounds (heard m' s' a' b p running ds) → Recovered u cn cm (near_moves (far_moves (heard m' s' a' b p running ds)))
+      far-recovered : Sounds (heard g k m' s' a' b p running ds) → Recovered u cn cm (near_moves (far_moves (heard g k m' s' a' b p running ds)))
       far-recovered sounds =
-          let s = subst Sounds (ap near_moves asked ∙ answered) (sounds-near (far_moves (heard m' s' a' b p running ds)) (sounds-far (heard m' s' a' b p running ds) sounds)) in
+          let s = subst Sounds (ap near_moves asked ∙ answered) (sounds-near (far_moves (heard g k m' s' a' b p running ds)) (sounds-far (heard g k m' s' a' b p running ds) sounds)) in
           grind (arith, near_moves, asked, answered, ready-7)
 
     module _ (bm : Bool) where
@@ -209,7 +210,7 @@ module _ (u : ℕ) (cn cm : List (List ℕ)) (n m : Endpoint) (there : Between u
           let parts = and_parts (nat_lt (n.link.s - n.link.a) n.terms.k) (nat_lt n.link.s (length n.link.contents)) may in
           let unsent : n.link.s < length n.link.contents = ltb-true n.link.s (length n.link.contents) parts.1 in
           let octets = unwrap_or (slice_get n.link.contents n.link.s) [] in
-          let next : near_moves far_asks ≡ heard (with_one_more m) (n.link.s + 1) n.link.r bm true (with_information n.link).running (m.delivered ++ octets ∷ []) =
+          let next : near_moves far_asks ≡ heard (n.link.again - 1) (with_information_sent n.link.again n.link.counts) (with_one_more m) (n.link.s + 1) n.link.r bm true (with_information n.link).running (m.delivered ++ octets ∷ []) =
           ap (λ x. record { near = without_first x; far = with_first_of x.way (in_8 m (enquiry m.link.r ∷ []) bm m.link.a false m.delivered) }) (gives-information false false n may)
           ∙ ap (λ y. record { near = record n { link = with_information n.link; way = [] }; far = y })
           (informed-8 m (enquiry m.link.r ∷ []) bm m.link.a false m.delivered n.terms n.link n.link.r
@@ -218,7 +219,7 @@ module _ (u : ℕ) (cn cm : List (List ℕ)) (n m : Endpoint) (there : Between u
           let left : length n.link.contents ≤ m.link.r + u = there.left in
           let one : suc n.link.s ≡ n.link.s + 1 = omega arith in
           subst (λ e. Recovered u cn cm (near_moves (far_moves e))) (sym next)
-          (far-recovered (with_one_more m) (n.link.s + 1) n.link.r bm true (with_information n.link).running (m.delivered ++ octets ∷ []) (omega (arith, at-r)) (omega (arith, at-r, all))
+          (far-recovered (n.link.again - 1) (with_information_sent n.link.again n.link.counts) (with_one_more m) (n.link.s + 1) n.link.r bm true (with_information n.link).running (m.delivered ++ octets ∷ []) (omega (arith, at-r)) (omega (arith, at-r, all))
           (record {
             terms = refl;
             contents = refl;
@@ -232,12 +233,12 @@ module _ (u : ℕ) (cn cm : List (List ℕ)) (n m : Endpoint) (there : Between u
 
       by-acknowledgement : may_send_information n.terms (plain n.link) ≡ false → n.link.pending ≡ true → Sounds far_asks → Recovered u cn cm (near_moves (far_moves (near_moves far_asks)))
       by-acknowledgement may owed sounds =
-          let next : near_moves far_asks ≡ heard m n.link.s n.link.r false false n.link.running m.delivered =
+          let next : near_moves far_asks ≡ heard n.link.again n.link.counts m n.link.s n.link.r false false n.link.running m.delivered =
           ap (λ x. record { near = without_first x; far = with_first_of x.way (in_8 m (enquiry m.link.r ∷ []) bm m.link.a false m.delivered) }) (gives-acknowledgement false false n may owed)
           ∙ ap (λ y. record { near = record n { link = with_acknowledgement n.link; way = [] }; far = y })
           (acknowledged-8 false m (enquiry m.link.r ∷ []) bm m.link.a false m.delivered n.terms n.link n.link.r (names-a m n back)) in
           subst (λ e. Recovered u cn cm (near_moves (far_moves e))) (sym next)
-          (far-recovered m n.link.s n.link.r false false n.link.running m.delivered (omega (arith, at-r, there.low)) there.near
+          (far-recovered n.link.again n.link.counts m n.link.s n.link.r false false n.link.running m.delivered (omega (arith, at-r, there.low)) there.near
           (record {
             terms = refl;
             contents = refl;
@@ -251,10 +252,10 @@ module _ (u : ℕ) (cn cm : List (List ℕ)) (n m : Endpoint) (there : Between u
 
       by-nothing : may_send_information n.terms (plain n.link) ≡ false → n.link.pending ≡ false → Sounds far_asks → Recovered u cn cm (near_moves (far_moves (near_moves far_asks)))
       by-nothing may owed sounds =
-          let next : near_moves far_asks ≡ heard m n.link.s m.link.a bm false n.link.running m.delivered =
+          let next : near_moves far_asks ≡ heard n.link.again n.link.counts m n.link.s m.link.a bm false n.link.running m.delivered =
           ap (λ x. record { near = without_first x; far = with_first_of x.way (in_8 m (enquiry m.link.r ∷ []) bm m.link.a false m.delivered) }) (gives-nothing false false n may owed) in
           subst (λ e. Recovered u cn cm (near_moves (far_moves e))) (sym next)
-          (far-recovered m n.link.s m.link.a bm false n.link.running m.delivered (omega (arith, at-r, there.low)) there.near
+          (far-recovered n.link.again n.link.counts m n.link.s m.link.a bm false n.link.running m.delivered (omega (arith, at-r, there.low)) there.near
           (record {
             terms = refl;
             contents = refl;

@@ -1,6 +1,6 @@
 -- An end that asks and one that answers: what each makes of the other's frames.
 use Rattle.laws_link.proofs.Vocabulary.{◌≡◌, ℕ, ◌+◌, Bool, true, false, cond, ◌==◌, List, [], ◌∷◌, ◌++◌, length, Option, None, Some, append-nil, arith, nat_lt, slice_get, unwrap_or, option_to_list, le-ltb, Seq, seq, named, ReceiveReady, ReceiveNotReady, LinkTimer, T200, T203, ControlFrame, Terms, Link, frame_of, frame, received, Course, Step, begun, ◌then◌, Endpoint, with_link, ErrorCode, State}
-use Rattle.laws_link.proofs.Vocabulary.{command, error, re_establish, response}
+use Rattle.laws_link.proofs.Vocabulary.{with_next_sent, LinkCounts, command, error, re_establish, response}
 use Rattle.laws_link.proofs.OfTwo.Plain.{information_frame, acknowledgement_frame}
 
 -- The enquiry and the answer.
@@ -36,6 +36,14 @@ in_7 n ws a s p running ds = in_7_with false false n ws a s p running ds
 abbrev pub with_one_more : Endpoint → Endpoint
 with_one_more m = record m { link = record m.link { r = m.link.r + 1; rejecting = false } }
 
+-- which sends again from number x on
+abbrev pub going_back : ℕ → Endpoint → Endpoint
+going_back x n = record n { link = with_next_sent x n.link }
+
+-- of which so many are to be sent again, and which counted so
+abbrev pub tallied : ℕ → LinkCounts → Endpoint → Endpoint
+tallied g k n = record n { link = record n.link { again = g; counts = k } }
+
 abbrev pub effect : Terms → Seq → (ℕ → Step) → Course → Option ℕ → Course
 effect t nr f c o = elim o [ None ↦ (error t ErrorCode.J then re_establish t) c | Some x ↦ f x c ]
 
@@ -57,7 +65,7 @@ asked-8 own n ws busy a p ds t w x room names = grind (arith, append-nil)
 -- its answer
 pub answered-8 : (own : Bool) (n : Endpoint) (ws : List ControlFrame) (busy : Bool) (a : ℕ) (p : Bool) (ds : List (List ℕ)) (t : Terms) (w x : ℕ)
     → named a n.link.s (seq w) ≡ Some x
-    → with_link (received (frame (frame_of t (reply w)))) (in_8_with own n ws busy a p ds) ≡ in_7_with own false n ws x x p (Some T203) ds
+    → with_link (received (frame (frame_of t (reply w)))) (in_8_with own n ws busy a p ds) ≡ in_7_with own false (going_back x n) ws x x p (Some T203) ds
 answered-8 own n ws busy a p ds t w x names = grind (arith, append-nil)
 
 -- an acknowledgement in state 8

@@ -1,5 +1,6 @@
 -- What keeps a link in states 7 and 8: each word, each row of a frame whose N(R) is valid, and each mild event.
 use Rattle.laws_link.proofs.Vocabulary.{arith, ◌≡◌, ℕ, ◌≤◌, Bool, true, false, cond, IsTrue, List, length, Option, None, Some, refl, sym, subst, true≢false, le-ltb, Seq, seq, named, Control, Information, ReceiveReady, ReceiveNotReady, Reject, Refusal, WrongState, State, Established, TimerRecovery, LinkTimer, ControlFrame, Terms, Link, is_multiple_frame, may_repeat, Request, Establish, expired}
+use Rattle.laws_link.proofs.Vocabulary.{with_counted, with_expiry}
 use Rattle.laws_link.proofs.Vocabulary.{requested, offer, Course, begun, Step, ◌then◌, Leads, keeping_then, nothing_leads, depending_leads, bit_leads, Means, IsNotRelease, leaves, both_ways, acknowledge, by_number, enter, contents_in_7_8, information_in_7_8, supervisory, acknowledged_by_information_in_7, frame_in_7, particulars_in_7, frame_in_8, particulars_in_8, granted, refusal, offer_among}
 use Rattle.laws_link.proofs.Vocabulary.{course, expired_in, frame_in, frame_step, is_running}
 
@@ -85,8 +86,9 @@ module _ (t : Terms) (l : Link) (up : IsTrue (is_multiple_frame l.state)) where
       → IsUpIn (expired_in here timer t (begun l))
   expires-in here e h timer again = grind arith
 
+module _ (t : Terms) (l : Link) (up : IsTrue (is_multiple_frame l.state)) where
   pub timer-stays : (timer : LinkTimer) → (l.state ≡ TimerRecovery → is_running timer l ≡ true → may_repeat t l ≡ true) → IsUpIn (course t (expired timer) l)
-  timer-stays timer again = branch (is_running timer l) _ _ (λ run. expires-in l.state refl up timer (λ e. again e run)) up
+  timer-stays timer again = branch t l up (is_running timer l) _ _ (λ run. expires-in t (with_counted (with_expiry timer) l) up l.state refl up timer (λ e. again e run)) up
 
   offers : (ws : List ControlFrame) → IsUpIn (offer_among t ws (begun l))
   offers ws = grind (arith, both_ways)

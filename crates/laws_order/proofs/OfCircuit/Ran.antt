@@ -112,7 +112,9 @@ module _ (c : Config) (ranged : IsInRange c) (s : OctetEndpoint) (h : Ran c s) w
   on-line = on_its_way s.card s.line reached (subst (λ (x : Config). s.line < x.lines) (sym config) h.within)
 
   pub few-left : length (left_of (port_of s)) ≤ longest_text c.n201
-  few-left = subst (λ (m : OctetCard). length (left_of (port_at s.line m)) ≤ longest_text c.n201) (sym h.is) (pulls_are_takes.left c h.events s.line ranged h.at_lines h.within)
+  few-left =
+      subst (λ (x : Config). length (left_of (port_at s.line s.card)) ≤ longest_text x.n201) config
+      (pulls_are_takes.left s.card s.line reached (subst (λ (x : Config). s.line < x.lines) (sym config) h.within))
 
   -- the next frame consists of octets
   pub gives-octets : (f : NextFrame) → card_answer (frames.at s.line line.next) s.card.card ≡ line.gave (Some f) → AreOctets f.octets

@@ -1,13 +1,13 @@
 -- What is granted is acknowledged, waits or is given up, and what is given up is told: the law.
-use Rattle.laws_trace.proofs.Vocabulary.{◌≡◌, ℕ, ◌<◌, ◌==◌, ◌&&◌, ◌||◌, Bool, true, false, cond, not, List, length, get_or, list_any, Option, Some, None, option_map, refl, sym, ap, ◌∙◌, subst, ◌⊎◌, inl, inr, ⊎_elim, arith, eq-eqb, true≢false, and_parts, or-true, get_or-set_same, PoolFull, Refusal, Service, Timer, Link, Terms, queue_of, empties, cleared, Config, Aim, at_none, at_link, of_aim}
-use Rattle.laws_trace.proofs.Vocabulary.{at_units, at_management, at_no_link, aim_of_expiry, aim_of_heard, hears, expiry, request, next, Answer, refused, told, next_of, taken, Line, fresh_line, has_tei}
+use Rattle.laws_trace.proofs.Vocabulary.{◌≡◌, ℕ, ◌<◌, ◌==◌, ◌&&◌, ◌||◌, Bool, true, false, cond, not, List, length, list_any, Option, Some, None, option_map, refl, sym, ap, ◌∙◌, subst, ◌⊎◌, inl, inr, ⊎_elim, arith, eq-eqb, true≢false, or-true, PoolFull, Refusal, Service, Timer, Link, Terms, queue_of, empties, cleared, Config, Aim, at_none, at_link, of_aim}
+use Rattle.laws_trace.proofs.Vocabulary.{at_units, at_management, at_no_link, aim_of_expiry, aim_of_heard, hears, expiry, request, next, Answer, refused, told, next_of, taken, Line, has_tei}
 use Rattle.laws_trace.proofs.Vocabulary.{link_of, link_in, place_in, aim_of, unless_refused, unless_refused_told, aim_of_request, Deactivate, IsDeactivated, heard_aims, IsProper, heard_proper, expiry_proper, request_proper, IsInRange, terms, is-off, is_on-at}
-use Rattle.laws_trace.proofs.Vocabulary.{service-same, same_service, other-none, own-gone, given_up_in, given_up_of, by-down, is_loss_of, notes_of, Card, line_at, is_full, at, fresh, has_lines, by_room, line_sound, after, card_answer as answer, after_all, AreAtLines, managing_is_on as is_on, View, views, moment_of, outgoing_of, link_told}
+use Rattle.laws_trace.proofs.Vocabulary.{service-same, same_service, other-none, own-gone, given_up_in, given_up_of, by-down, is_loss_of, notes_of, Card, line_at, at, fresh, after, card_answer as answer, after_all, AreAtLines, managing_is_on as is_on, View, views, moment_of, outgoing_of, link_told}
 use Rattle.laws_trace.proofs.Vocabulary.{seen, Always, Event, IsSound, refusal, Request, CardIsSound, CardEvent, StreamEvent}
 use Rattle.model_line.proofs.Downs.{given_up as down_given_up}
 use Rattle.model_line.specs.Effect.{at_terminal}
 use Rattle.model_line.specs.Machine as lines
-use Rattle.laws_trace.specs.GivenUpIsTold.{given_up, named_by, GivenUpIsTold}
+use Rattle.laws_trace.specs.GivenUpIsTold.{asked_by, first_of, given_up, named_by, GivenUpIsTold}
 use Rattle.laws_trace.specs.Outgoing.{loses}
 use Rattle.laws_trace.proofs.Addressed.{at-some-place}
 use Rattle.laws_trace.proofs.KeptOfLine.{lost-is, none-lost}
@@ -16,11 +16,11 @@ use Rattle.laws_trace.proofs.LinkLed.{on-line, own-is}
 use Rattle.laws_trace.proofs.ManagedLink.{management-leaving, own-leaving}
 use Rattle.laws_trace.proofs.NewsOfLeaving.{one-stays}
 use Rattle.laws_trace.proofs.ObservedRun.{holds-behind}
-use Rattle.laws_trace.proofs.OneTei.{ending, named-tei, one-tei}
+use Rattle.laws_trace.proofs.NotedTei.{noted-tei}
+use Rattle.laws_trace.proofs.OneTei.{at-card, ending, full-ends, named-tei, one-tei}
 use Rattle.laws_trace.proofs.OneLink.{Goes, HasOne, IsGivenUp, is_at_link, event-goes}
 use Rattle.laws_trace.proofs.Outgoing.{next-quiet, view-is, kept-now, here-at}
 use Rattle.laws_trace.proofs.PlacesSeen.{is_release_of, lost_in, lost-so, asked-loses}
-use Rattle.laws_trace.proofs.Runs.{nothing-seen}
 use Rattle.laws_trace.proofs.SeenAs.{tei-seen}
 use Rattle.laws_trace.proofs.TimersAreTimely.{sound-now}
 use Rattle.laws_trace.proofs.ToldGivenUp.{of-its, none-in, none-refused, none-gave}
@@ -191,23 +191,11 @@ module _ (card : Card) (number : ℕ) (what : Event) (s : CardIsSound card) (her
   abbrev pub Tells : Line → Answer → Type 0
   Tells x b = ((tei : ℕ) → (ends_at tei x b ≡ false) ⊎ IsToldAt tei x b) × ((given_up_in service b ≡ 0) ⊎ ((tei : ℕ) × IsToldAt tei x b))
 
-  -- a full pool gives up nothing
-  stays-so : (b : Bool) → (b && (false || not b)) ≡ false
-  stays-so true = refl
-  stays-so false = refl
-
   full-tells : lines.takes_slot card.config what line ≡ true → Tells line (refused PoolFull)
-  full-tells takes = (
-    λ tei. inl (ap (λ shown. has_tei tei line && (lost_in service tei shown || not (has_tei tei line))) (nothing-seen card.config what line takes) ∙ stays-so (has_tei tei line)),
-    inl (none-refused PoolFull service),
-  )
+  full-tells takes = (λ tei. inl (full-ends service tei card number what takes), inl (none-refused PoolFull service))
 
-  room-tells : Tells (lines.after card.config what line) (lines.answer card.config what line)
-  room-tells =
-      let safe = line_sound card number (has_lines card s) here in (
-        λ tei. go tei safe (place_in line tei) refl,
-        given-so card.config s.config line safe service what,
-      )
+  room-tells : IsSound card.config line → Tells (lines.after card.config what line) (lines.answer card.config what line)
+  room-tells safe = (λ tei. go tei safe (place_in line tei) refl, given-so card.config s.config line safe service what)
     where
       go : (tei : ℕ) → IsSound card.config line → (p : Option ℕ) → place_in line tei ≡ p
           → let b = lines.answer card.config what line in let x = lines.after card.config what line in (ends_at tei x b ≡ false) ⊎ IsToldAt tei x b
@@ -215,11 +203,7 @@ module _ (card : Card) (number : ℕ) (what : Event) (s : CardIsSound card) (her
       go tei safe (Some place) on = told-so card.config s.config line safe service what tei place on
 
   pub tells : Tells (line_at number (after (card_event.at number what) card)) (answer (card_event.at number what) card)
-  tells =
-      by_room (λ ls b. Tells (get_or ls number (fresh_line card.config)) b) (card_event.at number what) card (λ full. full-tells (and_parts (lines.takes_slot card.config what line) (is_full card) full).0)
-      (λ room.
-      subst (λ (x : Line). Tells x (lines.answer card.config what line)) (sym (get_or-set_same card.lines number (lines.after card.config what line) (fresh_line card.config) (omega (arith, s.count, here))))
-      room-tells)
+  tells = at-card card number what s here Tells full-tells room-tells
 
 -- The observer has it so.
 module _ (c : Config) (events : List CardEvent) (number : ℕ) (ranged : IsInRange c) (all : AreAtLines (fresh c) events) (within : number < c.lines) (service : Service) (what : Event) where
@@ -286,6 +270,12 @@ module _ (c : Config) (events : List CardEvent) (number : ℕ) (ranged : IsInRan
       ⊎_elim (λ none. inl (no-more service tei none)) (λ rest. inr (⊎_elim (λ none. inl (no-more other by none)) (λ same. inr same) rest))
       (one-tei service other tei by (after_all (fresh c) events) number what (sound-now c events number ranged all within service 0) (here-at c number ranged within service 0 events all))
 
+  noted-is : (service : Service) (tei : ℕ) → asked_by what ≡ None
+      → (given_up c service tei number events what ≡ 0) ⊎ (first_of (notes_of (moment_of c events number what).answer) ≡ Some tei)
+  noted-is service tei un =
+      ⊎_elim (λ none. inl (no-more service tei none)) (λ first. inr first)
+      (noted-tei service tei what un (after_all (fresh c) events) number (sound-now c events number ranged all within service 0) (here-at c number ranged within service 0 events all))
+
 pub given-up-is-told : Always GivenUpIsTold
 given-up-is-told c events number ranged all within service what =
     let t = its-tells c events number ranged all within service what in
@@ -296,4 +286,5 @@ given-up-is-told c events number ranged all within service what =
       given = ⊎_elim (λ none. inl none) (λ x. inr (x.0, gone x.0 ∙ ap (λ b. cond b (kept_by x.0) 0) x.1.0 ∙ sym x.1.1)) t.1;
       whose = λ tei other by. whose-is c events number ranged all within what service other tei by;
       named = λ tei by r. named-is c events number ranged all within what service tei by r;
+      noted = λ tei. noted-is c events number ranged all within what service tei;
     }

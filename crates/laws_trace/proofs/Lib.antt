@@ -14,6 +14,8 @@ pub mod Observed
 pub mod ObservedRun
 pub mod ObservedFacts
 pub mod ObservedLaws
+pub mod LinkEvents
+pub mod LinkCounters
 pub mod ObservedExpiries
 pub mod TimersOrdered
 pub mod ObservedStanding
@@ -113,6 +115,7 @@ pub mod LossesAtLine
 pub mod FramesOfLink
 pub mod NoLossInVain
 pub mod OneTei
+pub mod NotedTei
 pub mod GivenUpIsTold
 pub mod RoomsAreTold
 pub mod UnitsAreTold

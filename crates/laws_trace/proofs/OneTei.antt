@@ -1,6 +1,6 @@
 -- All that an event of a line gives up is of one TEI.
 use Rattle.laws_trace.proofs.Vocabulary.{◌≡◌, ℕ, ◌<◌, ◌==◌, ◌&&◌, ◌||◌, Bool, true, false, cond, not, get_or, set, Option, Some, None, refl, sym, ap, ◌∙◌, subst, ◌⊎◌, inl, inr, ⊎_elim, arith, true≢false, and_parts, eq-eqb, eqb-true, none-some, some-same, get_or-set_other, get_or-set_same}
-use Rattle.laws_trace.proofs.Vocabulary.{Service, Config, Answer, PoolFull, refused, Line, fresh_line, has_tei, place_in, aim_of, aim_of_heard, aim_of_expiry, aim_of_request, unless_refused, refusal, IsProper, heard_proper, expiry_proper, request_proper, same_service, IsAt, Management, Change, Gained, Left, HasLeft, IsSoundTable, place_of-is, is_on-at, is-off}
+use Rattle.laws_trace.proofs.Vocabulary.{Service, Config, Answer, PoolFull, refused, Line, fresh_line, has_tei, place_in, aim_of, aim_of_heard, aim_of_expiry, aim_of_request, unless_refused, refusal, IsProper, heard_proper, expiry_proper, request_proper, same_service, IsAt, Management, Change, Gained, Left, HasLeft, IsSoundTable, Moves, place_of-is, is_on-at, is-off}
 use Rattle.laws_trace.proofs.Vocabulary.{Aim, at_none, at_link, at_management, at_units, at_no_link, of_aim, of_change, LineTold, IsSound, IsInRange, by-down, hears, expiry, request, next, Event, seen, Card, line_at, is_full, at, has_lines, by_room, line_sound, after, card_answer as answer, CardIsSound}
 use Rattle.model_line.specs.Effect.{at_terminal, of_network, of_terminal, told_of_management, told_of_terminal}
 use Rattle.model_line.specs.Line.{Own}
@@ -45,7 +45,7 @@ module _ (c : Config) (l : Line) (s : IsSound c l) where
       let at = (place_of-is l.management.places tei p.0 p.1).1 in
       is_on-at m.places p.0 tei (ap (λ xs. get_or xs p.0 None) is ∙ get_or-set_other l.management.places q p.0 x None (apart p.0 at) ∙ at)
 
-  -- it is the one that the change names,
+  -- It is the one that the change names,
   left-is : (tei by place : ℕ) (m : Management) → HasLeft l.management.places m.places by place → is_on tei l.management.places ≡ true → is_on tei m.places ≡ false → by ≡ tei
   left-is tei by place m gone on off = go (by == tei) refl
     where
@@ -55,12 +55,28 @@ module _ (c : Config) (l : Line) (s : IsSound c l) where
           absurd (true≢false (sym (still tei on m place None gone.is_free
           (λ p at same. true≢false (sym (eq-eqb by tei (some-same by tei (sym gone.was_there ∙ ap (λ n. get_or l.management.places n None) (sym same) ∙ at))) ∙ other))) ∙ off))
 
+  pub left-by : (tei : ℕ) (o : Option Change) (m : Management) → Moves l.management.places o m.places → has_tei tei l ≡ true → is_on tei m.places ≡ false → (place : ℕ) × (o ≡ Some (Left tei place))
+  left-by tei None m same on off = absurd (true≢false (sym on ∙ ap (is_on tei) (sym same) ∙ off))
+  left-by tei (Some (Gained its place)) m joined on off =
+      absurd (true≢false (sym (still tei on m place (Some its) joined.is_there
+      (λ p at same. none-some tei (sym joined.was_free ∙ ap (λ n. get_or l.management.places n None) (sym same) ∙ at))) ∙ off))
+  left-by tei (Some (Left its place)) m gone on off = (place, ap (λ n. Some (Left n place)) (left-is tei its place m gone on off))
+
+  pub change-stays : (tei : ℕ) (o : Option Change) (t : LineTold) (k : Line) → has_tei tei (of_change c o t k).line ≡ has_tei tei k
+  change-stays tei None t k = refl
+  change-stays tei (Some (Gained n place)) t k = refl
+  change-stays tei (Some (Left n place)) t k = refl
+
+  -- and so there is one at most,
+  same-left : (tei by p q : ℕ) (o : Option Change) → o ≡ Some (Left tei p) → o ≡ Some (Left by q) → tei ≡ by
+  same-left tei by p q o x y = grind arith
+
   each-one : (tei by : ℕ) (o : Option Change) (t : LineTold) (m : Management) (own : Own) → Turn l o t m → One tei by (of_change c o t (record l { management = m; own = own })).line
-  each-one tei by None t m own turn x y = absurd (true≢false (sym x.0 ∙ ap (is_on tei) (sym turn.moves) ∙ x.1))
-  each-one tei by (Some (Gained its place)) t m own turn x y =
-      absurd (true≢false (sym (still tei x.0 m place (Some its) turn.moves.is_there
-      (λ p at same. none-some tei (sym turn.moves.was_free ∙ ap (λ n. get_or l.management.places n None) (sym same) ∙ at))) ∙ x.1))
-  each-one tei by (Some (Left its place)) t m own turn x y = sym (left-is tei its place m turn.moves x.0 x.1) ∙ left-is by its place m turn.moves y.0 y.1
+  each-one tei by o t m own turn x y =
+      let new = record l { management = m; own = own } in
+      let p = left-by tei o m turn.moves x.0 (sym (change-stays tei o t new) ∙ x.1) in
+      let q = left-by by o m turn.moves y.0 (sym (change-stays by o t new) ∙ y.1) in
+      same-left tei by p.0 q.0 o p.1 q.1
 
   -- by what the event aims at.
   aim-one : (tei by : ℕ) (aim : Aim) → IsProper c l aim → One tei by (of_aim c aim l).line
@@ -87,7 +103,7 @@ module _ (c : Config) (l : Line) (s : IsSound c l) where
   aim-stays service tei by (at_units unit) no-link x = true≢false (sym no-link)
   aim-stays service tei by at_no_link no-link x = true≢false (sym no-link)
 
-  link-stays : (service : Service) (tei by : ℕ) (e : Event) → is_at_link service tei (aim_of c e l) ≡ true → Leaves by (lines.after c e l) → ⊥
+  pub link-stays : (service : Service) (tei by : ℕ) (e : Event) → is_at_link service tei (aim_of c e l) ≡ true → Leaves by (lines.after c e l) → ⊥
   unfolding lines.after
   link-stays service tei by (hears what) = aim-stays service tei by (aim_of_heard c l what)
   link-stays service tei by (expiry timer) = aim-stays service tei by (aim_of_expiry timer l)
@@ -116,10 +132,10 @@ module _ (c : Config) (ranged : IsInRange c) (l : Line) (s : IsSound c l) (e : E
   a = lines.answer c e l
 
   -- The event is one of this link, or its TEI leaves by it.
-  abbrev IsOf : Service → ℕ → Type 0
+  abbrev pub IsOf : Service → ℕ → Type 0
   IsOf service tei = (is_at_link service tei (aim_of c e l) ≡ true) ⊎ Leaves c l s tei new
 
-  of-tei : (service : Service) (tei : ℕ) → (ending service tei e l new a ≡ false) ⊎ IsOf service tei
+  pub of-tei : (service : Service) (tei : ℕ) → (ending service tei e l new a ≡ false) ⊎ IsOf service tei
   of-tei service tei = by-place (place_in l tei) refl
     where
       by-place : (p : Option ℕ) → place_in l tei ≡ p → (ending service tei e l new a ≡ false) ⊎ IsOf service tei
@@ -205,11 +221,6 @@ module _ (c : Config) (l : Line) (s : IsSound c l) (service : Service) (tei by :
   stays-deactivated its n (Some p) x = true≢false (sym x.0 ∙ x.1)
   stays-deactivated its n None x = true≢false (sym x.0 ∙ x.1)
 
-  change-stays : (o : Option Change) (t : LineTold) (k : Line) → has_tei tei (of_change c o t k).line ≡ has_tei tei k
-  change-stays None t k = refl
-  change-stays (Some (Gained n place)) t k = refl
-  change-stays (Some (Left n place)) t k = refl
-
   -- The one that is removed is it.
   it-is : (n : ℕ) (now : Bool) → has_tei tei l ≡ true → now ≡ false → (now ≡ has_tei tei l) ⊎ (now ≡ (not (tei == n) && has_tei tei l)) → tei ≡ n
   it-is n now on off (inl same) = absurd (true≢false (sym on ∙ sym same ∙ off))
@@ -225,11 +236,11 @@ module _ (c : Config) (l : Line) (s : IsSound c l) (service : Service) (tei by :
       go : (b : Bool) → has_tei tei (cond b (of_terminal c (terminals.remove n) l) (of_network c (teis.remove n) l)).line ≡ false → tei ≡ n
       go true off =
           let new = with_terminal (terminals.after (terminals.remove n) (terminal_in l)) l in
-          it-is n (has_tei tei new) x.0 (sym (change-stays (terminals.told (terminals.remove n) (terminal_in l)).change (told_of_terminal (terminals.told (terminals.remove n) (terminal_in l))) new) ∙ off)
+          it-is n (has_tei tei new) x.0 (sym (change-stays c l s tei (terminals.told (terminals.remove n) (terminal_in l)).change (told_of_terminal (terminals.told (terminals.remove n) (terminal_in l))) new) ∙ off)
           (removed-there (terminal_in l) n tei s.management.table)
       go false off =
           let new = record l { management = teis.after (teis.remove n) l.management } in
-          it-is n (has_tei tei new) x.0 (sym (change-stays (teis.told (teis.remove n) l.management).change (told_of_management (teis.told (teis.remove n) l.management)) new) ∙ off)
+          it-is n (has_tei tei new) x.0 (sym (change-stays c l s tei (teis.told (teis.remove n) l.management).change (told_of_management (teis.told (teis.remove n) l.management)) new) ∙ off)
           (removed l.management n tei s.management.table)
 
   left-named : (r : Request) (o : Option Refusal) → named_by r ≡ Some by → Goes (unless_refused o (aim_of_request r l)) → tei ≡ by
@@ -254,12 +265,27 @@ module _ (c : Config) (l : Line) (s : IsSound c l) (service : Service) (tei by :
   asked-named r named (inl x) = at-named r (refusal c false r l) named x
   asked-named r named (inr x) = left-named r (refusal c false r l) named x
 
+-- What holds of an event of a line, and of one that is refused as the pool is full, holds at a card.
+module _ (card : Card) (number : ℕ) (what : Event) (s : CardIsSound card) (here : number < card.config.lines) (P : Line → Answer → Type 0) where
+  abbrev its : Line
+  its = line_at number card
+
+  pub at-card : (lines.takes_slot card.config what its ≡ true → P its (refused PoolFull))
+      → (IsSound card.config its → P (lines.after card.config what its) (lines.answer card.config what its))
+      → P (line_at number (after (card_event.at number what) card)) (answer (card_event.at number what) card)
+  at-card full room =
+      by_room (λ ls b. P (get_or ls number (fresh_line card.config)) b) (card_event.at number what) card
+      (λ none. full (and_parts (lines.takes_slot card.config what its) (is_full card) none).0)
+      (λ some.
+      subst (λ (x : Line). P x (lines.answer card.config what its)) (sym (get_or-set_same card.lines number (lines.after card.config what its) (fresh_line card.config) (omega (arith, s.count, here))))
+      (room (line_sound card number (has_lines card s) here)))
+
 -- A full pool gives up nothing.
 stays-so : (b : Bool) → (b && (false || not b)) ≡ false
 stays-so true = refl
 stays-so false = refl
 
-full-ends : (service : Service) (tei : ℕ) (card : Card) (number : ℕ) (what : Event) → lines.takes_slot card.config what (line_at number card) ≡ true
+pub full-ends : (service : Service) (tei : ℕ) (card : Card) (number : ℕ) (what : Event) → lines.takes_slot card.config what (line_at number card) ≡ true
     → ending service tei what (line_at number card) (line_at number card) (refused PoolFull) ≡ false
 full-ends service tei card number what takes =
     ap (λ shown. has_tei tei (line_at number card) && (lost_in service tei shown || not (has_tei tei (line_at number card)))) (nothing-seen card.config what (line_at number card) takes)
@@ -276,19 +302,11 @@ module _ (service other : Service) (tei by : ℕ) where
       (λ x. ⊎_elim (λ none. inr (inl none)) (λ y. inr (inr (same-tei c ranged l s e service other tei by x y))) (of-tei c ranged l s e other by))
       (of-tei c ranged l s e service tei)
 
-  module _ (card : Card) (number : ℕ) (what : Event) (s : CardIsSound card) (here : number < card.config.lines) where
-    abbrev line : Line
-    line = line_at number card
-
-    full-one : lines.takes_slot card.config what line ≡ true → IsOne what line line (refused PoolFull)
-    full-one takes = inl (full-ends service tei card number what takes)
-
-    pub one-tei : IsOne what line (line_at number (after (card_event.at number what) card)) (answer (card_event.at number what) card)
-    one-tei =
-        by_room (λ ls b. IsOne what line (get_or ls number (fresh_line card.config)) b) (card_event.at number what) card (λ full. full-one (and_parts (lines.takes_slot card.config what line) (is_full card) full).0)
-        (λ room.
-        subst (λ (x : Line). IsOne what line x (lines.answer card.config what line)) (sym (get_or-set_same card.lines number (lines.after card.config what line) (fresh_line card.config) (omega (arith, s.count, here))))
-        (one-line card.config s.config line (line_sound card number (has_lines card s) here) what))
+  pub one-tei : (card : Card) (number : ℕ) (what : Event) → CardIsSound card → number < card.config.lines
+      → IsOne what (line_at number card) (line_at number (after (card_event.at number what) card)) (answer (card_event.at number what) card)
+  one-tei card number what s here =
+      at-card card number what s here (IsOne what (line_at number card)) (λ takes. inl (full-ends service tei card number what takes))
+      (λ safe. one-line card.config s.config (line_at number card) safe what)
 
 -- So is one that gives up what it keeps by a request that names a TEI.
 module _ (service : Service) (tei by : ℕ) (r : Request) (named : named_by r ≡ Some by) where
@@ -298,14 +316,8 @@ module _ (service : Service) (tei by : ℕ) (r : Request) (named : named_by r �
   named-line : (c : Config) → IsInRange c → (l : Line) → IsSound c l → IsNamed l (lines.after c (request r) l) (lines.answer c (request r) l)
   named-line c ranged l s = ⊎_elim (λ none. inl none) (λ x. inr (asked-named c l s service tei by r named x)) (of-tei c ranged l s (request r) service tei)
 
-  module _ (card : Card) (number : ℕ) (s : CardIsSound card) (here : number < card.config.lines) where
-    abbrev its : Line
-    its = line_at number card
-
-    pub named-tei : IsNamed its (line_at number (after (card_event.at number (request r)) card)) (answer (card_event.at number (request r)) card)
-    named-tei =
-        by_room (λ ls b. IsNamed its (get_or ls number (fresh_line card.config)) b) (card_event.at number (request r)) card
-        (λ full. inl (full-ends service tei card number (request r) (and_parts (lines.takes_slot card.config (request r) its) (is_full card) full).0))
-        (λ room.
-        subst (λ (x : Line). IsNamed its x (lines.answer card.config (request r) its)) (sym (get_or-set_same card.lines number (lines.after card.config (request r) its) (fresh_line card.config) (omega (arith, s.count, here))))
-        (named-line card.config s.config its (line_sound card number (has_lines card s) here)))
+  pub named-tei : (card : Card) (number : ℕ) → CardIsSound card → number < card.config.lines
+      → IsNamed (line_at number card) (line_at number (after (card_event.at number (request r)) card)) (answer (card_event.at number (request r)) card)
+  named-tei card number s here =
+      at-card card number (request r) s here (IsNamed (line_at number card)) (λ takes. inl (full-ends service tei card number (request r) takes))
+      (λ safe. named-line card.config s.config (line_at number card) safe)

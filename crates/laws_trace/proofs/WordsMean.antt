@@ -29,6 +29,7 @@ words-mean-this = record {
   terminal = λ c. terminal-at c.side c.seed;
   call = refl;
   packet = refl;
+  greatest = refl;
   readings = λ first second. (refl, refl);
   no_line = λ card number service tei none. ap (λ b. cond b (state_of service tei (line_at number card)) None) (le-ltb number card.config.lines none);
   frames_at_lines = λ card events all. all;

@@ -1,5 +1,7 @@
 -- What is given up is told. `Outgoing` defines what a link keeps: what it is granted, and is neither acknowledged nor given up.
-use Rattle.std.specs.Prelude.{◌≡◌, ℕ, ◌||◌, ◌&&◌, not, ◌⊎◌, List, length, Option, Some, None, if◌then◌else◌}
+use Rattle.std.specs.Prelude.{◌≡◌, ℕ, ◌||◌, ◌&&◌, not, ◌⊎◌, List, [], ◌∷◌, length, Option, Some, None, if◌then◌else◌}
+use Rattle.lapd_frame.specs.declared.notes.Note.{Note}
+use Rattle.lapd_frame.specs.declared.notes.Note.TheVariants as note
 use Rattle.lapd_frame.specs.declared.services.Service.{Service}
 use Rattle.model_line.specs.declared.config.Config.{Config}
 use Rattle.model_line.specs.Event as line_event
@@ -7,6 +9,7 @@ use Rattle.model_line.specs.Event.{request}
 use Rattle.model_line.specs.Request.{Request, Establish, Release, Data, SetBusy, ClearBusy, Deactivate, Remove}
 use Rattle.model_card.specs.Event.{Event}
 use Rattle.laws_line.specs.Frames.{given_up_in}
+use Rattle.laws_line.specs.Heard.{notes_of}
 use Rattle.laws_trace.specs.Managing.{is_on}
 use Rattle.laws_trace.specs.Observer.{moment_of, views}
 use Rattle.laws_trace.specs.Outgoing.{loses, outgoing_of}
@@ -31,8 +34,33 @@ named_by (Deactivate of tei) = Some tei
 named_by (Remove tei) = Some tei
 named_by other = None
 
+-- That of an event that is such a request.
+abbrev pub asked_by : line_event.Event → Option ℕ
+asked_by (request r) = named_by r
+asked_by other = None
+
+-- The TEI that a note names, and that the first of some does (profile).
+abbrev pub tei_of : Note → Option ℕ
+tei_of (note.EstablishIndication of tei) = Some tei
+tei_of (note.EstablishConfirm of tei) = Some tei
+tei_of (note.ReleaseIndication of tei) = Some tei
+tei_of (note.ReleaseConfirm of tei) = Some tei
+tei_of (note.Data of tei) = Some tei
+tei_of (note.Unit of tei) = Some tei
+tei_of (note.Error of tei code) = Some tei
+tei_of (note.Assigned tei) = Some tei
+tei_of (note.Removed tei) = Some tei
+tei_of (note.Doubled tei) = Some tei
+tei_of (note.Xid of tei) = Some tei
+tei_of other = None
+
+abbrev pub first_of : List Note → Option ℕ
+first_of [] = None
+first_of (n ∷ ns) = tei_of n
+
 -- Of each service an event tells as many as one link gives up, and none only if no link does (profile). All links that give
--- up contents by one event are of one TEI, whatever their services. If a request names a TEI, they are of this one.
+-- up contents by one event are of one TEI, whatever their services. If a request names a TEI, they are of this one. Else
+-- the first note of the answer names their TEI.
 pub record TellsGivenUp (c : Config) (events : List Event) (number : ℕ) (service : Service) (what : line_event.Event) : Type 0 where
   pub told : (tei : ℕ) → (given_up c service tei number events what ≡ 0)
       ⊎ (given_up_in service (moment_of c events number what).answer ≡ given_up c service tei number events what)
@@ -41,6 +69,8 @@ pub record TellsGivenUp (c : Config) (events : List Event) (number : ℕ) (servi
   pub whose : (tei : ℕ) (other : Service) (by : ℕ) → (given_up c service tei number events what ≡ 0)
       ⊎ (given_up c other by number events what ≡ 0) ⊎ (tei ≡ by)
   pub named : (tei by : ℕ) (r : Request) → what ≡ request r → named_by r ≡ Some by → (given_up c service tei number events what ≡ 0) ⊎ (tei ≡ by)
+  pub noted : (tei : ℕ) → asked_by what ≡ None
+      → (given_up c service tei number events what ≡ 0) ⊎ (first_of (notes_of (moment_of c events number what).answer) ≡ Some tei)
 
 abbrev pub GivenUpIsTold : Config → List Event → ℕ → Type 0
 GivenUpIsTold c events number = (service : Service) (what : line_event.Event) → TellsGivenUp c events number service what

@@ -20,6 +20,8 @@ pub mod AnswersAreGiven
 pub mod AnswersSuit
 pub mod TimersAreTimely
 pub mod LinksMove
+pub mod LinkCountersCount
+pub mod WorkedLinkCounters
 pub mod News
 pub mod Outgoing
 pub mod NoSlotIsLost

@@ -1,6 +1,7 @@
 -- What the words mean that laws share with the machine.
 use Rattle.std.specs.Prelude.{◌≡◌, ℕ, ◌≤◌, ◌<◌, ◌==◌, ◌&&◌, not, Bool, true, false, List, [], ◌∷◌, map, flat_map, All, None, Some, is_some, option_map, if◌then◌else◌}
 use Rattle.model_bits.specs.Stream as stream
+use Rattle.lapd_count.specs.Counters.{most}
 use Rattle.lapd_frame.specs.declared.readings.Reading.TheVariants.{Profile, AnnexB}
 use Rattle.lapd_frame.specs.declared.refusals.Refusal.{Refusal}
 use Rattle.lapd_frame.specs.declared.services.Service.{Service}
@@ -56,6 +57,8 @@ pub record WordsMeanThis : Type 0 where
   -- As frames are read, call control has SAPI 0, and the second service 16 (Q.921 clause 3.3.3, table 2).
   pub call : sapi_of Call ≡ 0
   pub packet : sapi_of Packet ≡ 16
+  -- A counter of a line is a number of 64 bits, which stays at its greatest value (profile).
+  pub greatest : most ≡ 18446744073709551615
   -- Of two that differ the first is the profile's, and the second that of annex B.
   pub readings : (first second : Bool) → (by_reading Profile first second ≡ first) × (by_reading AnnexB first second ≡ second)
   -- `Card::state` tells none for a line that the card has not.

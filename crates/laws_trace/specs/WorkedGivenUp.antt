@@ -1,19 +1,22 @@
 -- Worked values: what is told as given up.
-use Rattle.std.specs.Prelude.{◌≡◌, List, ◌∷◌, ◌++◌, [], refl}
+use Rattle.std.specs.Prelude.{◌≡◌, List, ◌∷◌, ◌++◌, [], Some, refl}
 use Rattle.lapd_frame.specs.declared.services.Service.TheVariants.{Call, Packet}
+use Rattle.lapd_frame.specs.declared.timers.Timer.TheVariants.{T201}
 use Rattle.lapd_frame.specs.Reading.{reading, header_of, control_of, unnumbered_of, supervisory_of}
 use Rattle.lapd_frame.specs.Senders.{exchanged, reading as read_by}
 use Rattle.lapd_seq.specs.Circle.{named, distance_of}
 use Rattle.lapd_seq.specs.Numbers.{seq}
 use Rattle.lapd_tei.specs.Events as teis
-use Rattle.model_line.specs.Event.{request}
+use Rattle.model_line.specs.Event as line_event
+use Rattle.model_line.specs.Event.{expiry, request}
 use Rattle.model_line.specs.Machine as lines
-use Rattle.model_line.specs.Request.{Data, Release, Remove}
-use Rattle.model_card.specs.Event.{Event}
+use Rattle.model_line.specs.Request.{Check, Data, Release, Remove}
+use Rattle.model_card.specs.Event.{Event, at}
 use Rattle.model_card.specs.Run.{moments, after_all}
 use Rattle.laws_line.specs.card.Worked.{usual, on_0, up}
 use Rattle.laws_line.specs.Frames.{given_up_in}
-use Rattle.laws_trace.specs.GivenUpIsTold.{given_up}
+use Rattle.laws_line.specs.Heard.{notes_of}
+use Rattle.laws_trace.specs.GivenUpIsTold.{given_up, first_of}
 use Rattle.laws_trace.specs.Observer.{moment_of}
 use Rattle.laws_trace.specs.WorkedUnits.{calls, frame_comes}
 
@@ -40,3 +43,15 @@ of_packet_none = refl
 behind_rr : given_up_in Call (moment_of usual (two ++ frame_comes (0x02 ∷ 0x81 ∷ 0x01 ∷ 0x02 ∷ []) ∷ []) 0 (request (Release Call 64))).answer ≡ 1
 unfolding moments after_all lines.after lines.answer lines.takes_slot teis.course teis.refusal seq distance_of named exchanged read_by reading header_of control_of unnumbered_of supervisory_of
 behind_rr = refl
+
+-- The first note names TEI 64: error F, as SABME comes again; and that the TEI is removed, as no terminal answers a check.
+first_by_sabme : first_of (notes_of (moment_of usual two 0 (frame_comes (0x00 ∷ 0x81 ∷ 0x7F ∷ [])).what).answer) ≡ Some 64
+unfolding moments after_all lines.after lines.answer lines.takes_slot teis.course teis.refusal seq distance_of named exchanged read_by reading header_of control_of unnumbered_of supervisory_of
+first_by_sabme = refl
+
+abbrev t201 : line_event.Event
+t201 = expiry T201
+
+first_by_check : first_of (notes_of (moment_of usual (two ++ on_0 (Check 64) ∷ at 0 t201 ∷ []) 0 t201).answer) ≡ Some 64
+unfolding moments after_all lines.after lines.answer lines.takes_slot teis.course teis.refusal seq distance_of named exchanged read_by reading header_of control_of unnumbered_of supervisory_of
+first_by_check = refl

@@ -12,6 +12,7 @@ ghost use Rattle.laws_trace.specs.FramesAreRead.{FramesAreRead, FramesAreOctets}
 ghost use Rattle.laws_trace.specs.FramesAreDue.{GivenIsDue, DueIsGiven};
 ghost use Rattle.laws_trace.specs.Deliveries.{WhatIsToldWasHeard};
 ghost use Rattle.laws_trace.specs.LinksMove.{LinksMove};
+ghost use Rattle.laws_trace.specs.LinkCountersCount.{LinkCountersCount};
 ghost use Rattle.laws_trace.specs.News.{NewsIsTold};
 ghost use Rattle.laws_trace.specs.NoLossInVain.{NoLossInVain};
 ghost use Rattle.laws_trace.specs.GivenUpIsTold.{GivenUpIsTold};
@@ -173,8 +174,9 @@ pub fn nothing_is_lost_in_vain()
 /// What is given up is told. An event gives up all that the link of a TEI keeps, or nothing. It gives it up if layer 3
 /// learns that the link keeps nothing, or if the TEI leaves the line. The observer of [`what_is_given_is_due`] defines
 /// what it keeps: what it is granted, and is neither acknowledged nor given up. All links that give up contents by one
-/// event are of one TEI. If the event is a request of a link, or removes a TEI, it is the TEI that the request names. Of
-/// each service the answer tells as many as one link gives up. It tells none only if no link gives up any (profile).
+/// event are of one TEI. If the event is a request of a link, or removes a TEI, it is the TEI that the request names. If
+/// not, it is the TEI that the first note of the answer names. Of each service the answer tells as many as one link gives
+/// up. It tells none only if no link gives up any (profile).
 pub fn given_up_is_told()
     ensures { Always GivenUpIsTold }
 {}
@@ -282,6 +284,17 @@ pub fn timers_run()
 /// clauses 3.5.2.3, 5.3, 5.5.1 to 5.5.5, 5.6.7, 5.7, 5.8, 5.9.2 and 5.10.3, and annex B).
 pub fn links_move()
     ensures { Always LinksMove }
+{}
+
+/// The counters of a link count what its events show. `Card::link_counts` tells them of a link whose TEI is on the line, and
+/// nothing of any other. Its events are what an observer of the line has of it, in order, since its TEI came: what it hears,
+/// expiries of its timers, requests of it that are granted, and its frames that begin. What they show is counted as
+/// `counts_are_true` of `laws_link` has it, and begins anew as the link is deactivated. It is how many I-frames began whose
+/// number had begun before in the same establishment, how often T200 expired while it ran, how many REJ began, how many came in
+/// states 7 and 8, and how often the link was established. No number is over 65535 (Q.921 clauses 5.5.1.2, 5.6.1, 5.6.4, 5.7,
+/// 5.8.1 and 5.9.1, annex B, and profile).
+pub fn link_counters_count()
+    ensures { Always LinkCountersCount }
 {}
 
 /// News of links is told, and errors. In the answer to an event the notes of a link, except data and unit data, are

@@ -24,10 +24,10 @@ mod words;
 
 pub use laws::{
     answers_are_given, asking_ends, causes_are_told, counters_count, frames_are_octets,
-    frames_are_read, given_up_is_told, links_move, links_take_turns_meanwhile, news_is_told,
-    nothing_is_lost_in_vain, ranges_are_served, services_have_their_sapis, teis_are_managed,
-    the_other_side_is_heard, timers_are_timely, timers_run, units_go_out, values_are_in_range,
-    what_is_due_joins_the_queue, what_is_given_is_due, what_is_told_was_heard,
+    frames_are_read, given_up_is_told, link_counters_count, links_move, links_take_turns_meanwhile,
+    news_is_told, nothing_is_lost_in_vain, ranges_are_served, services_have_their_sapis,
+    teis_are_managed, the_other_side_is_heard, timers_are_timely, timers_run, units_go_out,
+    values_are_in_range, what_is_due_joins_the_queue, what_is_given_is_due, what_is_told_was_heard,
 };
 pub use octets::{
     all_frames_go_out, answers_are_heard, frames_go_out, latest_is_begun, units_are_heard,

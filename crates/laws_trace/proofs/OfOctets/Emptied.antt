@@ -1,15 +1,17 @@
 -- Where a line was only pulled, as often as the configuration says, the latest call for its next frame gave none.
-use Rattle.laws_trace.proofs.Vocabulary.{◌≡◌, ℕ, zero, suc, ◌+◌, ◌<◌, ◌==◌, Bool, true, false, cond, List, [], ◌∷◌, ◌++◌, Option, None, option_map, refl, sym, ap, ◌∙◌, subst, arith, append_assoc, eq-eqb, All, flat_map-append, All-nil, All-cons, All-head, All-tail, Config, NextFrame, taken, next_of, most_frames, HasNothing, Card, line_at, AreTakesAt, takes_at, card-idles, all-left, all-right}
+use Rattle.laws_trace.proofs.Vocabulary.{◌≡◌, ℕ, zero, suc, ◌+◌, ◌<◌, ◌≤◌, ◌==◌, Bool, true, false, cond, List, [], ◌∷◌, ◌++◌, Option, None, option_map, refl, sym, ap, ◌∙◌, subst, arith, append_assoc, eq-eqb, All, flat_map-append, All-nil, All-cons, All-head, All-tail, Config, NextFrame, taken, next_of, most_frames, HasNothing, Card, line_at, AreTakesAt, takes_at, card-idles, all-left, all-right}
 use Rattle.laws_trace.proofs.Vocabulary.{config-stays, OctetCard, calls_answered, moments_meant, asked_at, refines, pulls_are_takes, fresh_octets_sound, moments-append, eqb-true, answer as line_answer, takes_slot, moments as frame_moments, after_all as frames_after, ports_fresh as fresh, ports_after as after, PortsEvent as Event, PortsAreAtLines as AreAtLines, ports_after_all as after_all}
-use Rattle.laws_trace.proofs.Vocabulary.{meant_all, EndsInPulls, gave, next, IsInRange, config_stays}
+use Rattle.laws_trace.proofs.Vocabulary.{port_at, meant_all, EndsInPulls, gave, next, IsInRange, config_stays}
 use Rattle.model_card.specs.Card as cards
 use Rattle.model_card.specs.Event as frames
 use Rattle.model_card.specs.Machine as machine
 use Rattle.model_card.specs.Run as runs
 use Rattle.model_card.proofs.CardSound as card_sound
 use Rattle.laws_trace.proofs.Drained.{drained}
+use Rattle.model_card.specs.ports.Pulls.{pulls_at, pulls_behind, most_pulls_behind}
 use Rattle.model_card.specs.ports.Run.{IsAtLine}
 use Rattle.model_card.specs.ports.Sound.{IsSoundOctetCard}
+use Rattle.model_card.proofs.OfPorts.Reaching.{reached_after_all, reached_fresh}
 use Rattle.model_card.proofs.OfPorts.Sound.{always_sound}
 
 -- what events mean behind others
@@ -121,7 +123,11 @@ module _ (c : Config) (events : List Event) (number : ℕ) (ranged : IsInRange c
   only = pulls_are_takes.only m h.pulls number h.only
 
   pub many : most_frames c < takes_at number calls
-  many = grind (arith, pulls_are_takes, before_lines, same, sound, lines, few)
+  many =
+      let behind = pulls_are_takes.most m number (reached_after_all (fresh c) h.before (reached_fresh c ranged) before_lines) few (most_frames c) in
+      let least = subst (λ (x : Config). pulls_behind x.n201 (port_at number m) (most_frames c) ≤ most_pulls_behind x.n201 (most_frames c)) same behind in
+      pulls_are_takes.enough m h.pulls number (most_frames c) sound lines few h.only
+      (subst (λ (x : Config). pulls_behind x.n201 (port_at number m) (most_frames c) ≤ pulls_at number h.pulls) (sym same) (omega (arith, least, h.enough)))
 
   pub x : IsLatest number calls
   x = let some = many in latest number calls only (omega (arith, some))

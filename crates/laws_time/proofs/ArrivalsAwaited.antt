@@ -1,70 +1,27 @@
 -- No answer is awaited longer than T200 may run out.
-use Rattle.std.proofs.Common.{arith, cond, ◌≡◌, ℕ, ◌+◌, ◌-◌, ◌*◌, ◌<◌, ◌≤◌, ◌==◌, ◌&&◌, ◌||◌, not, Bool, true, false, List, [], ◌∷◌, ◌++◌, Option, Some, None, refl, sym, ap, ◌∙◌, subst, eqb-true, is_some, inl, append-nil, append_assoc, option_map}
-use Rattle.std.specs.Option.{option_map_or}
-use Rattle.std.specs.Prelude.{option_to_list, fold, nat_le}
-use Rattle.std.proofs.lemmas.Bool.{true≢false, ltb-true}
-use Rattle.std.proofs.lemmas.Nat.{mul-le}
-use Rattle.lapd_clock.specs.Timer.{Lengths, is_same}
-use Rattle.lapd_clock.specs.Timers.{Expiry, is_of}
-use Rattle.lapd_frame.specs.declared.services.Service.{Service}
-use Rattle.lapd_frame.specs.declared.timers.Timer.{Timer}
+use Rattle.laws_time.proofs.Vocabulary.{Answer, ArePrompt as TimedArePrompt, Bool, Clock, Config, Control, Event, Expiry, IsInRange, IsNoExpiry, Lengths, List, Moment, NoAnswerIsAwaitedLonger, None, Observed, Option, Parts, Service, Some, StaysIn, Step, T200, TimedCard, Timer, View, [], after_all as timed_after_all, and-false, anew, ap, append-nil, append_assoc, arith, at, at_moment, both-true}
+use Rattle.laws_time.proofs.Vocabulary.{by_event, by_frame, by_t200, cond, due, eqb-true, event_of, events_of, expiry, falls_due, false, frame_in, inl, is_anew, is_of, is_on, is_own, is_same, is_some, is_too_long, ltb-true, may_repeat, moment_at as moment_of, mul-le, nat_le, next, not, of_frames, option_map, option_map_or, option_to_list, refl, request, runs, same_service, services-equal, state}
+use Rattle.laws_time.proofs.Vocabulary.{step_happens as happens, subst, sym, time, timed_events_of, true, true≢false, view_behind, view_of, while_down, while_up, without_first, ℕ, ◌&&◌, ◌*◌, ◌++◌, ◌+◌, ◌-◌, ◌<◌, ◌==◌, ◌||◌, ◌∙◌, ◌∷◌, ◌≡◌, ◌≤◌}
 use Rattle.lapd_frame.specs.declared.timers.Timer.TheVariants as timers
-use Rattle.lapd_frame.specs.Services.{same_service}
-use Rattle.model_line.proofs.Obeyed.{both-true, services-equal}
 use Rattle.model_line.specs.Event as line_event
-use Rattle.model_line.specs.Event.{Answer, expiry, hears, request, next}
-use Rattle.model_line.specs.Sound.{IsInRange}
-use Rattle.model_line.specs.declared.config.Config.{Config}
-use Rattle.model_link.specs.declared.timers.LinkTimer.TheVariants.{T200}
+use Rattle.model_line.specs.Event.{hears}
 use Rattle.model_card.specs.Card as cards
-use Rattle.model_card.specs.Card.{state}
-use Rattle.model_card.specs.Event.{Event, at}
 use Rattle.model_card.specs.Machine.{answer}
 use Rattle.model_card.specs.Run as runs_of
-use Rattle.model_card.specs.Run.{Moment}
-use Rattle.laws_trace.specs.Managing.{is_on}
-use Rattle.laws_trace.specs.Observer.{Observed, View, view_of, view_behind, by_event, by_t200, by_frame_begun, moment_of, may_repeat, anew, by_frame, while_up, while_down}
-use Rattle.laws_trace.specs.LinkFrames.{is_too_long}
-use Rattle.lapd_frame.specs.Grammar.{Parts}
-use Rattle.lapd_frame.specs.declared.controls.Control.{Control}
-use Rattle.laws_trace.specs.TimersAreTimely.{runs, is_anew, is_timer_of}
-use Rattle.laws_trace.specs.Trace.{is_own, frame_in}
-use Rattle.model_timed.specs.Clock.{Clock, due, without_first, at_moment}
-use Rattle.model_timed.specs.Frames.{TimedCard, fresh, after, event_of, IsNoExpiry}
-use Rattle.model_timed.specs.Frames.{after_all, events_of, ArePrompt}
-use Rattle.model_timed.specs.Timed.{Step, happens, time, falls_due}
-unfoldable use Rattle.model_timed.specs.Timed.{after_all as timed_after_all, events_of as timed_events_of, ArePrompt as TimedArePrompt}
-use Rattle.laws_time.specs.Watched.{of_frames}
-use Rattle.laws_time.specs.ArrivalsAwaited.{NoAnswerIsAwaitedLonger}
-unfoldable use Rattle.laws_time.specs.ArrivalsAwaited.{StaysIn}
+use Rattle.model_timed.specs.Frames.{fresh, after, after_all, ArePrompt}
 use Rattle.laws_time.proofs.TimedFrames.{with_event, expiry_of, with_expiry as timed_expiry, IsPrompt}
 use Rattle.laws_time.proofs.Links.{view-then, on-where, state-is, elsewhere, stays-on}
-use Rattle.laws_time.proofs.Moments.{own, IsOf}
+use Rattle.laws_time.proofs.Moments.{differs}
 use Rattle.laws_time.proofs.Walk.{Stands, Holds, seen, step, q-is}
 use Rattle.laws_time.proofs.Falls.{in-time}
 use Rattle.laws_time.proofs.Before.{Goes, other-line, step-goes, dropped-holds, before-goes, begins, t200-leads, expired-anew}
 use Rattle.laws_time.proofs.Phases.{one-more}
 use Rattle.laws_time.proofs.OfCircuit.Moments.{is_waiting, awaits-in, not-anew}
+use Rattle.laws_time.proofs.Effects.{sent-like}
 
 abbrev is_own_t200 : Service → ℕ → line_event.Event → Bool
 is_own_t200 service tei (expiry (timers.T200 of by)) = is_own service tei of by
 is_own_t200 service tei other = false
-
--- As long as the state stays, T200 alone counts expiries.
-one-count : (c : Config) (service : Service) (tei : ℕ) (o : Observed) (f : List ℕ) → (by_frame_begun c service tei o f).expiries ≡ o.expiries
-one-count c service tei o f = grind arith
-
-begun-count : (c : Config) (service : Service) (tei : ℕ) (fs : List (List ℕ)) (o : Observed) → (fold (by_frame_begun c service tei) o fs).expiries ≡ o.expiries
-begun-count c service tei [] o = refl
-begun-count c service tei (f ∷ fs) o = begun-count c service tei fs (by_frame_begun c service tei o f) ∙ one-count c service tei o f
-
-one-of-three : (n : ℕ) → is_waiting n ≡ true → (P : ℕ → Type 0) → P 5 → P 6 → P 8 → P n
-one-of-three n is P five six eight = go (n == 5) refl (n == 6) refl
-  where
-    go : (a : Bool) → (n == 5) ≡ a → (b : Bool) → (n == 6) ≡ b → P n
-    go true e b f = subst P (sym (eqb-true n 5 e)) five
-    go false e true f = subst P (sym (eqb-true n 6 f)) six
-    go false e false f = subst P (sym (eqb-true n 8 (ap (λ x. x || (false || (n == 8))) (sym e) ∙ ap (λ x. (n == 5) || (x || (n == 8))) (sym f) ∙ is))) eight
 
 -- a frame that is heard
 up-same : (long command : Bool) (k : Control) (o : Observed) → nat_le 7 o.state ≡ true → is_waiting o.state ≡ true → (while_up long command k o).state ≡ o.state → (while_up long command k o).expiries ≡ o.expiries
@@ -96,7 +53,7 @@ counts-same : (c : Config) (service : Service) (tei : ℕ) (what : line_event.Ev
 counts-same c service tei (hears e) a o other waits same = heard-count c o _ _ waits same
 counts-same c service tei (request r) a o other waits same = grind arith
 counts-same c service tei (expiry timer) a o other waits same = grind arith
-counts-same c service tei next a o other waits same = begun-count c service tei (frame_in a) o
+counts-same c service tei next a o other waits same = (sent-like c service tei o (frame_in a)).expiries
 
 -- T200 expires there: it does so once more, or the state is left.
 led-on : (c : Config) (o : Observed) → is_waiting o.state ≡ true → may_repeat c o ≡ true → by_t200 c o ≡ record o { expiries = o.expiries + 1 }
@@ -107,17 +64,6 @@ led-out c o waits none same = grind (arith, eqb-true)
 
 no-expiry : (service : Service) (tei : ℕ) (what : line_event.Event) → IsNoExpiry what → is_own_t200 service tei what ≡ false
 no-expiry service tei what none = grind arith
-
-differs : (service : Service) (tei : ℕ) (timer its : Timer) → IsOf service tei its → is_timer_of service tei timer ≡ false → is_same timer its ≡ false
-differs service tei timer its of none = go (is_same timer its) refl
-  where
-    go : (b : Bool) → is_same timer its ≡ b → b ≡ false
-    go true e = absurd (true≢false (sym (own service tei its timer of e) ∙ none))
-    go false e = refl
-
-and-false : (b : Bool) → (b && false) ≡ false
-and-false true = refl
-and-false false = refl
 
 module _ (c : Config) (lengths : Lengths) (late number : ℕ) (ranged : IsInRange c) (within : number < c.lines) (service : Service) (tei n limit : ℕ) (waiting : is_waiting n ≡ true) where
   abbrev G : List Event → TimedCard → Type 0

@@ -1,37 +1,14 @@
 -- By which events N200 is used up, and how often T200 has expired.
-use Rattle.std.proofs.Common.{arith, ◌≡◌, ℕ, ◌+◌, ◌==◌, ◌&&◌, ◌||◌, not, Bool, true, false, cond, List, [], ◌∷◌, ◌++◌, map, length, Option, Some, None, Ok, Err, refl, sym, ap, ◌∙◌, eqb-true, eq-eqb, inl, inr, ◌⊎◌, append-nil}
-use Rattle.std.specs.Option.{option_map_or, option_and_then}
+use Rattle.laws_time.proofs.Vocabulary.{A, Answer, Bool, Config, Control, Disc, Dm, Err, Error, ErrorCode, F, Frmr, Information, J, K, List, None, Note, O, Observed, Ok, Option, Parts, ReceiveNotReady, ReceiveReady, Reject, Sabme, Service, Some, T200, Timer, Ua, Ui, Xid, [], ap, append-nil, arith, begins_ui, brings, by_event, by_expiry, by_t200, cond, counted, due_notes, eq-eqb, eqb-true}
+use Rattle.laws_time.proofs.Vocabulary.{error_in, expiry, false, fault_of, faulty_long, flat_map, flat_map-append, frame_in, frame_of, given_up, heard_side, inl, inr, is_annex_b, is_own, is_sabme, is_too_long, is_up, is_used_up, is_xid, its_frame, list_any, list_any-append, long_reading, malformed, map, may_repeat, minds, next, not, notes_due, option_and_then, option_map_or, option_to_list}
+use Rattle.laws_time.proofs.Vocabulary.{reading, refl, releases, request, runs, sym, true, true≢false, wrong, wrong_frame, wrong_number, ℕ, ◌&&◌, ◌++◌, ◌+◌, ◌==◌, ◌||◌, ◌∙◌, ◌∷◌, ◌≡◌, ◌⊎◌}
 use Rattle.std.specs.Result.{result_err}
-use Rattle.std.specs.Prelude.{option_to_list, nat_lt, flat_map}
-use Rattle.std.specs.List.{list_any}
-use Rattle.std.proofs.lemmas.Bool.{true≢false}
-use Rattle.std.proofs.lemmas.Grind.{flat_map-append}
-use Rattle.std.proofs.lemmas.List.Folds.{list_any-append}
-use Rattle.lapd_frame.specs.declared.controls.Control.{Control}
-use Rattle.lapd_frame.specs.declared.controls.Control.TheVariants.{Information, ReceiveReady, ReceiveNotReady, Reject, Sabme, Disc, Ui, Ua, Dm, Frmr, Xid}
 use Rattle.lapd_frame.specs.declared.faults.ReadFault.{ReadFault}
-use Rattle.lapd_frame.specs.declared.notes.ErrorCode.{ErrorCode}
-use Rattle.lapd_frame.specs.declared.notes.ErrorCode.TheVariants.{A, F, J, K, O}
-use Rattle.lapd_frame.specs.declared.notes.Note.{Note}
-use Rattle.lapd_frame.specs.declared.notes.Note.TheVariants.{Error}
-use Rattle.lapd_frame.specs.Grammar.{Parts}
-use Rattle.lapd_frame.specs.Senders.{reading, long_reading}
 use Rattle.lapd_frame.specs.declared.overlong.Long.TheVariants as long
 use Rattle.model_bits.specs.Stream as stream
-use Rattle.model_line.specs.Heard.{heard_side}
-use Rattle.lapd_frame.specs.declared.services.Service.{Service}
-use Rattle.lapd_frame.specs.declared.timers.Timer.{Timer}
 use Rattle.lapd_frame.specs.declared.timers.Timer.TheVariants as timers
 use Rattle.model_line.specs.Event as line_event
-use Rattle.model_line.specs.Event.{Answer, expiry, hears, request, next}
-use Rattle.model_line.specs.declared.config.Config.{Config}
-use Rattle.model_link.specs.declared.timers.LinkTimer.TheVariants.{T200}
-use Rattle.laws_trace.specs.LinkFrames.{malformed, fault_of, faulty_long, its_frame, frame_of, is_annex_b, is_too_long, begins_ui}
-use Rattle.laws_trace.specs.News.{notes_due, minds, wrong, wrong_frame, wrong_number, given_up, due as due_notes, brings, is_xid, is_sabme, releases}
-use Rattle.laws_trace.specs.Observer.{Observed, by_event, by_expiry, by_t200, awaits, counted, may_repeat}
-use Rattle.laws_trace.specs.TimersAreTimely.{runs}
-use Rattle.laws_trace.specs.Trace.{is_own, is_up, frame_in}
-use Rattle.laws_time.specs.circuit.Arriving.{error_in, is_used_up}
+use Rattle.model_line.specs.Event.{hears}
 use Rattle.laws_time.proofs.OfCircuit.Moments.{is_waiting, not-7}
 
 abbrev pub Used : List Note → Bool

@@ -1,81 +1,34 @@
 -- One event of a line: how soon T200 falls due then, and that N200 is not used up by it.
-use Rattle.std.proofs.Common.{arith, ◌≡◌, ℕ, ◌+◌, ◌*◌, ◌<◌, ◌≤◌, ◌==◌, ◌&&◌, ◌||◌, not, Bool, true, false, cond, List, [], ◌∷◌, ◌++◌, Some, None, refl, sym, ap, ◌∙◌, subst, eqb-true, eq-eqb, inl, inr, ◌⊎◌, filter, nat_le, zero, suc}
-use Rattle.std.specs.Prelude.{nat_lt}
-use Rattle.std.proofs.lemmas.Bool.{true≢false, ltb-false}
-use Rattle.std.proofs.lemmas.Nat.{mul-le}
-use Rattle.lapd_clock.specs.Moments.{moment_of}
-use Rattle.lapd_clock.specs.Timer.{Lengths, is_same}
-use Rattle.lapd_clock.specs.Timers.{Expiry, is_of}
-use Rattle.lapd_frame.specs.declared.services.Service.{Service}
-use Rattle.lapd_frame.specs.declared.timers.Timer.{Timer}
+use Rattle.laws_time.proofs.Vocabulary.{Bool, Clock, Config, Event, Expiry, IsInRange, IsNoExpiry, Lengths, List, None, Observed, Service, Some, T200, TimedCard, Timer, [], ap, arith, at, brings, by_event, cond, counted, eq-eqb, eqb-true, expiry, false, filter, first_due, in_state, inl, inr, is_anew, is_news, is_of, is_on, leb-true, ltb-false, moment_at, moment_of, mul-le, nat_le, nat_lt}
+use Rattle.laws_time.proofs.Vocabulary.{news-is-told-so, news_in, not, notes_due, notes_of, of_frames, or_parts, refl, renews, same_Some, subst, suc, sym, true, true≢false, view_behind, view_of, zero, ℕ, ◌&&◌, ◌*◌, ◌++◌, ◌+◌, ◌<◌, ◌==◌, ◌||◌, ◌∙◌, ◌∷◌, ◌≡◌, ◌≤◌, ◌⊎◌}
 use Rattle.model_line.specs.Event as line_event
-use Rattle.model_line.specs.Event.{expiry}
-use Rattle.model_line.specs.Sound.{IsInRange}
-use Rattle.model_line.specs.declared.config.Config.{Config}
-use Rattle.model_link.specs.declared.timers.LinkTimer.TheVariants.{T200}
-use Rattle.model_card.specs.Event.{Event, at}
 use Rattle.model_card.specs.Machine.{answer}
-use Rattle.laws_line.specs.Heard.{notes_of}
-use Rattle.laws_trace.specs.Managing.{is_on}
-use Rattle.laws_trace.specs.News.{notes_due, is_news, brings}
-use Rattle.laws_trace.specs.Observer.{Observed, view_of, view_behind, by_event, in_state, moment_of as moment_at, counted}
-use Rattle.laws_trace.specs.TimersAreTimely.{renews, is_anew, is_timer_of}
-use Rattle.laws_trace.proofs.ObservedLaws.{news-is-told-so}
-use Rattle.model_timed.specs.Clock.{Clock, first_due}
-use Rattle.model_timed.specs.Frames.{TimedCard, IsNoExpiry}
-use Rattle.laws_time.specs.Silence.{news_in}
-use Rattle.laws_time.specs.Watched.{of_frames}
 use Rattle.laws_time.proofs.TimedFrames.{with_event}
 use Rattle.laws_time.proofs.Links.{stays-on, there}
-use Rattle.laws_time.proofs.Moments.{own, IsOf}
 use Rattle.laws_time.proofs.Walk.{Stands, Holds, seen, step, q-is, stands-then}
 use Rattle.laws_time.proofs.Before.{Goes}
 use Rattle.laws_time.proofs.Phases.{one-more}
 use Rattle.laws_time.proofs.OfCircuit.Moments.{is_waiting, awaits-in, counts-on, not-anew}
 use Rattle.laws_time.proofs.ArrivalsErrors.{moved-zero, used-means, expiry-means, is_own_t200, Used}
 
-pub or-parts : (a b : Bool) → (a || b) ≡ false → (a ≡ false) × (b ≡ false)
-or-parts true b is = absurd (cc is)
-or-parts false b is = (refl, is)
-
 pub un-not : (b : Bool) → not b ≡ false → b ≡ true
 un-not true e = refl
 un-not false e = absurd (cc e)
 
-pub differs : (service : Service) (tei : ℕ) (timer its : Timer) → IsOf service tei its → is_timer_of service tei timer ≡ false → is_same timer its ≡ false
-differs service tei timer its of none = go (is_same timer its) refl
-  where
-    go : (b : Bool) → is_same timer its ≡ b → b ≡ false
-    go true e = absurd (true≢false (sym (own service tei its timer of e) ∙ none))
-    go false e = refl
-
-pub and-false : (b : Bool) → (b && false) ≡ false
-and-false true = refl
-and-false false = refl
-
 pub no-expiry : (service : Service) (tei : ℕ) (what : line_event.Event) → IsNoExpiry what → is_own_t200 service tei what ≡ false
 no-expiry service tei what none = grind arith
-
-pub none-expires : (what : line_event.Event) (timer : Timer) → IsNoExpiry what → what ≡ expiry timer → ⊥
-none-expires what timer none is = subst IsNoExpiry is none
 
 -- The timer that falls due is the first.
 pub due-now : (number : ℕ) (its : Timer) (xs : List Expiry) (now : ℕ) (x : Expiry) → first_due xs now ≡ Some x → is_of number its x ≡ true → (moment_of number its xs ≡ Some x.moment) × (x.moment ≤ now)
 due-now number its [] now x is same = cc is
 due-now number its (e ∷ es) now x is same = go (nat_le e.moment now) refl is
   where
-    is-first : (e x : Expiry) → Some e ≡ Some x → e ≡ x
-    is-first e x is = cc is
-
-    low : (n m : ℕ) → nat_le n m ≡ true → n ≤ m
-    low n m is = grind arith
-
     go : (b : Bool) → nat_le e.moment now ≡ b → cond b (Some e) None ≡ Some x → (moment_of number its (e ∷ es) ≡ Some x.moment) × (x.moment ≤ now)
     go false later is = cc is
     go true early is =
-        let one = is-first e x is in (
+        let one = same_Some e x is in (
           ap (λ b. cond b (Some e.moment) (moment_of number its es)) (ap (is_of number its) one ∙ same) ∙ ap (λ (e : Expiry). Some e.moment) one,
-          subst (λ (e : Expiry). e.moment ≤ now) one (low e.moment now early),
+          subst (λ (e : Expiry). e.moment ≤ now) one (leb-true e.moment now early),
         )
 
 module _ (c : Config) (lengths : Lengths) (late number : ℕ) (ranged : IsInRange c) (within : number < c.lines) (service : Service) (tei t0 slack floor : ℕ) (least : floor ≤ 1)
@@ -187,8 +140,8 @@ module _ (c : Config) (lengths : Lengths) (late number : ℕ) (ranged : IsInRang
 
     same-there : is_anew c service tei T200 o q what ≡ false → (o.state ≡ q.state) × (q.expiries ≤ o.expiries)
     same-there none =
-        let parts = or-parts (not (o.state == q.state) || nat_lt o.expiries q.expiries) (o.state == 7 && brings (renews T200 o.acknowledged o.busy) c service tei what) none in
-        let both = or-parts (not (o.state == q.state)) (nat_lt o.expiries q.expiries) parts.0 in
+        let parts = or_parts (not (o.state == q.state) || nat_lt o.expiries q.expiries) (o.state == 7 && brings (renews T200 o.acknowledged o.busy) c service tei what) none in
+        let both = or_parts (not (o.state == q.state)) (nat_lt o.expiries q.expiries) parts.0 in
         (eqb-true o.state q.state (un-not (o.state == q.state) both.0), ltb-false o.expiries q.expiries both.1)
 
     -- or lets it run on
@@ -206,9 +159,6 @@ module _ (c : Config) (lengths : Lengths) (late number : ℕ) (ranged : IsInRang
         ap (λ b. cond b (filter (is_news service tei) (notes_of (answer (at number what) u.card))) []) (eq-eqb number number refl)
         ∙ ap (λ card. filter (is_news service tei) (notes_of (answer (at number what) card))) s.card
         ∙ news-is-told-so c (events ++ at number what ∷ []) number ranged ((stands-then c lengths late number ranged within service tei events u (at number what) s within).all) within service tei events what [] refl
-
-    abbrev NoneUsed : Type 0
-    NoneUsed = Used (news_in of_frames service tei number (Some (at number what)) u.card) ≡ false
 
     -- It is no expiry of its T200.
     module _ (other : is_own_t200 service tei what ≡ false) (since : t0 ≤ u.clock.now) (h : H events u.clock (P (o_at events))) where

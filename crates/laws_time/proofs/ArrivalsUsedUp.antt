@@ -1,57 +1,22 @@
 -- N200 is used up no sooner than T200 has run out so often.
-use Rattle.std.proofs.Common.{arith, ◌≡◌, ℕ, ◌+◌, ◌*◌, ◌<◌, ◌≤◌, ◌==◌, ◌&&◌, ◌||◌, not, Bool, true, false, cond, List, [], ◌∷◌, ◌++◌, Option, Some, None, refl, sym, ap, ◌∙◌, subst, eqb-true, inl, inr, ◌⊎◌, append-nil, option_map, filter, eq-eqb}
-use Rattle.std.specs.Option.{option_map_or}
-use Rattle.std.specs.Prelude.{option_to_list}
-use Rattle.std.proofs.lemmas.Bool.{true≢false, ltb-false}
-use Rattle.lapd_clock.specs.Moments.{moment_of}
-use Rattle.lapd_clock.specs.Timer.{Lengths, is_same}
-use Rattle.lapd_clock.specs.Timers.{Expiry, is_of}
-use Rattle.lapd_frame.specs.declared.notes.Note.{Note}
-use Rattle.lapd_frame.specs.declared.services.Service.{Service}
-use Rattle.lapd_frame.specs.declared.timers.Timer.{Timer}
+use Rattle.laws_time.proofs.Vocabulary.{ArePrompt as TimedArePrompt, Bool, Clock, Config, Event, Expiry, IsInRange, Lengths, List, Moment, N200TakesItsTime, None, Note, Observed, Option, Service, Some, Step, T200, TimedCard, Timer, View, [], add-mul, after_all as timed_after_all, and-false, ap, append-nil, arith, at, at_moment, both-true, by_event, by_expiry, by_t200, cond, counted, due}
+use Rattle.laws_time.proofs.Vocabulary.{enquiries, eq-eqb, eqb-true, event_of, events_of, expiry, falls_due, false, filter, in_state, inl, inr, is_news, is_of, is_on, is_own, is_same, ltb-false, moment_at, moment_of, mul-le, news, news_in, not, notes_due, notes_of, of_frames, option_map, option_map_or, option_to_list, orders_in, own-is, refl, runs, same_service, services-equal, state}
+use Rattle.laws_time.proofs.Vocabulary.{step_happens as happens, subst, sym, time, tries, true, true≢false, view_behind, view_of, without_first, ℕ, ◌&&◌, ◌*◌, ◌++◌, ◌+◌, ◌<◌, ◌==◌, ◌||◌, ◌∙◌, ◌∷◌, ◌≡◌, ◌≤◌, ◌⊎◌}
 use Rattle.lapd_frame.specs.declared.timers.Timer.TheVariants as timers
-use Rattle.lapd_frame.specs.Services.{same_service}
-use Rattle.model_line.proofs.Obeyed.{both-true, services-equal}
-use Rattle.model_line.specs.Laws.{orders_in}
 use Rattle.model_line.specs.Event as line_event
-use Rattle.model_line.specs.Event.{expiry}
-use Rattle.model_line.specs.Sound.{IsInRange}
-use Rattle.model_line.specs.declared.config.Config.{Config}
-use Rattle.model_line.specs.Line.{tries}
-use Rattle.model_link.specs.declared.timers.LinkTimer.TheVariants.{T200}
 use Rattle.model_card.specs.Card as cards
-use Rattle.model_card.specs.Card.{state}
-use Rattle.model_card.specs.Event.{Event, at}
 use Rattle.model_card.specs.Machine.{answer}
 use Rattle.model_card.specs.Run as runs_of
-use Rattle.model_card.specs.Run.{Moment}
-use Rattle.laws_line.specs.Heard.{notes_of}
-use Rattle.laws_trace.specs.Managing.{is_on}
-use Rattle.laws_trace.specs.News.{notes_due, is_news}
-use Rattle.laws_trace.specs.Observer.{Observed, View, view_of, view_behind, by_event, by_expiry, by_t200, in_state, moment_of as moment_at, counted}
-use Rattle.std.proofs.lemmas.Nat.{mul-le}
-use Rattle.std.proofs.Math.Nat.{add-mul}
-use Rattle.laws_trace.specs.TimersAreTimely.{runs}
-use Rattle.laws_trace.specs.Trace.{is_own}
-use Rattle.laws_trace.proofs.LinkLed.{own-is}
-use Rattle.model_timed.specs.Clock.{Clock, due, without_first, at_moment}
-use Rattle.model_timed.specs.Frames.{TimedCard, fresh, after, event_of}
-use Rattle.model_timed.specs.Frames.{after_all, events_of, ArePrompt}
-use Rattle.model_timed.specs.Timed.{Step, happens, time, falls_due}
-unfoldable use Rattle.model_timed.specs.Timed.{after_all as timed_after_all, ArePrompt as TimedArePrompt}
-use Rattle.laws_time.specs.ArrivalsUsedUp.{N200TakesItsTime, enquiries}
-use Rattle.laws_time.specs.Silence.{news_in}
-unfoldable use Rattle.laws_time.specs.Silence.{news}
-use Rattle.laws_time.specs.Watched.{of_frames}
+use Rattle.model_timed.specs.Frames.{fresh, after, after_all, ArePrompt}
 use Rattle.laws_time.proofs.TimedFrames.{with_event, expiry_of, with_expiry as timed_expiry, IsPrompt}
 use Rattle.laws_time.proofs.Links.{view-then, state-is, there}
-use Rattle.laws_time.proofs.Moments.{itself, now-stays}
+use Rattle.laws_time.proofs.Moments.{itself, now-stays, differs}
 use Rattle.laws_time.proofs.Walk.{Stands, Holds, seen}
 use Rattle.laws_time.proofs.Falls.{in-time}
 use Rattle.laws_time.proofs.Before.{Goes, views-elsewhere, other-line, step-goes, dropped-holds, before-goes, begins, t200-leads, expired-anew}
 use Rattle.laws_time.proofs.OfCircuit.Moments.{is_waiting, awaits-in}
 use Rattle.laws_time.proofs.ArrivalsErrors.{used-append, led, idle-off, used-means, expiry-means, is_own_t200, Used}
-use Rattle.laws_time.proofs.ArrivalsOneEvent.{differs, and-false, no-expiry, due-now, Runs, first-time, once-more, out-of-7, fewer, is-q, views-own, anew-due, own-news, other-due, other-news}
+use Rattle.laws_time.proofs.ArrivalsOneEvent.{no-expiry, due-now, Runs, first-time, once-more, out-of-7, fewer, is-q, views-own, anew-due, own-news, other-due, other-news}
 
 counted-once : (c : Config) → counted c ≤ 1
 counted-once c = grind arith

@@ -1,40 +1,15 @@
 -- Whatever happens to a timed card, each timer of a link that runs falls due, and is overdue by no more.
-use Rattle.std.proofs.Common.{option_map, arith, ◌≡◌, ℕ, ◌+◌, ◌<◌, ◌≤◌, ◌==◌, ◌&&◌, ◌||◌, not, Bool, true, false, cond, List, [], ◌∷◌, ◌++◌, Option, Some, None, refl, sym, ap, ◌∙◌, subst, eqb-true, All, drop, append-nil}
-use Rattle.std.proofs.lemmas.Bool.{true≢false, and_parts}
-use Rattle.std.proofs.lemmas.List.Elements.{All-nil}
-use Rattle.lapd_clock.specs.Timer.{Lengths, duration, is_same}
-use Rattle.lapd_clock.specs.Timers.{Expiry, is_of}
-use Rattle.lapd_frame.specs.declared.services.Service.{Service}
+use Rattle.laws_time.proofs.Vocabulary.{All, All-nil, AreAtLines, ArePrompt as TimedArePrompt, Bool, Clock, Config, Event, Expiry, IsAtLine, IsInRange, IsInTime, Lengths, LinkTimer, List, Managed, Moment, None, Observed, Option, Service, Some, Step, T200, T203, TimedCard, View, [], after_all as timed_after_all, and_parts, ap, append-nil, append_assoc, arith, at, at_moment, awaits, by_t200, cond}
+use Rattle.laws_time.proofs.Vocabulary.{drop, due, duration, enquires, eqb-true, event_of, events_of, expiry, falls_due, false, frames_after_all as card_after_all, in_state, is_anew, is_of, is_on, is_same, is_terminal, moments, not, nothing_due, option_map, option_map_or, option_to_list, orders_in, own-is, refl, runs, step_happens as happens, subst, sym, time, timed_events_of, timer_of, true}
+use Rattle.laws_time.proofs.Vocabulary.{true≢false, view_behind, view_of, views, without_first, ℕ, ◌&&◌, ◌++◌, ◌+◌, ◌<◌, ◌==◌, ◌||◌, ◌∙◌, ◌∷◌, ◌≡◌, ◌≤◌}
 use Rattle.lapd_frame.specs.declared.timers.Timer.TheVariants as timers
 use Rattle.model_line.specs.Event as line_event
-use Rattle.model_line.specs.Event.{expiry}
-use Rattle.model_line.specs.Laws.{orders_in}
-use Rattle.model_line.specs.Line.{is_terminal}
-use Rattle.model_line.specs.Sound.{IsInRange}
-use Rattle.model_line.specs.declared.config.Config.{Config}
-use Rattle.model_link.specs.declared.timers.LinkTimer.{LinkTimer}
-use Rattle.model_link.specs.declared.timers.LinkTimer.TheVariants.{T200, T203}
 use Rattle.model_card.specs.Card as cards
-use Rattle.model_card.specs.Event.{Event, at}
 use Rattle.model_card.specs.Machine.{answer}
-use Rattle.model_card.specs.Run.{AreAtLines, IsAtLine, Moment}
-unfoldable use Rattle.model_card.specs.Run.{moments, after_all as card_after_all}
 use Rattle.laws_line.proofs.OfCard.Wherever.{config-stays}
-use Rattle.laws_line.specs.Steady.{timer_of}
-use Rattle.laws_trace.specs.Managing.{Managed, is_on, nothing_due}
-use Rattle.laws_trace.specs.Observer.{Observed, View, view_of, view_behind, views, by_t200, enquires, awaits, in_state}
-use Rattle.laws_trace.specs.TimersAreTimely.{runs, is_anew}
 use Rattle.laws_trace.proofs.ObservedExpiries.{t200-enters, enquired}
-use Rattle.laws_trace.proofs.LinkLed.{own-is}
-use Rattle.model_timed.specs.Clock.{Clock, due, without_first, at_moment}
-use Rattle.model_timed.specs.Frames.{TimedCard, fresh, after, event_of}
-use Rattle.model_timed.specs.Timed.{Step, happens, time, falls_due, IsInTime}
+use Rattle.model_timed.specs.Frames.{fresh, after, after_all, ArePrompt}
 use Rattle.laws_time.proofs.TimedFrames.{with_event, expiry_of, with_expiry as timed_expiry, IsPrompt}
-use Rattle.model_timed.specs.Frames.{after_all, events_of, ArePrompt}
-unfoldable use Rattle.model_timed.specs.Timed.{after_all as timed_after_all, events_of as timed_events_of, ArePrompt as TimedArePrompt}
-use Rattle.std.specs.Option.{option_map_or}
-use Rattle.std.specs.Prelude.{option_to_list}
-use Rattle.std.proofs.Common.{append_assoc}
 use Rattle.laws_time.proofs.Links.{view-then, there, stays-on}
 use Rattle.laws_time.proofs.Moments.{now-stays, same, elsewhere}
 use Rattle.laws_time.proofs.Walk.{Stands, Holds, IsDue, seen, stands-then, step}

@@ -1,42 +1,19 @@
 -- A clock that a caller keeps beside a card finds a place for each order, and runs as the card's own would.
-use Rattle.std.proofs.Common.{arith, ◌≡◌, ℕ, ◌+◌, ◌*◌, ◌<◌, ◌≤◌, ◌==◌, ◌||◌, not, Bool, true, false, cond, nat_le, List, [], ◌∷◌, Option, Some, None, refl, sym, ap, ◌∙◌, subst}
-use Rattle.std.proofs.lemmas.Bool.{lt-ltb}
-use Rattle.std.specs.List.{AllByRecursion}
-use Rattle.std.specs.Option.{option_map_or}
-use Rattle.std.specs.Prelude.{IfSome}
-use Rattle.lapd_clock.specs.Timer.{Timer, Order, Start, Stop, Lengths}
+use Rattle.laws_time.proofs.Vocabulary.{AllByRecursion, ArePrompt, Bool, Card, Clock, Config, Event, Expiry, IfSome, IsInRange, IsOneEach, IsPrompt, Kind, Lengths, List, None, OctetCard, OctetEvent, Option, Order, Some, Stands, Start, Step, Stop, Timed, Timers, [], ap, arith, at, clock_of, cond, count_by-put_in_order, count_on, expiry_of, falls_due, false, finds_place, has_lines, is_held, is_of}
+use Rattle.laws_time.proofs.Vocabulary.{line_at, line_sound, lt-ltb, nat_le, not, now-stays, obey, obeyed, octet-stepped, octet_at, option_map_or, ranges_of, refl, starts, step_happens as happens, stepped, subst, sum_by-filter_both, sym, time, true, with_order, without, ℕ, ◌*◌, ◌+◌, ◌<◌, ◌==◌, ◌||◌, ◌∙◌, ◌∷◌, ◌≡◌, ◌≤◌}
+use Rattle.lapd_clock.specs.Timer.{Timer}
 use Rattle.lapd_clock.specs.Timers as callers
-use Rattle.lapd_clock.specs.Timers.{Expiry, Timers, count_on, is_held, is_of, without}
-unfoldable use Rattle.lapd_clock.specs.Timers.{finds_place, with_order}
-use Rattle.lapd_clock.specs.Sound.{IsOneEach}
-use Rattle.lapd_clock.proofs.Ordered.{count_by-put_in_order}
-use Rattle.lapd_clock.proofs.Vocabulary.{sum_by-filter_both}
-use Rattle.model_link.specs.Told.{starts}
 use Rattle.model_line.specs.Event as line_event
-use Rattle.model_line.specs.Sound.{IsInRange}
-use Rattle.model_line.specs.declared.config.Config.{Config}
-use Rattle.model_line.proofs.Ranges.{ranges_of}
 use Rattle.model_card.specs.Card as cards
-use Rattle.model_card.specs.Card.{Card, line_at}
-use Rattle.model_card.specs.Event.{Event, at}
 use Rattle.model_card.specs.ports.Card as ports
-use Rattle.model_card.specs.ports.Card.{OctetCard}
-use Rattle.model_card.specs.ports.Event.{Event as OctetEvent, at as octet_at}
 use Rattle.model_card.specs.ports.Port as port
-use Rattle.model_card.proofs.Steps.{has_lines, line_sound}
 use Rattle.model_timed.specs.Clock as own
-use Rattle.model_timed.specs.Clock.{Clock, obey, obeyed, expiry_of}
 use Rattle.model_timed.specs.Frames as frames
 use Rattle.model_timed.specs.Octets as octets
 use Rattle.model_timed.specs.Timed as timed
-use Rattle.model_timed.specs.Timed.{Kind, Timed, Step, happens, time, falls_due, IsPrompt}
-unfoldable use Rattle.model_timed.specs.Timed.{ArePrompt}
 use Rattle.model_timed.proofs.OctetsRun.{OctetsMean, octets-mean}
-use Rattle.model_timed.proofs.Orders.{now-stays}
-use Rattle.model_timed.proofs.RunTheSame.{Stands, begins, stepped, octet-stepped}
-use Rattle.laws_time.specs.BesideACard.{Beside, ClocksKeepUp, EventFinds, FindPlaces, KeepsUp, StepFinds, after, carried_out, with_event}
-unfoldable use Rattle.laws_time.specs.BesideACard.{AllFind, after_all}
-use Rattle.laws_time.specs.CallersClocks.{clock_of}
+use Rattle.model_timed.proofs.RunTheSame.{begins}
+use Rattle.laws_time.specs.BesideACard.{Beside, ClocksKeepUp, EventFinds, FindPlaces, KeepsUp, StepFinds, after, carried_out, with_event, AllFind, after_all}
 use Rattle.laws_time.proofs.FewRun.{few-run}
 use Rattle.laws_time.proofs.FewStarts.{card_starts}
 

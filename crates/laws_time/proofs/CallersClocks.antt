@@ -1,13 +1,9 @@
 -- A clock that a caller keeps is as that of a card: the law.
-use Rattle.lapd_clock.proofs.Vocabulary.{◌≡◌, ℕ, ◌+◌, Bool, true, false, cond, List, [], ◌∷◌, Some, None, refl, nat_le, Timer, Order, Start, Stop, duration, Expiry, Timers, without}
-use Rattle.std.proofs.Common.{Option, option_map}
-use Rattle.std.specs.Option.{option_map_or}
+use Rattle.laws_time.proofs.Vocabulary.{Bool, CallersClocksAreClocks, Clock, Expiry, IsAsLarge, List, None, Option, Order, Some, Start, Stop, Timers, [], clock_of, cond, duration, false, finds_place, nat_le, obey, option_map, option_map_or, refl, true, with_order, without, without_first, ℕ, ◌+◌, ◌∷◌, ◌≡◌}
+use Rattle.lapd_clock.proofs.Vocabulary.{Timer}
 use Rattle.lapd_clock.specs.Timers as callers
 use Rattle.lapd_clock.specs.Timers.{with_expiry}
-unfoldable use Rattle.lapd_clock.specs.Timers.{finds_place, with_order}
 use Rattle.model_timed.specs.Clock as own
-use Rattle.model_timed.specs.Clock.{Clock, obey, without_first}
-use Rattle.laws_time.specs.CallersClocks.{CallersClocksAreClocks, IsAsLarge, clock_of}
 
 module _ (c : Timers) (now : ℕ) where
   obeys : (line : ℕ) (order : Order) → clock_of (with_order c line order now) now ≡ cond (finds_place c line order) (obey line (clock_of c now) order) (clock_of c now)

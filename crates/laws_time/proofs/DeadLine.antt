@@ -1,74 +1,26 @@
 -- A dead line is told.
 use Rattle.laws_time.proofs.Ended.{F, A, start-200, start-203, start-wait, ended}
-use Rattle.std.proofs.Common.{arith, ◌≡◌, ℕ, ◌+◌, ◌<◌, ◌≤◌, ◌==◌, ◌&&◌, Bool, true, false, cond, List, [], ◌∷◌, ◌++◌, Option, Some, None, refl, sym, ap, ◌∙◌, subst, eqb-true, is_some, ◌⊎◌, inl, inr, ⊎_elim, filter, nat_le, append-nil, append_assoc}
-use Rattle.std.specs.Option.{option_map_or}
-use Rattle.std.specs.Prelude.{option_to_list}
-use Rattle.std.proofs.lemmas.Bool.{true≢false}
-use Rattle.lapd_clock.specs.Timer.{Lengths, is_same}
-use Rattle.lapd_clock.specs.Timers.{Expiry, is_of}
-use Rattle.lapd_frame.specs.declared.notes.Note.{Note}
-use Rattle.lapd_frame.specs.declared.services.Service.{Service}
-use Rattle.lapd_frame.specs.declared.timers.Timer.{Timer}
+use Rattle.laws_time.proofs.Vocabulary.{ADeadLineIsTold, ArePrompt as TimedArePrompt, AreStill, AwaitingEstablishment, AwaitingRelease, Bool, Clock, Config, Established, Event, Expiry, IsInRange, IsNoExpiry, IsStillAt, Lengths, LinkTimer, List, Moment, None, Note, Observed, Option, Service, Some, State, Step, T200, T203, TeiAssigned, TimedCard, Timer, TimerRecovery, View, []}
+use Rattle.laws_time.proofs.Vocabulary.{after_all as timed_after_all, and-false, ap, append-nil, append_assoc, arith, at, at_moment, awaits, both-true, cond, due, eqb-true, event_of, events_of, expiry, falls_due, false, filter, inl, inr, is_news, is_of, is_on, is_own, is_same, is_some, is_timer_of, line_at, link_in, nat_le, nat_lt, news, news_in, notes_of, of_frames, option_map, option_map_or}
+use Rattle.laws_time.proofs.Vocabulary.{option_to_list, place_in, refl, runs, same_Some, same_service, services-equal, state, state_number, step_happens as happens, subst, sym, time, timed_events_of, told_in, true, true≢false, view_behind, view_of, without_first, ℕ, ⊎_elim, ◌&&◌, ◌++◌, ◌+◌, ◌<◌, ◌==◌, ◌∙◌, ◌∷◌, ◌≡◌, ◌≤◌, ◌⊎◌}
 use Rattle.lapd_frame.specs.declared.timers.Timer.TheVariants as timers
 use Rattle.model_line.specs.Event as line_event
-use Rattle.model_line.specs.Event.{expiry}
-use Rattle.model_line.specs.Sound.{IsInRange}
-use Rattle.model_line.specs.declared.config.Config.{Config}
-use Rattle.model_link.specs.declared.timers.LinkTimer.{LinkTimer}
-use Rattle.model_link.specs.declared.timers.LinkTimer.TheVariants.{T200, T203}
 use Rattle.model_card.specs.Card as cards
-use Rattle.model_card.specs.Card.{state}
-use Rattle.model_card.specs.Event.{Event, at}
 use Rattle.model_card.specs.Machine.{answer}
 use Rattle.model_card.specs.Run as runs_of
-use Rattle.model_card.specs.Run.{Moment}
-use Rattle.model_line.proofs.Obeyed.{both-true, services-equal}
-use Rattle.laws_trace.specs.Managing.{is_on}
-use Rattle.laws_trace.specs.Observer.{Observed, View, view_of, view_behind, awaits}
-use Rattle.laws_trace.specs.TimersAreTimely.{runs, is_timer_of}
-use Rattle.laws_trace.specs.Trace.{is_own}
-use Rattle.laws_line.specs.Heard.{notes_of}
-use Rattle.laws_trace.specs.News.{is_news}
-use Rattle.lapd_frame.specs.Services.{same_service}
-use Rattle.model_timed.specs.Clock.{Clock, due, without_first, at_moment}
-use Rattle.model_timed.specs.Frames.{TimedCard, fresh, after, event_of, IsNoExpiry}
-use Rattle.model_timed.specs.Timed.{Step, happens, time, falls_due}
+use Rattle.model_timed.specs.Frames.{fresh, after, after_all, ArePrompt}
 use Rattle.laws_time.proofs.TimedFrames.{with_event, expiry_of, with_expiry as timed_expiry, IsPrompt}
-use Rattle.model_timed.specs.Frames.{after_all, events_of, ArePrompt}
-unfoldable use Rattle.model_timed.specs.Timed.{after_all as timed_after_all, events_of as timed_events_of, ArePrompt as TimedArePrompt}
-use Rattle.laws_time.specs.Watched.{of_frames}
-use Rattle.laws_time.specs.Silence.{IsStillAt, news_in, told_in, ADeadLineIsTold}
-unfoldable use Rattle.laws_time.specs.Silence.{AreStill, news}
 use Rattle.laws_time.proofs.Links.{view-then, on-where, state-is, elsewhere}
-use Rattle.laws_time.proofs.Moments.{own, IsOf}
+use Rattle.laws_time.proofs.Moments.{differs}
 use Rattle.laws_time.proofs.Effects.{is_its_expiry}
 use Rattle.laws_time.proofs.Walk.{Stands, Holds, seen}
 use Rattle.laws_time.proofs.Falls.{in-time}
 use Rattle.laws_time.proofs.Before.{Goes, other-line, step-goes, dropped-holds, before-goes, begins}
-use Rattle.laws_time.proofs.Silent.{Waits, waits-still, waits-200, waits-203, idle, idle-200-is, idle-203-is}
+use Rattle.laws_time.proofs.Silent.{Waits, waits-still, waits-200, waits-203, idle, idle-200-is, idle-203-is, idle-7, never-both}
 use Rattle.laws_time.proofs.Phases.{Due200, Due203, owed, limit, IsPhase}
-use Rattle.model_link.specs.declared.states.State.{State}
-use Rattle.model_link.specs.declared.states.State.TheVariants.{TeiAssigned, AwaitingEstablishment, AwaitingRelease, Established, TimerRecovery}
-use Rattle.model_link.specs.Link.{state_number}
-use Rattle.model_line.specs.Line.{place_in, link_in}
-use Rattle.model_card.specs.Card.{line_at}
-use Rattle.std.proofs.Common.{option_map}
-use Rattle.std.specs.Prelude.{nat_lt}
-use Rattle.laws_time.proofs.Silent.{idle-7, never-both}
 
 no-expiry : (service : Service) (tei : ℕ) (what : line_event.Event) → IsNoExpiry what → is_its_expiry service tei what ≡ false
 no-expiry service tei what none = grind arith
-
-differs : (service : Service) (tei : ℕ) (timer its : Timer) → IsOf service tei its → is_timer_of service tei timer ≡ false → is_same timer its ≡ false
-differs service tei timer its of none = go (is_same timer its) refl
-  where
-    go : (b : Bool) → is_same timer its ≡ b → b ≡ false
-    go true e = absurd (true≢false (sym (own service tei its timer of e) ∙ none))
-    go false e = refl
-
-and-false : (b : Bool) → (b && false) ≡ false
-and-false true = refl
-and-false false = refl
 
 module _ (c : Config) (lengths : Lengths) (late number : ℕ) (ranged : IsInRange c) (within : number < c.lines) (service : Service) (tei first all : ℕ) (whole_told : List Note) where
   abbrev W : List Event → TimedCard → List Note → Type 0
@@ -242,9 +194,6 @@ module _ (c : Config) (lengths : Lengths) (late number : ℕ) (ranged : IsInRang
       }))
   step-waits events t told falls_due w prompt still some = go (due t.clock) refl (step-goes c lengths late number ranged within service tei events t falls_due w.goes prompt) some
     where
-      event_for : Option Expiry → Option Event
-      event_for o = option_map expiry_of o
-
       go : (o : Option Expiry) → due t.clock ≡ o
           → G (events ++ option_to_list (option_map expiry_of o)) (option_map_or (timed_expiry t) o t)
           → is_some (state number service tei (option_map_or (timed_expiry t) o t).card) ≡ true
@@ -274,10 +223,7 @@ state-low Established = omega arith
 state-low TimerRecovery = omega arith
 
 some-low : (b : Bool) (place : Option ℕ) (f : ℕ → State) (n : ℕ) → cond b (option_map (λ p. state_number (f p)) place) None ≡ Some n → n ≤ 8
-some-low true (Some p) f n is = subst (λ n. n ≤ 8) (the-same (state_number (f p)) n is) (state-low (f p))
-  where
-    the-same : (m n : ℕ) → Some m ≡ Some n → m ≡ n
-    the-same m n is = grind arith
+some-low true (Some p) f n is = subst (λ n. n ≤ 8) (same_Some (state_number (f p)) n is) (state-low (f p))
 some-low true None f n is = cc is
 some-low false place f n is = cc is
 

@@ -1,14 +1,9 @@
 -- Which timer falls due first: the law.
-use Rattle.lapd_clock.proofs.Vocabulary.{◌≡◌, ℕ, ◌==◌, ◌&&◌, ◌||◌, Bool, true, false, cond, List, [], ◌∷◌, Some, None, refl, sym, ap, ◌∙◌, arith, nat_tests, nat_lt, nat_le, drop, nat_cmp, ordering_then, is_lt, AllByRecursion, All-from_recursion, Timer, kind_rank, tei_rank, service_rank, timer_cmp, Expiry, is_before, IsInOrder, Ordering}
-use Rattle.std.proofs.Common.{All, Option}
-use Rattle.std.specs.Prelude.{IfSome}
-use Rattle.std.specs.Option.{option_map_or}
-use Rattle.lapd_clock.specs.Timer.{T200, T203, T201, T202, Call, Packet}
-use Rattle.lapd_clock.proofs.First.{before_itself}
-use Rattle.model_timed.specs.Clock.{stopped, due, first_due, without_first}
-use Rattle.model_timed.specs.Timed.{Kind, Timed, Step, happens, time, falls_due, after, with_expiry, expiry_at}
-unfoldable use Rattle.model_timed.specs.Timed.{after_all}
-use Rattle.model_timed.proofs.Orders.{in-order}
+use Rattle.laws_time.proofs.Vocabulary.{All, All-from_recursion, AllByRecursion, Bool, Expiry, IfSome, IsInOrder, Kind, List, None, Option, Ordering, Some, Step, T201, T202, Timed, [], after_all, ap, arith, before_itself, cond, drop, due, expiry_at, falls_due, false, first_due, in-order, is_before, is_lt, kind_rank, nat_cmp, nat_le, nat_lt, nat_tests, option_map_or, ordering_then, refl}
+use Rattle.laws_time.proofs.Vocabulary.{service_rank, step_happens as happens, stopped, sym, tei_rank, time, timer_cmp, true, with_expiry, without_first, ℕ, ◌&&◌, ◌==◌, ◌||◌, ◌∙◌, ◌∷◌, ◌≡◌}
+use Rattle.lapd_clock.proofs.Vocabulary.{Timer}
+use Rattle.lapd_clock.specs.Timer.{T200, T203, Call, Packet}
+use Rattle.model_timed.specs.Timed.{after}
 use Rattle.laws_time.specs.DueFirst.{TheFirstFallsDue, by_timer, in_turn, is_lower}
 
 -- A comparison of two numbers, alone or with another after it.

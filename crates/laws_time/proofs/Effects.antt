@@ -1,24 +1,10 @@
 -- What an event at the line makes of a link of which nothing is heard, and what is told.
-use Rattle.std.proofs.Common.{arith, ◌≡◌, ℕ, ◌≤◌, ◌==◌, ◌&&◌, not, Bool, true, false, cond, List, [], ◌∷◌, ◌++◌, Option, refl, sym, ap, ◌∙◌, subst, eq-eqb, nat_le, map, ◌||◌}
-use Rattle.std.specs.Prelude.{fold}
-use Rattle.std.specs.Option.{option_map_or}
-use Rattle.std.proofs.lemmas.Bool.{le-ltb}
+use Rattle.laws_time.proofs.Vocabulary.{Answer, Bool, Config, Error, LinkTimer, List, Note, Observed, Option, Parts, Request, Service, [], anew, ap, arith, awaits, brings, by_event, by_frame, by_frame_begun, by_heard, cond, due_notes as due, eq-eqb, expiry, false, fold, frame_in, is_anew, is_heard, is_sabme, is_stirred, is_timer_of, is_too_long, is_xid, le-ltb, map, moves_link, nat_le, next}
+use Rattle.laws_time.proofs.Vocabulary.{not, notes_due, option_map_or, refl, releases, request, subst, sym, true, wrong, ℕ, ◌&&◌, ◌++◌, ◌==◌, ◌||◌, ◌∙◌, ◌∷◌, ◌≡◌, ◌≤◌}
 use Rattle.model_bits.specs.Stream as stream
-use Rattle.lapd_frame.specs.declared.notes.Note.{Note}
-use Rattle.lapd_frame.specs.declared.notes.Note.TheVariants.{Error}
-use Rattle.lapd_frame.specs.declared.services.Service.{Service}
-use Rattle.lapd_frame.specs.Grammar.{Parts}
-use Rattle.model_line.specs.Event.{Event, Answer, hears, expiry, request, next}
-use Rattle.model_line.specs.Request.{Request}
-use Rattle.model_line.specs.declared.config.Config.{Config}
-use Rattle.model_link.specs.declared.timers.LinkTimer.{LinkTimer}
-use Rattle.laws_trace.specs.LinkFrames.{is_too_long}
-use Rattle.laws_trace.specs.News.{notes_due, wrong, due, brings, is_xid, is_sabme, releases}
-use Rattle.laws_trace.specs.Observer.{Observed, by_event, by_heard, by_request, by_frame, by_frame_begun, awaits, anew}
-use Rattle.laws_trace.specs.Trace.{frame_in}
-use Rattle.laws_trace.specs.TimersAreTimely.{is_anew, is_timer_of}
+use Rattle.model_line.specs.Event.{Event, hears}
+use Rattle.laws_trace.specs.Observer.{by_request}
 use Rattle.laws_trace.specs.Units.{is_ui}
-use Rattle.laws_time.specs.Silence.{is_stirred, is_heard, moves_link}
 
 abbrev pub is_its_expiry : Service → ℕ → Event → Bool
 is_its_expiry service tei (expiry timer) = is_timer_of service tei timer
@@ -29,7 +15,7 @@ pub record IsLike (o q : Observed) : Type 0 where
   pub state : q.state ≡ o.state
   pub expiries : q.expiries ≡ o.expiries
 
-like-self : (o : Observed) → IsLike o o
+pub like-self : (o : Observed) → IsLike o o
 like-self o = record { state = refl; expiries = refl }
 
 one-sent : (c : Config) (service : Service) (tei : ℕ) (o : Observed) (f : List ℕ) → IsLike o (by_frame_begun c service tei o f)
@@ -38,7 +24,7 @@ one-sent c service tei o f = grind (arith, like-self)
 then-like : (o p q : Observed) → IsLike o p → IsLike p q → IsLike o q
 then-like o p q h i = record { state = i.state ∙ h.state; expiries = i.expiries ∙ h.expiries }
 
-sent-like : (c : Config) (service : Service) (tei : ℕ) (o : Observed) (fs : List (List ℕ)) → IsLike o (fold (by_frame_begun c service tei) o fs)
+pub sent-like : (c : Config) (service : Service) (tei : ℕ) (o : Observed) (fs : List (List ℕ)) → IsLike o (fold (by_frame_begun c service tei) o fs)
 sent-like c service tei o [] = like-self o
 sent-like c service tei o (f ∷ fs) =
     then-like o (by_frame_begun c service tei o f) (fold (by_frame_begun c service tei) (by_frame_begun c service tei o f) fs) (one-sent c service tei o f)
@@ -74,9 +60,6 @@ module _ (c : Config) (service : Service) (tei : ℕ) (a : Answer) (o : Observed
   -- And nothing is told.
   due-none : (q : Observed) (xid sabme released : Bool) → xid ≡ false → sabme ≡ false → released ≡ false → 4 ≤ o.state → q.state ≡ o.state → due service tei xid sabme released o q.state ≡ []
   due-none q xid sabme released x s r up same = grind arith
-
-  quiet-frame : (m : Bool) (f : Option Parts) → m ≡ false → option_map_or (λ (f : Parts). not (is_ui f.control) || is_too_long c f) f false ≡ false → (m ≡ false) × (option_map_or (λ (f : Parts). is_xid f.control) f false ≡ false) × (option_map_or (λ (f : Parts). is_sabme f.control) f false ≡ false)
-  quiet-frame m f none ui = grind arith
 
   wrong-none : (what : Event) → is_stirred c service tei what ≡ false → is_its_expiry service tei what ≡ false → (to : ℕ) → to ≡ o.state → wrong c service tei what o.state to ≡ []
   wrong-none (hears e) quiet mine to same = grind arith

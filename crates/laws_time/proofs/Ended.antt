@@ -1,13 +1,6 @@
 -- What is told at first and in the end, over plain values.
-use Rattle.std.proofs.Common.{arith, ◌≡◌, ℕ, ◌+◌, ◌-◌, ◌*◌, ◌<◌, ◌≤◌, true, List, ◌++◌, sym, ap, ◌∙◌, subst, ◌⊎◌, inl, inr, nat_le, append-nil, length, length-append}
-use Rattle.lapd_clock.specs.Timer.{Lengths}
-use Rattle.lapd_frame.specs.declared.notes.Note.{Note}
-use Rattle.lapd_frame.specs.declared.services.Service.{Service}
-use Rattle.model_line.specs.declared.config.Config.{Config}
-use Rattle.laws_trace.specs.Trace.{IsFront}
-use Rattle.laws_time.specs.Silence.{told_in, first_in, all_in, IsToldInTime}
+use Rattle.laws_time.proofs.Vocabulary.{Config, IsFront, IsToldInTime, Lengths, List, Note, Service, all_in, ap, append-nil, arith, first_in, inl, inr, length, length-append, mul-le, nat_le, subst, sym, told_in, true, ℕ, ◌*◌, ◌++◌, ◌+◌, ◌-◌, ◌<◌, ◌∙◌, ◌≡◌, ◌≤◌, ◌⊎◌}
 use Rattle.laws_time.proofs.Phases.{Due200, Due203, owed, whole, one-more}
-use Rattle.std.proofs.lemmas.Nat.{mul-le}
 
 mono : (n e x : ℕ) → (n - e) * x ≤ n * x
 mono n e x = mul-le (n - e) x n x (omega arith) (omega arith)

@@ -1,16 +1,10 @@
 -- Falling due ends: the law.
-use Rattle.lapd_clock.proofs.Vocabulary.{◌≡◌, ℕ, zero, suc, ◌+◌, ◌≤◌, ◌<◌, not, Bool, true, false, cond, List, [], ◌∷◌, ◌++◌, count_by, length, replicate, Some, None, none-some, refl, sym, ap, ◌∙◌, subst, arith, nat_tests, nat_le, drop, AllByRecursion, All-from_recursion, sum_by-cons, sum_by-filter_both, Timer, Order, Start, Stop, Lengths, duration, Expiry, is_before, is_of, without, IsInOrder}
-use Rattle.std.proofs.Common.{Option}
-use Rattle.std.specs.Prelude.{IfSome, option_map, option_to_list}
-use Rattle.std.specs.Option.{option_map_or}
-use Rattle.lapd_clock.specs.Timer.{T200, T203, T201, T202}
-use Rattle.lapd_clock.proofs.First.{no_earlier}
-use Rattle.lapd_clock.proofs.Ordered.{count_by-put_in_order}
-use Rattle.model_timed.specs.Clock.{Clock, expiry_of, obey, obeyed, stopped, due, first_due, without_first}
-use Rattle.model_timed.specs.Timed.{Kind, Timed, falls_due, after, with_expiry, expiry_at}
-unfoldable use Rattle.model_timed.specs.Timed.{after_all, events_of}
+use Rattle.laws_time.proofs.Vocabulary.{All-from_recursion, AllByRecursion, Bool, Clock, Expiry, IfSome, IsInOrder, Kind, Lengths, List, None, Option, Order, Some, Start, Stop, T201, T202, Timed, [], after_all, ap, arith, cond, count_by, count_by-put_in_order, drop, due, duration, expiry_at, expiry_of, falls_due, false, first_due, is_before, is_of, length, lengths-stay, nat_le, nat_tests}
+use Rattle.laws_time.proofs.Vocabulary.{no_earlier, none-some, not, now-stays, obey, obeyed, option_map, option_map_or, option_to_list, refl, replicate, stopped, subst, suc, sum_by-cons, sum_by-filter_both, sym, timed_events_of as events_of, true, with_expiry, without, without_first, zero, ℕ, ◌++◌, ◌+◌, ◌<◌, ◌∙◌, ◌∷◌, ◌≡◌, ◌≤◌}
+use Rattle.lapd_clock.proofs.Vocabulary.{Timer}
+use Rattle.lapd_clock.specs.Timer.{T200, T203}
+use Rattle.model_timed.specs.Timed.{after}
 use Rattle.model_timed.specs.TimersAreTrue.{length_of}
-use Rattle.model_timed.proofs.Orders.{now-stays, lengths-stay}
 use Rattle.laws_time.proofs.DueFirst.{all-steps}
 use Rattle.laws_time.specs.FallingDue.{count_due, EachRuns, FallingDueEnds}
 

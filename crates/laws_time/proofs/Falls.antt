@@ -1,14 +1,6 @@
 -- Time goes on, other lines have events, and timers fall due.
-use Rattle.std.proofs.Common.{arith, ◌≡◌, ℕ, ◌+◌, ◌<◌, ◌≤◌, not, Bool, true, false, cond, List, [], ◌∷◌, Option, Some, None, refl, sym, ap, ◌∙◌, subst, All, filter, nat_le, drop}
-use Rattle.std.proofs.lemmas.List.Elements.{All-cons, All-head, All-tail, All-nil}
-use Rattle.lapd_clock.specs.Timer.{Order, Start, Stop}
-use Rattle.lapd_clock.specs.Timers.{Expiry, is_of, is_before, without}
-use Rattle.lapd_clock.specs.InOrder.{put_in_order}
-use Rattle.lapd_clock.specs.Moments.{moment_of}
-use Rattle.lapd_frame.specs.declared.timers.Timer.{Timer}
-use Rattle.model_timed.specs.Clock.{Clock, obeyed, obey, due, first_due, without_first}
+use Rattle.laws_time.proofs.Vocabulary.{All, All-cons, All-head, All-nil, All-tail, Bool, Clock, Expiry, IsInTime, List, None, Option, Order, Some, Start, Stop, Timer, [], ap, arith, cond, drop, false, filter, first_due, is_before, is_of, moment_of, nat_le, not, obey, obeyed, put_in_order, refl, subst, sym, true, without, ℕ, ◌+◌, ◌<◌, ◌∙◌, ◌∷◌, ◌≡◌, ◌≤◌}
 use Rattle.model_timed.specs.Clock as clocks
-use Rattle.model_timed.specs.Timed.{IsInTime}
 
 in-time-first : (late now : ℕ) (e : Expiry) (rest : Option ℕ) (m : ℕ) (b : Bool) → now ≤ e.moment + late → ((is : rest ≡ Some m) → now ≤ m + late) → cond b (Some e.moment) rest ≡ Some m → now ≤ m + late
 in-time-first late now e rest m true here more is = subst (λ m. now ≤ m + late) (the-same is) here

@@ -1,29 +1,14 @@
 -- At most one timer of each link of a line runs, and T201 or T202.
-use Rattle.std.proofs.Common.{arith, ◌≡◌, ℕ, ◌+◌, ◌*◌, ◌<◌, ◌≤◌, ◌==◌, ◌&&◌, ◌||◌, Bool, true, false, cond, List, [], ◌∷◌, length, get_or, Option, Some, None, refl, sym, ap, ◌∙◌, subst, eqb, eq-eqb, eqb-true}
-use Rattle.std.proofs.lemmas.Bool.{true≢false}
-use Rattle.std.proofs.lemmas.Option.{same_Some}
+use Rattle.laws_time.proofs.Vocabulary.{AllByRecursion, Bool, Config, Expiry, IsDistinct, IsOfSide, IsOneEach, IsSound, LinkTimer, List, None, Option, Service, Some, T201, T202, [], ap, arith, cond, count_cons, count_on, eq-eqb, eqb, eqb-true, false, get_or, is_held, is_of, is_running, is_same, is_some, is_terminal, itself, length, link_in, link_number, link_runs as runs, list_any}
+use Rattle.laws_time.proofs.Vocabulary.{option_map_or, place_at, place_in, place_of-is, refl, runs_at, same_Some, service_at, subst, sym, true, true≢false, ℕ, ◌&&◌, ◌*◌, ◌+◌, ◌<◌, ◌==◌, ◌||◌, ◌∙◌, ◌∷◌, ◌≡◌, ◌≤◌}
 use Rattle.std.proofs.lemmas.Map.Keys.{IsDistinct-cons}
 use Rattle.std.proofs.lemmas.Map.Steps.{length-le_from_distinct_below}
-use Rattle.std.specs.List.{AllByRecursion, IsDistinct, list_any}
-use Rattle.std.specs.Option.{option_map_or}
-use Rattle.std.specs.Prelude.{is_some}
-use Rattle.lapd_clock.specs.Sound.{IsOneEach}
-use Rattle.lapd_clock.specs.Timer.{Timer, T200, T203, T201, T202, is_same}
-use Rattle.lapd_clock.specs.Timers.{Expiry, is_held, is_of, count_on}
-use Rattle.lapd_frame.specs.declared.services.Service.{Service}
-use Rattle.lapd_tei.proofs.Tables.{place_of-is}
-use Rattle.model_card.proofs.Steps.{count_cons}
-use Rattle.model_link.specs.Told.{runs}
-use Rattle.model_link.specs.declared.timers.LinkTimer.{LinkTimer}
+use Rattle.lapd_clock.specs.Timer.{Timer, T200, T203}
 use Rattle.model_link.specs.declared.timers.LinkTimer.TheVariants as link
-use Rattle.model_line.specs.Expiry.{is_running, runs_at}
-use Rattle.model_line.specs.Line.{Line, is_terminal, link_in, link_number, place_at, place_in, service_at}
-use Rattle.model_line.specs.Sound.{IsSound, IsOfSide}
-use Rattle.model_line.specs.declared.config.Config.{Config}
+use Rattle.model_line.specs.Line.{Line}
 use Rattle.model_line.proofs.Numbers.{number_within, place_at-number, service_at-number}
 use Rattle.model_line.proofs.Obeyed.{timer_of}
 use Rattle.model_line.proofs.Placed.{place-few}
-use Rattle.model_timed.proofs.Orders.{itself}
 
 -- The timers that a line runs, by numbers: each link's has the number of its link, and T201 and T202 the next.
 module _ (c : Config) (l : Line) (s : IsSound c l) where

@@ -1,18 +1,15 @@
 -- The answer to an event starts at most two timers.
-use Rattle.model_line.proofs.Vocabulary.{◌≡◌, ℕ, ◌<◌, ◌≤◌, true, false, cond, arith, List, [], ◌∷◌, ◌++◌, length, Option, Some, None, refl, Refusal, Service, Call, Packet, Order, Start, Stop, Change, Gained, Left, TeiEvent, TerminalEvent, tei_down, starts, orders_for, one-start, course, link_cleared, LinkEvent, LinkTimer, Terms}
-use Rattle.model_line.proofs.Vocabulary.{Aim, at_link, at_management, at_terminal, aim_of, aim_of_request, of_aim, of_change, of_link, without_units, unless_refused, unless_refused_told, refusal, Event, LineTold, refused, hears, expiry, request, next, orders_in, Line, link_in, terms, answer, IsSound}
-use Rattle.lapd_frame.specs.declared.refusals.Refusal.TheVariants.{PoolFull}
+use Rattle.laws_time.proofs.Vocabulary.{Aim, Call, Card, Config, IsSound, LineTold, LinkEvent, LinkTimer, List, None, Option, Packet, PoolFull, Refusal, Service, Some, TeiEvent, TerminalEvent, Terms, [], aim_of, aim_of_request, arith, at_link, at_management, at_terminal, cond, course, expiry, false, has_lines, length, line_answer as answer, line_at, line_sound, link_cleared, link_in, next}
+use Rattle.laws_time.proofs.Vocabulary.{of_aim, of_change, of_link, orders_for, orders_in, refl, refusal, refused, request, starts, tei_down, terms, true, unless_refused, unless_refused_told, without_units, ℕ, ◌++◌, ◌<◌, ◌∷◌, ◌≡◌, ◌≤◌}
+use Rattle.model_line.proofs.Vocabulary.{Order, Start, Stop, Change, Gained, Left, one-start, Event, hears, Line}
 use Rattle.lapd_tei.specs.Laws as tei_laws
 use Rattle.laws_line.proofs.Short.{answers_are_short}
-use Rattle.model_line.specs.declared.config.Config.{Config}
 use Rattle.model_line.proofs.Downs.{down-sound}
 use Rattle.model_line.proofs.Managed.{IsOwnEvent, by-managed, by-own-event}
 use Rattle.model_line.proofs.ProperAims.{event_aims}
-use Rattle.model_card.specs.Card.{Card, line_at}
 use Rattle.model_card.specs.Event as cards
 use Rattle.model_card.specs.Machine as card
 use Rattle.model_card.specs.Sound as sound
-use Rattle.model_card.proofs.Steps.{has_lines, line_sound}
 
 -- orders start as many timers as they are, at most
 none_starts : starts [] ≤ 2

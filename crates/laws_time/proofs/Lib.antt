@@ -1,4 +1,6 @@
 -- Lemmas.
+pub mod Plain
+pub mod Vocabulary
 pub mod TimedCards
 pub mod DueFirst
 pub mod CallersClocks
@@ -20,7 +22,6 @@ pub mod Silent
 pub mod Ended
 pub mod DeadLine
 pub mod OctetsMean
-pub mod DeadLineOfOctets
 pub mod ArrivalsAwaited
 pub mod ArrivalsOfOctets
 pub mod ArrivalsErrors

@@ -1,21 +1,11 @@
 -- When a timer of a link falls due behind orders.
-use Rattle.std.proofs.Common.{arith, ◌≡◌, ℕ, ◌+◌, ◌==◌, ◌&&◌, Bool, true, false, cond, List, [], ◌∷◌, filter, Option, Some, None, refl, sym, ap, ◌∙◌, subst}
-use Rattle.std.specs.Prelude.{fold}
-use Rattle.lapd_clock.specs.Timer.{Timer, T200, T203, Order, Start, Stop, duration, is_same, timer_cmp}
-use Rattle.lapd_clock.specs.Timers.{Timers, with_expiry, without, count_on, with_order, finds_place}
-use Rattle.lapd_clock.specs.Moments.{moment_of}
+use Rattle.laws_time.proofs.Vocabulary.{Bool, Clock, List, None, Option, Order, Ordering, Service, Some, Start, Stop, Timers, [], ap, arith, cond, count_on, duration, eq-eqb, expiry_of, false, false≢true, filter, finds_place, fold, inl, inr, is_eq, is_order_of, is_same, is_timer_of, moment_of, obey, obeyed, own-is, refl, same_timer, subst, sym, timer_cmp, timer_total, true, with_order, without}
+use Rattle.laws_time.proofs.Vocabulary.{ℕ, ◌&&◌, ◌+◌, ◌==◌, ◌∙◌, ◌∷◌, ◌≡◌, ◌⊎◌}
+use Rattle.lapd_clock.specs.Timer.{Timer, T200, T203}
+use Rattle.lapd_clock.specs.Timers.{with_expiry}
 use Rattle.lapd_clock.proofs.Moments.{start_moves_one, stop_moves_one}
-use Rattle.lapd_clock.proofs.TimerOrder.{timer_total, same_timer}
 use Rattle.std.proofs.lemmas.Cmp.{eq_by_cmp_equiv}
-use Rattle.std.proofs.Common.{◌⊎◌, inl, inr, eq-eqb}
-use Rattle.std.proofs.lemmas.Bool.{false≢true}
-use Rattle.std.specs.declared.cmp.Ordering.{Ordering}
 use Rattle.std.specs.declared.cmp.Ordering.TheVariants.{Equal}
-use Rattle.std.specs.Ordering.{is_eq}
-use Rattle.laws_trace.proofs.LinkLed.{own-is}
-use Rattle.lapd_frame.specs.declared.services.Service.{Service}
-use Rattle.laws_trace.specs.TimersAreTimely.{is_timer_of, is_order_of}
-use Rattle.model_timed.specs.Clock.{Clock, obey, obeyed, expiry_of}
 
 -- A clock that has a place left.
 abbrev roomy : ℕ → Clock → Timers
@@ -113,6 +103,14 @@ lengths-stay line c (Stop timer ∷ orders) = lengths-stay line (obey line c (St
 pub own : (service : Service) (tei : ℕ) (its other : Timer) → IsOf service tei its → is_same other its ≡ true → is_timer_of service tei other ≡ true
 own service tei its other (inl is) e = ap (is_timer_of service tei) (same other its e ∙ is) ∙ own-is service tei
 own service tei its other (inr is) e = ap (is_timer_of service tei) (same other its e ∙ is) ∙ own-is service tei
+
+-- A timer that is not of the link differs from its own.
+pub differs : (service : Service) (tei : ℕ) (timer its : Timer) → IsOf service tei its → is_timer_of service tei timer ≡ false → is_same timer its ≡ false
+differs service tei timer its of none = go (is_same timer its) refl
+  where
+    go : (b : Bool) → is_same timer its ≡ b → b ≡ false
+    go true e = absurd (false≢true (sym none ∙ own service tei its timer of e))
+    go false e = refl
 
 by-one : (service : Service) (tei : ℕ) (its : Timer) (then : ℕ) (o : Order) (m : Option ℕ) → IsOf service tei its → is_order_of service tei o ≡ false → by_order its then m o ≡ m
 by-one service tei its then (Start timer) m of none = go (is_same timer its) refl

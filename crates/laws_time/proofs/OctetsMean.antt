@@ -1,35 +1,13 @@
 -- A timed card of octets is a timed card of frames, at the card of frames inside.
-use Rattle.std.proofs.Common.{arith, ◌≡◌, ℕ, ◌==◌, Bool, true, false, cond, List, [], ◌∷◌, ◌++◌, Option, Some, None, refl, sym, ap, ◌∙◌, subst, is_some, filter, option_map}
-use Rattle.std.proofs.lemmas.List.Elements.{All-head}
-use Rattle.std.specs.Option.{option_map_or}
-use Rattle.lapd_clock.specs.Timers.{Expiry}
-use Rattle.lapd_frame.specs.declared.notes.Note.{Note}
-use Rattle.lapd_frame.specs.declared.services.Service.{Service}
+use Rattle.laws_time.proofs.Vocabulary.{All-head, Answer, ArePrompt, AreStill, Bool, Card, Clock, Config, Event as FrameEvent, Expiry, IsAnswered, IsNoExpiry as FrameIsNoExpiry, IsNoOctetsExpiry as IsNoExpiry, List, None, Note, OctetCard, OctetEvent as Event, Option, SaysSo, Service, Some, Step, TimedCard, TimedOctetCard, [], after_all, answer as ports_answer, answer_to, ap, arith, at, cond}
+use Rattle.laws_time.proofs.Vocabulary.{due, expiry_at, falls_due, false, filter, frames, is_news, is_some, is_stirred, meant, news, news_in, notes_in, notes_of, obeyed, octet_orders as orders_of, octets, of_frames, of_octets, option_map, option_map_or, orders_in, port_at, ports_after, refl, state, step_happens as happens, subst, sym, time, true, with_expiry, without_first, ℕ, ◌++◌, ◌==◌, ◌∙◌}
+use Rattle.laws_time.proofs.Vocabulary.{◌∷◌, ◌≡◌}
 use Rattle.model_line.specs.Event as line
-use Rattle.model_line.specs.Event.{Answer}
-use Rattle.model_line.specs.Laws.{orders_in}
-use Rattle.model_line.specs.declared.config.Config.{Config}
-use Rattle.model_card.specs.Card.{Card, state}
-use Rattle.model_card.specs.Event.{Event as FrameEvent}
-use Rattle.model_card.specs.Event.{at}
 use Rattle.model_card.specs.Machine as machine
-use Rattle.model_card.specs.ports.Card.{OctetCard, port_at, answer_to}
-unfoldable use Rattle.model_card.specs.ports.Card.{after as ports_after, answer as ports_answer, meant}
-use Rattle.model_card.specs.ports.Codec.{SaysSo, IsAnswered}
-use Rattle.model_card.specs.ports.Event.{Event}
 unfoldable use Rattle.model_card.specs.ports.Run.{moments}
 use Rattle.model_card.specs.ports.Port as port
 use Rattle.model_card.proofs.OfPorts.Answered.{all_answered}
-use Rattle.laws_line.specs.Heard.{notes_of}
-use Rattle.laws_trace.specs.News.{is_news}
-use Rattle.model_timed.specs.Clock.{Clock, due, obeyed, without_first}
-use Rattle.model_timed.specs.Frames.{TimedCard, frames, IsNoExpiry as FrameIsNoExpiry}
-use Rattle.model_timed.specs.Octets.{TimedOctetCard, octets, orders_in as orders_of, IsNoExpiry}
-use Rattle.model_timed.specs.Timed.{Step, happens, time, falls_due, with_event, with_expiry, expiry_at, after, event_of}
-unfoldable use Rattle.model_timed.specs.Timed.{after_all, ArePrompt}
-use Rattle.laws_time.specs.Watched.{of_frames, of_octets, notes_in}
-use Rattle.laws_time.specs.Silence.{is_stirred, news_in}
-unfoldable use Rattle.laws_time.specs.Silence.{AreStill, news}
+use Rattle.model_timed.specs.Timed.{with_event, after, event_of}
 
 abbrev pub inside : TimedOctetCard → TimedCard
 inside t = record { card = t.card.card; clock = t.clock }
@@ -55,28 +33,21 @@ frame_steps (time moment ∷ steps) t = time moment ∷ frame_steps steps (next_
 frame_steps (falls_due ∷ steps) t = falls_due ∷ frame_steps steps (next_octets falls_due t)
 
 -- What is said to an event has the orders and the notes of what is said to what it means.
-says-orders : (what : port.Event) (a : port.Answer) (s : Option Answer) → SaysSo what a s → orders_of a ≡ option_map_or orders_in s []
-says-orders what a (Some (line.told t)) h = ap orders_of h
-says-orders what a (Some (line.refused why)) h = ap orders_of h
-says-orders what a (Some (line.gave None)) h = ap orders_of h.2
-says-orders what a (Some (line.gave (Some next))) h = ap orders_of h.2
-says-orders (port.octet value) a None h = ap orders_of h
-says-orders (port.expiry timer) a None h = absurd h
-says-orders (port.request r) a None h = absurd h
-says-orders port.pull a None h = ap orders_of h.1
-
-says-notes : (what : port.Event) (a : port.Answer) (s : Option Answer) → SaysSo what a s → notes_in a ≡ option_map_or notes_of s []
-says-notes what a (Some (line.told t)) h = ap notes_in h
-says-notes what a (Some (line.refused why)) h = ap notes_in h
-says-notes what a (Some (line.gave None)) h = ap notes_in h.2
-says-notes what a (Some (line.gave (Some next))) h = ap notes_in h.2
-says-notes (port.octet value) a None h = ap notes_in h
-says-notes (port.expiry timer) a None h = absurd h
-says-notes (port.request r) a None h = absurd h
-says-notes port.pull a None h = ap notes_in h.1
+says-both : (what : port.Event) (a : port.Answer) (s : Option Answer) → SaysSo what a s → (orders_of a ≡ option_map_or orders_in s []) × (notes_in a ≡ option_map_or notes_of s [])
+says-both what a (Some (line.told t)) h = (ap orders_of h, ap notes_in h)
+says-both what a (Some (line.refused why)) h = (ap orders_of h, ap notes_in h)
+says-both what a (Some (line.gave None)) h = (ap orders_of h.2, ap notes_in h.2)
+says-both what a (Some (line.gave (Some next))) h = (ap orders_of h.2, ap notes_in h.2)
+says-both (port.octet value) a None h = (ap orders_of h, ap notes_in h)
+says-both (port.expiry timer) a None h = absurd h
+says-both (port.request r) a None h = absurd h
+says-both port.pull a None h = (ap orders_of h.1, ap notes_in h.1)
 
 -- An event, which means this.
 module _ (e : Event) (m : OctetCard) where
+  abbrev meaning : Option line.Event → Option Answer
+  meaning o = option_map (answer_to m.card) (option_map (at e.line) o)
+
   says : SaysSo e.what (ports_answer e m) (option_map (answer_to m.card) (option_map (at e.line) (meant_at e m)))
   unfolding moments meant
   says = All-head IsAnswered (record { card = m; event = e; answer = ports_answer e m }) [] (all_answered m (e ∷ []))
@@ -84,25 +55,15 @@ module _ (e : Event) (m : OctetCard) where
   abbrev said_to : line.Event → Answer
   said_to what = machine.answer (at e.line what) m.card
 
-  said-is : (o : Option line.Event) → option_map (answer_to m.card) (option_map (at e.line) o) ≡ option_map said_to o
-  said-is None = refl
-  said-is (Some what) = refl
+  said-so : {A : Type 0} (f : Answer → List A) (o : Option line.Event) → option_map_or f (option_map (answer_to m.card) (option_map (at e.line) o)) [] ≡ option_map_or (λ what. f (said_to what)) o []
+  said-so f None = refl
+  said-so f (Some what) = refl
 
   pub orders-are : (o : Option line.Event) → meant_at e m ≡ o → orders_of (ports_answer e m) ≡ option_map_or (λ what. orders_in (said_to what)) o []
-  orders-are o is = says-orders e.what (ports_answer e m) (option_map (answer_to m.card) (option_map (at e.line) (meant_at e m))) says
-      ∙ ap (λ o. option_map_or orders_in (option_map (answer_to m.card) (option_map (at e.line) o)) []) is ∙ by o
-    where
-      by : (o : Option line.Event) → option_map_or orders_in (option_map (answer_to m.card) (option_map (at e.line) o)) [] ≡ option_map_or (λ what. orders_in (said_to what)) o []
-      by None = refl
-      by (Some what) = refl
+  orders-are o is = (says-both e.what (ports_answer e m) (meaning (meant_at e m)) says).0 ∙ ap (λ o. option_map_or orders_in (meaning o) []) is ∙ said-so orders_in o
 
   pub notes-are : (o : Option line.Event) → meant_at e m ≡ o → notes_in (ports_answer e m) ≡ option_map_or (λ what. notes_of (said_to what)) o []
-  notes-are o is = says-notes e.what (ports_answer e m) (option_map (answer_to m.card) (option_map (at e.line) (meant_at e m))) says
-      ∙ ap (λ o. option_map_or notes_of (option_map (answer_to m.card) (option_map (at e.line) o)) []) is ∙ by o
-    where
-      by : (o : Option line.Event) → option_map_or notes_of (option_map (answer_to m.card) (option_map (at e.line) o)) [] ≡ option_map_or (λ what. notes_of (said_to what)) o []
-      by None = refl
-      by (Some what) = refl
+  notes-are o is = (says-both e.what (ports_answer e m) (meaning (meant_at e m)) says).1 ∙ ap (λ o. option_map_or notes_of (meaning o) []) is ∙ said-so notes_of o
 
   card-is : (o : Option line.Event) → meant_at e m ≡ o → (ports_after e m).card ≡ option_map_or (λ what. machine.after (at e.line what) m.card) o m.card
   unfolding ports_after meant

@@ -1,6 +1,7 @@
 -- Lemmas of two cards with their clocks.
 pub mod Prompt
 pub mod Ends
+pub mod Keeping
 pub mod Sender
 pub mod Kinds
 pub mod Taken
@@ -95,8 +96,8 @@ pub mod CaughtBegun
 pub mod CaughtEnds
 pub mod CaughtLaw
 pub mod CaughtParts
+pub mod CaughtSide
 pub mod CaughtNear
-pub mod CaughtBack
 pub mod CaughtUp
 pub mod CaughtMirror
 pub mod CaughtMet

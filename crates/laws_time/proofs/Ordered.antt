@@ -1,28 +1,13 @@
 -- The moments of the timers of a link behind an event of its line.
-use Rattle.std.proofs.Common.{◌≡◌, ℕ, ◌+◌, ◌<◌, ◌&&◌, ◌||◌, not, Bool, true, false, cond, List, [], ◌∷◌, ◌++◌, Option, Some, None, refl, ap, ◌∙◌, inl, inr}
-use Rattle.lapd_clock.specs.Timer.{duration, is_same}
-use Rattle.lapd_clock.specs.Moments.{moment_of}
-use Rattle.lapd_frame.specs.declared.services.Service.{Service}
+use Rattle.laws_time.proofs.Vocabulary.{AreAtLines, Bool, Clock, Config, IsInRange, LinkTimer, List, None, Observed, Option, Service, Some, T200, T203, Timer, [], ap, cond, duration, false, fold-append, inl, inr, is_anew, is_same, moment_of, not, obeyed, order_due, orders_due, orders_in, refl, runs, timer_of, true, view_behind, view_of, ℕ, ◌&&◌, ◌++◌, ◌+◌, ◌<◌, ◌||◌, ◌∙◌, ◌∷◌, ◌≡◌}
 use Rattle.lapd_frame.specs.declared.timers.Order.{Order}
 use Rattle.lapd_frame.specs.declared.timers.Order.TheVariants.{Start, Stop}
-use Rattle.std.proofs.lemmas.List.Sums.{fold-append}
-use Rattle.lapd_frame.specs.declared.timers.Timer.{Timer}
 use Rattle.lapd_frame.specs.declared.timers.Timer.TheVariants as timers
 use Rattle.model_line.specs.Event.{Event}
-use Rattle.model_line.specs.Laws.{orders_in}
-use Rattle.model_line.specs.Sound.{IsInRange}
-use Rattle.model_line.specs.declared.config.Config.{Config}
-use Rattle.model_link.specs.declared.timers.LinkTimer.{LinkTimer}
-use Rattle.model_link.specs.declared.timers.LinkTimer.TheVariants.{T200, T203}
 use Rattle.model_card.specs.Card.{fresh}
 use Rattle.model_card.specs.Event as card
-use Rattle.model_card.specs.Run.{AreAtLines}
-use Rattle.laws_line.specs.Steady.{timer_of}
 use Rattle.laws_trace.specs.Observer as observer
-use Rattle.laws_trace.specs.Observer.{Observed, view_of, view_behind}
-use Rattle.laws_trace.specs.TimersAreTimely.{runs, is_anew, order_due, orders_due}
 use Rattle.laws_trace.proofs.TimersOrdered.{timers-are-timely}
-use Rattle.model_timed.specs.Clock.{Clock, obeyed}
 use Rattle.laws_time.proofs.Moments.{IsOf, by_order, by_orders, all, of-link, itself}
 
 abbrev pub starts : Config → Service → ℕ → LinkTimer → Observed → Observed → Event → Bool

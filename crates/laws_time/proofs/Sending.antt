@@ -1,39 +1,17 @@
 -- T200 runs on where a frame goes.
-use Rattle.std.proofs.Common.{arith, ◌≡◌, ℕ, ◌<◌, true, List, [], ◌∷◌, ◌++◌, Option, Some, None, refl, sym, ap, ◌∙◌, subst, is_some, ◌⊎◌, inl, inr, option_map}
-use Rattle.std.proofs.lemmas.Bool.{true≢false}
-use Rattle.lapd_frame.specs.declared.services.Service.{Service}
+use Rattle.laws_time.proofs.Vocabulary.{AreAtLines, Card, Config, ControlFrame, Event, IsBy, IsInRange, IsSound, Link, List, None, Option, Service, Some, T200, Terms, [], after_all-append, ap, arith, at, by_line, callers-run, config-now, frames_after_all as after_all, has_lines, has_tei, inl, inr, is_on, is_some, line_at, line_sound, link_after as after, link_of, link_runs as runs, next, offer}
+use Rattle.laws_time.proofs.Vocabulary.{offer_among, on-line-now, option_map, place_in, refl, sound-now, state_of, subst, sym, terms, timely-now, timers-run-so, true, true≢false, view_of, ℕ, ◌++◌, ◌<◌, ◌∙◌, ◌∷◌, ◌≡◌, ◌⊎◌}
 use Rattle.model_line.specs.Event as line_event
-use Rattle.model_line.specs.Event.{next, Answer}
-use Rattle.model_line.specs.Line.{Line, link_of, place_in, state_of, has_tei, terms}
+use Rattle.model_line.specs.Line.{Line}
 use Rattle.model_line.specs.Machine as lines
-use Rattle.model_line.specs.Sound.{IsInRange, IsSound}
-use Rattle.model_line.specs.declared.config.Config.{Config}
 use Rattle.model_bits.specs.Stream as stream
-use Rattle.model_link.specs.Events.{offer}
 use Rattle.model_link.specs.Events as link
-use Rattle.model_link.specs.Link.{Link}
-use Rattle.model_link.specs.Machine.{after}
-use Rattle.model_link.specs.Told.{runs}
-use Rattle.model_link.specs.declared.terms.Terms.{Terms}
-use Rattle.model_link.specs.declared.timers.LinkTimer.TheVariants.{T200}
-use Rattle.model_link.specs.declared.frames.ControlFrame.{ControlFrame}
-use Rattle.model_link.specs.Offers.{offer_among}
 use Rattle.model_link.specs.Steps.{begun}
-use Rattle.model_card.specs.Card.{Card, fresh, line_at}
-use Rattle.model_card.specs.Event.{Event, at}
+use Rattle.model_card.specs.Card.{fresh}
 use Rattle.model_card.specs.Machine as machine
-use Rattle.model_card.specs.Run.{AreAtLines}
-unfoldable use Rattle.model_card.specs.Run.{after_all}
-use Rattle.model_card.proofs.Runs.{after_all-append}
-use Rattle.laws_trace.specs.Managing.{is_on}
-use Rattle.model_card.proofs.Steps.{by_line, line_sound, has_lines}
-use Rattle.laws_line.specs.Steady.{IsBy}
-use Rattle.laws_trace.specs.Observer.{view_of}
 use Rattle.laws_trace.specs.TimersAreTimely as timely
 use Rattle.laws_trace.proofs.LinkLed.{on-line}
 use Rattle.laws_trace.proofs.OneLink.{event-goes, Goes}
-use Rattle.laws_trace.proofs.ObservedLaws.{timers-run-so, on-line-now}
-use Rattle.laws_trace.proofs.TimersAreTimely.{callers-run, config-now, sound-now, timely-now}
 use Rattle.laws_trace.proofs.TimersOfEvent.{needed-is}
 
 among : (t : Terms) (ws : List ControlFrame) (l : Link) → runs T200 l.running ≡ true → runs T200 (offer_among t ws (begun l)).link.running ≡ true
@@ -56,12 +34,6 @@ no-next o p (inr h) = cc h.0
 
 -- One call at a line.
 module _ (c : Config) (l : Line) (service : Service) (tei : ℕ) where
-  next-line : Line
-  next-line = lines.after c next l
-
-  abbrev its : Link
-  its = link_of service tei l
-
   one : (event : link.Event) → IsBy c next (lines.answer c next l) service tei event → link_of service tei (lines.after c next l) ≡ after (terms c service tei) event (link_of service tei l)
       → runs T200 (link_of service tei l).running ≡ true → runs T200 (link_of service tei (lines.after c next l)).running ≡ true
   one link.offer by is run = subst (λ x. runs T200 x.running ≡ true) (sym is) (offered (terms c service tei) (link_of service tei l) run)

@@ -1,39 +1,15 @@
 -- A timed card, of a link of which nothing is heard any more.
-use Rattle.std.proofs.Common.{arith, ◌≡◌, ℕ, ◌+◌, ◌<◌, ◌≤◌, ◌||◌, not, Bool, true, false, cond, List, [], ◌∷◌, ◌++◌, Some, refl, sym, ap, ◌∙◌, subst, eq-eqb, eqb-true, inl, inr, filter, nat_le, append-nil, append_assoc}
-use Rattle.std.proofs.lemmas.Bool.{true≢false}
-use Rattle.lapd_clock.specs.Timer.{Lengths}
-use Rattle.lapd_frame.specs.declared.notes.Note.{Note}
-use Rattle.lapd_frame.specs.declared.services.Service.{Service}
-use Rattle.lapd_frame.specs.declared.timers.Timer.{Timer}
+use Rattle.laws_time.proofs.Vocabulary.{Answer, AreAtLines, Bool, Clock, Config, Event, IsInRange, Lengths, LinkTimer, List, Note, Observed, Service, Some, T200, T203, TimedCard, Timer, View, [], ap, append-nil, append_assoc, arith, at, awaits, by_event, by_t200, cond, enquires, eq-eqb, eqb-true, expiry, false, filter, inl, inr, is_anew, is_news, is_on, is_stirred, le-ltb}
+use Rattle.laws_time.proofs.Vocabulary.{moment_at as moment_of, nat_le, news-is-told-so, news_in, next, not, notes_due, notes_of, of_frames, refl, request, runs, subst, sym, timer_of, true, true≢false, view_behind, view_of, ℕ, ◌++◌, ◌+◌, ◌<◌, ◌||◌, ◌∙◌, ◌∷◌, ◌≡◌, ◌≤◌}
 use Rattle.lapd_frame.specs.declared.timers.Timer.TheVariants as timers
 use Rattle.model_line.specs.Event as line_event
-use Rattle.model_line.specs.Event.{Answer, expiry, hears, request, next}
-use Rattle.model_line.specs.Sound.{IsInRange}
-use Rattle.model_line.specs.declared.config.Config.{Config}
-use Rattle.model_link.specs.declared.timers.LinkTimer.{LinkTimer}
-use Rattle.model_link.specs.declared.timers.LinkTimer.TheVariants.{T200, T203}
+use Rattle.model_line.specs.Event.{hears}
 use Rattle.model_card.specs.Card as cards
-use Rattle.model_card.specs.Card.{state}
-use Rattle.model_card.specs.Event.{Event, at}
 use Rattle.model_card.specs.Machine.{answer}
-use Rattle.model_card.specs.Run.{AreAtLines}
-use Rattle.laws_line.specs.Steady.{timer_of}
-use Rattle.laws_trace.specs.Managing.{is_on}
-use Rattle.laws_trace.specs.News.{notes_due}
-use Rattle.laws_trace.specs.Observer.{Observed, View, view_of, view_behind, by_event, by_t200, enquires, awaits, moment_of}
-use Rattle.laws_trace.specs.TimersAreTimely.{runs, is_anew}
-use Rattle.laws_trace.proofs.ObservedLaws.{news-is-told-so}
-use Rattle.std.proofs.lemmas.Bool.{le-ltb}
-use Rattle.model_timed.specs.Clock.{Clock}
-use Rattle.model_timed.specs.Frames.{TimedCard}
 use Rattle.laws_time.proofs.TimedFrames.{with_event}
-use Rattle.laws_time.specs.Watched.{of_frames}
-use Rattle.laws_time.specs.Silence.{is_stirred, news_in}
 use Rattle.laws_time.proofs.Links.{view-then, stays-on}
 use Rattle.laws_time.proofs.Sending.{sends-on}
-use Rattle.laws_time.proofs.Effects.{IsLike, is_its_expiry, calm, same-awaits, none-renews, no-news}
-use Rattle.laws_line.specs.Heard.{notes_of}
-use Rattle.laws_trace.specs.News.{is_news}
+use Rattle.laws_time.proofs.Effects.{IsLike, is_its_expiry, calm, same-awaits, none-renews, no-news, like-self}
 use Rattle.laws_time.proofs.Walk.{stands-then, Stands, Holds, seen, step, q-is}
 use Rattle.laws_time.proofs.Before.{Goes, t200-leads, t203-leads, expired-anew}
 use Rattle.laws_time.proofs.Phases.{Due200, Due203, whole, sent, owed, IsPhase, leads, enquiry-203, notes-none}
@@ -47,14 +23,8 @@ idle-7 o is none = grind arith
 pub never-both : (o : Observed) → runs T203 o ≡ true → (o.state ≡ 7) × (awaits o ≡ false)
 never-both o run = grind (arith, eqb-true)
 
-not-false : (b : Bool) → not b ≡ true → b ≡ false
-not-false b e = grind arith
-
 idle-200 : (c : Config) (o : Observed) → awaits o ≡ false → by_t200 c o ≡ o
 idle-200 c o none = grind arith
-
-like-self : (o : Observed) → IsLike o o
-like-self o = record { state = refl; expiries = refl }
 
 not-anew : (c : Config) (service : Service) (tei : ℕ) (timer : LinkTimer) (its : Timer) (o : Observed) → is_anew c service tei timer o o (expiry its) ≡ false
 not-anew c service tei timer its o = grind (arith, le-ltb, eq-eqb)

@@ -1,18 +1,9 @@
 -- A card that keeps its own timers is a card at which the same happens.
-use Rattle.std.proofs.Common.{◌≡◌, false, List, [], ◌∷◌, ◌++◌, Option, Some, None, option_map, refl}
-use Rattle.std.proofs.lemmas.Bool.{true≢false}
-use Rattle.std.specs.Prelude.{fold, option_to_list}
-use Rattle.std.specs.Option.{option_map_or}
-use Rattle.lapd_clock.specs.Timers.{Expiry}
+use Rattle.laws_time.proofs.Vocabulary.{ArePrompt, Expiry, IsNoExpiry, IsNoOctetsExpiry, Kind, List, None, Option, Some, Step, Timed, [], after_all, due, falls_due, false, fold, frames, octets, option_map, option_map_or, option_to_list, refl, step_happens as happens, time, true≢false, with_expiry, ◌++◌, ◌∷◌, ◌≡◌}
 use Rattle.model_line.specs.Event as line
 use Rattle.model_card.specs.ports.Port as port
-use Rattle.model_timed.specs.Clock.{due}
-use Rattle.model_timed.specs.Frames.{frames, IsNoExpiry}
-use Rattle.model_timed.specs.Octets.{octets, IsNoExpiry as IsNoOctetsExpiry}
-use Rattle.model_timed.specs.Timed.{Kind, Timed, Step, happens, time, falls_due, after, with_expiry}
-unfoldable use Rattle.model_timed.specs.Timed.{after_all, ArePrompt}
-use Rattle.laws_time.specs.Cards.{IsACard, ServesAll, TimedCardsAreCards, MayHappen, MayHappenToOctets, is_expiry, is_octets_expiry, led_by}
-unfoldable use Rattle.laws_time.specs.Cards.{happened, MayGoOn}
+use Rattle.model_timed.specs.Timed.{after}
+use Rattle.laws_time.specs.Cards.{IsACard, ServesAll, TimedCardsAreCards, MayHappen, MayHappenToOctets, is_expiry, is_octets_expiry, led_by, happened, MayGoOn}
 
 module _ {Card Event : Type 0} (k : Kind Card Event) where
   abbrev IsWhere : List (Step Event) → Timed Card → Type 0

@@ -1,10 +1,6 @@
 -- A timed card of frames, in the words of these proofs.
-use Rattle.lapd_clock.specs.Timers.{Expiry}
-use Rattle.model_card.specs.Event.{Event}
-use Rattle.model_timed.specs.Frames.{TimedCard, frames}
+use Rattle.laws_time.proofs.Vocabulary.{Event, Expiry, Step, TimedCard, frames, ℕ}
 use Rattle.model_timed.specs.Timed as timed
-use Rattle.model_timed.specs.Timed.{Step}
-use Rattle.std.specs.Prelude.{ℕ}
 
 abbrev pub with_event : Event → TimedCard → TimedCard
 with_event e t = timed.with_event frames e t

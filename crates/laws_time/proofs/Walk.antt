@@ -1,29 +1,9 @@
 -- A timed card as it goes on: when the timers of a link fall due.
-use Rattle.std.proofs.Common.{arith, ◌≡◌, ℕ, ◌+◌, ◌<◌, ◌≤◌, ◌&&◌, ◌||◌, not, Bool, true, false, cond, List, [], ◌∷◌, ◌++◌, Option, Some, None, refl, sym, ap, ◌∙◌, subst}
-use Rattle.std.proofs.lemmas.Bool.{true≢false}
-use Rattle.std.proofs.lemmas.List.Elements.{All-append, All-cons, All-nil}
-use Rattle.lapd_clock.specs.Timer.{Lengths, duration}
-use Rattle.lapd_clock.specs.Timers.{Expiry}
-use Rattle.lapd_clock.specs.Moments.{moment_of}
-use Rattle.lapd_frame.specs.declared.services.Service.{Service}
-use Rattle.lapd_frame.specs.declared.timers.Timer.{Timer}
+use Rattle.laws_time.proofs.Vocabulary.{All-append, All-cons, All-nil, AreAtLines, Bool, Clock, Config, Event, IsAtLine, IsInRange, Lengths, LinkTimer, List, None, Observed, Option, Service, Some, TimedCard, Timer, View, [], after_all-append, ap, arith, at, cond, duration, false, frames_after_all as after_all, is_anew, moment_of, not, obeyed, orders_in, refl, runs, subst, sym, timer_of, true}
+use Rattle.laws_time.proofs.Vocabulary.{true≢false, view_behind, view_of, ℕ, ◌&&◌, ◌++◌, ◌+◌, ◌<◌, ◌||◌, ◌∙◌, ◌∷◌, ◌≡◌, ◌≤◌}
 use Rattle.model_line.specs.Event as line_event
-use Rattle.model_line.specs.Event.{expiry}
-use Rattle.model_line.specs.Laws.{orders_in}
-use Rattle.model_line.specs.Sound.{IsInRange}
-use Rattle.model_line.specs.declared.config.Config.{Config}
-use Rattle.model_link.specs.declared.timers.LinkTimer.{LinkTimer}
 use Rattle.model_card.specs.Card.{fresh}
-use Rattle.model_card.specs.Event.{Event, at}
 use Rattle.model_card.specs.Machine.{after, answer}
-use Rattle.model_card.specs.Run.{AreAtLines, IsAtLine}
-unfoldable use Rattle.model_card.specs.Run.{after_all}
-use Rattle.model_card.proofs.Runs.{after_all-append}
-use Rattle.laws_line.specs.Steady.{timer_of}
-use Rattle.laws_trace.specs.Observer.{Observed, View, view_of, view_behind}
-use Rattle.laws_trace.specs.TimersAreTimely.{runs, is_anew}
-use Rattle.model_timed.specs.Clock.{Clock, obeyed}
-use Rattle.model_timed.specs.Frames.{TimedCard}
 use Rattle.laws_time.proofs.TimedFrames.{with_event}
 use Rattle.laws_time.proofs.Links.{view-then}
 use Rattle.laws_time.proofs.Moments.{now-stays, lengths-stay}
@@ -32,9 +12,6 @@ use Rattle.laws_time.proofs.Ordered.{left, moment-left}
 module _ (c : Config) (lengths : Lengths) (late number : ℕ) (ranged : IsInRange c) (within : number < c.lines) (service : Service) (tei : ℕ) where
   abbrev pub its : LinkTimer → Timer
   its timer = timer_of service tei timer
-
-  abbrev pub IsOn : Expiry → Type 0
-  IsOn e = e.line < c.lines
 
   -- It is a card that began, after these events.
   pub record Stands (events : List Event) (t : TimedCard) : Type 0 where

@@ -1,38 +1,13 @@
 -- Beats of a call on the circuit without clocks: so many beats later all that an end has sent is acknowledged.
-use Rattle.std.proofs.Common.{arith, ◌≡◌, ℕ, suc, ◌+◌, ◌*◌, ◌<◌, ◌≤◌, List, [], ◌∷◌, ◌++◌, length, take, drop, refl, sym, ap, ◌∙◌, subst, All, inl, inr, length-append}
-use Rattle.std.specs.Prelude.{fold}
-use Rattle.std.proofs.lemmas.List.{length-drop, length-map, take-append-drop, length-take-le}
-use Rattle.std.proofs.lemmas.List.Elements.{All-nil, All-cons, All-head, All-tail, All-take, All-drop}
+use Rattle.laws_time.proofs.Vocabulary.{All, All-cons, All-drop, All-head, All-nil, All-tail, All-take, All-weaker, AsksData, Beat, Begins, Carries, Circuit, Config, Face, Fits, Follows, IsDataOf, IsInRange, Line, Link, List, OctetEndpoint as Endpoint, Port, Ran, Wire, [], all-done, ap, arith, as_endpoint, as_wire, doing_all, doings_meant, drop, faces, faces-back, few-left, fold, framed}
+use Rattle.laws_time.proofs.Vocabulary.{frames_among, heard_in, inl, inr, left_of, length, length-append, length-drop, length-map, length-take-le, longest, longest_text, own_link, port_of, refl, subst, suc, sym, take, take-append-drop, terms, terms_in_range, with_first_of, ℕ, ◌*◌, ◌++◌, ◌+◌, ◌<◌, ◌∙◌, ◌∷◌, ◌≡◌, ◌≤◌}
 use Rattle.model_bits.specs.Stream as stream
-use Rattle.model_bits.specs.Stream.{heard_in}
-use Rattle.model_line.specs.Request.{Request}
-use Rattle.model_line.specs.Sound.{IsInRange}
-use Rattle.model_line.specs.Line.{terms}
-use Rattle.model_line.specs.declared.config.Config.{Config}
-use Rattle.model_line.proofs.Ranges.{terms_in_range}
-use Rattle.model_link.specs.Link.{Link}
 use Rattle.model_link.specs.Sound as link_sound
-use Rattle.model_card.specs.ports.Codec.{frames_among}
 use Rattle.model_card.specs.ports.Port as port
-use Rattle.model_card.specs.ports.Port.{Port, left_of}
-use Rattle.model_card.specs.ports.Pulls.{longest_text}
 use Rattle.laws_wire.specs.Call.{IsTalk}
-use Rattle.laws_wire.specs.Facing.{own_link}
 use Rattle.laws_wire.specs.Wire as wire
-use Rattle.laws_wire.specs.Wire.{Wire}
-use Rattle.laws_wire.proofs.Run.{faces, faces-back}
-use Rattle.laws_wire.proofs.Talking.{Face}
-use Rattle.laws_order.specs.circuit.Beats.{longest}
 use Rattle.laws_order.specs.circuit.Circuit as circuit
-use Rattle.laws_order.specs.circuit.Circuit.{Endpoint, Circuit, StepAt, port_of, with_first_of}
-unfoldable use Rattle.laws_order.specs.circuit.Circuit.{doing_all}
-use Rattle.laws_order.proofs.OfCircuit.AsFrames.{as_endpoint}
-use Rattle.laws_order.proofs.OfCircuit.OneWay.{Carries, framed}
-use Rattle.laws_order.proofs.OfCircuit.Projected.{as_wire, doings_meant, Fits, Follows, all-done}
-use Rattle.laws_order.proofs.OfCircuit.Ran.{Ran, few-left}
-use Rattle.laws_time.specs.circuit.Clocked.{Beat}
-use Rattle.laws_time.specs.circuit.InBeats.{IsDataOf, AsksData, Begins}
-use Rattle.laws_time.specs.circuit.LongEnough.{Line}
+use Rattle.laws_order.specs.circuit.Circuit.{StepAt}
 use Rattle.laws_time.proofs.OfCircuit.AckedCall.{sum_all, far_sends, near_sends}
 use Rattle.laws_time.proofs.OfCircuit.AckedWire.{near_takes, far_takes}
 use Rattle.laws_time.proofs.OfCircuit.AckedOn as on
@@ -42,8 +17,7 @@ use Rattle.laws_time.proofs.OfCircuit.InBeatsAs.{first-way}
 use Rattle.laws_time.proofs.OfCircuit.InBeatsFrames.{Grown, grown-none, grown-one, one-way, behind-then}
 use Rattle.laws_time.proofs.OfCircuit.InBeatsKept.{On, Beaten, beaten-end, late-port, pulled-longer, fits, fits-far}
 use Rattle.laws_time.proofs.OfCircuit.InBeatsRun as run
-unfoldable use Rattle.laws_time.proofs.OfCircuit.InBeatsRun.{all_steps}
-use Rattle.laws_time.proofs.OfCircuit.InBeatsRun.{ask, both_hear}
+use Rattle.laws_time.proofs.OfCircuit.InBeatsRun.{all_steps, ask, both_hear}
 use Rattle.laws_time.proofs.OfCircuit.InBeatsTold.{IsDataAt, are-talk, all-meant}
 
 -- What is put is what was heard, and what is in transit.
@@ -156,10 +130,6 @@ module _ (l : Line) (fit : Begins l) where
     same3 : wire.doing_all fs' (wire.doing_all es' (wire.doing_all ds' (as_wire h.there h.back v))) ≡ as_wire g3.now.there g3.now.back v3
     same3 = ap (wire.doing_all fs') same2 ∙ g3.same
 
-    abbrev Laws : Type 0
-    Laws = (length h.there ≤ sum_all far_takes ds' w → 1 ≤ sum_all far_sends es' (wire.doing_all ds' w) → length (wire.doing_all es' (wire.doing_all ds' w)).far.way ≤ sum_all near_takes fs' (wire.doing_all es' (wire.doing_all ds' w))
-        → (own_link l.service l.tei w.near).s ≤ (own_link l.service l.tei (wire.doing_all fs' (wire.doing_all es' (wire.doing_all ds' w))).near).a)
-
     -- heard at the far end, asked there, and heard at the near end
     there-first : HasHeard v.near v1.far → length h.there ≤ sum_all far_takes ds' (as_wire h.there h.back v)
     there-first all = heard-all v.near v.far v1.far h.there (sum_all far_takes ds' w) h.follows.goes all (tally ds one v h).far_heard
@@ -226,10 +196,6 @@ module _ (l : Line) (fit : Begins l) where
   pub goes-beats : (bs : List Beat) → All (AsksData l) bs → (v : Circuit) (h : Now v) → Now (done bs v)
   goes-beats bs all v h = (goes (all_steps bs) (data-steps bs all) v h).now
 
-  octets-of : (rs : List Request) → All (IsDataOf l) rs → All Octets rs
-  octets-of [] all = All-nil Octets
-  octets-of (r ∷ rs) all = All-cons Octets r rs (run.asks-octets l here there r (All-head (IsDataOf l) r rs all)) (octets-of rs (All-tail (IsDataOf l) r rs all))
-
   -- The circuit, with so many octets in transit.
   pub record Stands (v : Circuit) : Type 0 where
     pub now : Now v
@@ -250,8 +216,8 @@ module _ (l : Line) (fit : Begins l) where
       let f = fold ask v.far b.far_asks in
       let x = circuit.happens port.pull n in
       let y = circuit.happens port.pull f in
-      let near_octets = octets-of b.near_asks data_alone.0 in
-      let far_octets = octets-of b.far_asks data_alone.1 in
+      let near_octets = All-weaker (IsDataOf l) Octets (run.asks-octets l here there) b.near_asks data_alone.0 in
+      let far_octets = All-weaker (IsDataOf l) Octets (run.asks-octets l here there) b.far_asks data_alone.1 in
       let near_ran = h.now.follows.near in let far_ran = h.now.follows.far in
       let x_long = pulled-longer n ∙ ap (λ way. length way + 1) (way-asked b.near_asks v.near) ∙ ap (λ k. k + 1) h.long.near in
       let y_long = pulled-longer f ∙ ap (λ way. length way + 1) (way-asked b.far_asks v.far) ∙ ap (λ k. k + 1) h.long.far in
@@ -343,23 +309,17 @@ module _ (l : Line) (fit : Begins l) where
       heard-far =
           let a = h.now in let b = one.stands.now in let c = two.stands.now in
           subst (λ (u : Circuit). HasHeard v.near u.far) led
-          (one-way l fit n' l.near (fits l fit) v.near (done xs v).near v.far (done xs v).far (done ys (done xs v)).far (done ys (done xs v)).near a.follows.near b.follows.near (length ys)
+          (one-way l fit l.near.n201 l.near (fits l fit) v.near (done xs v).near v.far (done xs v).far (done ys (done xs v)).far (done ys (done xs v)).near a.follows.near b.follows.near (length ys)
           (subst (λ k. Grown l.near.n201 k (port_of v.near) (port_of (done xs v).near)) long one.near) two.near (subst (λ k. Grown l.near.n201 k (port_of v.far) (port_of (done xs v).far)) long one.far) two.far
           a.there b.there c.there a.follows.goes b.follows.goes c.follows.goes h.long.near rest (few-bits l.near (fits l fit) v.near a.follows.near))
-        where
-          n' : ℕ
-          n' = l.near.n201
 
       pub heard-near : HasHeard v.far (done bs v).near
       heard-near =
           let a = h.now in let b = one.stands.now in let c = two.stands.now in
           subst (λ (u : Circuit). HasHeard v.far u.near) led
-          (one-way l fit n' l.far (fits-far l fit) v.far (done xs v).far v.near (done xs v).near (done ys (done xs v)).near (done ys (done xs v)).far a.follows.far b.follows.far (length ys)
+          (one-way l fit l.near.n201 l.far (fits-far l fit) v.far (done xs v).far v.near (done xs v).near (done ys (done xs v)).near (done ys (done xs v)).far a.follows.far b.follows.far (length ys)
           (subst (λ k. Grown l.near.n201 k (port_of v.far) (port_of (done xs v).far)) long one.far) two.far (subst (λ k. Grown l.near.n201 k (port_of v.near) (port_of (done xs v).near)) long one.near) two.near
           a.back b.back c.back a.follows.comes b.follows.comes c.follows.comes h.long.far rest (few-bits l.far (fits-far l fit) v.far a.follows.far))
-        where
-          n' : ℕ
-          n' = l.near.n201
 
   -- All that an end has sent is acknowledged 3 L + 2 D beats later.
   pub record Acked (v v' : Circuit) : Type 0 where

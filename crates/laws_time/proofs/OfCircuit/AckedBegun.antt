@@ -1,78 +1,37 @@
 -- A call with clocks and without noise: its first beat. So no timer falls due in a call of which T200 runs long enough.
-use Rattle.std.proofs.Common.{arith, ◌≡◌, ℕ, suc, ◌+◌, ◌*◌, ◌/◌, ◌<◌, ◌≤◌, not, Bool, true, false, List, [], ◌∷◌, ◌++◌, length, drop, replicate, refl, sym, ap, ◌∙◌, subst, All, Some, ◌⊎◌, inl, inr, length-append}
-use Rattle.std.specs.Prelude.{fold}
-use Rattle.std.specs.List.{AllByRecursion}
-use Rattle.std.proofs.lemmas.List.Elements.{All-nil, All-cons, All-head, All-tail, All-append}
-use Rattle.std.proofs.lemmas.List.{length-replicate}
-use Rattle.std.proofs.lemmas.Bool.{cases_lt}
-use Rattle.std.proofs.Math.Nat.{mul-div-le}
-use Rattle.std.proofs.lemmas.Nat.{mul-le}
-unfoldable use Rattle.model_bits.specs.Bits.{low_bits}
-use Rattle.lapd_clock.specs.Timer.{Lengths, AreInRange, T203, duration}
-use Rattle.lapd_clock.specs.Timers.{Expiry}
-use Rattle.lapd_frame.specs.declared.services.Service.{Service}
-use Rattle.model_link.specs.declared.states.State.TheVariants.{TeiAssigned, Established}
-use Rattle.model_link.specs.Link.{Link, fresh}
-use Rattle.model_line.specs.Line.{terms}
-use Rattle.model_line.specs.Request.{Request, Establish}
-use Rattle.model_line.specs.Sound.{IsInRange}
-use Rattle.model_line.specs.declared.config.Config.{Config}
+use Rattle.laws_time.proofs.Vocabulary.{All, All-cons, All-nil, AllByRecursion, AreInRange, AsksData, Beat, Begins, Bool, Circuit, Clocked, Config, Establish, Established, Face, IsClean, IsInRange, IsUndue, Lengths, Line, Link, List, NoneFallsDue, OctetEndpoint as Endpoint, Ran, Request, Service, StationStands, TeiAssigned, TimedEndpoint, [], ap, arith, as_endpoint, as_wire, asks, assigned}
+use Rattle.laws_time.proofs.Vocabulary.{beat, begins, calls, drop, end, endpoint, false, flags, fold, fresh_link as fresh, goes-on, gone, happens, hears, inl, inr, left_of, length, low_bits, not, obeyed, port-after, port_of, pulling, refl, stopped, subst, suc, sym, terms, true, with_first_of, within-ports, without_first_octet, ℕ, ◌/◌, ◌<◌, ◌∙◌, ◌∷◌, ◌≡◌, ◌≤◌}
 use Rattle.model_card.specs.ports.Port as port
-use Rattle.model_card.specs.ports.Port.{left_of}
-use Rattle.model_timed.specs.Clock.{stopped, obeyed, due}
 use Rattle.laws_wire.specs.Call as call
 use Rattle.laws_wire.proofs.Beginning as beginning
-use Rattle.laws_wire.proofs.Calling.{end}
-use Rattle.laws_wire.proofs.Standing.{StationStands}
-use Rattle.laws_wire.proofs.Talking.{Face}
-use Rattle.laws_line.proofs.OfCard.Meanwhile.{all-left, all-right}
-use Rattle.laws_order.specs.circuit.Beats.{longest}
 use Rattle.laws_order.specs.circuit.Circuit as circuit
-use Rattle.laws_order.specs.circuit.Circuit.{Endpoint, Circuit, receives, at_near, at_far, doing, port_of, answered, with_first_of}
-use Rattle.laws_order.specs.circuit.Through.{assigned}
-use Rattle.laws_order.proofs.OfCircuit.AsFrames.{as_endpoint}
-use Rattle.laws_order.proofs.OfCircuit.Projected.{as_wire, port-after}
-use Rattle.laws_order.proofs.OfCircuit.Ran.{Ran, goes-on, within-ports}
-use Rattle.laws_time.specs.circuit.Answered.{IsClean}
-use Rattle.laws_time.specs.circuit.Arriving.{calls}
-use Rattle.laws_time.specs.circuit.Clocked.{TimedEndpoint, Clocked, Beat, plain, after, endpoint, happens, asks, hears, gone, beat, flags, without_first_octet}
-use Rattle.laws_time.specs.circuit.InBeats.{AsksData, IsUndue, Begins, ACallComesInTime, T203FallsDueFirst}
-unfoldable use Rattle.laws_time.specs.circuit.InBeats.{NoneFallsDue}
-use Rattle.laws_time.specs.circuit.LongEnough.{Line, asked, begins}
-unfoldable use Rattle.laws_time.specs.circuit.LongEnough.{pulling}
-use Rattle.laws_time.proofs.OfCircuit.AckedBeats.{Now, done, none-done, Stands}
+use Rattle.laws_order.specs.circuit.Circuit.{receives, at_near, at_far, doing}
+use Rattle.laws_time.proofs.OfCircuit.AckedBeats.{Now, none-done, Stands}
 use Rattle.laws_time.proofs.OfCircuit.AckedCall.{Moves}
 use Rattle.laws_time.proofs.OfCircuit.AckedEnds.{its_link, Facts, facts-as, same-link, Due, Timed, timed-then, Held, beat-begins}
 use Rattle.laws_time.proofs.OfCircuit.AckedOurs.{link-ours, pull-ours}
-use Rattle.laws_time.proofs.OfCircuit.AckedRings.{up-by}
-use Rattle.laws_time.proofs.OfCircuit.AckedRun.{EndHeld, beat-ends, OldAt, At, near-first, far-first, none-falls-due, at-all}
-use Rattle.laws_time.proofs.OfCircuit.AckedSides.{cfg, rng, lens, end_of, link_of_end, face, facts, now-one, EndTimed, OnWire, none-moves, IsUpAt}
+use Rattle.laws_time.proofs.OfCircuit.AckedRun.{EndHeld, beat-ends, OldAt, At}
+use Rattle.laws_time.proofs.OfCircuit.AckedSides.{cfg, rng, lens, end_of, link_of_end, face, facts, now-one, EndTimed, OnWire, none-moves}
 use Rattle.laws_time.proofs.OfCircuit.AckedStep.{ask_all, all-own, all-other, Asked, asks-run, hear-run}
 use Rattle.laws_time.proofs.OfCircuit.AckedWire.{own-stands}
-use Rattle.laws_time.proofs.OfCircuit.Answered.{beats-then}
 use Rattle.laws_time.proofs.OfCircuit.Began.{none-ordered}
 use Rattle.laws_time.proofs.OfCircuit.Ends.{at_time}
 use Rattle.laws_time.proofs.OfCircuit.InBeats as first
-use Rattle.laws_time.proofs.OfCircuit.InBeats.{a-call-takes-beats, alike-of, first-end, port-asked, Octets}
+use Rattle.laws_time.proofs.OfCircuit.InBeats.{alike-of, first-end, port-asked}
 use Rattle.laws_time.proofs.OfCircuit.InBeatsAs.{Alike, alike-asked, Twin, left-plus, first-way}
-use Rattle.laws_time.proofs.OfCircuit.InBeatsDue.{Rule, none-at-first, begins-on-time, begins-kept, on-time, kept-beat}
+use Rattle.laws_time.proofs.OfCircuit.InBeatsDue.{none-at-first}
 use Rattle.laws_time.proofs.OfCircuit.InBeatsIdle as idles
 use Rattle.laws_time.proofs.OfCircuit.InBeatsIdle.{opened}
 use Rattle.laws_time.proofs.OfCircuit.InBeatsRun as run
-unfoldable use Rattle.laws_time.proofs.OfCircuit.InBeatsRun.{all_steps}
 use Rattle.laws_time.proofs.OfCircuit.InBeatsRun.{ask, both_hear, asked-at, undue-stays}
 use Rattle.laws_time.proofs.OfCircuit.Orders.{RunsOurs}
 use Rattle.laws_time.proofs.OfCircuit.Prompt.{long}
-unfoldable use Rattle.laws_order.specs.circuit.Circuit.{doing_all}
 
 -- So far T200 of neither end was started.
 abbrev Never : ℕ → ℕ → Type 0
 Never a m = ⊥
 
 module _ (service : Service) (tei : ℕ) (few : tei ≤ 126) (c : Config) (ranged : IsInRange c) (number : ℕ) (within : number < c.lines) (ls : Lengths) (in_range : AreInRange ls) (way rate : ℕ) where
-  abbrev at_first : TimedEndpoint
-  at_first = endpoint c number ls way tei
-
   none-run : (endpoint c number ls way tei).clock ≡ stopped ls
   none-run = ap (λ os. obeyed number os (stopped ls)) (none-ordered c service tei number way ranged within few ls in_range rate)
 

@@ -1,20 +1,15 @@
 -- A call on a wire: once SABME and UA are received both ends are up, and once so much more is received all that was sent is acknowledged.
-use Rattle.std.proofs.Common.{arith, ◌≡◌, ℕ, ◌+◌, ◌-◌, ◌≤◌, false, List, [], ◌∷◌, ◌++◌, length, map, refl, ap, ◌∙◌, subst, All, inl, inr}
-use Rattle.std.proofs.lemmas.List.Elements.{All-nil, All-cons, All-head, All-tail}
-use Rattle.lapd_frame.specs.declared.services.Service.{Service}
-use Rattle.model_link.specs.Link.{Link}
-use Rattle.model_link.specs.TwoEnds.{Endpoint as LinkEndpoint}
-use Rattle.model_line.specs.declared.config.Config.{Config}
+use Rattle.laws_time.proofs.Vocabulary.{All, All-cons, All-head, All-nil, All-tail, Config, EndStep as Step, Face, Link, LinkEndpoint, List, Past, Service, StepAt, Talk, Wire, [], ap, arith, at_far, at_near, does, doing, false, inl, inr, length, map, own_link, read_as, receives, refl, requests, sends, subst, turned, wire_doing_all as doing_all, ℕ, ◌++◌, ◌+◌, ◌-◌, ◌∙◌, ◌∷◌, ◌≡◌, ◌≤◌}
 use Rattle.laws_wire.specs.Call.{IsTalk}
-use Rattle.laws_wire.specs.Facing.{own_link, read_as}
-use Rattle.laws_wire.specs.Wire.{Wire, Step, StepAt, requests, sends, receives, at_near, at_far, turned, doing}
-unfoldable use Rattle.laws_wire.specs.Wire.{doing_all}
-unfoldable use Rattle.laws_wire.specs.Call.{both_call}
-use Rattle.laws_wire.proofs.Talking.{Face, Past}
-use Rattle.laws_wire.proofs.Up.{Talk, does}
 use Rattle.laws_time.proofs.OfCircuit.AckedLinks.{infos, infos-append}
 use Rattle.laws_time.proofs.OfCircuit.AckedLogs.{Log, log_of, relogged, doing-logged, takes-logged}
 use Rattle.laws_time.proofs.OfCircuit.AckedWire.{parts_in, near_takes, far_takes, Counted, Flows, flows, Heeds, Acks, acks-on, counted-up, window-near, far-clears, acks-all, heeds-step}
+
+-- What each step keeps, a list of them keeps.
+pub steps-keep : (P : Wire → Type 0) (Q : StepAt → Type 0) → ((k : StepAt) (w : Wire) → Q k → P w → P (doing k w)) → (es : List StepAt) → All Q es → (w : Wire) → P w → P (doing_all es w)
+unfolding doing_all
+steps-keep P Q keeps [] all w h = h
+steps-keep P Q keeps (k ∷ ks) all w h = steps-keep P Q keeps ks (All-tail Q k ks all) (doing k w) (keeps k w (All-head Q k ks all) h)
 
 -- ---- so often in a list of steps
 
@@ -107,9 +102,7 @@ module _ (service : Service) (tei : ℕ) where
         (log_of (doing k v).near, log_of (doing k v).far, z.n', z.m', subst (λ u. Talk service tei c d p q first second u z.n' z.m') (doing-logged k x y w) z.talk)
 
     pub up-all : (es : List StepAt) → All Talks es → (w : Wire) → Up w → Up (doing_all es w)
-    unfolding doing_all
-    up-all [] all w h = h
-    up-all (k ∷ ks) all w h = up-all ks (All-tail Talks k ks all) (doing k w) (up-step k (All-head Talks k ks all) w h)
+    up-all = steps-keep Up Talks (λ k w is. up-step k is w)
 
     pub counts : (w : Wire) → Up w → Counted service tei c w
     counts w (x, y, n, m, h) = counted-up service tei c d p q face back first second (relogged x y w) n m h

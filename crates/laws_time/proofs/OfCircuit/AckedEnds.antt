@@ -1,28 +1,9 @@
 -- An end of a call with its clock: what is kept by an event, and by a beat.
-use Rattle.std.proofs.Common.{arith, ◌≡◌, ℕ, ◌+◌, ◌<◌, ◌≤◌, List, Option, Some, None, refl, sym, ap, ◌∙◌, subst, ◌⊎◌, inl, inr}
-use Rattle.std.specs.List.{AllByRecursion}
-use Rattle.lapd_clock.specs.Moments.{moment_of}
-use Rattle.lapd_clock.specs.Timer.{Lengths}
-use Rattle.lapd_clock.specs.Timers.{Expiry}
-use Rattle.lapd_frame.specs.declared.services.Service.{Service}
+use Rattle.laws_time.proofs.Vocabulary.{AllByRecursion, AwaitingEstablishment, Card, Clock, Config, Established, Expiry, IsInRange, Lengths, Link, LinkEndpoint, List, None, OctetEndpoint as Endpoint, Option, Ran, Service, Some, StationStands, TimedEndpoint, answered, ap, arith, as_endpoint, happens, inl, inr, line_at, link_of, moment_of, octet_at, octet_orders, refl, subst, sym, ℕ, ◌+◌, ◌<◌}
+use Rattle.laws_time.proofs.Vocabulary.{◌∙◌, ◌≡◌, ◌≤◌, ◌⊎◌}
 use Rattle.lapd_frame.specs.declared.timers.Timer.TheVariants as timers
-use Rattle.model_link.specs.declared.states.State.TheVariants.{AwaitingEstablishment, Established}
-use Rattle.model_link.specs.Link.{Link}
-use Rattle.model_link.specs.TwoEnds.{Endpoint as LinkEndpoint}
 use Rattle.model_line.specs.Event as line
-use Rattle.model_line.specs.Line.{link_of}
-use Rattle.model_line.specs.Sound.{IsInRange}
-use Rattle.model_line.specs.declared.config.Config.{Config}
-use Rattle.model_card.specs.Card.{Card, line_at}
-use Rattle.model_card.specs.ports.Event.{at as octet_at}
 use Rattle.model_card.specs.ports.Port as port
-use Rattle.model_timed.specs.Clock.{Clock}
-use Rattle.model_timed.specs.Octets.{orders_in as octet_orders}
-use Rattle.laws_wire.proofs.Standing.{StationStands}
-use Rattle.laws_order.specs.circuit.Circuit.{Endpoint, answered}
-use Rattle.laws_order.proofs.OfCircuit.AsFrames.{as_endpoint}
-use Rattle.laws_order.proofs.OfCircuit.Ran.{Ran}
-use Rattle.laws_time.specs.circuit.Clocked.{TimedEndpoint, happens}
 use Rattle.laws_time.proofs.Moments.{now-stays, lengths-stay}
 use Rattle.laws_time.proofs.OctetsMean.{meant_at}
 use Rattle.laws_time.proofs.OfCircuit.AckedCall.{Moves}

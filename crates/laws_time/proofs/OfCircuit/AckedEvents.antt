@@ -1,43 +1,16 @@
 -- T200 of an end in a call, event by event: until when it runs at least, by what is not acknowledged yet.
-use Rattle.std.proofs.Common.{arith, ◌≡◌, ℕ, ◌+◌, ◌%◌, ◌<◌, ◌==◌, ◌&&◌, ◌||◌, not, Bool, true, false, List, [], ◌∷◌, ◌++◌, Option, Some, None, is_some, option_map, refl, sym, ap, ◌∙◌, subst, ◌⊎◌, inl, inr, eqb-true}
-use Rattle.std.specs.Prelude.{fold, nat_lt}
-use Rattle.std.proofs.lemmas.List.Elements.{All-append, All-cons, All-nil}
-use Rattle.lapd_clock.specs.Moments.{moment_of}
-use Rattle.lapd_frame.specs.declared.services.Service.{Service}
+use Rattle.laws_time.proofs.Vocabulary.{All-append, All-cons, All-nil, Answer, AreAtLines, Bool, Clock, Config, IsInRange, Link, List, None, Observed, OctetCard, Option, Ran, Service, Some, T200, TimedCard, TimedEndpoint, View, [], after_all-append, ap, arith, at, awaits, brings, by_event, by_frame_begun, card_of, eqb-true, expiry, false, fold, frame_in, frames_after_all, happens, inl, inr}
+use Rattle.laws_time.proofs.Vocabulary.{is_anew, is_multiple_frame, is_on, is_some, line_at, link_of, meant_all, meant_at_lines, moment_at, moment_of, nat_lt, next, not, obeyed, octet_at, on-line-now, option_map, orders_in, place_in, ports_fresh as fresh, refined_card, refl, renews, request, state_in, state_number, subst, sym, true, view_behind, view_of, ℕ, ◌%◌, ◌&&◌, ◌++◌, ◌+◌, ◌<◌, ◌==◌, ◌||◌}
+use Rattle.laws_time.proofs.Vocabulary.{◌∙◌, ◌∷◌, ◌≡◌, ◌⊎◌}
 use Rattle.lapd_frame.specs.declared.timers.Timer.TheVariants as timers
-use Rattle.model_link.specs.declared.timers.LinkTimer.TheVariants.{T200}
-use Rattle.model_link.specs.Link.{Link, state_number, is_multiple_frame}
 use Rattle.model_line.specs.Event as line
-use Rattle.model_line.specs.Event.{Answer, hears, request, next, expiry}
-use Rattle.model_line.specs.Laws.{orders_in}
-use Rattle.model_line.specs.Line.{Line, link_of, place_in, state_in}
-use Rattle.model_line.specs.Sound.{IsInRange}
-use Rattle.model_line.specs.declared.config.Config.{Config}
+use Rattle.model_line.specs.Event.{hears}
+use Rattle.model_line.specs.Line.{Line}
 use Rattle.model_card.specs.Card as cards
-use Rattle.model_card.specs.Card.{Card, line_at}
 use Rattle.model_card.specs.Event as frame_event
-use Rattle.model_card.specs.Event.{at}
 use Rattle.model_card.specs.Machine as machine
 use Rattle.model_card.specs.Run as frame_runs
-use Rattle.model_card.specs.Run.{AreAtLines}
-unfoldable use Rattle.model_card.specs.Run.{after_all as frames_after_all}
-use Rattle.model_card.proofs.Runs.{after_all-append}
-use Rattle.model_card.proofs.OfPorts.Codec.{refined_card, meant_at_lines}
-use Rattle.model_card.specs.ports.Card.{OctetCard, fresh}
-use Rattle.model_card.specs.ports.Event.{at as octet_at}
 use Rattle.model_card.specs.ports.Port as port
-use Rattle.model_card.specs.ports.Run.{meant_all}
-use Rattle.model_timed.specs.Clock.{Clock, obeyed}
-use Rattle.model_timed.specs.Frames.{TimedCard}
-use Rattle.laws_trace.specs.Managing.{is_on}
-use Rattle.laws_trace.specs.News.{brings}
-use Rattle.laws_trace.specs.Observer.{Observed, View, view_of, view_behind, moment_of as moment_at, awaits, by_event, by_frame_begun}
-use Rattle.laws_trace.specs.TimersAreTimely.{is_anew, renews}
-use Rattle.laws_trace.specs.Trace.{frame_in}
-use Rattle.laws_trace.proofs.ObservedLaws.{on-line-now}
-use Rattle.laws_order.proofs.OfCircuit.Ran.{Ran}
-use Rattle.laws_time.specs.circuit.Clocked.{TimedEndpoint, happens}
-use Rattle.laws_time.specs.circuit.Ends.{card_of}
 use Rattle.laws_time.proofs.Links.{stays-on, view-then}
 use Rattle.laws_time.proofs.OctetsMean.{meant_at, orders-are, event-inside}
 use Rattle.laws_time.proofs.OfCircuit.AckedCall.{Moves}
@@ -63,10 +36,6 @@ event-same c service tei (hears e) a o is up free at_7 waits none = heard-same c
 event-same c service tei (request r) a o is up free at_7 waits none = grind arith
 event-same c service tei next a o is up free at_7 waits none = begun-same c service tei (frame_in a) o
 event-same c service tei (expiry timer) a o is up free at_7 waits none = absurd is
-
-not-anew : (x y z : Bool) → (not x || y) ≡ false → x ≡ true
-not-anew true y z e = refl
-not-anew false y z e = absurd (cc e)
 
 -- neither another state, nor a frame that renews it
 record NotAnew (o q : Observed) (renewed : Bool) : Type 0 where

@@ -1,19 +1,7 @@
 -- Two links in state 7: how many I-frames are in transit, and what the frames in transit acknowledge.
-use Rattle.std.proofs.Common.{arith, ◌≡◌, ℕ, ◌+◌, ◌≤◌, ◌==◌, Bool, true, false, List, [], ◌∷◌, ◌++◌, length, Option, Some, None, refl, sym, ap, ◌∙◌, subst, All, inl, inr, eq-eqb, slice_get}
-use Rattle.std.specs.Prelude.{if◌then◌else◌, unwrap_or}
-use Rattle.std.proofs.lemmas.Bool.{le-ltb}
-use Rattle.lapd_frame.specs.declared.controls.Control.{Control}
-use Rattle.lapd_frame.specs.declared.controls.Control.TheVariants.{Information, ReceiveReady}
-use Rattle.lapd_frame.specs.Grammar.{Parts}
-use Rattle.lapd_seq.specs.declared.numbers.Seq.{Seq}
-use Rattle.lapd_seq.specs.Circle.{named}
-use Rattle.lapd_seq.specs.Numbers.{seq}
-use Rattle.model_link.specs.declared.terms.Terms.{Terms}
-use Rattle.model_link.specs.Events.{frame, received}
-use Rattle.model_link.specs.Offers.{may_send_information}
-use Rattle.model_link.specs.Sound.{is_information}
-use Rattle.model_link.specs.TwoEnds.{Endpoint, with_link, with_sent}
-use Rattle.laws_link.proofs.OfTwo.AnyOrder.{Informs, Notes, Lane, lane-low, lane-order, Steady, Direction, is-steady}
+use Rattle.laws_time.proofs.Vocabulary.{All, Bool, Control, Direction, Information, Informs, Lane, LinkEndpoint as Endpoint, List, None, Notes, Option, Parts, ReceiveReady, Seq, Some, Steady, Terms, [], ap, arith, eq-eqb, false, if◌then◌else◌, inl, inr, is-steady, is_information, lane-low, lane-order, le-ltb, length, may_send_information, named, received, refl, seq, slice_get, subst, sym, true}
+use Rattle.laws_time.proofs.Vocabulary.{unwrap_or, with_link, with_sent, ℕ, ◌++◌, ◌+◌, ◌==◌, ◌∙◌, ◌∷◌, ◌≡◌, ◌≤◌}
+use Rattle.model_link.specs.Events.{frame}
 use Rattle.laws_link.proofs.OfTwo.BusyMoves.{takes-one, takes-note}
 use Rattle.laws_link.proofs.OfTwo.Halves.{named-number, fits-at}
 use Rattle.laws_link.proofs.OfTwo.Plain.{plain, plain_end, information_frame, acknowledgement_frame, gives-information, gives-acknowledgement, gives-nothing}

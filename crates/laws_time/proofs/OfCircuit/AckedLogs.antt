@@ -1,7 +1,6 @@
 -- Two wires that differ in what was granted and told alone: whatever is done on both leaves them so.
-use Rattle.std.proofs.Common.{◌≡◌, ℕ, List, [], ◌∷◌, refl, ap}
-use Rattle.model_line.specs.Event.{LineTold}
-use Rattle.laws_wire.specs.Wire.{Endpoint, Wire, Step, StepAt, requests, expires, sends, receives, loses, at_near, at_far, acting, turned, doing, with_first_of, without_first}
+use Rattle.laws_time.proofs.Vocabulary.{EndStep as Step, FrameEndpoint as Endpoint, LineTold, List, StepAt, Wire, [], acting, ap, at_far, at_near, doing, expires, loses, receives, refl, requests, sends, turned, ℕ, ◌∷◌, ◌≡◌}
+use Rattle.laws_wire.specs.Wire.{with_first_of, without_first}
 use Rattle.laws_time.proofs.OfCircuit.AckedWire.{near_takes}
 
 pub record Log : Type 0 where

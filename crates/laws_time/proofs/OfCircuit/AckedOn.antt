@@ -1,33 +1,14 @@
 -- A call on a wire, or two ends that are up: after SABME and UA both are; and what each has sent is acknowledged in so many frames.
-use Rattle.std.proofs.Common.{arith, ◌≡◌, ℕ, zero, suc, ◌+◌, ◌-◌, ◌≤◌, false, List, [], ◌∷◌, length, map, refl, sym, ap, ◌∙◌, subst, All, ◌⊎◌, inl, inr}
-use Rattle.std.proofs.Math.Seq.{take-length}
-use Rattle.std.proofs.lemmas.List.Elements.{All-nil, All-cons, All-head, All-tail}
-use Rattle.lapd_frame.specs.declared.services.Service.{Service}
-use Rattle.model_link.specs.declared.states.State.TheVariants.{TeiAssigned, AwaitingEstablishment, Established}
-use Rattle.model_link.specs.declared.terms.Terms.{Terms}
-use Rattle.model_link.specs.Link.{Link, fresh}
-use Rattle.model_link.specs.Sound.{IsInRange}
-use Rattle.model_link.specs.TwoEnds.{Endpoint as LinkEndpoint}
-use Rattle.model_line.specs.Line.{terms}
-use Rattle.model_line.specs.declared.config.Config.{Config}
-use Rattle.laws_link.proofs.OfTwo.AnyOrder.{Steady}
+use Rattle.laws_time.proofs.Vocabulary.{All, All-cons, All-head, All-nil, All-tail, AwaitingEstablishment, Both, Config, EndStep as Step, Established, Face, FrameEndpoint, Goes, Holds, IsInRangeTerms as IsInRange, Link, LinkEndpoint, List, Past, Service, StationStands, Steady, StepAt, Talk, TeiAssigned, Terms, Wire, [], after_note, ap, arith, at_far, at_near, awaiting, caller, confirmed, doing}
+use Rattle.laws_time.proofs.Vocabulary.{end, false, fresh_link as fresh, indicated, inl, inr, length, map, own_link, pair_of, receives, refl, requests, sabme, sends, subst, suc, sym, take-length, terms, turned, turned-both, turned-pair, unheard, wire_doing_all as doing_all, with_ua_first, with_ua_waiting, zero, ℕ, ◌+◌, ◌-◌, ◌∙◌, ◌∷◌, ◌≡◌, ◌≤◌, ◌⊎◌}
 use Rattle.laws_link.proofs.OfTwo.AnyOrderRuns.{Pair}
-use Rattle.laws_wire.specs.Call.{IsTalk, confirmed, indicated}
-use Rattle.laws_wire.specs.Facing.{own_link}
-use Rattle.laws_wire.specs.Wire.{Endpoint as FrameEndpoint, Wire, Step, StepAt, requests, sends, receives, at_near, at_far, turned, doing}
-unfoldable use Rattle.laws_wire.specs.Wire.{doing_all}
-use Rattle.laws_wire.proofs.BothPhases.{Goes}
-use Rattle.laws_wire.proofs.Calling.{sabme, asked, awaiting, caller, end, with_ua_waiting, with_ua_first}
-use Rattle.laws_wire.proofs.Quiet.{Both, turned-both}
+use Rattle.laws_wire.specs.Call.{IsTalk}
+use Rattle.laws_wire.proofs.Calling.{asked}
 use Rattle.laws_wire.proofs.Run.{runs}
-use Rattle.laws_wire.proofs.Standing.{StationStands}
-use Rattle.laws_wire.proofs.Talking.{Face, Past, unheard, after_note, Holds}
-use Rattle.laws_wire.proofs.Up.{Talk, pair_of, turned-pair}
 use Rattle.laws_time.proofs.OfCircuit.AckedLinks.{infos, lane-counts, window}
 use Rattle.laws_time.proofs.OfCircuit.AckedLogs.{Log, log_of, logged}
 use Rattle.laws_time.proofs.OfCircuit.AckedWire.{own-stands, parts_in, parts-are, near_takes, far_takes, Counted, Flows, flows, Comes, comes-on}
-unfoldable use Rattle.laws_time.proofs.OfCircuit.AckedCall.{sum_all}
-use Rattle.laws_time.proofs.OfCircuit.AckedCall.{near_sends, far_sends, turn, turn-all, takes-turned, sends-turned, sum-turned, talks-turned, grows, Moves, moves, Up, counts, up-step, up-all, acknowledged-then}
+use Rattle.laws_time.proofs.OfCircuit.AckedCall.{sum_all, near_sends, far_sends, turn, turn-all, takes-turned, sends-turned, sum-turned, talks-turned, grows, Moves, moves, Up, counts, up-step, up-all, acknowledged-then}
 use Rattle.laws_time.proofs.OfCircuit.InBeatsCall.{are-calls, none-call}
 
 -- A link in state 7.
@@ -68,12 +49,6 @@ module _ (service : Service) (tei : ℕ) (few : tei ≤ 126) (c d : Config) (fac
 
   pub called-up : (w : Wire) (n m : LinkEndpoint) → Talk service tei c d 0 0 first second w n m → UpNow w
   called-up w n m h = (0, 0, first, second, (log_of w.near, log_of w.far, n, m, h))
-
-  abbrev pub near_link : Wire → Link
-  near_link w = own_link service tei w.near
-
-  abbrev pub far_link : Wire → Link
-  far_link w = own_link service tei w.far
 
   -- ---- a call goes on
 
@@ -295,33 +270,30 @@ module _ (service : Service) (tei : ℕ) (few : tei ≤ 126) (c d : Config) (fac
 
   -- ---- what was sent comes
 
-  comes-far : (n : ℕ) (es : List StepAt) → All Talks es → (w : Wire) (weight : ℕ) → On w weight → (j : ℕ) → Comes service tei c n j (own_link service tei w.far).r w.near.way
-      → Comes service tei c n (j - sum_all far_takes es w) (own_link service tei (doing_all es w).far).r (doing_all es w).near.way
-  unfolding doing_all sum_all
-  comes-far n [] all w weight h j x = subst (λ j. Comes service tei c n j (own_link service tei w.far).r w.near.way) (let e : j ≡ j - 0 = omega arith in e) x
-  comes-far n (k ∷ ks) all w weight h j x =
-      let is = All-head Talks k ks all in
-      let w' = doing k w in
-      let on = on-step k is w weight h in
-      let t = far_takes k w in let rest = sum_all far_takes ks w' in
-      let one = comes-on service tei c n t j (own_link service tei w.far).r w.near.way (own_link service tei w'.far).r w'.near.way
-      (flows service tei c k is w (counted w weight h).0 (counted w' on.0 on.1).0) x in
-      subst (λ j. Comes service tei c n j (own_link service tei (doing_all ks w').far).r (doing_all ks w').near.way) (let e : j - t - rest ≡ j - (t + rest) = omega arith in e)
-      (comes-far n ks (All-tail Talks k ks all) w' on.0 on.1 (j - t) one)
+  -- Said of either direction: an end takes what the other one sent.
+  module _ (e : Config) (takes : StepAt → Wire → ℕ) (to from : Wire → FrameEndpoint)
+      (flow : (k : StepAt) → Talks k → (w : Wire) (weight : ℕ) → On w weight → Flows service tei e (takes k w) (own_link service tei (to w)).r (from w).way (own_link service tei (to (doing k w))).r (from (doing k w)).way) where
+    comes : (n : ℕ) (es : List StepAt) → All Talks es → (w : Wire) (weight : ℕ) → On w weight → (j : ℕ) → Comes service tei e n j (own_link service tei (to w)).r (from w).way
+        → Comes service tei e n (j - sum_all takes es w) (own_link service tei (to (doing_all es w))).r (from (doing_all es w)).way
+    unfolding doing_all sum_all
+    comes n [] all w weight h j x = subst (λ j. Comes service tei e n j (own_link service tei (to w)).r (from w).way) (let e : j ≡ j - 0 = omega arith in e) x
+    comes n (k ∷ ks) all w weight h j x =
+        let is = All-head Talks k ks all in
+        let w' = doing k w in
+        let on = on-step k is w weight h in
+        let t = takes k w in let rest = sum_all takes ks w' in
+        let one = comes-on service tei e n t j (own_link service tei (to w)).r (from w).way (own_link service tei (to w')).r (from w').way (flow k is w weight h) x in
+        subst (λ j. Comes service tei e n j (own_link service tei (to (doing_all ks w'))).r (from (doing_all ks w')).way) (let e : j - t - rest ≡ j - (t + rest) = omega arith in e)
+        (comes n ks (All-tail Talks k ks all) w' on.0 on.1 (j - t) one)
 
-  comes-near : (n : ℕ) (es : List StepAt) → All Talks es → (w : Wire) (weight : ℕ) → On w weight → (j : ℕ) → Comes service tei d n j (own_link service tei w.near).r w.far.way
-      → Comes service tei d n (j - sum_all near_takes es w) (own_link service tei (doing_all es w).near).r (doing_all es w).far.way
-  unfolding doing_all sum_all
-  comes-near n [] all w weight h j x = subst (λ j. Comes service tei d n j (own_link service tei w.near).r w.far.way) (let e : j ≡ j - 0 = omega arith in e) x
-  comes-near n (k ∷ ks) all w weight h j x =
-      let is = All-head Talks k ks all in
-      let w' = doing k w in
-      let on = on-step k is w weight h in
-      let t = near_takes k w in let rest = sum_all near_takes ks w' in
-      let one = comes-on service tei d n t j (own_link service tei w.near).r w.far.way (own_link service tei w'.near).r w'.far.way
-      (flows-turned k is w (counted w weight h).1 (counted w' on.0 on.1).1) x in
-      subst (λ j. Comes service tei d n j (own_link service tei (doing_all ks w').near).r (doing_all ks w').far.way) (let e : j - t - rest ≡ j - (t + rest) = omega arith in e)
-      (comes-near n ks (All-tail Talks k ks all) w' on.0 on.1 (j - t) one)
+    all-received : (es : List StepAt) → All Talks es → (w : Wire) (weight : ℕ) → On w weight → (own_link service tei (to w)).r + infos (parts_in service tei e (from w).way) ≡ (own_link service tei (from w)).s
+        → length (from w).way ≤ sum_all takes es w → (own_link service tei (from w)).s ≤ (own_link service tei (to (doing_all es w))).r
+    all-received es talk w weight h all-sent all =
+        let whole = ap (λ x. infos (parts_in service tei e x)) (take-length (from w).way) in
+        let x = comes (own_link service tei (from w)).s es talk w weight h (length (from w).way) (omega arith, omega (arith, all-sent, whole)) in
+        let none : length (from w).way - sum_all takes es w ≡ 0 = omega (arith, all) in
+        let last = (subst (λ j. Comes service tei e (own_link service tei (from w)).s j (own_link service tei (to (doing_all es w))).r (from (doing_all es w)).way) none x).1 in
+        omega (arith, last)
 
   module _ (es fs gs : List StepAt) (one : All Talks es) (two : All Talks fs) (three : All Talks gs) (w : Wire) (weight : ℕ) (h : On w weight) where
     abbrev w1 : Wire
@@ -337,22 +309,14 @@ module _ (service : Service) (tei : ℕ) (few : tei ≤ 126) (c d : Config) (fac
     on1 = all-on es one w weight h
 
     far-received : length w.near.way ≤ sum_all far_takes es w → (own_link service tei w.near).s ≤ (own_link service tei w1.far).r
-    far-received all =
-        let all-sent = (counted w weight h).0 in
-        let whole = ap (λ x. infos (parts_in service tei c x)) (take-length w.near.way) in
-        let x = comes-far (own_link service tei w.near).s es one w weight h (length w.near.way) (omega arith, omega (arith, all-sent, whole)) in
-        let none : length w.near.way - sum_all far_takes es w ≡ 0 = omega (arith, all) in
-        let last = (subst (λ j. Comes service tei c (own_link service tei w.near).s j (own_link service tei w1.far).r w1.near.way) none x).1 in
-        omega (arith, last)
+    far-received =
+        all-received c far_takes (λ w. w.far) (λ w. w.near) (λ k is w weight h. let on = on-step k is w weight h in flows service tei c k is w (counted w weight h).0 (counted (doing k w) on.0 on.1).0)
+        es one w weight h (counted w weight h).0
 
     near-received : length w.far.way ≤ sum_all near_takes es w → (own_link service tei w.far).s ≤ (own_link service tei w1.near).r
-    near-received all =
-        let all-sent = (counted w weight h).1 in
-        let whole = ap (λ x. infos (parts_in service tei d x)) (take-length w.far.way) in
-        let x = comes-near (own_link service tei w.far).s es one w weight h (length w.far.way) (omega arith, omega (arith, all-sent, whole)) in
-        let none : length w.far.way - sum_all near_takes es w ≡ 0 = omega (arith, all) in
-        let last = (subst (λ j. Comes service tei d (own_link service tei w.far).s j (own_link service tei w1.near).r w1.far.way) none x).1 in
-        omega (arith, last)
+    near-received =
+        all-received d near_takes (λ w. w.near) (λ w. w.far) (λ k is w weight h. let on = on-step k is w weight h in flows-turned k is w (counted w weight h).1 (counted (doing k w) on.0 on.1).1)
+        es one w weight h (counted w weight h).1
 
     -- What the near end has sent is received; then the far end is asked for a frame; and what is in transit from it then is received.
     pub near-acked : length w.near.way ≤ sum_all far_takes es w → 1 ≤ sum_all far_sends fs w1 → length w2.far.way ≤ sum_all near_takes gs w2 → (own_link service tei w.near).s ≤ (own_link service tei w3.near).a

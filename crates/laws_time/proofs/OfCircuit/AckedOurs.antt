@@ -1,46 +1,14 @@
 -- What is ordered at an end of a call is of its link's timers.
-use Rattle.std.proofs.Common.{◌≡◌, ℕ, ◌<◌, Bool, true, false, cond, List, Option, Some, None, option_map, Ok, refl, sym, ap, ◌∙◌, subst}
-use Rattle.std.proofs.lemmas.Bool.{true≢false}
-use Rattle.std.proofs.lemmas.List.Elements.{All-nil}
-use Rattle.lapd_frame.specs.declared.services.Service.{Service}
-use Rattle.lapd_frame.specs.declared.timers.Timer.{Timer}
+use Rattle.laws_time.proofs.Vocabulary.{All-nil, AreOctets, Bool, Card, ClearBusy, Config, Data, Establish, Face, IsCarried, IsOfLink, IsSound, LinkEndpoint, LinkTimer, List, None, OctetEndpoint as Endpoint, Ok, Option, Parts, Release, Request, Service, SetBusy, Some, Speaks, StationStands, T200, T203, Timer, aim_of_expiry, aim_of_request, answered, ap, as_endpoint, at, at_requested, at_timer}
+use Rattle.laws_time.proofs.Vocabulary.{came, cond, contents_given, false, gained, has_lines, heard_side, is_due, is_timer_of, line_at, line_sound, octet_at, octet_orders, option_map, orders_in, own_side, place_in, port_of, reading, refl, spelling, subst, sym, true, true≢false, ℕ, ◌<◌, ◌∙◌, ◌≡◌}
 use Rattle.lapd_frame.specs.declared.timers.Timer.TheVariants as timers
-use Rattle.lapd_frame.specs.Grammar.{Parts}
-use Rattle.lapd_frame.specs.Senders.{reading, spelling}
-use Rattle.model_bits.specs.StuffingLaws.{AreOctets}
 use Rattle.model_bits.specs.Stream as stream
-use Rattle.model_link.specs.declared.timers.LinkTimer.{LinkTimer}
-use Rattle.model_link.specs.declared.timers.LinkTimer.TheVariants.{T200, T203}
 use Rattle.model_link.specs.Events as link
-use Rattle.model_link.specs.TwoEnds.{Endpoint as LinkEndpoint}
-use Rattle.model_line.specs.Came.{came}
 use Rattle.model_line.specs.Event as line
-use Rattle.model_line.specs.Expiry.{aim_of_expiry, at_timer}
-use Rattle.model_line.specs.Heard.{heard_side}
-use Rattle.model_line.specs.Laws.{orders_in}
-use Rattle.model_line.specs.Line.{Line, place_in}
-use Rattle.model_line.specs.Request.{Request, Establish, Release, SetBusy, ClearBusy, Data}
-use Rattle.model_line.specs.Requested.{aim_of_request, at_requested}
-use Rattle.model_line.specs.Sound.{IsSound}
-use Rattle.model_line.specs.Taken.{own_side}
-use Rattle.model_line.specs.declared.config.Config.{Config}
-use Rattle.model_card.proofs.Steps.{line_sound, has_lines}
-use Rattle.model_card.specs.Card.{Card, line_at}
-use Rattle.model_card.specs.Event.{at}
+use Rattle.model_line.specs.Line.{Line}
 use Rattle.model_card.specs.Machine as machine
-use Rattle.model_card.specs.ports.Event.{at as octet_at}
 use Rattle.model_card.specs.ports.Port as port
-use Rattle.model_card.specs.ports.Port.{gained, is_due}
-use Rattle.model_timed.specs.Octets.{orders_in as octet_orders}
-use Rattle.laws_trace.specs.FramesAreRead.{contents_given}
-use Rattle.laws_trace.specs.TimersAreTimely.{is_timer_of}
-use Rattle.laws_wire.proofs.LineSpeaks.{Speaks}
-use Rattle.laws_wire.proofs.Standing.{IsCarried, StationStands}
-use Rattle.laws_wire.proofs.Talking.{Face}
-use Rattle.laws_order.specs.circuit.Circuit.{Endpoint, answered, port_of}
-use Rattle.laws_order.proofs.OfCircuit.AsFrames.{as_endpoint}
 use Rattle.laws_time.proofs.OctetsMean.{meant_at, orders-are}
-use Rattle.laws_time.specs.circuit.LongEnough.{IsOfLink}
 use Rattle.laws_time.proofs.OfCircuit.Acts.{own-same}
 use Rattle.laws_time.proofs.OfCircuit.Orders.{AreOurs, asked-ours, expiry-ours, heard-ours, next-ours}
 

@@ -1,20 +1,7 @@
 -- Beats of a call on the circuit without clocks: so many beats after SABME was put both ends are up.
-use Rattle.std.proofs.Common.{arith, ◌≡◌, true, false, ◌+◌, ◌*◌, ◌<◌, ◌≤◌, List, ◌∷◌, length, take, drop, refl, sym, ap, ◌∙◌, subst, All, inl, inr, length-append}
-use Rattle.std.proofs.lemmas.List.{length-drop, take-append-drop, length-take-le}
-use Rattle.std.proofs.lemmas.List.Elements.{All-take, All-drop}
-use Rattle.model_link.specs.declared.states.State.TheVariants.{Established}
-use Rattle.model_line.proofs.Ranges.{terms_in_range}
-use Rattle.model_card.specs.ports.Port.{left_of}
-use Rattle.laws_wire.specs.Facing.{own_link}
+use Rattle.laws_time.proofs.Vocabulary.{All, All-drop, All-take, AsksData, Beat, Begins, Circuit, Established, Line, List, Wire, ap, arith, as_wire, doing_all, doings_meant, drop, false, inl, inr, left_of, length, length-append, length-drop, length-take-le, longest, own_link, port_of, refl, subst, sym, take, take-append-drop, terms_in_range, true, ◌*◌, ◌+◌, ◌<◌, ◌∙◌, ◌∷◌, ◌≡◌, ◌≤◌}
 use Rattle.laws_wire.specs.Wire as wire
-use Rattle.laws_wire.specs.Wire.{Wire}
-use Rattle.laws_order.specs.circuit.Beats.{longest}
-use Rattle.laws_order.specs.circuit.Circuit.{Circuit, StepAt, port_of}
-unfoldable use Rattle.laws_order.specs.circuit.Circuit.{doing_all}
-use Rattle.laws_order.proofs.OfCircuit.Projected.{as_wire, doings_meant}
-use Rattle.laws_time.specs.circuit.Clocked.{Beat}
-use Rattle.laws_time.specs.circuit.InBeats.{AsksData, Begins}
-use Rattle.laws_time.specs.circuit.LongEnough.{Line}
+use Rattle.laws_order.specs.circuit.Circuit.{StepAt}
 use Rattle.laws_time.proofs.OfCircuit.AckedBeats.{Now, Went, goes, tally, HasHeard, heard-all, done, done-append, data-steps, Stands, stands-then, ahead, asked-far, heard-far, heard-near}
 use Rattle.laws_time.proofs.OfCircuit.AckedCall.{sum_all, far_sends}
 use Rattle.laws_time.proofs.OfCircuit.AckedOn as on
@@ -66,15 +53,6 @@ module _ (l : Line) (fit : Begins l) where
 
     abbrev fs' : List wire.StepAt
     fs' = doings_meant fs (doing_all es (doing_all ds (doing_all rs v)))
-
-    abbrev w0 : Wire
-    w0 = wire.doing_all rs' w
-
-    abbrev w1 : Wire
-    w1 = wire.doing_all ds' w0
-
-    abbrev w2 : Wire
-    w2 = wire.doing_all es' w1
 
     same1 : wire.doing_all ds' (wire.doing_all rs' (as_wire h.there h.back v)) ≡ as_wire g1.now.there g1.now.back v1
     same1 = ap (wire.doing_all ds') g0.same ∙ g1.same

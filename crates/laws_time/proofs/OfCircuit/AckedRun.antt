@@ -1,25 +1,9 @@
 -- A call with clocks and without noise, beat by beat: no timer falls due.
-use Rattle.std.proofs.Common.{arith, ◌≡◌, ℕ, suc, ◌+◌, ◌*◌, ◌/◌, ◌<◌, ◌≤◌, Bool, true, false, List, [], ◌∷◌, ◌++◌, length, drop, refl, sym, ap, ◌∙◌, subst, All, Some, ◌⊎◌, inl, inr, append-nil, append_assoc, length-append}
-use Rattle.std.specs.Prelude.{fold}
-use Rattle.std.proofs.lemmas.Bool.{cases_lt}
-use Rattle.std.proofs.lemmas.List.Elements.{All-nil, All-cons, All-head, All-tail, All-append}
-use Rattle.std.proofs.lemmas.List.Sums.{fold-append}
-use Rattle.lapd_clock.specs.Timers.{Expiry}
+use Rattle.laws_time.proofs.Vocabulary.{All, All-append, All-cons, All-head, All-nil, All-tail, AsksData, AwaitingEstablishment, Beat, Begins, Bool, Circuit, Clocked, Established, Expiry, IsClean, IsInRange, IsUndue, Line, Link, List, NoneFallsDue, OctetEndpoint as Endpoint, Request, Some, TimedEndpoint, [], after, all-left, all-right, ap, append-nil, append_assoc, arith, asked, asks, beat}
+use Rattle.laws_time.proofs.Vocabulary.{cases_lt, drop, due, false, fold, fold-append, gone, happens, hears, inl, inr, length, length-append, longest, refl, subst, suc, sym, true, without_first_octet, ℕ, ◌*◌, ◌++◌, ◌+◌, ◌/◌, ◌<◌, ◌∙◌, ◌∷◌, ◌≡◌, ◌≤◌, ◌⊎◌}
 use Rattle.lapd_frame.specs.declared.timers.Timer.TheVariants as timers
-use Rattle.model_link.specs.declared.states.State.TheVariants.{AwaitingEstablishment, Established}
-use Rattle.model_link.specs.Link.{Link}
-use Rattle.model_line.specs.Request.{Request}
-use Rattle.model_line.specs.Sound.{IsInRange}
 use Rattle.model_card.specs.ports.Port as port
-use Rattle.model_timed.specs.Clock.{due}
-use Rattle.laws_line.proofs.OfCard.Meanwhile.{all-left, all-right}
-use Rattle.laws_order.specs.circuit.Beats.{longest}
-use Rattle.laws_order.specs.circuit.Circuit.{Endpoint, Circuit, sends, receives, at_near, at_far, doing, port_of}
-use Rattle.laws_time.specs.circuit.Answered.{IsClean}
-use Rattle.laws_time.specs.circuit.Clocked.{TimedEndpoint, Clocked, Beat, happens, asks, hears, gone, beat, after, without_first_octet}
-use Rattle.laws_time.specs.circuit.InBeats.{AsksData, IsUndue, Begins}
-unfoldable use Rattle.laws_time.specs.circuit.InBeats.{NoneFallsDue}
-use Rattle.laws_time.specs.circuit.LongEnough.{Line, asked}
+use Rattle.laws_order.specs.circuit.Circuit.{sends, receives, at_near, at_far, doing}
 use Rattle.laws_time.proofs.OfCircuit.AckedBeats.{Now, done, done-append, beaten-is, Stands, stands-then, acked-then}
 use Rattle.laws_time.proofs.OfCircuit.AckedEnds.{same-link, Due, Held, beat-begins}
 use Rattle.laws_time.proofs.OfCircuit.AckedOn.{Open}
@@ -191,9 +175,6 @@ module _ (l : Line) (fit : Begins l) where
 
   -- From a beat on, of this number.
   module _ (w1 : Clocked) (v1 : Circuit) (number : ℕ) (are : w1.beats ≡ suc number) (stands : Stands l fit v1) where
-    abbrev v_at : List Beat → Circuit
-    v_at xs = done l fit xs v1
-
     -- T200 was started in a beat, after which so much was sent.
     abbrev pub OldAt : Bool → List Beat → ℕ → ℕ → Type 0
     OldAt b xs a m =

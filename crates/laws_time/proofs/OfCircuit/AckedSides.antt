@@ -1,38 +1,12 @@
 -- Either end of a call with its clock, and the circuit without clocks: one step of both.
-use Rattle.std.proofs.Common.{arith, ◌≡◌, ℕ, ◌≤◌, not, Bool, true, false, List, [], ◌∷◌, map, Option, Some, None, option_map, sym, ap, ◌∙◌, subst, All, ◌⊎◌, inl, inr}
-use Rattle.std.specs.Prelude.{option_to_list}
-use Rattle.std.proofs.lemmas.List.Elements.{All-nil, All-cons, All-head}
-use Rattle.lapd_clock.specs.Timer.{Lengths}
-use Rattle.lapd_frame.specs.Grammar.{Parts}
-use Rattle.lapd_frame.specs.Senders.{spelling}
+use Rattle.laws_time.proofs.Vocabulary.{All, All-cons, All-head, All-nil, AwaitingEstablishment, Begins, Bool, Circuit, Config, Established, Face, IsCarried, IsInRange, IsSoundPort, Lengths, Line, Link, LinkEndpoint, List, None, OctetEndpoint as Endpoint, Option, Parts, Ran, Some, StationStands, TeiAssigned, TimedEndpoint, Wire, [], act_meant, answered, ap, arith, as_endpoint, as_wire}
+use Rattle.laws_time.proofs.Vocabulary.{doing_all, doing_meant, doings_meant, faces, faces-back, false, gained, happens, inl, inr, map, not, octet_orders, on-line, one-done, one-heard, option_map, option_to_list, own_link, own_side, port_of, sound-port, spelling, subst, sym, terms_in_range, true, wire_doing_all, ℕ, ◌∙◌, ◌∷◌, ◌≡◌, ◌≤◌, ◌⊎◌}
 use Rattle.model_bits.specs.Stream as stream
-use Rattle.model_link.specs.declared.states.State.TheVariants.{TeiAssigned, AwaitingEstablishment, Established}
-use Rattle.model_link.specs.Link.{Link}
-use Rattle.model_link.specs.TwoEnds.{Endpoint as LinkEndpoint}
-use Rattle.model_line.specs.Sound.{IsInRange}
-use Rattle.model_line.specs.Taken.{own_side}
-use Rattle.model_line.specs.declared.config.Config.{Config}
 use Rattle.model_card.specs.ports.Port as port
-use Rattle.model_card.specs.ports.Port.{Port, gained}
-use Rattle.model_card.specs.ports.Sound.{IsSoundPort}
-use Rattle.model_timed.specs.Octets.{orders_in as octet_orders}
 use Rattle.laws_wire.specs.Call.{IsTalk}
-use Rattle.laws_wire.specs.Facing.{own_link}
 use Rattle.laws_wire.specs.Wire as wire
-use Rattle.laws_wire.specs.Wire.{Wire}
-unfoldable use Rattle.laws_wire.specs.Wire.{doing_all as wire_doing_all}
-use Rattle.laws_wire.proofs.Standing.{IsCarried, StationStands}
-use Rattle.laws_wire.proofs.Talking.{Face}
-use Rattle.laws_order.specs.circuit.Circuit.{Endpoint, Circuit, Step, StepAt, at_near, at_far, doing, turned, port_of, answered}
-unfoldable use Rattle.laws_order.specs.circuit.Circuit.{doing_all}
-use Rattle.laws_order.proofs.OfCircuit.AsFrames.{as_endpoint}
-use Rattle.laws_order.proofs.OfCircuit.OneWay.{one-heard}
-use Rattle.laws_order.proofs.OfCircuit.Projected.{as_wire, act_meant, doing_meant, doings_meant, one-done}
-use Rattle.laws_order.proofs.OfCircuit.Ran.{Ran, sound-port, on-line}
+use Rattle.laws_order.specs.circuit.Circuit.{Step, StepAt, at_near, at_far, doing, turned}
 use Rattle.laws_order.specs.circuit.Through as through
-use Rattle.laws_time.specs.circuit.Clocked.{TimedEndpoint, happens}
-use Rattle.laws_time.specs.circuit.InBeats.{Begins}
-use Rattle.laws_time.specs.circuit.LongEnough.{Line}
 use Rattle.laws_time.proofs.OfCircuit.AckedBeats.{Now, goes}
 use Rattle.laws_time.proofs.OfCircuit.AckedCall.{Moves}
 use Rattle.laws_time.proofs.OfCircuit.AckedEnds.{IsOrdinary, its_link, Facts, facts-as, same-link, Timed, timed-then}
@@ -43,8 +17,6 @@ use Rattle.laws_time.proofs.OfCircuit.InBeatsAs.{Alike}
 use Rattle.laws_time.proofs.OfCircuit.InBeatsKept.{fits, fits-far}
 use Rattle.laws_time.proofs.OfCircuit.InBeatsTold.{IsDataStep, IsDataAt, one-meant, all-meant, are-talk}
 use Rattle.laws_time.proofs.OfCircuit.Orders.{AreOurs}
-use Rattle.laws_wire.proofs.Run.{faces, faces-back}
-use Rattle.model_line.proofs.Ranges.{terms_in_range}
 
 pub none-moves : (x : Link) → Moves x x
 none-moves x = record { low = omega arith; high = omega arith; sent = omega arith }
@@ -132,14 +104,11 @@ module _ (l : Line) (fit : Begins l) where
 
   -- ---- how far the link goes on
 
-  by-near : (f f' : Wire) (weight : ℕ) → OnWire f weight
-      → (o : Option wire.StepAt) → All (IsTalk l.service l.tei) (option_to_list o) → wire.doing_all (option_to_list o) f ≡ f' → Open (own_link l.service l.tei f.near) → Moves (own_link l.service l.tei f.near) (own_link l.service l.tei f'.near)
+  by-step : (P : Wire → Type 0) (f f' : Wire) → P f → (o : Option wire.StepAt) → ((k : wire.StepAt) → IsTalk l.service l.tei k → P (wire.doing k f)) → All (IsTalk l.service l.tei) (option_to_list o)
+      → wire.doing_all (option_to_list o) f ≡ f' → P f'
   unfolding wire_doing_all
-  by-near f f' weight h None all same is_open = subst (λ (g : Wire). Moves (own_link l.service l.tei f.near) (own_link l.service l.tei g.near)) same (none-moves (own_link l.service l.tei f.near))
-  by-near f f' weight h (Some k) all same is_open =
-      subst (λ (g : Wire). Moves (own_link l.service l.tei f.near) (own_link l.service l.tei g.near)) same
-      (on.near-moves l.service l.tei fit.call.terminal l.near l.far (face false) (face true) (terms_in_range l.near fit.call.near.0 l.service l.tei fit.call.terminal) (terms_in_range l.far fit.call.far.0 l.service l.tei fit.call.terminal)
-      k (All-head (IsTalk l.service l.tei) k [] all) f weight h is_open)
+  by-step P f f' h None on all same = subst P same h
+  by-step P f f' h (Some k) on all same = subst P same (on k (All-head (IsTalk l.service l.tei) k [] all))
 
   by-far : (f f' : Wire) (weight : ℕ) → OnWire f weight
       → (o : Option wire.Step) → All (IsTalk l.service l.tei) (option_to_list (option_map wire.at_far o)) → wire.doing_all (option_to_list (option_map wire.at_far o)) f ≡ f' → Moves (own_link l.service l.tei f.far) (own_link l.service l.tei f'.far)
@@ -156,23 +125,21 @@ module _ (l : Line) (fit : Begins l) where
   pub moves : (b : Bool) (act : Step) → IsDataStep l.service l.tei act → (v : Circuit) → Now l fit v → Open (link_of_end b (end_of b v)) → Moves (link_of_end b (end_of b v)) (link_of_end b (end_of b (doing (at_end b act) v)))
   moves false act is v h is_open =
       let x = one-done l.near.n201 l.service l.tei l.near l.far (fits l fit) (fits-far l fit) (at_near act) (talk-one (at_near act) is) v h.there h.back h.follows in
-      by-near (wire_of v h) (as_wire x.there' x.back' (doing (at_near act) v)) h.weight h.on_wire (doing_meant (at_near act) v) (one-meant l.service l.tei (at_near act) is v) x.same is_open
+      by-step (λ (g : Wire). Moves (own_link l.service l.tei (wire_of v h).near) (own_link l.service l.tei g.near)) (wire_of v h) (as_wire x.there' x.back' (doing (at_near act) v)) (none-moves (own_link l.service l.tei (wire_of v h).near)) (doing_meant (at_near act) v)
+      (λ k talks. on.near-moves l.service l.tei fit.call.terminal l.near l.far (face false) (face true) (terms_in_range l.near fit.call.near.0 l.service l.tei fit.call.terminal) (terms_in_range l.far fit.call.far.0 l.service l.tei fit.call.terminal)
+      k talks (wire_of v h) h.weight h.on_wire is_open)
+      (one-meant l.service l.tei (at_near act) is v) x.same
   moves true act is v h is_open =
       let x = one-done l.near.n201 l.service l.tei l.near l.far (fits l fit) (fits-far l fit) (at_far act) (talk-one (at_far act) is) v h.there h.back h.follows in
       by-far (wire_of v h) (as_wire x.there' x.back' (doing (at_far act) v)) h.weight h.on_wire (act_meant act (turned v)) (one-meant l.service l.tei (at_far act) is v) x.same
 
-  low-near : (f f' : Wire) (weight : ℕ) → OnWire f weight → (o : Option wire.StepAt) → All (IsTalk l.service l.tei) (option_to_list o) → wire.doing_all (option_to_list o) f ≡ f' → (own_link l.service l.tei f.near).a ≤ (own_link l.service l.tei f'.near).a
-  unfolding wire_doing_all
-  low-near f f' weight h None all same = subst (λ (g : Wire). (own_link l.service l.tei f.near).a ≤ (own_link l.service l.tei g.near).a) same (omega arith)
-  low-near f f' weight h (Some k) all same =
-      subst (λ (g : Wire). (own_link l.service l.tei f.near).a ≤ (own_link l.service l.tei g.near).a) same
-      (on.near-low l.service l.tei fit.call.terminal l.near l.far (face false) (face true) (terms_in_range l.near fit.call.near.0 l.service l.tei fit.call.terminal) (terms_in_range l.far fit.call.far.0 l.service l.tei fit.call.terminal)
-      k (All-head (IsTalk l.service l.tei) k [] all) f weight h)
-
   pub low : (b : Bool) (act : Step) → IsDataStep l.service l.tei act → (v : Circuit) → Now l fit v → (link_of_end b (end_of b v)).a ≤ (link_of_end b (end_of b (doing (at_end b act) v))).a
   low false act is v h =
       let x = one-done l.near.n201 l.service l.tei l.near l.far (fits l fit) (fits-far l fit) (at_near act) (talk-one (at_near act) is) v h.there h.back h.follows in
-      low-near (wire_of v h) (as_wire x.there' x.back' (doing (at_near act) v)) h.weight h.on_wire (doing_meant (at_near act) v) (one-meant l.service l.tei (at_near act) is v) x.same
+      by-step (λ (g : Wire). (own_link l.service l.tei (wire_of v h).near).a ≤ (own_link l.service l.tei g.near).a) (wire_of v h) (as_wire x.there' x.back' (doing (at_near act) v)) (omega arith) (doing_meant (at_near act) v)
+      (λ k talks. on.near-low l.service l.tei fit.call.terminal l.near l.far (face false) (face true) (terms_in_range l.near fit.call.near.0 l.service l.tei fit.call.terminal) (terms_in_range l.far fit.call.far.0 l.service l.tei fit.call.terminal)
+      k talks (wire_of v h) h.weight h.on_wire)
+      (one-meant l.service l.tei (at_near act) is v) x.same
   low true act is v h =
       let x = one-done l.near.n201 l.service l.tei l.near l.far (fits l fit) (fits-far l fit) (at_far act) (talk-one (at_far act) is) v h.there h.back h.follows in
       (by-far (wire_of v h) (as_wire x.there' x.back' (doing (at_far act) v)) h.weight h.on_wire (act_meant act (turned v)) (one-meant l.service l.tei (at_far act) is v) x.same).low

@@ -1,19 +1,9 @@
 -- Requests, a pull and an octet at either end of a call with its clock.
-use Rattle.std.proofs.Common.{arith, ◌≡◌, ℕ, ◌≤◌, not, Bool, true, false, List, [], ◌∷◌, Option, Some, None, refl, sym, ap, ◌∙◌, subst, All}
-use Rattle.std.specs.Prelude.{fold}
-use Rattle.std.specs.Option.{unwrap_or}
-use Rattle.std.proofs.lemmas.List.Elements.{All-nil, All-cons, All-head, All-tail}
+use Rattle.laws_time.proofs.Vocabulary.{All, All-cons, All-head, All-nil, All-tail, AsksOctets, Begins, Bool, Circuit, Config, Data, IsDataOf, Line, List, None, OctetEndpoint as Endpoint, Option, Port, Request, Some, TimedEndpoint, [], ap, arith, asks, doing_all, false, fold, gained, goes-on, happens, hears, not, port_of, refl, subst, sym, true, unwrap_or, with_first_of, ℕ, ◌∙◌, ◌∷◌, ◌≡◌, ◌≤◌}
 use Rattle.model_bits.specs.Stream as stream
-use Rattle.model_line.specs.Request.{Request, Data}
-use Rattle.model_line.specs.declared.config.Config.{Config}
 use Rattle.model_card.specs.ports.Port as port
-use Rattle.model_card.specs.ports.Port.{Port, gained}
 use Rattle.laws_order.specs.circuit.Circuit as circuit
-use Rattle.laws_order.specs.circuit.Circuit.{Endpoint, Circuit, requests, sends, receives, doing, port_of, with_first_of}
-use Rattle.laws_order.proofs.OfCircuit.Ran.{AsksOctets, goes-on}
-use Rattle.laws_time.specs.circuit.Clocked.{TimedEndpoint, happens, asks, hears}
-use Rattle.laws_time.specs.circuit.InBeats.{IsDataOf, Begins}
-use Rattle.laws_time.specs.circuit.LongEnough.{Line}
+use Rattle.laws_order.specs.circuit.Circuit.{requests, sends, receives, doing}
 use Rattle.laws_time.proofs.OfCircuit.AckedBeats.{Now}
 use Rattle.laws_time.proofs.OfCircuit.AckedEnds.{Facts, facts-as}
 use Rattle.laws_time.proofs.OfCircuit.AckedOurs.{link-ours, pull-ours, octet-ours}
@@ -21,7 +11,6 @@ use Rattle.laws_time.proofs.OfCircuit.AckedSides.{cfg, rng, lens, end_of, at_end
 use Rattle.laws_time.proofs.OfCircuit.InBeatsAs.{Alike, Twin, twin-event}
 use Rattle.laws_time.proofs.OfCircuit.InBeatsRun.{ask}
 use Rattle.laws_time.proofs.OfCircuit.InBeatsTold.{IsDataAt}
-unfoldable use Rattle.laws_order.specs.circuit.Circuit.{doing_all}
 
 module _ (l : Line) (fit : Begins l) where
   -- Layer 3 of an end asks, in the circuit.
@@ -49,11 +38,6 @@ module _ (l : Line) (fit : Begins l) where
   is-asked false (Data s t contents) is = is
   is-asked true (Data s t contents) is = is
   is-asked b other is = absurd is
-
-  pub now-all : (b : Bool) (rs : List Request) → All (IsDataOf l) rs → (v : Circuit) → Now l fit v → Now l fit (ask_all b rs v)
-  now-all b [] all v h = h
-  now-all b (r ∷ rs) all v h =
-      now-all b rs (All-tail (IsDataOf l) r rs all) (doing (at_end l fit b (requests r)) v) (now-one l fit (at_end l fit b (requests r)) (is-asked b r (All-head (IsDataOf l) r rs all)) v h)
 
   low-one : (b : Bool) (r : Request) → IsDataOf l r → (v : Circuit) → Now l fit v → (link_of_end l fit b (end_of l fit b v)).a ≤ (link_of_end l fit b (end_of l fit b (doing (at_end l fit b (requests r)) v))).a
   low-one b (Data s t contents) is v h = low l fit b (requests (Data s t contents)) is v h

@@ -1,30 +1,13 @@
 -- What is done on a circuit of octets: how many frames are heard at either end, and how often each is asked for a frame.
-use Rattle.std.proofs.Common.{arith, ◌≡◌, ℕ, ◌+◌, Bool, true, false, cond, List, [], ◌∷◌, ◌++◌, length, Option, None, Some, is_some, option_map, refl, sym, ap, ◌∙◌, subst, All, length-append}
-use Rattle.std.specs.Prelude.{option_to_list}
-use Rattle.std.proofs.lemmas.List.Elements.{All-head, All-tail}
-use Rattle.lapd_frame.specs.declared.services.Service.{Service}
-use Rattle.model_bits.specs.Stream.{Event as StreamEvent, heard_in}
-use Rattle.model_line.specs.Event.{given_in}
-use Rattle.model_line.specs.declared.config.Config.{Config}
+use Rattle.laws_time.proofs.Vocabulary.{All, All-head, All-tail, Bool, Circuit, Config, Fits, Follows, IsSoundPort, IsTalkOf, List, None, OctetEndpoint as Endpoint, Option, Port, Service, Some, StreamEvent, Wire, [], act_meant, ap, arith, as_wire, cond, config, doing_all, doing_meant, doings_meant, false, gained, given_in, heard_in, heard_with, hearing_means, is_due, is_some, item_of, length}
+use Rattle.laws_time.proofs.Vocabulary.{length-append, next_of_card, on-line, one-done, one-heard, option_map, option_to_list, other-way, port-after, port_of, pull-between, pull-put, pull-received, refl, sound-port, subst, sym, true, wire_doing_all, with_first_of, within-ports, ℕ, ◌++◌, ◌+◌, ◌∙◌, ◌∷◌, ◌≡◌}
 use Rattle.model_card.specs.ports.Port as port
-use Rattle.model_card.specs.ports.Port.{Port, gained, is_due, item_of}
-use Rattle.model_card.specs.ports.Sound.{IsSoundPort}
 use Rattle.laws_wire.specs.Wire as wire
-use Rattle.laws_wire.specs.Wire.{Wire}
-unfoldable use Rattle.laws_wire.specs.Wire.{doing_all as wire_doing_all}
-use Rattle.laws_order.proofs.Vocabulary.{heard_with}
 use Rattle.laws_order.specs.circuit.Circuit as circuit
-use Rattle.laws_order.specs.circuit.Circuit.{Endpoint, Circuit, Step, requests, sends, receives, StepAt, at_near, at_far, acting, turned, doing, port_of, with_first_of}
-unfoldable use Rattle.laws_order.specs.circuit.Circuit.{doing_all}
-use Rattle.laws_order.specs.circuit.Through.{IsTalk, IsTalkOf}
-use Rattle.laws_order.proofs.OfCircuit.AtPort.{next_of_card, pull-between, pull-put, pull-received}
-use Rattle.laws_order.proofs.OfCircuit.OneWay.{one-heard}
-use Rattle.laws_order.proofs.OfCircuit.Projected.{as_wire, hearing_means, act_meant, doing_meant, Fits, Follows, other-way, one-done, port-after}
-unfoldable use Rattle.laws_order.proofs.OfCircuit.Projected.{doings_meant}
-use Rattle.laws_order.proofs.OfCircuit.Ran.{config, within-ports, sound-port, on-line}
+use Rattle.laws_order.specs.circuit.Circuit.{Step, requests, sends, receives, StepAt, at_near, at_far, acting, turned, doing}
+use Rattle.laws_order.specs.circuit.Through.{IsTalk}
 use Rattle.laws_time.proofs.OfCircuit.AckedWire.{one_if_any, near_takes, far_takes}
-unfoldable use Rattle.laws_time.proofs.OfCircuit.AckedCall.{sum_all}
-use Rattle.laws_time.proofs.OfCircuit.AckedCall.{near_sends, far_sends}
+use Rattle.laws_time.proofs.OfCircuit.AckedCall.{sum_all, near_sends, far_sends}
 
 pub sum-append : (f : wire.StepAt → Wire → ℕ) (es fs : List wire.StepAt) (w : Wire) → sum_all f (es ++ fs) w ≡ sum_all f es w + sum_all f fs (wire.doing_all es w)
 unfolding sum_all wire_doing_all

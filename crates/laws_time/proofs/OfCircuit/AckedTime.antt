@@ -1,22 +1,7 @@
 -- No timer falls due in a call of which T200 runs long enough, before T203 does.
-use Rattle.std.proofs.Common.{arith, ◌≡◌, ℕ, suc, ◌+◌, ◌*◌, ◌/◌, ◌<◌, ◌≤◌, List, [], ◌∷◌, ◌++◌, length, replicate, refl, ap, ◌∙◌, All, Some, ◌⊎◌, inl, inr, length-append}
-use Rattle.std.proofs.Math.Nat.{mul-div-le}
-use Rattle.std.proofs.lemmas.Bool.{cases_lt}
-use Rattle.std.proofs.lemmas.List.{length-replicate}
-use Rattle.std.proofs.lemmas.List.Elements.{All-head, All-tail, All-append}
-use Rattle.std.proofs.lemmas.Nat.{mul-le}
-use Rattle.lapd_clock.specs.Timer.{Lengths, T203, duration}
-use Rattle.lapd_clock.specs.Timers.{Expiry}
-use Rattle.model_timed.specs.Clock.{due}
-use Rattle.laws_line.proofs.OfCard.Meanwhile.{all-left, all-right}
-use Rattle.laws_order.specs.circuit.Beats.{longest}
-use Rattle.laws_order.specs.circuit.Circuit.{Circuit}
-use Rattle.laws_time.specs.circuit.Answered.{IsClean}
-use Rattle.laws_time.specs.circuit.Arriving.{calls}
-use Rattle.laws_time.specs.circuit.Clocked.{Clocked, Beat, plain, beat, after}
-use Rattle.laws_time.specs.circuit.InBeats.{AsksData, Begins, ACallComesInTime, T203FallsDueFirst}
-unfoldable use Rattle.laws_time.specs.circuit.InBeats.{NoneFallsDue}
-use Rattle.laws_time.specs.circuit.LongEnough.{Line, asked, begins}
+use Rattle.laws_time.proofs.Vocabulary.{ACallComesInTime, All, All-append, All-head, All-tail, AsksData, Beat, Begins, Circuit, Clocked, Expiry, IsClean, Lengths, Line, List, NoneFallsDue, Some, T203FallsDueFirst, [], after, all-left, all-right, ap, arith, asked, beat, begins, calls, cases_lt, due, duration, inl, inr, length, length-append, length-replicate, longest, mul-div-le, mul-le, plain}
+use Rattle.laws_time.proofs.Vocabulary.{refl, replicate, suc, ℕ, ◌*◌, ◌++◌, ◌+◌, ◌/◌, ◌<◌, ◌∙◌, ◌∷◌, ◌≡◌, ◌≤◌, ◌⊎◌}
+use Rattle.lapd_clock.specs.Timer.{T203}
 use Rattle.laws_time.proofs.OfCircuit.AckedBeats.{done, Stands}
 use Rattle.laws_time.proofs.OfCircuit.AckedBegun.{heard_first, stands-first, few-left, at-first, undue-both}
 use Rattle.laws_time.proofs.OfCircuit.AckedRings.{up-by}

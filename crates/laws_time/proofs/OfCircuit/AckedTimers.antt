@@ -1,36 +1,14 @@
 -- T200 of an end after an event: it was started anew, or it awaits the same answer as before.
-use Rattle.std.proofs.Common.{arith, ◌≡◌, ℕ, ◌+◌, ◌%◌, ◌<◌, ◌≤◌, ◌==◌, ◌&&◌, ◌||◌, not, Bool, true, false, cond, List, Option, Some, None, is_some, refl, sym, ap, ◌∙◌, subst, ◌⊎◌, inl, inr, eqb-true, eq-eqb}
-use Rattle.std.specs.Prelude.{nat_lt, if◌then◌else◌}
-use Rattle.std.specs.Option.{option_map_or}
-use Rattle.std.proofs.lemmas.Bool.{true≢false, ltb-true, ltb-false}
-use Rattle.lapd_clock.specs.Moments.{moment_of}
-use Rattle.lapd_frame.specs.declared.services.Service.{Service}
-use Rattle.lapd_frame.specs.declared.timers.Timer.{Timer}
+use Rattle.laws_time.proofs.Vocabulary.{AreAtLines, AwaitingEstablishment, Bool, Clock, Config, IsInRange, Link, List, None, Observed, Option, Parts, Service, Some, T200, TeiAssigned, Timer, anew, ap, arith, awaits, brings, by_frame, by_heard, cond, eq-eqb, eqb-true, false, frame_of, holds, if◌then◌else◌, inl, inr, is_anew, is_multiple_frame, is_some, is_up, its_frame, line_at, link_of}
+use Rattle.laws_time.proofs.Vocabulary.{ltb-false, ltb-true, malformed, moment_at, moment_of, nat_lt, not, numbers-now, obeyed, option_map_or, orders_in, place_in, refl, renews, runs, state_number, subst, sym, true, true≢false, view_behind, view_of, ℕ, ◌%◌, ◌&&◌, ◌+◌, ◌<◌, ◌==◌, ◌||◌, ◌∙◌, ◌≡◌, ◌≤◌, ◌⊎◌}
 use Rattle.lapd_frame.specs.declared.timers.Timer.TheVariants as timers
-use Rattle.lapd_frame.specs.Grammar.{Parts}
 use Rattle.model_bits.specs.Stream as stream
-use Rattle.model_link.specs.declared.states.State.TheVariants.{TeiAssigned, AwaitingEstablishment}
-use Rattle.model_link.specs.declared.timers.LinkTimer.TheVariants.{T200}
-use Rattle.model_link.specs.Link.{Link, state_number, is_multiple_frame}
 use Rattle.model_line.specs.Event as line
-use Rattle.model_line.specs.Event.{Answer, hears}
-use Rattle.model_line.specs.Laws.{orders_in}
-use Rattle.model_line.specs.Line.{Line, link_of, place_in}
-use Rattle.model_line.specs.Sound.{IsInRange}
-use Rattle.model_line.specs.declared.config.Config.{Config}
+use Rattle.model_line.specs.Event.{hears}
+use Rattle.model_line.specs.Line.{Line}
 use Rattle.model_card.specs.Card as cards
-use Rattle.model_card.specs.Card.{Card, line_at}
 use Rattle.model_card.specs.Event as frame_event
-use Rattle.model_card.specs.Event.{at}
 use Rattle.model_card.specs.Run as frame_runs
-use Rattle.model_card.specs.Run.{AreAtLines}
-use Rattle.model_timed.specs.Clock.{Clock, obeyed}
-use Rattle.laws_trace.specs.LinkFrames.{frame_of, its_frame, malformed}
-use Rattle.laws_trace.specs.News.{brings}
-use Rattle.laws_trace.specs.Observer.{Observed, view_of, view_behind, moment_of as moment_at, awaits, anew, by_heard, by_frame}
-use Rattle.laws_trace.specs.TimersAreTimely.{is_anew, runs, renews}
-use Rattle.laws_trace.specs.Trace.{is_up}
-use Rattle.laws_trace.proofs.ObservedLaws.{holds, numbers-now}
 use Rattle.laws_trace.proofs.ObservedShape.{known_of}
 use Rattle.laws_trace.proofs.SeenAs.{seen-before, known-up}
 use Rattle.laws_trace.proofs.TimerClaims.{IsKnown}

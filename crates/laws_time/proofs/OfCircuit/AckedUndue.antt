@@ -1,22 +1,8 @@
 -- At an end of a call T203 alone is due, if what T200 awaits comes in time.
-use Rattle.std.proofs.Common.{arith, ◌≡◌, ℕ, ◌<◌, ◌≤◌, true, List, [], ◌∷◌, Option, Some, None, refl, sym, ◌∙◌, subst, inl, inr}
-use Rattle.std.specs.List.{AllByRecursion}
-use Rattle.std.proofs.lemmas.Bool.{true≢false}
-use Rattle.lapd_clock.specs.Moments.{moment_of}
-use Rattle.lapd_clock.specs.Timer.{Lengths}
-use Rattle.lapd_clock.specs.Timers.{Expiry}
-use Rattle.lapd_frame.specs.declared.services.Service.{Service}
-use Rattle.lapd_frame.specs.declared.timers.Timer.{Timer}
+use Rattle.laws_time.proofs.Vocabulary.{AwaitingEstablishment, Config, Expiry, IsInRange, Lengths, None, Option, Service, Some, TimedEndpoint, Timer, arith, due, inl, inr, is_timer_of, moment_of, refl, sym, true, true≢false, ℕ, ◌<◌, ◌∙◌, ◌≡◌, ◌≤◌}
 use Rattle.lapd_frame.specs.declared.timers.Timer.TheVariants as timers
-use Rattle.model_link.specs.declared.states.State.TheVariants.{AwaitingEstablishment}
-use Rattle.model_line.specs.Sound.{IsInRange}
-use Rattle.model_line.specs.declared.config.Config.{Config}
-use Rattle.model_timed.specs.Clock.{due}
-use Rattle.laws_trace.specs.TimersAreTimely.{is_timer_of}
-use Rattle.laws_time.specs.circuit.Clocked.{TimedEndpoint}
 use Rattle.laws_time.proofs.OfCircuit.AckedEnds.{its_link, Due, Claim, Timed}
 use Rattle.laws_time.proofs.OfCircuit.AckedOn.{Open}
-use Rattle.laws_time.proofs.OfCircuit.AckedTimers.{Awaits}
 use Rattle.laws_time.proofs.OfCircuit.Acts.{own-same}
 use Rattle.laws_time.proofs.OfCircuit.Ends.{first-of}
 use Rattle.laws_time.proofs.OfCircuit.LongEnough.{due-is}

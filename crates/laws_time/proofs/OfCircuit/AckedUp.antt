@@ -1,34 +1,14 @@
 -- A call on a wire: once SABME is received, the far end is asked for a frame, and UA is received, both ends are up.
-use Rattle.std.proofs.Common.{arith, ◌≡◌, ℕ, zero, suc, ◌+◌, ◌≤◌, List, [], ◌∷◌, length, map, refl, sym, ap, ◌∙◌, subst, All, ◌⊎◌, inl, inr, length-append}
-use Rattle.std.proofs.lemmas.List.Elements.{All-head, All-tail}
-use Rattle.lapd_frame.specs.declared.services.Service.{Service}
-use Rattle.lapd_frame.specs.Grammar.{Parts}
-use Rattle.lapd_frame.specs.Senders.{spelling}
-use Rattle.model_link.specs.declared.states.State.TheVariants.{TeiAssigned, AwaitingEstablishment, Established}
-use Rattle.model_link.specs.declared.terms.Terms.{Terms}
-use Rattle.model_link.specs.Events.{frame, received}
-use Rattle.model_link.specs.Link.{Link, fresh}
-use Rattle.model_link.specs.Sound.{IsInRange}
-use Rattle.model_link.specs.TwoEnds.{Endpoint as LinkEndpoint, with_link}
-use Rattle.model_line.specs.Event.{next}
-use Rattle.model_line.specs.Line.{terms}
-use Rattle.model_line.specs.Taken.{own_side}
-use Rattle.model_line.specs.declared.config.Config.{Config}
-use Rattle.laws_wire.specs.Call.{IsTalk, indicated}
-use Rattle.laws_wire.specs.Facing.{own_link}
+use Rattle.laws_time.proofs.Vocabulary.{All, All-head, All-tail, AwaitingEstablishment, Config, Established, Face, IsCalled, IsInRangeTerms as IsInRange, Link, LinkEndpoint, List, Parts, Past, Service, StationStands, StepAt, TeiAssigned, Terms, Wire, [], after_note, ap, arith, asks-way, at_far, at_near, awaiting, doing, end, first-way, frame_comes, frames_by, fresh_link as fresh, gives-stands}
+use Rattle.laws_time.proofs.Vocabulary.{indicated, inl, inr, length, length-append, map, next, own_link, own_side, received, receives, refl, requests, sabme, sends, sends-ua, spelling, subst, suc, sym, takes, takes-sabme, terms, turned, ua, unheard, wire_doing_all as doing_all, with_link, with_ua_first, with_ua_waiting, zero, ℕ, ◌+◌, ◌∙◌, ◌∷◌, ◌≡◌, ◌≤◌, ◌⊎◌}
+use Rattle.model_link.specs.Events.{frame}
+use Rattle.laws_wire.specs.Call.{IsTalk}
 use Rattle.laws_wire.specs.Wire as wire
-use Rattle.laws_wire.specs.Wire.{Endpoint, Wire, Step, StepAt, requests, sends, receives, at_near, at_far, acting, turned, doing, happens, with_first_of, frame_comes, frames_by, answered}
-unfoldable use Rattle.laws_wire.specs.Wire.{doing_all}
-use Rattle.laws_wire.proofs.Answered.{asks-way, takes-way}
+use Rattle.laws_wire.specs.Wire.{happens, with_first_of, answered}
 use Rattle.laws_wire.proofs.BothHalf as half
-use Rattle.laws_wire.proofs.BothPhases.{IsCalled}
-use Rattle.laws_wire.proofs.Calling.{sabme, ua, asked, awaiting, end, takes-sabme, with_ua_waiting, with_ua_first, sends-ua}
-use Rattle.laws_wire.proofs.Quiet.{first-way}
-use Rattle.laws_wire.proofs.Standing.{StationStands, gives-stands}
-use Rattle.laws_wire.proofs.Talking.{Face, Past, unheard, after_note, takes}
-use Rattle.laws_time.proofs.OfCircuit.AckedWire.{own-stands, one_if_any, near_takes, far_takes}
-unfoldable use Rattle.laws_time.proofs.OfCircuit.AckedCall.{sum_all}
-use Rattle.laws_time.proofs.OfCircuit.AckedCall.{near_sends, far_sends, turn}
+use Rattle.laws_wire.proofs.Calling.{asked}
+use Rattle.laws_time.proofs.OfCircuit.AckedWire.{own-stands, one_if_any, near_takes, far_takes, first-way as first-taken}
+use Rattle.laws_time.proofs.OfCircuit.AckedCall.{sum_all, near_sends, far_sends, turn, steps-keep}
 use Rattle.laws_time.proofs.OfCircuit.AckedOn.{Calls, On, UpNow, called-up, up-once, up-on as up-all, call-step, all-called, near-is, far-is}
 
 -- ---- a step with which a frame is received
@@ -68,10 +48,6 @@ any : (way : List (List ℕ)) → 1 ≤ length way → one_if_any way ≡ 1
 any [] some = absurd (omega (arith, some))
 any (o ∷ os) some = refl
 
-first-taken : (way : List (List ℕ)) (s : Endpoint) → (with_first_of way s).way ≡ s.way
-first-taken [] s = refl
-first-taken (o ∷ os) s = takes-way o s
-
 module _ (service : Service) (tei : ℕ) (few : tei ≤ 126) (c d : Config) (face : Face c d) (back : Face d c) (rt : IsInRange (terms c service tei)) (ru : IsInRange (terms d service tei)) where
   abbrev t : Terms
   t = terms c service tei
@@ -90,9 +66,6 @@ module _ (service : Service) (tei : ℕ) (few : tei ≤ 126) (c d : Config) (fac
 
   abbrev BothUp : Wire → Type 0
   BothUp w = UpNow service tei few c d face back rt ru w
-
-  abbrev Halved : Wire → ℕ → Type 0
-  Halved w weight = half.Half service tei (indicated service tei) c d 0 0 face back rt w weight
 
   abbrev pub HalfNow : Wire → Type 0
   HalfNow w = (weight : ℕ) × half.Half service tei (indicated service tei) c d 0 0 face back rt w weight
@@ -177,21 +150,11 @@ module _ (service : Service) (tei : ℕ) (few : tei ≤ 126) (c d : Config) (fac
   sent-step (at_near receives) is w (h, inl some) = (half-step (at_near receives) is w h, inr (up-heard (at_near receives) is w h (any w.far.way some)))
   sent-step (at_far (requests r)) is w (h, inl some) = (half-step (at_far (requests r)) is w h, inl (subst (λ way. 1 ≤ length way) (sym (asks-way r w.far)) some))
   sent-step (at_far sends) is w (h, inl some) = (half-step (at_far sends) is w h, inl (longer w some))
-  sent-step (at_far receives) is w (h, inl some) = (half-step (at_far receives) is w h, inl (subst (λ way. 1 ≤ length way) (sym (first-taken w.near.way w.far)) some))
+  sent-step (at_far receives) is w (h, inl some) = (half-step (at_far receives) is w h, inl (subst (λ way. 1 ≤ length way) (sym (first-taken service tei w.near.way w.far)) some))
   sent-step (at_near other) is w (h, inl some) = absurd is
   sent-step (at_far other) is w (h, inl some) = absurd is
 
-  sent-all : (es : List StepAt) → All Talks es → (w : Wire) → Sent w → Sent (doing_all es w)
-  unfolding doing_all
-  sent-all [] all w h = h
-  sent-all (k ∷ ks) all w h = sent-all ks (All-tail Talks k ks all) (doing k w) (sent-step k (All-head Talks k ks all) w h)
-
   -- ---- lists of steps
-
-  half-all : (es : List StepAt) → All Talks es → (w : Wire) → HalfNow w → HalfNow (doing_all es w)
-  unfolding doing_all
-  half-all [] all w h = h
-  half-all (k ∷ ks) all w h = half-all ks (All-tail Talks k ks all) (doing k w) (half-step k (All-head Talks k ks all) w h)
 
   half-then : (es : List StepAt) → All Talks es → (w : Wire) (weight : ℕ) → InCall w weight → 1 ≤ sum_all far_takes es w → HalfNow (doing_all es w)
   unfolding doing_all sum_all
@@ -205,13 +168,13 @@ module _ (service : Service) (tei : ℕ) (few : tei ≤ 126) (c d : Config) (fac
 
       go : (1 ≤ sum_all far_takes ks (doing k w) → HalfNow (doing_all ks (doing k w))) → (n : ℕ) → far_takes k w ≡ n → HalfNow (doing_all ks (doing k w))
       go rest zero none = rest (omega (arith, some, none))
-      go rest (suc zero) one = half-all ks (All-tail Talks k ks all) (doing k w) (half-heard k is w weight h one)
+      go rest (suc zero) one = steps-keep HalfNow Talks (λ k w is. half-step k is w) ks (All-tail Talks k ks all) (doing k w) (half-heard k is w weight h one)
       go rest (suc (suc n)) more = let most = far-takes-few k w in absurd (omega (arith, most, more))
 
   sent-then : (es : List StepAt) → All Talks es → (w : Wire) → HalfNow w → 1 ≤ sum_all far_sends es w → Sent (doing_all es w)
   unfolding doing_all sum_all
   sent-then [] all w h some = absurd (omega (arith, some))
-  sent-then (at_far sends ∷ ks) all w h some = sent-all ks (All-tail Talks (at_far sends) ks all) (doing (at_far sends) w) (sent-now w h)
+  sent-then (at_far sends ∷ ks) all w h some = steps-keep Sent Talks (λ k w is. sent-step k is w) ks (All-tail Talks (at_far sends) ks all) (doing (at_far sends) w) (sent-now w h)
   sent-then (at_far receives ∷ ks) all w h some = sent-then ks (All-tail Talks (at_far receives) ks all) (doing (at_far receives) w) (half-step (at_far receives) (All-head Talks (at_far receives) ks all) w h) (omega (arith, some))
   sent-then (at_far (requests r) ∷ ks) all w h some = sent-then ks (All-tail Talks (at_far (requests r)) ks all) (doing (at_far (requests r)) w) (half-step (at_far (requests r)) (All-head Talks (at_far (requests r)) ks all) w h) (omega (arith, some))
   sent-then (at_far other ∷ ks) all w h some = absurd (All-head Talks (at_far other) ks all)
@@ -251,7 +214,7 @@ module _ (service : Service) (tei : ℕ) (few : tei ≤ 126) (c d : Config) (fac
   rung-step k is w weight h (inr halved) = inr (half-step k is w halved)
   rung-step (at_near (requests r)) is w weight h (inl some) = inl (subst (λ way. 1 ≤ length way) (sym (asks-way r w.near)) some)
   rung-step (at_near sends) is w weight h (inl some) = inl (near-longer w some)
-  rung-step (at_near receives) is w weight h (inl some) = inl (subst (λ way. 1 ≤ length way) (sym (first-taken w.far.way w.near)) some)
+  rung-step (at_near receives) is w weight h (inl some) = inl (subst (λ way. 1 ≤ length way) (sym (first-taken service tei w.far.way w.near)) some)
   rung-step (at_far (requests r)) is w weight h (inl some) = inl some
   rung-step (at_far sends) is w weight h (inl some) = inl some
   rung-step (at_far receives) is w weight h (inl some) = inr (half-heard (at_far receives) is w weight h (any w.near.way some))
@@ -301,7 +264,7 @@ module _ (service : Service) (tei : ℕ) (few : tei ≤ 126) (c d : Config) (fac
 
         halved : Rung (doing_all rs w) → HalfNow (doing_all es (doing_all rs w))
         halved (inl some) = half-then es one (doing_all rs w) on.0 on.1 (omega (arith, some, there))
-        halved (inr half_now) = half-all es one (doing_all rs w) half_now
+        halved (inr half_now) = steps-keep HalfNow Talks (λ k w is. half-step k is w) es one (doing_all rs w) half_now
 
         go : Sent v3 → BothUp (doing_all gs v3)
         go (half_now, inl some) = up-by-takes gs three v3 half_now (omega (arith, some, all))

@@ -1,29 +1,10 @@
 -- Two cards on a wire: how many I-frames were received, and what the frames in transit acknowledge, step by step.
-use Rattle.std.proofs.Common.{arith, ◌≡◌, ℕ, zero, suc, ◌+◌, ◌-◌, ◌≤◌, Bool, false, List, [], ◌∷◌, ◌++◌, length, map, take, drop, refl, sym, ap, ◌∙◌, subst, All, ◌⊎◌, inl, inr, append-nil, length-append}
-use Rattle.std.specs.Prelude.{flat_map}
-use Rattle.std.specs.Option.{option_map_or}
-use Rattle.std.proofs.Math.Seq.{take-length}
-use Rattle.std.proofs.lemmas.List.Elements.{All-head, All-tail}
-use Rattle.lapd_frame.specs.declared.services.Service.{Service}
-use Rattle.lapd_frame.specs.Grammar.{Parts}
-use Rattle.lapd_frame.specs.Senders.{spelling}
-use Rattle.model_link.specs.Events.{frame, received}
-use Rattle.model_link.specs.Link.{Link, fresh}
-use Rattle.model_link.specs.TwoEnds.{Endpoint as LinkEndpoint, with_link, with_sent}
-use Rattle.model_line.specs.Event.{request, next}
-use Rattle.model_line.specs.Line.{link_in}
-use Rattle.model_line.specs.Request.{Request, Data}
-use Rattle.model_line.specs.Taken.{own_side}
-use Rattle.model_line.specs.declared.config.Config.{Config}
-use Rattle.laws_link.proofs.OfTwo.AnyOrder.{Lane}
+use Rattle.laws_time.proofs.Vocabulary.{All, All-head, All-tail, Bool, Config, Data, EndStep as Step, Face, FrameEndpoint as Endpoint, IsCarried, Lane, Link, LinkEndpoint, List, More, Parts, Past, Request, Service, StationStands, StepAt, Talk, Wire, [], ap, append-nil, arith, asks-way, at_far, at_near, doing, drop, false, flat_map, frame_comes, frames_by, fresh_link as fresh, gives-stands}
+use Rattle.laws_time.proofs.Vocabulary.{holds-asked, inl, inr, length, length-append, line_of, link_in, map, next, option_map_or, own_link, own_side, parts_of, read_as, received, receives, refl, request, requests, sends, spelling, subst, suc, sym, take, take-length, takes, takes-way, turned, with_link, with_sent, zero, ℕ, ◌++◌, ◌+◌, ◌-◌, ◌∙◌, ◌∷◌, ◌≡◌, ◌≤◌, ◌⊎◌}
+use Rattle.model_link.specs.Events.{frame}
 use Rattle.laws_wire.specs.Call.{IsTalkOf, IsTalk}
-use Rattle.laws_wire.specs.Facing.{line_of, parts_of, own_link, read_as}
-use Rattle.laws_wire.specs.Wire.{Endpoint, Wire, Step, StepAt, requests, sends, receives, at_near, at_far, turned, doing, happens, answered, frames_by, with_first_of, frame_comes}
-use Rattle.laws_wire.proofs.Answered.{asks-way, takes-way}
+use Rattle.laws_wire.specs.Wire.{happens, answered, with_first_of}
 use Rattle.laws_wire.proofs.Asking.{with_more, take-front}
-use Rattle.laws_wire.proofs.Standing.{IsCarried, StationStands, gives-stands}
-use Rattle.laws_wire.proofs.Talking.{Face, Past, More, holds-asked, takes}
-use Rattle.laws_wire.proofs.Up.{Talk}
 use Rattle.laws_time.proofs.OfCircuit.AckedLinks.{infos, infos-append, lane-counts, Says, Covers, lane-covers, same-number, window, heeds, sent-stays}
 
 -- ---- how many frames are received with a step
@@ -45,9 +26,6 @@ far_takes (at_near act) w = 0
 far_takes (at_far act) w = takes_of act (turned w)
 
 module _ (service : Service) (tei : ℕ) where
-  abbrev pub own : Endpoint → Link
-  own s = own_link service tei s
-
   -- What is in transit, as it is read.
   abbrev pub parts_in : Config → List (List ℕ) → List Parts
   parts_in c fs = flat_map (read_as c) fs
@@ -64,7 +42,7 @@ module _ (service : Service) (tei : ℕ) where
   pub own-stands : (k : Config) (place : ℕ) (s : Endpoint) (n : LinkEndpoint) → StationStands k service tei place s n → own_link service tei s ≡ n.link
   own-stands k place s n h = ap (λ o. option_map_or (link_in (line_of s) service) o fresh) h.speaks.placed ∙ h.speaks.link
 
-  first-way : (way : List (List ℕ)) (s : Endpoint) → (with_first_of way s).way ≡ s.way
+  pub first-way : (way : List (List ℕ)) (s : Endpoint) → (with_first_of way s).way ≡ s.way
   first-way [] s = refl
   first-way (o ∷ os) s = takes-way o s
 

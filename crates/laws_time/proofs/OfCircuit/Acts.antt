@@ -1,53 +1,16 @@
 -- What happens at an end of the clocked circuit, one thing at a time: layer 3 asks, and a timer falls due.
-use Rattle.std.proofs.Common.{arith, ◌≡◌, ℕ, zero, suc, ◌+◌, ◌*◌, ◌<◌, ◌≤◌, ◌==◌, ◌&&◌, Bool, true, false, List, [], ◌∷◌, ◌++◌, length, Option, Some, None, refl, sym, ap, ◌∙◌, subst, All, eqb-true, append-nil}
-use Rattle.std.specs.Prelude.{fold}
-use Rattle.std.specs.Option.{option_map_or}
-use Rattle.std.proofs.lemmas.Bool.{true≢false, and_parts}
-use Rattle.std.proofs.lemmas.List.Elements.{All-nil, All-head, All-tail}
-use Rattle.lapd_clock.specs.Timer.{Lengths, is_same}
-use Rattle.lapd_clock.specs.Timers.{Expiry, is_of}
-use Rattle.lapd_frame.specs.declared.services.Service.{Service}
-use Rattle.lapd_frame.specs.declared.services.Service.TheVariants.{Call, Packet}
-use Rattle.lapd_frame.specs.declared.timers.Timer.{Timer}
+use Rattle.laws_time.proofs.Vocabulary.{All, All-nil, AreOctets, Call, ClearBusy, Config, Data, Establish, Expiry, IsInRange, IsOfLink, IsSound, Lengths, Link, LinkEvent, LinkTimer, List, Observed, OctetEndpoint, Packet, Release, Request, Service, SetBusy, Some, Speaks, T200, T203, TimedEndpoint, Timer, aim_of_expiry, aim_of_request, and-false, and_parts, answer as ports_answer, answered, ap}
+use Rattle.laws_time.proofs.Vocabulary.{append-nil, arith, asked-way, asks, at, at_requested, at_timer, contents_given, due, eqb-true, fall_due, falls, false, fold, fresh_link as fresh, happens, has_lines, is_anew, is_of, is_own, is_same, is_time, is_timer_of, is_waiting, length, line_at, line_sound, link_in, link_of, link_runs, meant_all, octet_at, octet_orders, option_map_or, orders_in}
+use Rattle.laws_time.proofs.Vocabulary.{place_in, port-after, port_of, ports_fresh, refl, runs, same_service, subst, sym, true, true≢false, view_behind, view_of, within-ports, without_first, ℕ, ◌&&◌, ◌*◌, ◌++◌, ◌+◌, ◌<◌, ◌==◌, ◌∙◌, ◌≡◌, ◌≤◌}
 use Rattle.lapd_frame.specs.declared.timers.Timer.TheVariants as timers
-use Rattle.lapd_frame.specs.Services.{same_service}
-use Rattle.model_bits.specs.StuffingLaws.{AreOctets}
 use Rattle.model_link.specs.Events as link
-use Rattle.model_link.specs.Events.{Event as LinkEvent}
-use Rattle.model_link.specs.Link.{Link, fresh}
-use Rattle.model_link.specs.Told.{runs as link_runs}
-use Rattle.model_link.specs.declared.timers.LinkTimer.{LinkTimer}
-use Rattle.model_link.specs.declared.timers.LinkTimer.TheVariants.{T200, T203}
 use Rattle.model_line.specs.Event as line
-use Rattle.model_line.specs.Expiry.{aim_of_expiry, at_timer}
-use Rattle.model_line.specs.Laws.{orders_in}
-use Rattle.model_line.specs.Line.{Line, link_of, link_in, place_in}
-use Rattle.model_line.specs.Request.{Request, Establish, Release, SetBusy, ClearBusy, Data}
-use Rattle.model_line.specs.Requested.{aim_of_request, at_requested}
-use Rattle.model_line.specs.Sound.{IsInRange, IsSound}
-use Rattle.model_line.specs.declared.config.Config.{Config}
-use Rattle.model_card.specs.Card.{Card, line_at}
+use Rattle.model_line.specs.Line.{Line}
 use Rattle.model_card.specs.Card as cards
-use Rattle.model_card.specs.Event.{at}
 use Rattle.model_card.specs.Machine as machine
 use Rattle.model_card.specs.Run as frame_runs
-use Rattle.model_card.specs.ports.Card.{fresh as ports_fresh}
-use Rattle.model_card.specs.ports.Event.{at as octet_at}
-unfoldable use Rattle.model_card.specs.ports.Run.{meant_all}
 use Rattle.model_card.specs.ports.Port as port
-use Rattle.model_card.proofs.Steps.{line_sound, has_lines}
-use Rattle.model_timed.specs.Clock.{due, without_first}
-use Rattle.model_timed.specs.Octets.{orders_in as octet_orders}
-use Rattle.laws_trace.specs.FramesAreRead.{contents_given}
-use Rattle.laws_trace.specs.Observer.{Observed, view_of, view_behind}
-use Rattle.laws_trace.specs.TimersAreTimely.{is_anew, is_timer_of, runs}
-use Rattle.laws_trace.specs.Trace.{is_own}
-use Rattle.laws_link.specs.Waiting.{is_time}
-use Rattle.laws_wire.proofs.LineSpeaks.{Speaks}
-use Rattle.laws_order.specs.circuit.Circuit.{Endpoint as OctetEndpoint, port_of, answered}
 use Rattle.laws_order.specs.circuit.Circuit as circuit
-use Rattle.laws_order.proofs.OfCircuit.Projected.{port-after, asked-way}
-use Rattle.laws_order.proofs.OfCircuit.Ran.{within-ports}
 use Rattle.laws_time.proofs.Before.{expired-anew}
 use Rattle.laws_time.proofs.Falls.{dropped}
 use Rattle.laws_time.proofs.Moments.{now-stays}
@@ -60,10 +23,7 @@ use Rattle.laws_time.proofs.OfCircuit.Open.{IsOrdinary}
 use Rattle.laws_time.proofs.OfCircuit.Orders.{AreOurs, RunsOurs, asked-ours, expiry-ours}
 use Rattle.laws_time.proofs.OfCircuit.Standing.{Ends, Moved, ends-asked, ends-expired}
 use Rattle.laws_time.proofs.OfCircuit.Under.{EndBut, EndOk, Then, all-past, here-is, o-is, moved-on}
-use Rattle.laws_time.specs.circuit.Clocked.{TimedEndpoint, happens, asks, falls}
-unfoldable use Rattle.laws_time.specs.circuit.Clocked.{fall_due}
-use Rattle.laws_time.specs.circuit.LongEnough.{IsOfLink, is_waiting}
-unfoldable use Rattle.model_card.specs.ports.Card.{answer as ports_answer}
+use Rattle.laws_time.proofs.OfCircuit.Keeping.{fold-keeps, falls-keep}
 
 same-services : (a b : Service) → same_service a b ≡ true → b ≡ a
 same-services Call Call is = refl
@@ -73,10 +33,6 @@ same-services Packet Call is = absurd (true≢false (sym is))
 
 pub own-same : (service : Service) (tei : ℕ) (of : Service) (by : ℕ) → is_own service tei of by ≡ true → (of ≡ service) × (by ≡ tei)
 own-same service tei of by own = let both = and_parts (same_service of service) (by == tei) own in (sym (same-services of service both.0), eqb-true by tei both.1)
-
-and-none : (b : Bool) → (b && false) ≡ false
-and-none true = refl
-and-none false = refl
 
 -- An expiry puts no octet on the way.
 expired-way : (timer : Timer) (s : OctetEndpoint) → (circuit.happens (port.expiry timer) s).way ≡ s.way
@@ -178,11 +134,8 @@ module _ (c : Config) (service : Service) (tei place : ℕ) (ranged : IsInRange 
     asks-goes other is = absurd is
 
   pub all-asked : (S M : ℕ) (rs : List Request) (a : TimedEndpoint) → End S M a → IsSoon a → All (IsOfLink service tei) rs → Goes S M a (fold asks a rs)
-  all-asked S M [] a h soon all = goes-none S M a h
-  all-asked S M (r ∷ rs) a h soon all =
-      let u = happens (port.request r) a in
-      let one = asks-goes a S M h soon r (All-head (IsOfLink service tei) r rs all) in
-      goes-both S M a u (fold asks u rs) one (all-asked one.S' M rs u one.ok (soon-then S M a u one soon) (All-tail (IsOfLink service tei) r rs all))
+  all-asked S M rs a h soon all =
+      fold-keeps asks (IsOfLink service tei) (Goes S M a) (λ r u is g. goes-both S M a u (asks u r) g (asks-goes u g.S' M g.ok (soon-then S M a u g soon) r is)) rs all a (goes-none S M a h)
 
   -- A timer falls due: it runs no more, and expires.
   abbrev gone : TimedEndpoint → TimedEndpoint
@@ -199,9 +152,6 @@ module _ (c : Config) (service : Service) (tei place : ℕ) (ranged : IsInRange 
       polls = h.but.polls;
       finals = h.but.finals;
     }
-
-    here : x.line ≡ a.at.line
-    here = first-of (λ x. x.line ≡ a.at.line) a.clock.running a.clock.now x h.but.clock.here is
 
     abbrev before : List Rattle.model_card.specs.Event.Event
     before = meant_all (ports_fresh c) h.but.ends.ran.events
@@ -247,7 +197,7 @@ module _ (c : Config) (service : Service) (tei place : ℕ) (ranged : IsInRange 
         let its = link.expired T203 in
         let mv = ends-expired c service tei place ranged a.at h.but.ends (timers.T203 service tei) T203 (λ l. refl) in
         let other : is_of a.at.line (timers.T200 service tei) x ≡ false =
-        ap (λ t. (x.line == a.at.line) && is_same t (timers.T200 service tei)) same ∙ and-none (x.line == a.at.line) in
+        ap (λ t. (x.line == a.at.line) && is_same t (timers.T200 service tei)) same ∙ and-false (x.line == a.at.line) in
         moved-on c service tei place ranged lengths rate (gone a) (port.expiry (timers.T203 service tei)) S M M but (line.expiry (timers.T203 service tei)) refl (λ e. e ≡ its) mv
         (λ e is. subst IsOrdinary (sym (mv.by e is)) tt)
         (λ e is asks_it. absurd (true≢false (sym asks_it ∙ ap is_asked (mv.by e is))))
@@ -279,14 +229,6 @@ module _ (c : Config) (service : Service) (tei place : ℕ) (ranged : IsInRange 
     pub fell-goes : Goes S M a (falls a x)
     fell-goes = by-timer x.timer refl (first-of (RunsOurs service tei) a.clock.running a.clock.now x h.but.ours is)
 
-  fall-then : (n S M : ℕ) (a : TimedEndpoint) → End S M a → IsSoon a → ((S' : ℕ) (u : TimedEndpoint) → End S' M u → IsSoon u → Goes S' M u (fall_due n u))
-      → (o : Option Expiry) → due a.clock ≡ o → Goes S M a (fall_due n (option_map_or (falls a) o a))
-  fall-then n S M a h soon rest None is = rest S a h soon
-  fall-then n S M a h soon rest (Some x) is =
-      let one = fell-goes a S M h soon x is in
-      goes-both S M a (falls a x) (fall_due n (falls a x)) one (rest one.S' (falls a x) one.ok (soon-then S M a (falls a x) one soon))
-
   pub all-fall : (n S M : ℕ) (a : TimedEndpoint) → End S M a → IsSoon a → Goes S M a (fall_due n a)
-  unfolding fall_due
-  all-fall zero S M a h soon = goes-none S M a h
-  all-fall (suc n) S M a h soon = fall-then n S M a h soon (λ S' u k later. all-fall n S' M u k later) (due a.clock) refl
+  all-fall n S M a h soon =
+      falls-keep (Goes S M a) (λ x u is g. goes-both S M a u (falls u x) g (fell-goes u g.S' M g.ok (soon-then S M a u g soon) x is)) n a (goes-none S M a h)

@@ -1,21 +1,8 @@
 -- After noise an end hears again what the other gave: with each octet just that.
-use Rattle.std.proofs.Common.{arith, ◌≡◌, ℕ, zero, suc, ◌+◌, ◌*◌, ◌≤◌, ◌<◌, Bool, List, [], ◌∷◌, ◌++◌, length, replicate, Option, Some, None, refl, sym, ap, ◌∙◌, subst, All, ◌⊎◌, inl, inr, append_assoc, length-append}
-use Rattle.std.specs.Prelude.{flat_map, option_to_list, slice_get}
-use Rattle.std.proofs.lemmas.Bool.{cases_lt}
-use Rattle.std.proofs.lemmas.List.{append_cancel_left, append_cancel_right, length-replicate}
-use Rattle.std.proofs.lemmas.List.Elements.{All-nil, All-cons, All-head, All-tail}
-use mathlib.Core.List.{reverse_aux}
-use Rattle.model_bits.specs.Bits.{bits, flag}
-use Rattle.model_bits.specs.Framer.{item_octets}
-use Rattle.model_bits.specs.Sent.{Item, idle, frame, frame_text, item_text}
+use Rattle.laws_time.proofs.Vocabulary.{All, All-cons, All-head, All-nil, All-tail, Bool, Item, List, None, Option, Port, Some, [], after_flag, ap, append_assoc, append_cancel_left, append_cancel_right, arith, bits, bits-append, cases_lt, flag, flat_map, flat_map-append, frame, frame_text, gained, heard_in, heard_until, heard_until-onto, heard_with, idle, inl, inr, item_octets, item_text}
+use Rattle.laws_time.proofs.Vocabulary.{left_of, length, length-append, length-bits, longest, longest_text, option_to_list, refl, replicate, reverse_aux, reverse_aux-append, reverse_aux-onto, room_for, slice_get, subst, suc, sym, zero, ℕ, ◌*◌, ◌++◌, ◌+◌, ◌<◌, ◌∙◌, ◌∷◌, ◌≡◌, ◌≤◌, ◌⊎◌}
 use Rattle.model_bits.specs.Stream as stream
-use Rattle.model_bits.specs.Stream.{heard_in, heard_until, room_for}
-use Rattle.model_bits.proofs.BitLemmas.{bits-append, length-bits}
-use Rattle.model_bits.proofs.RoundTripPlaces.{hears, heard_until-onto, reverse_aux-append, reverse_aux-onto, after_flag}
-use Rattle.model_card.proofs.OfPorts.Gains.{heard_with}
-use Rattle.model_card.specs.ports.Port.{Port, gained, left_of}
-use Rattle.model_card.specs.ports.Pulls.{longest_text}
-use Rattle.laws_order.specs.circuit.Beats.{longest}
+use Rattle.model_bits.proofs.RoundTripPlaces.{hears}
 use Rattle.laws_time.proofs.OfCircuit.AnsweredBits.{longer-begins}
 use Rattle.laws_time.proofs.OfCircuit.AnsweredClear.{hears-same, bits-flags, flags-before, begins-so, gained-there}
 use Rattle.laws_time.proofs.OfCircuit.AnsweredPlace.{Comes, all_sent}
@@ -132,10 +119,6 @@ all-flags most (suc n) long = All-cons (λ item. length (item_text item) ≤ mos
 both-parts : (most : ℕ) (xs ys : List Item) → All (λ item. length (item_text item) ≤ most) xs → All (λ item. length (item_text item) ≤ most) ys → All (λ item. length (item_text item) ≤ most) (xs ++ ys)
 both-parts most xs ys = Rattle.std.proofs.lemmas.List.Elements.All-append (λ item. length (item_text item) ≤ most) xs ys
 
-texts : (xs ys : List Item) → flat_map item_text (xs ++ ys) ≡ flat_map item_text xs ++ flat_map item_text ys
-texts [] ys = refl
-texts (x ∷ xs) ys = ap (λ b. item_text x ++ b) (texts xs ys) ∙ sym (append_assoc (item_text x) (flat_map item_text xs) (flat_map item_text ys))
-
 pub all-texts : (m : ℕ) (items : List Item) → All (λ item. item_octets item ≤ m + 4) items → All (λ item. length (item_text item) ≤ longest_text m) items
 all-texts m [] small = All-nil (λ item. length (item_text item) ≤ longest_text m)
 all-texts m (i ∷ items) small =
@@ -158,7 +141,7 @@ module _ (n201 m way k : ℕ) (p : Port) (value : ℕ) (more : List ℕ) (q : Po
   text-is : bits (all_sent way p) ++ left_of p ≡ [] ++ (flag ++ flat_map item_text all_items)
   text-is =
       ap (λ b. b ++ left_of p) (bits-append (replicate way 0x7E) p.given ∙ ap (λ b. b ++ bits p.given) (bits-flags way)) ∙ append_assoc F (bits p.given) (left_of p)
-      ∙ ap (λ b. F ++ b) (sym h.sound.text.text) ∙ flags-pass way (flat_map item_text p.items) ∙ ap (λ b. flag ++ b) (sym (texts (replicate way idle) p.items))
+      ∙ ap (λ b. F ++ b) (sym h.sound.text.text) ∙ flags-pass way (flat_map item_text p.items) ∙ ap (λ b. flag ++ b) (sym (flat_map-append item_text (replicate way idle) p.items))
 
   came-is : bits (all_sent way p) ++ left_of p ≡ bits c.before ++ (bits c.as_sent ++ tail)
   came-is =

@@ -1,18 +1,6 @@
 -- In beats without noise, so long after noise ended, each end hears what the other gave: no frame is lost, and none is made.
-use Rattle.std.proofs.Common.{arith, ◌≡◌, ℕ, ◌+◌, ◌≤◌, List, [], ◌∷◌, ◌++◌, length, Option, Some, None, sym, ap, ◌∙◌, subst, All, inr, length-append}
-use Rattle.std.specs.Option.{unwrap_or}
-use Rattle.std.proofs.lemmas.List.Elements.{All-head, All-tail}
-use Rattle.std.proofs.lemmas.List.Sums.{fold-append}
-use Rattle.model_card.specs.ports.Port.{Port, gained}
-use Rattle.laws_line.proofs.OfCard.Meanwhile.{all-left, all-right}
-use Rattle.laws_order.specs.circuit.Beats.{longest}
-use Rattle.laws_order.specs.circuit.Circuit.{Endpoint as OctetEndpoint, port_of}
-use Rattle.laws_time.specs.circuit.AfterNoise.{NoiseMakesNoFrameAfter}
-use Rattle.laws_time.specs.circuit.Answered.{IsClean}
-use Rattle.laws_time.specs.circuit.Clocked.{TimedEndpoint, Clocked, Beat, gone, beat, after}
-use Rattle.laws_time.specs.circuit.InBeats.{Begins}
-use Rattle.laws_time.specs.circuit.LongEnough.{Line, IsTalk, IsClearAt, begins}
-unfoldable use Rattle.laws_time.specs.circuit.LongEnough.{AreClear}
+use Rattle.laws_time.proofs.Vocabulary.{All, All-head, All-tail, AreClear, Beat, Begins, Clocked, IsClean, IsClearAt, IsTalk, Line, List, NoiseMakesNoFrameAfter, None, OctetEndpoint, Option, Port, Some, TimedEndpoint, [], after, all-left, all-right, ap, arith, beat, begins, fold-append, gained, gone, inr, length, length-append, longest, port_of, subst, sym, unwrap_or, ℕ, ◌++◌, ◌+◌, ◌∙◌, ◌∷◌}
+use Rattle.laws_time.proofs.Vocabulary.{◌≡◌, ◌≤◌}
 use Rattle.laws_time.proofs.OfCircuit.AgainExact.{heard-was, heard-so-too}
 use Rattle.laws_time.proofs.OfCircuit.AgainLaw.{Since, since-first, since-one, since-all, gone-there, gone-back, many-of}
 use Rattle.laws_time.proofs.OfCircuit.AgainRan.{beaten, both-all, both-begin, beats-all}

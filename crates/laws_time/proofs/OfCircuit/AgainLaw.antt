@@ -1,21 +1,6 @@
 -- Whatever noise there was: each frame that is put on a line without noise is received so many beats later.
-use Rattle.std.proofs.Common.{arith, ◌≡◌, ℕ, ◌+◌, ◌≤◌, List, [], ◌∷◌, ◌++◌, length, drop, Option, refl, sym, ap, ◌∙◌, subst, All, append-nil, length-append}
-use Rattle.std.specs.Option.{unwrap_or}
-use Rattle.std.proofs.lemmas.List.{length-replicate}
-use Rattle.std.proofs.lemmas.List.Elements.{All-head, All-tail}
-use Rattle.std.proofs.lemmas.List.Sums.{fold-append}
-use Rattle.model_line.specs.Sound.{IsInRange}
-use Rattle.model_line.specs.declared.config.Config.{Config}
-use Rattle.model_card.specs.ports.Codec.{frames_among}
-use Rattle.model_card.specs.ports.Port.{Port}
-use Rattle.laws_line.proofs.OfCard.Meanwhile.{all-left, all-right}
-use Rattle.laws_order.specs.circuit.Beats.{longest}
-use Rattle.laws_order.specs.circuit.Circuit.{Endpoint as OctetEndpoint, port_of}
-use Rattle.laws_time.specs.circuit.AfterNoise.{HasReceivedSince, FramesComeAfterNoise}
-use Rattle.laws_time.specs.circuit.Answered.{IsClean, begun}
-use Rattle.laws_time.specs.circuit.Clocked.{TimedEndpoint, Clocked, Beat, gone, beat, after}
-use Rattle.laws_time.specs.circuit.InBeats.{Begins, AreShort}
-use Rattle.laws_time.specs.circuit.LongEnough.{Line, IsTalk, begins}
+use Rattle.laws_time.proofs.Vocabulary.{All, All-head, All-tail, AreShort, Beat, Begins, Clocked, Config, FramesComeAfterNoise, HasReceivedSince, IsClean, IsInRange, IsTalk, Line, List, OctetEndpoint, Option, Port, TimedEndpoint, [], after, all-left, all-right, ap, append-nil, arith, beat, begins, begun, drop, fold-append, frames_among, gone, length, length-append, length-replicate, longest}
+use Rattle.laws_time.proofs.Vocabulary.{port_of, refl, subst, sym, unwrap_or, ℕ, ◌++◌, ◌+◌, ◌∙◌, ◌∷◌, ◌≡◌, ◌≤◌}
 use Rattle.laws_time.proofs.OfCircuit.AgainRan.{EndAt, fine-at, Both, Beaten, beaten, both-all, both-begin, Grown, grown-both, grown-all, beats-all}
 use Rattle.laws_time.proofs.OfCircuit.AgainText.{all-whole, heard-since}
 use Rattle.laws_time.proofs.OfCircuit.AnsweredBeats.{comes-pulled, comes-heard}

@@ -1,43 +1,17 @@
 -- Beats with any noise: each end goes on as a card on its line, and what is in transit from it is the end of what it gave.
-use Rattle.std.proofs.Common.{arith, ◌≡◌, ℕ, zero, suc, ◌+◌, ◌/◌, ◌<◌, List, [], ◌∷◌, ◌++◌, length, drop, replicate, Option, Some, None, refl, sym, ap, ◌∙◌, subst, All, append-nil, append_assoc, length-append}
-use Rattle.std.specs.Option.{option_map_or, unwrap_or}
-use Rattle.std.specs.Prelude.{fold}
-use Rattle.std.proofs.lemmas.List.Elements.{All-nil, All-head, All-tail}
-use Rattle.lapd_clock.specs.Timer.{Lengths}
-use Rattle.lapd_clock.specs.Timers.{Expiry}
-use Rattle.lapd_frame.specs.declared.services.Service.{Service}
-use Rattle.model_bits.specs.Sent.{Item}
-use Rattle.model_bits.specs.StuffingLaws.{AreOctets}
+use Rattle.laws_time.proofs.Vocabulary.{All, All-head, All-nil, All-tail, AreOctets, AsksOctets, Assign, Beat, Begins, Carries, Clocked, Config, IsInRange, IsOfLink, IsTalk, Item, Lengths, Line, List, None, OctetEndpoint, Option, Port, Ran, Request, Service, Some, TimedEndpoint, [], after, answer, ap, append-nil, append_assoc, arith, asked-way, beat, begins, comes_to, drop, endpoint, flags}
+use Rattle.laws_time.proofs.Vocabulary.{frames_among, given_in, goes-on, gone, happens, is_due, item_of, length, length-append, meant, octet_at, octet_endpoint, on-line, port-after, port_of, refl, replicate, said, sound-port, subst, suc, sym, unwrap_or, with_item, with_octet, within-ports, ℕ, ◌++◌, ◌+◌, ◌/◌, ◌<◌, ◌∙◌, ◌∷◌, ◌≡◌}
 use Rattle.model_line.specs.Event as line
-use Rattle.model_line.specs.Event.{given_in}
-use Rattle.model_line.specs.Request.{Request, Assign}
-use Rattle.model_line.specs.Sound.{IsInRange}
-use Rattle.model_line.specs.declared.config.Config.{Config}
-unfoldable use Rattle.model_card.specs.ports.Card.{answer, meant}
-use Rattle.model_card.specs.ports.Card.{said}
-use Rattle.model_card.specs.ports.Codec.{frames_among}
-use Rattle.model_card.specs.ports.Event.{at as octet_at}
 use Rattle.model_card.specs.ports.Port as port
-use Rattle.model_card.specs.ports.Port.{Port, is_due, item_of, with_item, with_octet}
-use Rattle.model_timed.specs.Clock.{due}
 use Rattle.laws_order.specs.circuit.Circuit as circuit
-use Rattle.laws_order.specs.circuit.Circuit.{Endpoint as OctetEndpoint, port_of}
-use Rattle.laws_order.specs.circuit.Through.{octet_endpoint}
-use Rattle.laws_order.proofs.OfCircuit.OneWay.{Carries}
-use Rattle.laws_order.proofs.OfCircuit.Projected.{port-after, asked-way}
-use Rattle.laws_order.proofs.OfCircuit.Ran.{Ran, AsksOctets, goes-on, within-ports, sound-port, on-line}
-use Rattle.laws_time.specs.circuit.Clocked.{TimedEndpoint, Clocked, Beat, asks, falls, comes_to, gone, beat, after, flags, happens, endpoint}
-unfoldable use Rattle.laws_time.specs.circuit.Clocked.{fall_due}
-use Rattle.laws_time.specs.circuit.InBeats.{Begins}
-use Rattle.laws_time.specs.circuit.LongEnough.{Line, IsOfLink, IsTalk, begins}
 use Rattle.laws_time.proofs.OfCircuit.AnsweredBeats.{Sent, Came, Behind, pull-sends, first-of, comes-then, behind-then}
 use Rattle.laws_time.proofs.OfCircuit.AnsweredPlace.{all_sent}
 use Rattle.laws_time.proofs.OfCircuit.ArrivWay.{pulled-goes}
 use Rattle.laws_time.proofs.OfCircuit.Began.{ran-start, port-is, counts-begin}
-use Rattle.laws_time.proofs.OfCircuit.Ends.{at_time}
 use Rattle.laws_time.proofs.OfCircuit.InBeatsAs.{ran-way}
 use Rattle.laws_time.proofs.OfCircuit.InBeatsKept.{IsSilent, silent-way, silent-port, of-octets}
 use Rattle.laws_time.proofs.OfCircuit.Sender.{Fine}
+use Rattle.laws_time.proofs.OfCircuit.Keeping.{comes-keep}
 
 -- ---- requests and expiries leave the port
 
@@ -57,24 +31,10 @@ module _ (service : Service) (tei : ℕ) (c : Config) (ranged : IsInRange c) whe
     way = silent-way e is t ∙ h.way;
   }
 
-  silent-asks : (s : OctetEndpoint) (rs : List Request) → All (IsOfLink service tei) rs → (a : TimedEndpoint) → Silent s a.at → Silent s (fold asks a rs).at
-  silent-asks s [] all a h = h
-  silent-asks s (r ∷ rs) all a h =
-      silent-asks s rs (All-tail (IsOfLink service tei) r rs all) (asks a r)
-      (silent-one (port.request r) tt (of-octets service tei r (All-head (IsOfLink service tei) r rs all)) s a.at h)
-
-  silent-fell : (s : OctetEndpoint) (a : TimedEndpoint) (o : Option Expiry) → Silent s a.at → Silent s (option_map_or (falls a) o a).at
-  silent-fell s a None h = h
-  silent-fell s a (Some x) h = silent-one (port.expiry x.timer) tt tt s a.at h
-
-  silent-falls : (s : OctetEndpoint) (n : ℕ) (a : TimedEndpoint) → Silent s a.at → Silent s (fall_due n a).at
-  unfolding fall_due
-  silent-falls s zero a h = h
-  silent-falls s (suc n) a h = silent-falls s n (option_map_or (falls a) (due a.clock) a) (silent-fell s a (due a.clock) h)
-
   pub silent-comes : (moment : ℕ) (rs : List Request) → All (IsOfLink service tei) rs → (a : TimedEndpoint) → Ran c a.at → Silent a.at (comes_to moment rs a).at
   silent-comes moment rs all a ran =
-      let b = fold asks (at_time moment a) rs in silent-falls a.at (length b.clock.running) b (silent-asks a.at rs all (at_time moment a) (silent-none a.at ran))
+      comes-keep (λ u. Silent a.at u.at) (IsOfLink service tei) (λ r u is. silent-one (port.request r) tt (of-octets service tei r is) a.at u.at) (λ x u is. silent-one (port.expiry x.timer) tt tt a.at u.at)
+      moment rs all a (silent-none a.at ran)
 
 -- ---- what so many beats make of a port
 
@@ -192,12 +152,6 @@ module _ (c : Config) (ranged : IsInRange c) (service : Service) (tei way n : �
 -- ---- both ends
 
 module _ (l : Line) (fit : Begins l) where
-  abbrev near_ok : IsInRange l.near
-  near_ok = fit.call.near.0
-
-  abbrev far_ok : IsInRange l.far
-  far_ok = fit.call.far.0
-
   pub record Both (w : Clocked) : Type 0 where
     pub near : EndAt l.near l.way w.beats w.near.at
     pub far : EndAt l.far l.way w.beats w.far.at

@@ -1,27 +1,10 @@
 -- After a flag that came as it was sent each frame is heard, whatever came before: of items that were put on a line since, all.
-use Rattle.std.proofs.Common.{arith, ◌≡◌, ℕ, ◌+◌, ◌*◌, ◌≤◌, Bool, List, [], ◌∷◌, ◌++◌, length, drop, map, replicate, refl, sym, ap, ◌∙◌, subst, All, append-nil, append_assoc, length-append}
-use Rattle.std.specs.Prelude.{flat_map}
-use Rattle.std.proofs.lemmas.List.{length-replicate}
-use Rattle.std.proofs.lemmas.List.Elements.{All-head, All-tail}
-use mathlib.Core.List.{reverse_aux}
-use Rattle.model_bits.specs.Bits.{bits, flag}
-use Rattle.model_bits.specs.RoundTrip.{AreHeardWhole, frames_of}
-use Rattle.model_bits.specs.Sent.{Item, idle, frame, item_text, line_text}
+use Rattle.laws_time.proofs.Vocabulary.{All, All-head, All-tail, AreHeardWhole, AreOctets, Bool, Item, List, Port, [], after_flag, ap, append-nil, append_assoc, arith, bits, bits-append, drop, exact, flag, flat_map, flat_map-append, frame, framed, frames_among, frames_among-append, frames_of, heard_in, heard_until, heard_until-onto, heard_whole, hears-append, hears_items, idle, item_text}
+use Rattle.laws_time.proofs.Vocabulary.{left_of, length, length-append, length-bits, line_text, longest, longest_text, map, refl, replicate, reverse_aux, reverse_aux-append, room_for, sent, subst, sym, ℕ, ◌*◌, ◌++◌, ◌+◌, ◌∙◌, ◌∷◌, ◌≡◌, ◌≤◌}
 use Rattle.model_bits.specs.Stream as stream
-use Rattle.model_bits.specs.Stream.{heard_in, heard_until, room_for}
-use Rattle.model_bits.specs.StuffingLaws.{AreOctets}
-use Rattle.model_bits.proofs.BitLemmas.{bits-append, length-bits}
-use Rattle.model_bits.proofs.RoundTripFrame.{hears_items}
-use Rattle.model_bits.proofs.RoundTripPlaces.{hears, heard_until-onto, reverse_aux-append, hears-append, after_flag}
-use Rattle.model_card.proofs.OfPorts.AsOctets.{exact, sent, heard_whole}
-use Rattle.model_card.proofs.OfPorts.PortGoesOn.{frames_among-append}
-use Rattle.model_card.specs.ports.Codec.{frames_among}
-use Rattle.model_card.specs.ports.Port.{Port, left_of}
-use Rattle.model_card.specs.ports.Pulls.{longest_text}
-use Rattle.laws_order.specs.circuit.Beats.{longest}
-use Rattle.laws_order.proofs.OfCircuit.OneWay.{framed}
+use Rattle.model_bits.proofs.RoundTripPlaces.{hears}
 use Rattle.laws_time.proofs.OfCircuit.AnsweredBits.{longer-begins}
-use Rattle.laws_time.proofs.OfCircuit.AnsweredPlace.{Comes, all_sent, ends-flag}
+use Rattle.laws_time.proofs.OfCircuit.AnsweredPlace.{Comes, all_sent, ends-flag, flags-long}
 use Rattle.laws_time.proofs.OfCircuit.Sender.{Fine}
 
 -- ---- items as they go out
@@ -50,10 +33,6 @@ as-framed : (items : List Item) → frames_of items ≡ framed (frames_among ite
 as-framed [] = refl
 as-framed (idle ∷ items) = as-framed items
 as-framed (frame o ∷ items) = ap (λ es. stream.frame o ∷ es) (as-framed items)
-
-texts : (xs ys : List Item) → flat_map item_text (xs ++ ys) ≡ flat_map item_text xs ++ flat_map item_text ys
-texts [] ys = refl
-texts (x ∷ xs) ys = ap (λ b. item_text x ++ b) (texts xs ys) ∙ sym (append_assoc (item_text x) (flat_map item_text xs) (flat_map item_text ys))
 
 drop-front : (xs ys : List (List ℕ)) → drop (length xs) (xs ++ ys) ≡ ys
 drop-front [] ys = refl
@@ -85,10 +64,10 @@ module _ (n201 way k m : ℕ) (v w u : Port) (transit received : List ℕ) (q : 
   z = ends-flag v.items []
 
   text-w : line_text w.items ≡ z.0 ++ (flag ++ N)
-  text-w = ap line_text items ∙ ap (λ b. flag ++ b) (texts v.items new) ∙ ap (λ b. b ++ N) z.1 ∙ append_assoc z.0 flag N
+  text-w = ap line_text items ∙ ap (λ b. flag ++ b) (flat_map-append item_text v.items new) ∙ ap (λ b. b ++ N) z.1 ∙ append_assoc z.0 flag N
 
   text-u : line_text u.items ≡ (z.0 ++ (flag ++ N)) ++ M
-  text-u = ap line_text items_u ∙ ap (λ b. flag ++ b) (texts w.items later) ∙ ap (λ b. b ++ M) text-w
+  text-u = ap line_text items_u ∙ ap (λ b. flag ++ b) (flat_map-append item_text w.items later) ∙ ap (λ b. b ++ M) text-w
 
   sent-is : bits (all_sent way u) ++ left_of u ≡ (first ++ z.0) ++ ((flag ++ N) ++ M)
   sent-is =
@@ -102,9 +81,6 @@ module _ (n201 way k m : ℕ) (v w u : Port) (transit received : List ℕ) (q : 
       ∙ append_assoc (bits c.before) (bits c.as_sent ++ bits transit) (left_of u)
       ∙ ap (λ b. bits c.before ++ b) (append_assoc (bits c.as_sent) (bits transit) (left_of u))
 
-  first-long : length first ≡ 8 * way
-  first-long = let all = length-bits (replicate way 0x7E) in let n = length-replicate {A = ℕ} way 0x7E in omega (arith, all, n)
-
   -- the flag comes so late
   v-long : 8 * (k + 1) ≤ length z.0 + 8
   v-long = let a = ap length z.1 ∙ length-append z.0 flag in let b = ap length text_v ∙ length-append (bits v.given) (left_of v) in let n = length-bits v.given in omega (arith, a, b, n, given)
@@ -115,16 +91,13 @@ module _ (n201 way k m : ℕ) (v w u : Port) (transit received : List ℕ) (q : 
       let a = ap length text-w ∙ length-append z.0 (flag ++ N) in let f = length-append flag N in
       let b = ap length text_w ∙ length-append (bits w.given) (left_of w) in let n = length-bits w.given in omega (arith, a, f, b, n, few)
 
-  before-long : length (bits c.before) ≡ 8 * length c.before
-  before-long = length-bits c.before
-
   x : (x : List Bool) × (first ++ z.0 ≡ bits c.before ++ x) × (bits c.as_sent ++ rest ≡ x ++ ((flag ++ N) ++ M))
   x =
-      let a = length-append first z.0 in let late = v-long in let few_before = c.few in let l1 = first-long in let l2 = before-long in
+      let a = length-append first z.0 in let late = v-long in let few_before = c.few in let l1 = flags-long way in let l2 = length-bits c.before in
       longer-begins (bits c.before) (bits c.as_sent ++ rest) (first ++ z.0) ((flag ++ N) ++ M) (sym came-is ∙ sent-is) (omega (arith, a, late, few_before, l1, l2))
 
   x-long : 8 * way + length z.0 ≡ 8 * length c.before + length x.0
-  x-long = let a = ap length x.1 in let b = length-append first z.0 in let d = length-append (bits c.before) x.0 in let l1 = first-long in let l2 = before-long in omega (arith, a, b, d, l1, l2)
+  x-long = let a = ap length x.1 in let b = length-append first z.0 in let d = length-append (bits c.before) x.0 in let l1 = flags-long way in let l2 = length-bits c.before in omega (arith, a, b, d, l1, l2)
 
   part : (part : List Bool) × (bits c.as_sent ≡ (x.0 ++ (flag ++ N)) ++ part) × (M ≡ part ++ rest)
   part =

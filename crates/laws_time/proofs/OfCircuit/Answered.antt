@@ -1,15 +1,6 @@
 -- An enquiry is answered in time.
-use Rattle.std.proofs.Common.{arith, ◌≡◌, ℕ, ◌+◌, ◌/◌, ◌<◌, ◌≤◌, List, [], ◌∷◌, ◌++◌, length, replicate, Option, Some, refl, sym, ap, ◌∙◌, subst, All, ◌⊎◌, inl, inr, append-nil, length-append}
-use Rattle.std.proofs.lemmas.List.{length-replicate}
-use Rattle.std.proofs.lemmas.List.Elements.{All-head, All-tail}
-use Rattle.std.proofs.lemmas.List.Sums.{fold-append}
-use Rattle.model_line.specs.Request.{Assign}
-use Rattle.model_card.specs.ports.Port.{Port}
-use Rattle.model_card.specs.ports.Pulls.{longest_text}
-use Rattle.laws_line.proofs.OfCard.Meanwhile.{all-left, all-right}
-use Rattle.laws_order.specs.circuit.Circuit.{port_of}
-use Rattle.laws_order.specs.circuit.Through.{octet_endpoint}
-use Rattle.laws_order.proofs.OfCircuit.Projected.{asked-way}
+use Rattle.laws_time.proofs.Vocabulary.{All, All-head, All-tail, AnEnquiryIsAnswered, AreClear, Assign, Beat, Clocked, CommandsAreAnswered, Enquires, IsClean, IsFit, IsTalk, Line, List, Option, Port, Some, WaitsIn, [], after, all-left, all-right, answered_in, ap, append-nil, arith, asked-way, beat, begins, begun, flags, fold-append, inl, inr, length, length-append, length-replicate}
+use Rattle.laws_time.proofs.Vocabulary.{longest_text, nil_from_length, octet_endpoint, port_of, refl, replicate, state_at, subst, sym, ℕ, ◌++◌, ◌+◌, ◌/◌, ◌<◌, ◌∙◌, ◌∷◌, ◌≡◌, ◌≤◌, ◌⊎◌}
 use Rattle.laws_time.proofs.OfCircuit.AnsweredBeat.{from-here}
 use Rattle.laws_time.proofs.OfCircuit.AnsweredBeats.{Behind, BothBehind, near, far, behind-all}
 use Rattle.laws_time.proofs.OfCircuit.AnsweredDue.{due-soon}
@@ -19,11 +10,8 @@ use Rattle.laws_time.proofs.OfCircuit.AnsweredRows.{Exchange, enquiry, enquiry-s
 use Rattle.laws_time.proofs.OfCircuit.AnsweredRun.{Ready, Stage, asked_by, answered_by, ready-then, near-lost, far-lost, stage-then, stage-first}
 use Rattle.laws_time.proofs.OfCircuit.InTime.{pair-begins}
 use Rattle.laws_time.proofs.OfCircuit.Open.{ring}
-use Rattle.laws_time.specs.circuit.Answered.{IsClean, AnEnquiryIsAnswered, CommandsAreAnswered, begun, state_at}
-unfoldable use Rattle.laws_time.specs.circuit.Answered.{Enquires, WaitsIn}
-use Rattle.laws_time.specs.circuit.Clocked.{Clocked, Beat, beat, after, flags}
-use Rattle.laws_time.specs.circuit.LongEnough.{Line, IsFit, IsTalk, begins, answered_in, is_of}
-unfoldable use Rattle.laws_time.specs.circuit.LongEnough.{AreClear}
+use Rattle.laws_time.specs.circuit.LongEnough.{is_of}
+use Rattle.laws_time.proofs.OfCircuit.LongEnough.{clear-parts}
 
 pub beats-then : (rate : ℕ) (bs : List Beat) (w : Clocked) → (after rate bs w).beats ≡ w.beats + length bs
 beats-then rate [] w = omega arith
@@ -36,18 +24,9 @@ Waits l n (b ∷ bs) w =
     let u = beat l.rate w b in (state_at l u.near ≡ Some n) × (n ≡ 8 → (state_at l u.far ≡ Some 7) ⊎ (state_at l u.far ≡ Some 8)) × Waits l n bs u
 
 module _ (l : Line) (fit : IsFit l) where
-  pub clear-parts : (bs more : List Beat) (w : Clocked) → AreClear l (bs ++ more) w → AreClear l bs w × AreClear l more (after l.rate bs w)
-  unfolding AreClear
-  clear-parts [] more w clear = (tt, clear)
-  clear-parts (b ∷ bs) more w clear = let rest = clear-parts bs more (beat l.rate w b) clear.2 in ((clear.0, clear.1, rest.0), rest.1)
-
   -- As it begins, flags are in transit.
   all-behind : (way : ℕ) (p : Port) (transit : List ℕ) → length p.given ≡ 0 → transit ≡ flags way → Behind way p transit
-  all-behind way p transit none is = record { before = []; sent = ap (λ g. replicate way 0x7E ++ g) (nothing p.given none) ∙ append-nil (replicate way 0x7E) ∙ sym is }
-    where
-      nothing : (xs : List ℕ) → length xs ≡ 0 → xs ≡ []
-      nothing [] none = refl
-      nothing (x ∷ xs) none = absurd (cc none)
+  all-behind way p transit none is = record { before = []; sent = ap (λ g. replicate way 0x7E ++ g) (nil_from_length p.given none) ∙ append-nil (replicate way 0x7E) ∙ sym is }
 
   pub behind-begins : BothBehind l fit (begins l)
   behind-begins =
@@ -178,7 +157,7 @@ module _ (l : Line) (n : ℕ) (x : Exchange n) (bs : List Beat) (b : Beat) (more
       → lost (after l.rate more (begun l bs b)).far.at ≡ lost (begun l bs b).far.at
       → length more < answered_in l.near l.far l.way + x.late
   answered-in-time =
-      let parts = clear-parts l fit bs (b ∷ more) (begins l) clear in
+      let parts = clear-parts l bs (b ∷ more) (begins l) clear in
       let w0 = after l.rate bs (begins l) in
       let behind = behind-all l fit bs (begins l) (all-left (IsTalk l) bs (b ∷ more) talk) parts.0 (behind-begins l fit) in
       let last = all-right (IsTalk l) bs (b ∷ more) talk in

@@ -1,19 +1,6 @@
 -- What is due at an end as it waits for an answer, one thing at a time; and how its command is put.
-use Rattle.std.proofs.Common.{arith, ◌≡◌, ℕ, ◌+◌, ◌≤◌, Bool, length, Option, Some, None, refl, sym, ap, ◌∙◌, subst, ◌⊎◌, inl, inr}
-use Rattle.std.specs.Option.{option_map_or}
-use Rattle.std.proofs.lemmas.Bool.{cases_eq}
-use Rattle.lapd_clock.specs.Timer.{Lengths}
-use Rattle.lapd_frame.specs.declared.controls.Control.{Control}
-use Rattle.lapd_frame.specs.declared.services.Service.{Service}
-use Rattle.model_link.specs.Events.{Event as LinkEvent}
-use Rattle.model_link.specs.Link.{Link, state_number}
+use Rattle.laws_time.proofs.Vocabulary.{Bool, Config, Control, IsInRange, Lengths, Link, LinkEvent, None, OctetEndpoint, Option, Port, Service, Some, ap, arith, cases_eq, inl, inr, length, line_at, link_in, option_map_or, port_of, refl, state_number, subst, sym, terms, ℕ, ◌+◌, ◌∙◌, ◌≡◌, ◌≤◌, ◌⊎◌}
 use Rattle.model_link.specs.Machine as links
-use Rattle.model_line.specs.Line.{link_in, terms}
-use Rattle.model_line.specs.Sound.{IsInRange}
-use Rattle.model_line.specs.declared.config.Config.{Config}
-use Rattle.model_card.specs.Card.{line_at}
-use Rattle.model_card.specs.ports.Port.{Port}
-use Rattle.laws_order.specs.circuit.Circuit.{Endpoint as OctetEndpoint, port_of}
 use Rattle.laws_time.proofs.OfCircuit.AnsweredDue.{Due}
 use Rattle.laws_time.proofs.OfCircuit.AnsweredEnds.{DueAt, due-moved, frame-put, text-low}
 use Rattle.laws_time.proofs.OfCircuit.AnsweredRows.{Exchange, IsOwnEvent}
@@ -21,9 +8,6 @@ use Rattle.laws_time.proofs.OfCircuit.AnsweredWalk.{IsKept, IsCalm}
 use Rattle.laws_time.proofs.OfCircuit.Open.{ring, half, IsOrdinary}
 use Rattle.laws_time.proofs.OfCircuit.Standing.{Ends, Moved}
 use Rattle.laws_time.specs.circuit.LongEnough.{is_of}
-
-pub same-some : (m n : ℕ) → Some m ≡ Some n → m ≡ n
-same-some m n e = cc e
 
 module _ (c : Config) (service : Service) (tei : ℕ) (ranged : IsInRange c) (kind : Bool → Control → Bool) (low most way heard : ℕ) where
   -- What is due at an end, by the link of its card.

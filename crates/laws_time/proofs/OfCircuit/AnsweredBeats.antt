@@ -1,28 +1,15 @@
 -- What a beat makes of the octets that were given, are in transit and were received.
-use Rattle.std.proofs.Common.{◌≡◌, ℕ, ◌/◌, ◌<◌, List, [], ◌∷◌, ◌++◌, length, drop, replicate, Option, Some, None, refl, sym, ap, ◌∙◌, All, append_assoc}
-use Rattle.std.specs.Option.{unwrap_or}
-use Rattle.std.proofs.lemmas.List.Elements.{All-head, All-tail}
+use Rattle.laws_time.proofs.Vocabulary.{All, All-head, All-tail, AreClear, Beat, Clocked, IsClearAt, IsFit, IsInRange, IsTalk, Line, List, None, OctetEndpoint, Option, Port, Some, TimedEndpoint, [], after, answer as ports_answer, ap, append_assoc, asked, beat, comes_to, drop, fresh, gone, happens, heard-way, hears, length, next_octet, octet_at, port-after, port_of, refl, replicate, said, sym}
+use Rattle.laws_time.proofs.Vocabulary.{unwrap_or, with_item, with_octet, within-ports, without_first_octet, ℕ, ◌++◌, ◌/◌, ◌<◌, ◌∙◌, ◌∷◌, ◌≡◌}
 use Rattle.model_line.specs.Event as line
-use Rattle.model_line.specs.Sound.{IsInRange}
-unfoldable use Rattle.model_card.specs.ports.Card.{answer as ports_answer}
-use Rattle.model_card.specs.ports.Card.{said}
-use Rattle.model_card.specs.ports.Event.{at as octet_at}
 use Rattle.model_card.specs.ports.Port as port
-use Rattle.model_card.specs.ports.Port.{Port, with_item, with_octet, next_octet}
-use Rattle.model_timed.specs.Octets.{fresh}
-use Rattle.laws_order.specs.circuit.Circuit.{Endpoint as OctetEndpoint, port_of}
 use Rattle.laws_order.specs.circuit.Circuit as circuit
-use Rattle.laws_order.proofs.OfCircuit.Projected.{port-after, heard-way}
-use Rattle.laws_order.proofs.OfCircuit.Ran.{within-ports}
 use Rattle.laws_time.proofs.OfCircuit.Acts.{Goes}
 use Rattle.laws_time.proofs.OfCircuit.AnsweredPlace.{Comes, all_sent}
 use Rattle.laws_time.proofs.OfCircuit.Beats.{same-received}
 use Rattle.laws_time.proofs.OfCircuit.Ends.{at_time}
 use Rattle.laws_time.proofs.OfCircuit.LongEnough.{Pair, by_now, near-comes, far-comes, pair-then}
 use Rattle.laws_time.proofs.OfCircuit.Standing.{Pulled, pulls}
-use Rattle.laws_time.specs.circuit.Clocked.{TimedEndpoint, Clocked, Beat, gone, beat, after, happens, hears, comes_to, without_first_octet}
-use Rattle.laws_time.specs.circuit.LongEnough.{Line, IsFit, IsTalk, IsClearAt, asked}
-unfoldable use Rattle.laws_time.specs.circuit.LongEnough.{AreClear}
 
 -- An octet was given, and is the last in transit.
 pub record Sent (s u : OctetEndpoint) : Type 0 where

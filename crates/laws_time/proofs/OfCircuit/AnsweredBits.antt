@@ -1,22 +1,12 @@
 -- A frame that stands whole after a flag is heard with its closing flag, whatever came before.
-use Rattle.std.proofs.Common.{arith, ◌≡◌, ◌≢◌, ℕ, suc, ◌<◌, ◌≤◌, Bool, true, false, List, [], ◌∷◌, ◌++◌, length, Option, Some, None, refl, sym, ap, ◌∙◌, append-nil, append_assoc, length-append}
-use Rattle.std.specs.Prelude.{option_to_list}
-use Rattle.std.proofs.lemmas.List.{append_cancel_left}
-use mathlib.Core.List.{reverse_aux}
-use Rattle.model_bits.specs.Bits.{bits, flag}
-use Rattle.model_bits.specs.RoundTrip.{IsHeardWhole}
-use Rattle.model_bits.specs.Sent.{frame_text, frame}
+use Rattle.laws_time.proofs.Vocabulary.{Bool, IsHeardWhole, List, None, Option, Some, [], after_flag, ap, append-nil, append_assoc, append_cancel_left, arith, bits, bits-append, false, flag, frame, frame_text, gained, heard_in, heard_until, heard_until-onto, heard_with, hears-append, hears_items, length, length-append, option_to_list, refl, reverse_aux, reverse_aux-append, room_for, suc, sym}
+use Rattle.laws_time.proofs.Vocabulary.{true, ℕ, ◌++◌, ◌<◌, ◌∙◌, ◌∷◌, ◌≡◌, ◌≢◌, ◌≤◌}
 use Rattle.model_bits.specs.Stream as stream
-use Rattle.model_bits.specs.Stream.{heard_in, heard_until, room_for}
-use Rattle.model_bits.proofs.BitLemmas.{bits-append}
 use Rattle.model_bits.proofs.Quiet.{EndsNothing, quiet}
-use Rattle.model_bits.proofs.RoundTripFrame.{hears_items}
-use Rattle.model_bits.proofs.RoundTripPlaces.{hears, heard_until-onto, reverse_aux-append, hears-append, after_flag}
+use Rattle.model_bits.proofs.RoundTripPlaces.{hears}
 use Rattle.model_bits.proofs.StuffingCounted.{NoSix}
 use Rattle.model_bits.proofs.StuffingShape.{NoSix-stuffed}
 use Rattle.model_bits.specs.Check.{check}
-use Rattle.model_card.specs.ports.Port.{gained}
-use Rattle.model_card.proofs.OfPorts.Gains.{heard_with}
 
 -- A list in two parts twice: the longer first part begins with the shorter.
 pub longer-begins : {A : Type 0} (a b c d : List A) → a ++ b ≡ c ++ d → length a ≤ length c → (m : List A) × (c ≡ a ++ m) × (b ≡ m ++ d)

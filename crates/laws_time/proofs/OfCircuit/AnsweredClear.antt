@@ -1,29 +1,12 @@
 -- Without noise from the start on, each frame that is heard stood in what the other end gave.
-use Rattle.std.proofs.Common.{arith, ◌≡◌, ℕ, zero, suc, ◌+◌, ◌<◌, ◌≤◌, Bool, true, false, cond, List, [], ◌∷◌, ◌++◌, drop, length, replicate, Option, Some, None, refl, sym, ap, ◌∙◌, All, ◌⊎◌, inl, inr, append-nil, append_assoc, length-append}
-use Rattle.std.specs.Prelude.{flat_map, min, nat_eq, option_and_then, option_map, option_to_list}
-use Rattle.std.specs.Option.{unwrap_or}
-use Rattle.std.proofs.lemmas.Bool.{cases_lt}
-use Rattle.std.proofs.lemmas.List.{append_cancel_left, length-replicate}
-use Rattle.std.proofs.lemmas.List.Elements.{All-head, All-tail}
-use mathlib.Core.List.{reverse_aux}
-use Rattle.model_bits.specs.Bits.{bits, flag}
-unfoldable use Rattle.model_bits.specs.Bits.{low_bits}
+use Rattle.laws_time.proofs.Vocabulary.{All, All-head, All-tail, AreClear, AreHeardWhole, Assign, Beat, Bool, Clocked, IsClean, IsClearAt, IsFit, IsTalk, Line, List, NoNoiseIsClear, None, Option, Port, Some, TimedEndpoint, [], after_flag, ap, append-nil, append_assoc, append_cancel_left, arith, asked-way, beat, begins, bits, bits-append, cases_lt, closed_by_flag, cond, drop, ends_flag, false}
+use Rattle.laws_time.proofs.Vocabulary.{flag, flags, flat_map, frames_of, frames_round_trip_lem, fresh, gained, gone, heard_at, heard_in, heard_until, heard_until-onto, heard_with, idle, inl, inr, item_text, left_of, length, length-append, length-bits, length-replicate, low_bits, min, nat_eq, nil_from_length, octet_endpoint, option_and_then, option_map, option_to_list, port_of, refl, replicate}
+use Rattle.laws_time.proofs.Vocabulary.{reverse_aux, reverse_aux-append, room_for, since_flag, suc, sym, true, unwrap_or, zero, ℕ, ◌++◌, ◌+◌, ◌<◌, ◌∙◌, ◌∷◌, ◌≡◌, ◌≤◌, ◌⊎◌}
 use Rattle.model_bits.specs.OpenGap.{run_of}
-use Rattle.model_bits.specs.RoundTrip.{AreHeardWhole, frames_of}
-use Rattle.model_bits.specs.Sent.{idle, item_text}
 use Rattle.model_bits.specs.Stream as stream
-use Rattle.model_bits.specs.Stream.{closed_by_flag, ends_flag, given_up, heard_at, heard_in, heard_until, room_for, since_flag}
-use Rattle.model_bits.proofs.BitLemmas.{bits-append, length-bits}
+use Rattle.model_bits.specs.Stream.{given_up}
 use Rattle.model_bits.proofs.Places.{ends_flag-run}
-use Rattle.model_bits.proofs.RoundTripFrame.{frames_round_trip_lem}
-use Rattle.model_bits.proofs.RoundTripPlaces.{hears, heard_until-onto, reverse_aux-append, after_flag}
-use Rattle.model_line.specs.Request.{Assign}
-use Rattle.model_card.proofs.OfPorts.Gains.{heard_with}
-use Rattle.model_card.specs.ports.Port.{Port, gained, left_of}
-use Rattle.model_timed.specs.Octets.{fresh}
-use Rattle.laws_order.specs.circuit.Circuit.{port_of}
-use Rattle.laws_order.specs.circuit.Through.{octet_endpoint}
-use Rattle.laws_order.proofs.OfCircuit.Projected.{asked-way}
+use Rattle.model_bits.proofs.RoundTripPlaces.{hears}
 use Rattle.laws_time.proofs.OfCircuit.AnsweredBeats.{Sent, Came, PairAt, near, far, near-pulls, far-pulls, beaten}
 use Rattle.laws_time.proofs.OfCircuit.AnsweredBits.{longer-begins}
 use Rattle.laws_time.proofs.OfCircuit.AnsweredPlace.{all_sent}
@@ -31,10 +14,6 @@ use Rattle.laws_time.proofs.OfCircuit.InTime.{pair-begins}
 use Rattle.laws_time.proofs.OfCircuit.LongEnough.{pair-then}
 use Rattle.laws_time.proofs.OfCircuit.Sender.{Fine}
 use Rattle.laws_time.proofs.OfCircuit.Standing.{fine}
-use Rattle.laws_time.specs.circuit.Answered.{IsClean, NoNoiseIsClear}
-use Rattle.laws_time.specs.circuit.Clocked.{TimedEndpoint, Clocked, Beat, flags, gone, beat}
-use Rattle.laws_time.specs.circuit.LongEnough.{Line, IsFit, IsTalk, IsClearAt, begins}
-unfoldable use Rattle.laws_time.specs.circuit.LongEnough.{AreClear}
 
 -- After a flag, what came before it does not matter.
 run-same : (w P Q : List Bool) → run_of (w ++ after_flag P) ≡ run_of (w ++ after_flag Q)
@@ -215,13 +194,9 @@ module _ (l : Line) (fit : IsFit l) where
             (All-tail IsClean b bs is_clean),
       )
 
-nothing : (xs : List ℕ) → length xs ≡ 0 → xs ≡ []
-nothing [] none = refl
-nothing (x ∷ xs) none = absurd (cc none)
-
 exact-begins : (way : ℕ) (p q : Port) (transit : List ℕ) → length p.given ≡ 0 → length q.received ≡ 0 → transit ≡ flags way → Exact way p transit q
 exact-begins way p q transit given received is =
-    ap (λ g. replicate way 0x7E ++ g) (nothing p.given given) ∙ append-nil (replicate way 0x7E) ∙ sym is ∙ ap (λ r. r ++ transit) (sym (nothing q.received received))
+    ap (λ g. replicate way 0x7E ++ g) (nil_from_length p.given given) ∙ append-nil (replicate way 0x7E) ∙ sym is ∙ ap (λ r. r ++ transit) (sym (nil_from_length q.received received))
 
 pub no-noise-is-clear : NoNoiseIsClear
 no-noise-is-clear l bs fit talk is_clean =

@@ -1,10 +1,5 @@
 -- A frame of a kind that waits at a port, or stands on its line and has not been heard whole yet: it does not get lost there.
-use Rattle.std.proofs.Common.{arith, ◌≡◌, ℕ, ◌+◌, ◌*◌, ◌<◌, ◌≤◌, Bool, true, List, [], ◌∷◌, ◌++◌, length, refl, sym, ap, ◌∙◌, subst, ◌⊎◌, inl, inr, append-nil, append_assoc, length-append}
-use Rattle.std.proofs.lemmas.Bool.{cases_lt}
-use Rattle.model_bits.proofs.Items.{line_text-push}
-use Rattle.model_bits.specs.Bits.{flag}
-use Rattle.model_bits.specs.Sent.{Item, frame, frame_text, item_text, line_text}
-use Rattle.model_card.specs.ports.Port.{Port}
+use Rattle.laws_time.proofs.Vocabulary.{Bool, Item, List, Port, [], ap, append-nil, append_assoc, arith, cases_lt, flag, frame, frame_text, inl, inr, item_text, length, length-append, line_text, line_text-push, refl, subst, sym, true, ℕ, ◌*◌, ◌++◌, ◌+◌, ◌<◌, ◌∙◌, ◌∷◌, ◌≡◌, ◌≤◌, ◌⊎◌}
 use Rattle.laws_time.proofs.OfCircuit.Sender.{text_length}
 
 pub one-more : (items : List Item) (o : List ℕ) → text_length (items ++ frame o ∷ []) ≡ text_length items + length (item_text (frame o))

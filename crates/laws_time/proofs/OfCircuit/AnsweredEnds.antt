@@ -1,54 +1,15 @@
 -- An end of the clocked circuit, one thing at a time: what is due there stays so, and an enquiry is put, and an answer.
-use Rattle.std.proofs.Common.{arith, ◌≡◌, ℕ, ◌+◌, ◌*◌, ◌≤◌, ◌==◌, ◌&&◌, not, is_some, cond, Bool, true, false, List, [], ◌∷◌, ◌++◌, length, map, take, Option, Some, None, option_map, refl, sym, ap, ◌∙◌, subst, All, inl, inr, append-nil, append_assoc, length-append, eqb-true}
-use Rattle.std.specs.Prelude.{sum_by}
-use Rattle.std.specs.Option.{option_map_or}
-use Rattle.std.proofs.lemmas.Bool.{and_parts}
-use Rattle.std.proofs.lemmas.List.{length-map, map-append}
-use Rattle.std.proofs.lemmas.List.Elements.{All-head, All-tail}
-use Rattle.std.proofs.lemmas.List.Sums.{sum_by-append}
-use Rattle.lapd_frame.specs.declared.controls.Control.{Control}
-use Rattle.lapd_frame.specs.declared.services.Service.{Service}
-use Rattle.lapd_frame.specs.declared.timers.Timer.{Timer}
-use Rattle.lapd_frame.specs.Grammar.{Parts}
-use Rattle.lapd_frame.specs.Senders.{reading, spelling}
-use Rattle.model_bits.proofs.BitLemmas.{length-bits}
-use Rattle.model_bits.specs.Bits.{bits}
-use Rattle.model_bits.specs.Sent.{Item}
+use Rattle.laws_time.proofs.Vocabulary.{All, All-head, All-tail, AreOctets, Bool, Config, Control, ControlFrame, Course, IsCarried, IsInRange, IsWaitingFrame, Item, LineTold, Link, LinkEvent, LinkIsSound, LinkTimer, List, None, OctetEndpoint, Option, Parts, Request, Service, Some, StationStands, Terms, Timer, [], aim_of_expiry, aim_of_request, and_parts, answered, ap, append-nil, append_assoc}
+use Rattle.laws_time.proofs.Vocabulary.{arith, as_endpoint, as_heard, at_requested, at_timer, bits, came, cond, contents_given, eqb-true, expires-said, false, few-left, gained, heard-as, heard_by, heard_side, if_meant, inl, inr, is_some, left_of, length, length-append, length-bits, length-map, link-sound, map, map-append, not, option_map, option_map_or, own_side, place_in, port_of, put, reading}
+use Rattle.laws_time.proofs.Vocabulary.{refl, room, said_by, spelling, subst, sum_by, sum_by-append, sym, take, takes-told, tells_nothing, terms, told_by, true, ℕ, ◌&&◌, ◌*◌, ◌++◌, ◌+◌, ◌==◌, ◌∙◌, ◌∷◌, ◌≡◌, ◌≤◌}
 use Rattle.model_bits.specs.Stream as stream
-use Rattle.model_bits.specs.StuffingLaws.{AreOctets}
-use Rattle.model_link.specs.declared.frames.ControlFrame.{ControlFrame}
-use Rattle.model_link.specs.declared.terms.Terms.{Terms}
-use Rattle.model_link.specs.declared.timers.LinkTimer.{LinkTimer}
 use Rattle.model_link.specs.Events as link
-use Rattle.model_link.specs.Events.{Event as LinkEvent}
-use Rattle.model_link.specs.Link.{Link}
 use Rattle.model_link.specs.Machine as links
-use Rattle.model_link.specs.Sound.{IsSound as LinkIsSound, IsWaitingFrame}
-use Rattle.model_link.specs.Steps.{Course}
-use Rattle.model_line.specs.Came.{came}
 use Rattle.model_line.specs.Event as line
-use Rattle.model_line.specs.Event.{LineTold}
-use Rattle.model_line.specs.Expiry.{aim_of_expiry, at_timer}
-use Rattle.model_line.specs.Heard.{heard_side}
-use Rattle.model_line.specs.Line.{Line, terms, place_in}
-use Rattle.model_line.specs.Request.{Request}
-use Rattle.model_line.specs.Requested.{aim_of_request, at_requested}
-use Rattle.model_line.specs.Sound.{IsInRange}
-use Rattle.model_line.specs.Taken.{own_side}
-use Rattle.model_line.specs.declared.config.Config.{Config}
+use Rattle.model_line.specs.Line.{Line}
 use Rattle.model_card.specs.ports.Port as port
-use Rattle.model_card.specs.ports.Port.{Port, gained, left_of}
-use Rattle.laws_link.specs.States.{as_heard}
-use Rattle.laws_link.specs.Waiting.{put, room}
-use Rattle.laws_trace.specs.FramesAreRead.{contents_given}
 use Rattle.laws_wire.specs.Wire as wire
-use Rattle.laws_wire.specs.Wire.{tells_nothing}
-use Rattle.laws_wire.proofs.Speaking.{said_by, heard_by}
-use Rattle.laws_wire.proofs.Standing.{IsCarried, StationStands, link-sound, expires-said, takes-told}
-use Rattle.laws_order.specs.circuit.Circuit.{Endpoint as OctetEndpoint, port_of, answered, told_by}
 use Rattle.laws_order.specs.circuit.Circuit as circuit
-use Rattle.laws_order.proofs.OfCircuit.AsFrames.{as_endpoint, if_meant, heard-as}
-use Rattle.laws_order.proofs.OfCircuit.Ran.{few-left}
 use Rattle.laws_time.specs.circuit.LongEnough.{is_of}
 use Rattle.laws_time.proofs.OfCircuit.AnsweredDue.{Due, TakesFirst, due-put, due-more, due-pulled}
 use Rattle.laws_time.proofs.OfCircuit.AnsweredRows.{Puts, all-put}

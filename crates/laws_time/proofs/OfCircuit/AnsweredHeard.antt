@@ -1,40 +1,18 @@
 -- An octet comes to an end without noise: a frame of the other end is heard, or none; a command is answered, and an answer is heard.
-use Rattle.std.proofs.Common.{arith, ◌≡◌, ℕ, ◌+◌, ◌*◌, ◌≤◌, Bool, true, List, [], ◌∷◌, ◌++◌, length, Option, Some, None, Ok, refl, sym, ap, ◌∙◌, subst, append_assoc}
-use Rattle.std.specs.Prelude.{option_to_list}
-use Rattle.std.specs.List.{list_any}
-use Rattle.std.specs.Option.{option_map_or}
-use Rattle.lapd_frame.specs.declared.controls.Control.{Control}
-use Rattle.lapd_frame.specs.declared.services.Service.{Service}
-use Rattle.lapd_frame.specs.Grammar.{Parts}
-use Rattle.lapd_frame.specs.Senders.{reading}
+use Rattle.laws_time.proofs.Vocabulary.{Bool, Config, Control, IsClearAt, IsInRange, Link, LinkEvent, List, None, OctetEndpoint, Ok, Option, Parts, Service, Some, TimedEndpoint, [], ap, append_assoc, arith, framed, frames_among, gained, heard-beyond, heard_in, heard_side, heard_with, is_multiple_frame, length, list_any, option_map_or, option_to_list, or-none, own_side, parts_of, port_of}
+use Rattle.laws_time.proofs.Vocabulary.{reading, refl, state_number, subst, sym, terms, true, ℕ, ◌*◌, ◌++◌, ◌+◌, ◌∙◌, ◌∷◌, ◌≡◌, ◌≤◌}
 use Rattle.model_bits.specs.Stream as stream
-use Rattle.model_bits.specs.Stream.{heard_in}
 use Rattle.model_link.specs.Events as link
-use Rattle.model_link.specs.Events.{Event as LinkEvent}
-use Rattle.model_link.specs.Link.{Link, state_number, is_multiple_frame}
 use Rattle.model_link.specs.Machine as links
-use Rattle.model_line.specs.Heard.{heard_side}
-use Rattle.model_line.specs.Line.{terms}
-use Rattle.model_line.specs.Sound.{IsInRange}
-use Rattle.model_line.specs.Taken.{own_side}
-use Rattle.model_line.specs.declared.config.Config.{Config}
-use Rattle.model_card.proofs.OfPorts.Gains.{heard_with}
-use Rattle.model_card.specs.ports.Codec.{frames_among}
 use Rattle.model_card.specs.ports.Port as port
-use Rattle.model_card.specs.ports.Port.{Port, gained}
-use Rattle.laws_wire.specs.Facing.{parts_of}
-use Rattle.laws_order.specs.circuit.Circuit.{Endpoint as OctetEndpoint, port_of}
 use Rattle.laws_order.specs.circuit.Circuit as circuit
-use Rattle.laws_order.proofs.OfCircuit.OneWay.{framed, heard-beyond}
 use Rattle.laws_time.proofs.OfCircuit.AnsweredEnds.{lost, lost-heard, DueAt, frame-put, due-same}
 use Rattle.laws_time.proofs.OfCircuit.AnsweredRows.{Exchange}
 use Rattle.laws_time.proofs.OfCircuit.Beats.{one-of, none-overlong}
-use Rattle.laws_time.proofs.OfCircuit.Heard.{or-false}
 use Rattle.laws_time.proofs.OfCircuit.Open.{half, IsOrdinary}
 use Rattle.laws_time.proofs.OfCircuit.Sender.{out, text_length}
 use Rattle.laws_time.proofs.OfCircuit.Standing.{Ends, IsOwn, Moved, fine, heard-none, heard-dropped, heard-frame, heard-event}
-use Rattle.laws_time.specs.circuit.Clocked.{TimedEndpoint}
-use Rattle.laws_time.specs.circuit.LongEnough.{IsClearAt, is_of}
+use Rattle.laws_time.specs.circuit.LongEnough.{is_of}
 
 module _ (service : Service) (tei : ℕ) (d : Config) (ranged_far : IsInRange d) (other : OctetEndpoint) (k : Ends d service tei 0 ranged_far other) where
   -- What was heard in what an end gave is one of its frames.
@@ -90,7 +68,7 @@ module _ (c : Config) (service : Service) (tei : ℕ) (ranged : IsInRange c) (d 
       kind-of : (kind : Bool → Control → Bool) → is_of kind d octets ≡ true → kind own.0.address.command own.0.control ≡ true
       kind-of kind so =
           let read_there : reading (own_side d) octets ≡ Ok own.0 = ap (reading (own_side d)) own.1 ∙ own.2.carried.read in
-          sym (ap (λ r. list_any (λ (f : Parts). kind f.address.command f.control) (parts_of r)) read_there ∙ or-false (kind own.0.address.command own.0.control)) ∙ so
+          sym (ap (λ r. list_any (λ (f : Parts). kind f.address.command f.control) (parts_of r)) read_there ∙ or-none (kind own.0.address.command own.0.control)) ∙ so
 
       same-state : (k : Ends c service tei 0 ranged (circuit.happens (port.octet value) s)) → k.its ≡ links.after (terms c service tei) (link.received (link.frame own.0)) h.its
       same-state k = sym k.stands.speaks.link ∙ mv.ends.stands.speaks.link ∙ mv.link_is

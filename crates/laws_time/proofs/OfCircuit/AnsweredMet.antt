@@ -1,22 +1,10 @@
 -- A run that meets the premises: an end comes to state 8 on a line without noise.
-use Rattle.std.proofs.Common.{arith, ℕ, zero, suc, [], ◌∷◌, ◌++◌, replicate, refl, All, inr}
-use Rattle.std.proofs.lemmas.List.Elements.{All-nil, All-cons, All-append}
-use Rattle.model_bits.specs.Bits.{low_bits}
-use Rattle.lapd_frame.specs.Reading.{reading, header_of, control_of, unnumbered_of, supervisory_of}
-use Rattle.lapd_frame.specs.Senders.{exchanged, reading as read_by}
-use Rattle.lapd_seq.specs.Circle.{distance_of, named}
-use Rattle.lapd_seq.specs.Numbers.{seq}
+use Rattle.laws_time.proofs.Vocabulary.{All, All-append, All-cons, All-nil, All-replicate, Beat, Call, Enquires, Establish, IsClean, IsFit, IsOfLink, IsTalk, IsUndisturbed, [], arith, control_of, distance_of, exchanged, fall_due, header_of, inr, low_bits, named, plain, reading as read_by, refl, replicate, sapi_fault, seq, supervisory_of, unnumbered_of, ◌++◌, ◌∷◌}
+use Rattle.lapd_frame.specs.Reading.{reading}
 use Rattle.lapd_tei.specs.Events as teis
-use Rattle.model_line.specs.Config.{sapi_fault}
 use Rattle.model_line.specs.Machine as lines
-use Rattle.model_line.specs.Request.{Establish}
-use Rattle.lapd_frame.specs.declared.services.Service.TheVariants.{Call}
 use Rattle.model_card.specs.ports.Card as ports
 use Rattle.laws_time.proofs.OfCircuit.AnsweredClear.{no-noise-is-clear}
-use Rattle.laws_time.specs.circuit.Answered.{IsClean, IsUndisturbed}
-unfoldable use Rattle.laws_time.specs.circuit.Answered.{Enquires}
-use Rattle.laws_time.specs.circuit.Clocked.{Beat, plain, fall_due}
-use Rattle.laws_time.specs.circuit.LongEnough.{IsFit, IsOfLink, IsTalk}
 use Rattle.laws_time.specs.circuit.Worked.{asks}
 use Rattle.laws_time.specs.circuit.WorkedAnswered.{AnEnquiryIsMet, before, its_line}
 
@@ -38,15 +26,11 @@ plain-talk = (All-nil (IsOfLink Call 0), All-nil (IsOfLink Call 0))
 asks-talk : IsTalk its_line asks
 asks-talk = (All-cons (IsOfLink Call 0) (Establish Call 0) [] (refl, refl) (All-nil (IsOfLink Call 0)), All-nil (IsOfLink Call 0))
 
-all-plain : (P : Beat → Type 0) → P plain → (n : ℕ) → All P (replicate n plain)
-all-plain P one zero = All-nil P
-all-plain P one (suc n) = All-cons P plain (replicate n plain) one (all-plain P one n)
-
 -- The call, the plain beats after it, and those that follow.
 all-beats : (P : Beat → Type 0) → P asks → P plain → All P (before ++ plain ∷ replicate 3 plain)
 all-beats P first one =
-    All-append P before (plain ∷ replicate 3 plain) (All-append P (asks ∷ replicate 15 plain) (replicate 16 plain) (All-cons P asks (replicate 15 plain) first (all-plain P one 15)) (all-plain P one 16))
-    (All-cons P plain (replicate 3 plain) one (all-plain P one 3))
+    All-append P before (plain ∷ replicate 3 plain) (All-append P (asks ∷ replicate 15 plain) (replicate 16 plain) (All-cons P asks (replicate 15 plain) first (All-replicate P 15 plain one)) (All-replicate P 16 plain one))
+    (All-cons P plain (replicate 3 plain) one (All-replicate P 3 plain one))
 
 undisturbed : IsUndisturbed its_line before plain (replicate 3 plain)
 unfolding lines.after lines.answer lines.takes_slot exchanged read_by reading header_of control_of unnumbered_of supervisory_of teis.course teis.refusal seq distance_of named low_bits ports.after ports.answer ports.meant fall_due
@@ -54,7 +38,7 @@ undisturbed = record {
   fit = fits;
   talk = all-beats (IsTalk its_line) asks-talk plain-talk;
   clear = no-noise-is-clear its_line (before ++ plain ∷ replicate 3 plain) fits (all-beats (IsTalk its_line) asks-talk plain-talk) (all-beats IsClean (refl, refl) (refl, refl));
-  clean = All-cons IsClean plain (replicate 3 plain) (refl, refl) (all-plain IsClean (refl, refl) 3);
+  clean = All-cons IsClean plain (replicate 3 plain) (refl, refl) (All-replicate IsClean 3 plain (refl, refl));
   near_kept = refl;
   far_kept = refl;
 }

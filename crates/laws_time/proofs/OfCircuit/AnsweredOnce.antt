@@ -1,29 +1,17 @@
 -- T200 does not fall due in state 8 before the enquiry is answered.
-use Rattle.std.proofs.Common.{arith, ◌≡◌, ℕ, ◌+◌, ◌/◌, ◌<◌, ◌≤◌, false, List, [], ◌∷◌, ◌++◌, length, Some, sym, ap, ◌∙◌, subst, All}
-use Rattle.std.proofs.lemmas.Bool.{true≢false}
-use Rattle.std.proofs.lemmas.List.Elements.{All-head, All-tail}
-use Rattle.std.proofs.lemmas.List.Sums.{fold-append}
+use Rattle.laws_time.proofs.Vocabulary.{All, All-head, All-tail, AreClear, Beat, Clocked, Expiry, IsFit, IsTalk, Line, List, OneEnquiryIsEnough, Some, [], after, all-left, all-right, answered_in, ap, arith, asked, beat, begins, begun, due, fall_due, false, fold-append, fresh, is_waiting, length, port_of, same_Some, state_at, state_number, subst, sym, true≢false, ℕ, ◌++◌, ◌+◌, ◌/◌, ◌<◌, ◌∙◌, ◌∷◌}
+use Rattle.laws_time.proofs.Vocabulary.{◌≡◌, ◌≤◌}
 use Rattle.lapd_clock.specs.Timer.{T200}
-use Rattle.lapd_clock.specs.Timers.{Expiry}
-use Rattle.model_link.specs.Link.{state_number}
-use Rattle.model_timed.specs.Clock.{due}
-use Rattle.model_timed.specs.Octets.{fresh}
-use Rattle.laws_line.proofs.OfCard.Meanwhile.{all-left, all-right}
-use Rattle.laws_order.specs.circuit.Circuit.{port_of}
-use Rattle.laws_time.proofs.OfCircuit.Answered.{an-enquiry-is-answered, beats-then, clear-parts}
-use Rattle.laws_time.proofs.OfCircuit.AnsweredBeat.{same-some}
+use Rattle.laws_time.proofs.OfCircuit.Answered.{an-enquiry-is-answered, beats-then}
 use Rattle.laws_time.proofs.OfCircuit.AnsweredBeats.{PairAt, near, far}
 use Rattle.laws_time.proofs.OfCircuit.Beats.{end-later}
 use Rattle.laws_time.proofs.OfCircuit.InTime.{pair-begins}
 use Rattle.laws_time.proofs.OfCircuit.Kinds.{asks}
-use Rattle.laws_time.proofs.OfCircuit.LongEnough.{by_now, near-comes, pair-then, pair-later, all-pairs, due-is, long-ago}
+use Rattle.laws_time.proofs.OfCircuit.LongEnough.{by_now, near-comes, pair-then, pair-later, all-pairs, due-is, long-ago, clear-parts}
 use Rattle.laws_time.proofs.OfCircuit.Open.{ring, half}
 use Rattle.laws_time.proofs.OfCircuit.Sender.{sends-later}
 use Rattle.laws_time.proofs.OfCircuit.Under.{EndOk, state-here}
-use Rattle.laws_time.specs.circuit.Answered.{OneEnquiryIsEnough, begun, state_at}
-use Rattle.laws_time.specs.circuit.Clocked.{Clocked, Beat, beat, after, fall_due}
-use Rattle.laws_time.specs.circuit.LongEnough.{Line, IsFit, IsTalk, begins, is_of, is_waiting, asked, answered_in}
-unfoldable use Rattle.laws_time.specs.circuit.LongEnough.{AreClear}
+use Rattle.laws_time.specs.circuit.LongEnough.{is_of}
 
 module _ (l : Line) (fit : IsFit l) where
   -- In a state that awaits nothing, T200 may as well have been started by now.
@@ -82,7 +70,7 @@ module _ (l : Line) (fit : IsFit l) where
       let a = fall_due k (asked (u.beats / l.rate) c.near_asks u.near) in
       let g = near-comes l fit.some (near l fit) (far l fit) fit.call.opposite.0 fit.call.opposite.1 fit.t200 (fresh l.near l.lengths) (fresh l.far l.far_lengths) u p c talk k in
       let at_due = due-is a.at.line a.clock.now (T200 l.service l.tei) a.clock.running x g.ok.but.clock.here falls timer in
-      let number = same-some (state_number g.ok.but.ends.its.state) 8 (sym (state-here l.near l.service l.tei 0 (near l fit) l.lengths l.rate a.at g.ok.but.ends) ∙ is) in
+      let number = same_Some (state_number g.ok.but.ends.its.state) 8 (sym (state-here l.near l.service l.tei 0 (near l fit) l.lengths l.rate a.at g.ok.but.ends) ∙ is) in
       let started = g.ok.timer x.moment (ap is_waiting number) at_due.0 in
       let ago = long-ago l fit.some (near l fit) (far l fit) fit.call.opposite.0 fit.call.opposite.1 fit.t200 (fresh l.near l.lengths) (fresh l.far l.far_lengths) l.lengths fit.t200.0 g.S' u.beats x.moment started
       (subst (λ k. x.moment ≤ k) g.now at_due.1) in
@@ -106,7 +94,7 @@ module _ (l : Line) (bs : List Beat) (b : Beat) (more : List Beat) (c : Beat) (k
   from-beat soon clear p up falls timer is =
       let w1 = beat l.rate w0 b in
       let q = pair-then l fit.some (near l fit) (far l fit) fit.call.opposite.0 fit.call.opposite.1 fit.t200 (fresh l.near l.lengths) (fresh l.far l.far_lengths) w0 p b (All-head (IsTalk l) b more last) clear.0 clear.1 in
-      let number = same-some (state_number q.near_ok.but.ends.its.state) 7 (sym (state-here l.near l.service l.tei 0 (near l fit) l.lengths l.rate w1.near.at q.near_ok.but.ends) ∙ up) in
+      let number = same_Some (state_number q.near_ok.but.ends.its.state) 7 (sym (state-here l.near l.service l.tei 0 (near l fit) l.lengths l.rate w1.near.at q.near_ok.but.ends) ∙ up) in
       let r = pairs-on l fit w1.beats more w1 (All-tail (IsTalk l) b more last) clear.2 (pair-now l fit w1 q (ap is_waiting number)) in
       let so_many = beats-then l.rate more w1 in
       not-due l fit w1.beats (after l.rate more w1) r.0 r.1 (omega (arith, so_many, soon)) c talk_c k x falls timer is
@@ -116,7 +104,7 @@ one-enquiry-is-enough l bs b more c k x comes talk_c =
     let h = comes.0 in
     let fit = h.fit in
     let soon = an-enquiry-is-answered l bs b more comes in
-    let parts = clear-parts l fit bs (b ∷ more) (begins l) h.clear in
+    let parts = clear-parts l bs (b ∷ more) (begins l) h.clear in
     let first = all-pairs l fit.some (near l fit) (far l fit) fit.call.opposite.0 fit.call.opposite.1 fit.t200 (fresh l.near l.lengths) (fresh l.far l.far_lengths) bs (all-left (IsTalk l) bs (b ∷ more) h.talk) (begins l) parts.0 (pair-begins l fit) in
     let same : begun l bs b ≡ beat l.rate (after l.rate bs (begins l)) b = fold-append (beat l.rate) (begins l) bs (b ∷ []) in
     subst (Claim l bs b more c k x fit h.talk talk_c) (sym same) (from-beat l bs b more c k x fit h.talk talk_c soon parts.1 first) comes.1

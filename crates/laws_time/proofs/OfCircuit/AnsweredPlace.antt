@@ -1,21 +1,7 @@
 -- What an end gave comes to the other as it is, once there is no noise; so a frame whose opening flag came so is heard.
-use Rattle.std.proofs.Common.{arith, ◌≡◌, ℕ, ◌+◌, ◌*◌, ◌≤◌, Bool, List, [], ◌∷◌, ◌++◌, length, map, replicate, Some, refl, sym, ap, ◌∙◌, subst, All, append-nil, append_assoc, length-append}
-use Rattle.std.specs.Prelude.{flat_map}
-use Rattle.std.proofs.lemmas.List.{length-replicate}
-use Rattle.std.proofs.lemmas.List.Elements.{All-head, All-cons, All-nil}
-use Rattle.model_bits.specs.Bits.{bits, flag}
-use Rattle.model_bits.specs.RoundTrip.{IsHeardWhole, AreHeardWhole}
-use Rattle.model_bits.specs.Sent.{Item, idle, frame, frame_text, item_text, line_text}
+use Rattle.laws_time.proofs.Vocabulary.{All, All-cons, All-head, All-nil, AreHeardWhole, AreOctets, Bool, IsHeardWhole, Item, List, Port, Some, [], all-right, all_exact, ap, append-nil, append_assoc, arith, as_octets, bits, bits-append, flag, flat_map, frame, frame_text, frames_among, frames_among-append, gained, heard_whole, idle, item_text, left_of, length, length-append, length-bits}
+use Rattle.laws_time.proofs.Vocabulary.{length-replicate, line_text, map, refl, replicate, sent, some_text, subst, sym, ℕ, ◌*◌, ◌++◌, ◌+◌, ◌∙◌, ◌∷◌, ◌≡◌, ◌≤◌}
 use Rattle.model_bits.specs.Stream as stream
-use Rattle.model_bits.specs.StuffingLaws.{AreOctets}
-use Rattle.model_bits.proofs.BitLemmas.{bits-append, length-bits}
-use Rattle.model_bits.proofs.RoundTripFrame.{some_text}
-use Rattle.model_card.proofs.OfPorts.AsOctets.{sent, all_exact, heard_whole}
-use Rattle.model_card.proofs.OfPorts.PortGoesOn.{frames_among-append}
-use Rattle.model_card.specs.ports.Codec.{frames_among}
-use Rattle.model_card.specs.ports.GoingOut.{as_octets}
-use Rattle.model_card.specs.ports.Port.{Port, gained, left_of}
-use Rattle.laws_line.proofs.OfCard.Meanwhile.{all-right}
 use Rattle.laws_time.proofs.OfCircuit.AnsweredBits.{longer-begins, frame-gained}
 use Rattle.laws_time.proofs.OfCircuit.AnsweredDue.{OnLine, one-more}
 use Rattle.laws_time.proofs.OfCircuit.Sender.{Fine, text_length}
@@ -59,6 +45,10 @@ pub one-among : (P : List ℕ → Type 0) (items xs : List Item) (o : List ℕ) 
 one-among P items xs o ys is all =
     All-head P o (frames_among ys)
     (all-right P (frames_among xs) (frames_among (frame o ∷ ys)) (subst (All P) (ap frames_among is ∙ frames_among-append xs (frame o ∷ ys)) all))
+
+-- So many flags have so many bits.
+pub flags-long : (way : ℕ) → length (bits (replicate way 0x7E)) ≡ 8 * way
+flags-long way = let all = length-bits (replicate way 0x7E) in let n = length-replicate {A = ℕ} way 0x7E in omega (arith, all, n)
 
 module _ (n201 : ℕ) (kind : List ℕ → Bool) (low most way heard clean : ℕ) (p q : Port) (value : ℕ) (more : List ℕ) (h : Fine n201 p) (c : Comes way clean p (value ∷ more) q)
     (d : OnLine kind low most way heard p) (now : text_length (d.front ++ frame d.o ∷ []) + 8 * way ≤ 8 * (heard + 1)) (soon : clean + 1 ≤ low)
@@ -104,9 +94,6 @@ module _ (n201 : ℕ) (kind : List ℕ → Bool) (low most way heard clean : ℕ
       ap (λ b. b ++ left_of p) (bits-append (replicate way 0x7E) p.given) ∙ append_assoc first (bits p.given) (left_of p)
       ∙ ap (λ b. first ++ b) (sym h.sound.text.text ∙ text-is) ∙ sym (append_assoc first z.0 (flag ++ (T ++ R)))
 
-  first-long : length first ≡ 8 * way
-  first-long = let all = length-bits (replicate way 0x7E) in let n = length-replicate {A = ℕ} way 0x7E in omega (arith, all, n)
-
   front-long : text_length d.front ≡ length z.0 + 8
   front-long = ap length z.1 ∙ length-append z.0 flag
 
@@ -116,30 +103,24 @@ module _ (n201 : ℕ) (kind : List ℕ → Bool) (low most way heard clean : ℕ
   T-long : 9 ≤ length T
   T-long = let x = length-append (frame_text d.o) flag in let y = some_text d.o in omega (arith, x, y)
 
-  before-long : length (bits c.before) ≡ 8 * length c.before
-  before-long = length-bits c.before
-
-  sent-long : length (bits c.as_sent) ≡ 8 * length c.as_sent
-  sent-long = length-bits c.as_sent
-
   u : (u : List Bool) × (first ++ z.0 ≡ bits c.before ++ u) × (bits c.as_sent ++ (bits (value ∷ []) ++ tail) ≡ u ++ (flag ++ (T ++ R)))
   u =
       let low_is = d.after_low in let a = length-append first z.0 in let few = c.few in
-      let l1 = first-long in let l2 = front-long in let l3 = before-long in
+      let l1 = flags-long way in let l2 = front-long in let l3 = length-bits c.before in
       longer-begins (bits c.before) (bits c.as_sent ++ (bits (value ∷ []) ++ tail)) (first ++ z.0) (flag ++ (T ++ R)) (sym came-is ∙ sent-is)
       (omega (arith, low_is, a, few, l1, l2, l3, soon))
 
   u-long : 8 * way + length z.0 ≡ 8 * length c.before + length u.0
-  u-long = let a = ap length u.1 in let b = length-append first z.0 in let k = length-append (bits c.before) u.0 in let l1 = first-long in let l3 = before-long in omega (arith, a, b, k, l1, l3)
+  u-long = let a = ap length u.1 in let b = length-append first z.0 in let k = length-append (bits c.before) u.0 in let l1 = flags-long way in let l3 = length-bits c.before in omega (arith, a, b, k, l1, l3)
 
   part : (part : List Bool) × (bits c.as_sent ≡ (u.0 ++ flag) ++ part) × (T ++ R ≡ part ++ (bits (value ∷ []) ++ tail))
   part =
-      let a = u-long in let l = length-append u.0 flag in let s = sent-long in let e = end-long in let t = T-long in
+      let a = u-long in let l = length-append u.0 flag in let s = length-bits c.as_sent in let e = end-long in let t = T-long in
       longer-begins (u.0 ++ flag) (T ++ R) (bits c.as_sent) (bits (value ∷ []) ++ tail) (append_assoc u.0 flag (T ++ R) ∙ sym u.2)
       (omega (arith, a, l, s, e, t, now, so_many))
 
   part-long : 8 * length c.as_sent ≡ length u.0 + 8 + length part.0
-  part-long = let a = ap length part.1 in let l = length-append u.0 flag in let b = length-append (u.0 ++ flag) part.0 in let s = sent-long in omega (arith, a, l, b, s)
+  part-long = let a = ap length part.1 in let l = length-append u.0 flag in let b = length-append (u.0 ++ flag) part.0 in let s = length-bits c.as_sent in omega (arith, a, l, b, s)
 
   rest : (rest : List Bool) × (T ≡ part.0 ++ rest) × (bits (value ∷ []) ++ tail ≡ rest ++ R)
   rest =

@@ -1,22 +1,11 @@
 -- Rows of a link: what is put as it comes to a state that awaits an answer, how that is answered, and which state the answer leaves.
-use Rattle.std.proofs.Common.{arith, ◌≡◌, ◌≤◌, ℕ, zero, suc, ◌&&◌, ◌||◌, not, Bool, true, false, cond, List, [], ◌∷◌, ◌++◌, length, take, drop, refl, sym, ap, ◌∙◌, subst, ◌⊎◌, inl, inr}
-use Rattle.std.proofs.lemmas.Bool.{true≢false, ne_eqb}
-use Rattle.lapd_frame.specs.declared.controls.Control.{Control}
-use Rattle.lapd_frame.specs.declared.controls.Control.TheVariants.{ReceiveReady, ReceiveNotReady, Sabme, Disc, Ua, Dm}
+use Rattle.laws_time.proofs.Vocabulary.{AwaitingEstablishment, AwaitingRelease, Bool, Control, ControlFrame, Disc, Dm, Established, Link, LinkEvent as Event, LinkTimer, List, Parts, ReceiveNotReady, ReceiveReady, Received, Sabme, State, TeiAssigned, Terms, TimerRecovery, Ua, [], answers, answers_to, ap, arith, as_command, as_heard, as_response, by_received, by_request, command_in, commands}
+use Rattle.laws_time.proofs.Vocabulary.{cond, drop, event-follows, expired, false, inl, inr, is_faulty, is_multiple_frame, is_overlong, is_time, length, link_after as after, link_runs as runs, ne_eqb, not, offer, overlong, put, receipt_as, received, refl, requested, room, state_after, state_number, subst, suc, sym, take, to_disc, to_sabme, told, true, true≢false, zero, ℕ, ◌&&◌, ◌++◌, ◌||◌, ◌∙◌}
+use Rattle.laws_time.proofs.Vocabulary.{◌∷◌, ◌≡◌, ◌≤◌, ◌⊎◌}
 use Rattle.lapd_frame.specs.declared.readings.Reading.{Reading}
-use Rattle.lapd_frame.specs.Grammar.{Parts}
-use Rattle.model_link.specs.declared.frames.ControlFrame.{ControlFrame}
-use Rattle.model_link.specs.declared.states.State.{State}
-use Rattle.model_link.specs.declared.states.State.TheVariants.{TeiAssigned, AwaitingEstablishment, AwaitingRelease, Established, TimerRecovery}
-use Rattle.model_link.specs.declared.terms.Terms.{Terms}
-use Rattle.model_link.specs.declared.timers.LinkTimer.{LinkTimer}
-use Rattle.model_link.specs.Events.{Event, Received, Request, received, requested, expired, offer, frame, overlong}
-use Rattle.model_link.specs.Link.{Link, state_number, is_multiple_frame, may_repeat}
-use Rattle.model_link.specs.Machine.{after, told}
-use Rattle.model_link.specs.Told.{runs}
-use Rattle.laws_link.specs.States.{as_heard, state_after, is_overlong, by_received, by_frame, by_request, by_expiry, is_faulty}
-use Rattle.laws_link.specs.Waiting.{answers, answers_to, command_in, commands, is_time, put, room, as_command, as_response, receipt_as, to_sabme, to_disc}
-use Rattle.laws_link.proofs.Follows.{event-follows}
+use Rattle.model_link.specs.Events.{Request, frame}
+use Rattle.model_link.specs.Link.{may_repeat}
+use Rattle.laws_link.specs.States.{by_frame, by_expiry}
 
 -- A supervisory command with P=1 enquires, and such a response with F=1 replies.
 abbrev pub enquires : Bool → Control → Bool

@@ -1,23 +1,11 @@
 -- A beat without noise, after an end came to a state in which it waits for an answer: its command is on its way, or the answer is.
-use Rattle.std.proofs.Common.{arith, true, ◌≡◌, ℕ, ◌+◌, ◌/◌, ◌≤◌, List, [], ◌∷◌, ◌++◌, length, Option, Some, None, refl, sym, ap, ◌∙◌, subst, ◌⊎◌, inl, inr, length-append, replicate}
-use Rattle.std.specs.Option.{unwrap_or, option_map_or}
-use Rattle.std.proofs.lemmas.Bool.{cases_eq}
-use Rattle.std.proofs.lemmas.List.{length-replicate}
-use Rattle.lapd_frame.specs.Grammar.{Parts}
+use Rattle.laws_time.proofs.Vocabulary.{Beat, Clocked, IsClean, IsClearAt, IsFit, IsTalk, Line, Link, LinkEvent, List, None, OctetEndpoint, Option, Parts, Port, Some, TimedEndpoint, TimedOctetCard, [], ap, arith, beat, cases_eq, comes_to, fresh, gained, gone, happens, heard_side, inl, inr, is_multiple_frame, length, length-append, length-replicate, option_map_or, own_side, port_of, refl}
+use Rattle.laws_time.proofs.Vocabulary.{replicate, same_Some, sides-turned, state_at, state_number, subst, sym, terms, true, unwrap_or, without_first_octet, ℕ, ◌++◌, ◌+◌, ◌/◌, ◌∙◌, ◌∷◌, ◌≡◌, ◌≤◌, ◌⊎◌}
 use Rattle.model_link.specs.Events as link
-use Rattle.model_link.specs.Events.{Event as LinkEvent}
-use Rattle.model_link.specs.Link.{Link, state_number, is_multiple_frame}
 use Rattle.model_link.specs.Machine as links
-use Rattle.model_line.specs.Heard.{heard_side}
-use Rattle.model_line.specs.Taken.{own_side}
-use Rattle.model_line.specs.Line.{terms}
 use Rattle.model_card.specs.ports.Port as port
-use Rattle.model_card.specs.ports.Port.{Port, gained}
-use Rattle.model_timed.specs.Octets.{TimedOctetCard, fresh}
-use Rattle.laws_order.specs.circuit.Circuit.{Endpoint as OctetEndpoint, port_of}
 use Rattle.laws_order.specs.circuit.Circuit as circuit
-use Rattle.laws_wire.proofs.Spelled.{sides-turned}
-use Rattle.laws_time.proofs.OfCircuit.AnsweredBeat.{same-some, DueHere, from-here, to-here, due-kept, asks-moved, asks-kept, still-kept}
+use Rattle.laws_time.proofs.OfCircuit.AnsweredBeat.{DueHere, from-here, to-here, due-kept, asks-moved, asks-kept, still-kept}
 use Rattle.laws_time.proofs.OfCircuit.AnsweredBeats.{Beaten, PairAt, near-come, far-come, near-pulls, far-pulls, beaten, comes-pulled, comes-heard}
 use Rattle.laws_time.proofs.OfCircuit.AnsweredDue.{Due, IsNow, due-heard, due-soon}
 use Rattle.laws_time.proofs.OfCircuit.AnsweredEnds.{lost, lost-more, DueAt, due-moved, due-pull, text-low}
@@ -29,9 +17,7 @@ use Rattle.laws_time.proofs.OfCircuit.LongEnough.{by_now, soon, near-low, near-h
 use Rattle.laws_time.proofs.OfCircuit.Open.{ring, half}
 use Rattle.laws_time.proofs.OfCircuit.Standing.{Ends, IsOwn, Moved, fine}
 use Rattle.laws_time.proofs.OfCircuit.Under.{state-here}
-use Rattle.laws_time.specs.circuit.Answered.{IsClean, state_at}
-use Rattle.laws_time.specs.circuit.Clocked.{TimedEndpoint, Clocked, Beat, gone, beat, happens, comes_to, without_first_octet}
-use Rattle.laws_time.specs.circuit.LongEnough.{Line, IsFit, IsTalk, IsClearAt, is_of}
+use Rattle.laws_time.specs.circuit.LongEnough.{is_of}
 
 -- So many octets were heard.
 count-of : (way clean : ℕ) (p q : Port) (transit : List ℕ) (h : Comes way clean p transit q) (n : ℕ) → length p.given ≡ n + 1 → length transit ≡ way + 1 → length h.before + length h.as_sent ≡ n
@@ -208,12 +194,12 @@ module _ (l : Line) (fit : IsFit l) (n : ℕ) (x : Exchange n) (start clean base
     -- the states after the beat
     pub near-state : (n : ℕ) → state_at l u.near ≡ Some n → state_number near_mv.ends.its.state ≡ n
     near-state n is =
-        same-some (state_number near_mv.ends.its.state) n
+        same_Some (state_number near_mv.ends.its.state) n
         (sym (state-here l.near l.service l.tei 0 fit.call.near.0 l.lengths l.rate near_then.at near_mv.ends) ∙ ap (state_at l) (sym near-is) ∙ is)
 
     far-state : (n : ℕ) → state_at l u.far ≡ Some n → state_number far_mv.ends.its.state ≡ n
     far-state n is =
-        same-some (state_number far_mv.ends.its.state) n
+        same_Some (state_number far_mv.ends.its.state) n
         (sym (state-here l.far l.service l.tei 0 fit.call.far.0 l.far_lengths l.rate far_then.at far_mv.ends) ∙ ap (state_at l) (sym far-is) ∙ is)
 
     module _ (is_waiting : state_at l u.near ≡ Some n) (is_up : n ≡ 8 → (state_at l u.far ≡ Some 7) ⊎ (state_at l u.far ≡ Some 8)) (near_few : lost u.near.at ≤ base) (far_few : lost u.far.at ≤ other_base)
@@ -311,7 +297,7 @@ module _ (l : Line) (fit : IsFit l) (n : ℕ) (x : Exchange n) (start clean base
           near-after (due-pull l.near l.service l.tei 0 fit.call.near.0 x.asking start asked_by l.way w.beats n1.at near1 (near-pulls l fit w y.pair b talk) (omega (arith, given)) (kept.1 few-before.0))
       stage-then was (inr due) =
           let given = far-given in
-          let number = same-some (state_number p.near_ok.but.ends.its.state) n (sym (state-here l.near l.service l.tei 0 fit.call.near.0 l.lengths l.rate w.near.at p.near_ok.but.ends) ∙ was) in
+          let number = same_Some (state_number p.near_ok.but.ends.its.state) n (sym (state-here l.near l.service l.tei 0 fit.call.near.0 l.lengths l.rate w.near.at p.near_ok.but.ends) ∙ was) in
           let still = near-walk (λ p y. x.Still y.state) base (still-kept l.near l.service l.tei fit.call.near.0 l.lengths l.rate n x start asked_by l.way) y.near_low
           (λ few. x.still_in p.near_ok.but.ends.its.state number) in
           let kept = far-walk (λ p y. Due (is_of x.answering l.far) start answered_by l.way w.beats p (ring l.far l.service l.tei 0 fit.call.far.0 y)) other_base

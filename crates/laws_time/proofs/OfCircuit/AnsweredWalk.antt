@@ -1,45 +1,21 @@
 -- What holds of the port and the link of an end stays so as layer 3 asks and timers fall due there, as long as no frame is lost.
-use Rattle.std.proofs.Common.{arith, ◌≡◌, ℕ, zero, suc, ◌+◌, ◌*◌, ◌<◌, ◌≤◌, true, false, List, [], ◌∷◌, length, Option, Some, None, refl, sym, ap, ◌∙◌, subst, All, inl, inr}
-use Rattle.std.specs.Prelude.{fold}
-use Rattle.std.specs.Option.{option_map_or}
-use Rattle.std.proofs.lemmas.Bool.{true≢false}
-use Rattle.std.proofs.lemmas.List.Elements.{All-nil, All-head, All-tail}
-use Rattle.lapd_clock.specs.Timer.{Lengths}
-use Rattle.lapd_clock.specs.Timers.{Expiry}
-use Rattle.lapd_frame.specs.declared.services.Service.{Service}
-use Rattle.lapd_frame.specs.declared.timers.Timer.{Timer}
+use Rattle.laws_time.proofs.Vocabulary.{All, All-nil, AreOctets, ClearBusy, Config, Data, Establish, Expiry, IsInRange, IsOfLink, Lengths, Link, LinkEvent, LinkTimer, List, OctetEndpoint, Port, Release, Request, Service, SetBusy, Some, T200, T203, TimedEndpoint, Timer, aim_of_expiry, aim_of_request, ap, arith, asks, at_requested, at_timer, comes_to, contents_given, due, falls, false, inl, inr}
+use Rattle.laws_time.proofs.Vocabulary.{is_timer_of, place_in, port_of, refl, subst, sym, terms, true, true≢false, ℕ, ◌*◌, ◌+◌, ◌<◌, ◌∙◌, ◌≡◌, ◌≤◌}
 use Rattle.lapd_frame.specs.declared.timers.Timer.TheVariants as timers
-use Rattle.model_bits.specs.StuffingLaws.{AreOctets}
 use Rattle.model_link.specs.Events as link
-use Rattle.model_link.specs.Events.{Event as LinkEvent}
-use Rattle.model_link.specs.Link.{Link}
 use Rattle.model_link.specs.Machine as links
-use Rattle.model_link.specs.declared.timers.LinkTimer.{LinkTimer}
-use Rattle.model_link.specs.declared.timers.LinkTimer.TheVariants.{T200, T203}
-use Rattle.model_line.specs.Expiry.{aim_of_expiry, at_timer}
-use Rattle.model_line.specs.Line.{Line, place_in, terms}
-use Rattle.model_line.specs.Request.{Request, Establish, Release, SetBusy, ClearBusy, Data}
-use Rattle.model_line.specs.Requested.{aim_of_request, at_requested}
-use Rattle.model_line.specs.Sound.{IsInRange}
-use Rattle.model_line.specs.declared.config.Config.{Config}
+use Rattle.model_line.specs.Line.{Line}
 use Rattle.model_card.specs.ports.Port as port
-use Rattle.model_card.specs.ports.Port.{Port}
-use Rattle.model_timed.specs.Clock.{due}
-use Rattle.laws_trace.specs.FramesAreRead.{contents_given}
-use Rattle.laws_trace.specs.TimersAreTimely.{is_timer_of}
-use Rattle.laws_order.specs.circuit.Circuit.{Endpoint as OctetEndpoint, port_of}
 use Rattle.laws_order.specs.circuit.Circuit as circuit
-use Rattle.laws_time.proofs.OfCircuit.Acts.{IsSoon, soon-then, fell-goes, own-same}
+use Rattle.laws_time.proofs.OfCircuit.Acts.{IsSoon, soon-then, fell-goes, own-same, asks-goes}
 use Rattle.laws_time.proofs.OfCircuit.AnsweredEnds.{lost, lost-more, lost-asked, lost-expired, its-same}
 use Rattle.laws_time.proofs.OfCircuit.AnsweredRows.{IsOwnEvent}
-use Rattle.laws_time.proofs.OfCircuit.Beats.{Counts, comes-on}
-use Rattle.laws_time.proofs.OfCircuit.Ends.{Rests, at_time, first-of}
+use Rattle.laws_time.proofs.OfCircuit.Beats.{Counts, at-moment}
+use Rattle.laws_time.proofs.OfCircuit.Ends.{Rests, first-of}
 use Rattle.laws_time.proofs.OfCircuit.Orders.{RunsOurs}
 use Rattle.laws_time.proofs.OfCircuit.Standing.{Ends, Moved, ends-asked, ends-expired}
 use Rattle.laws_time.proofs.OfCircuit.Under.{EndOk}
-use Rattle.laws_time.specs.circuit.Clocked.{TimedEndpoint, asks, falls, comes_to}
-unfoldable use Rattle.laws_time.specs.circuit.Clocked.{fall_due}
-use Rattle.laws_time.specs.circuit.LongEnough.{IsOfLink, asked}
+use Rattle.laws_time.proofs.OfCircuit.Keeping.{comes-keep}
 
 module _ (c : Config) (service : Service) (tei : ℕ) (ranged : IsInRange c) (lengths : Lengths) (rate : ℕ) where
   abbrev pub EndsAt : OctetEndpoint → Type 0
@@ -116,35 +92,31 @@ module _ (c : Config) (service : Service) (tei : ℕ) (ranged : IsInRange c) (le
         by-timer timers.T201 ours = absurd (true≢false (sym ours))
         by-timer timers.T202 ours = absurd (true≢false (sym ours))
 
-      all-asked-kept : (rs : List Request) (a : TimedEndpoint) (h : EndsAt a.at) → Kept a.at h → All (IsOfLink service tei) rs → (k : EndsAt (fold asks a rs).at) → Kept (fold asks a rs).at k
-      all-asked-kept [] a h x all k = kept-same a.at h k x
-      all-asked-kept (r ∷ rs) a h x all k =
-          let one = asks-kept a.at h x r (All-head (IsOfLink service tei) r rs all) in
-          all-asked-kept rs (asks a r) one.0 one.1 (All-tail (IsOfLink service tei) r rs all) k
+      -- As the moment comes, it goes on so.
+      record On (M : ℕ) (u : TimedEndpoint) : Type 0 where
+        S' : ℕ
+        ok : EndAt S' M u
+        soon : IsSoon c service tei 0 ranged lengths rate u
+        kept : Kept u.at ok.but.ends
 
-      fall-then : (n S M : ℕ) (a : TimedEndpoint) (ok : EndAt S M a) → IsSoon c service tei 0 ranged lengths rate a → Kept a.at ok.but.ends
-          → ((S' : ℕ) (u : TimedEndpoint) (ok : EndAt S' M u) → IsSoon c service tei 0 ranged lengths rate u → Kept u.at ok.but.ends → (k : EndsAt (fall_due n u).at) → Kept (fall_due n u).at k)
-          → (o : Option Expiry) → due a.clock ≡ o → (k : EndsAt (fall_due n (option_map_or (falls a) o a)).at) → Kept (fall_due n (option_map_or (falls a) o a)).at k
-      fall-then n S M a ok soon x rest None is k = rest S a ok soon x k
-      fall-then n S M a ok soon x rest (Some y) is k =
-          let one = fell-goes c service tei 0 ranged lengths rate a S M ok soon y is in
-          let then = by-timer a.at ok.but.ends x y.timer (first-of (RunsOurs service tei) a.clock.running a.clock.now y ok.but.ours is) in
-          rest one.S' (falls a y) one.ok (soon-then c service tei 0 ranged lengths rate S M a (falls a y) one soon) (kept-same (falls a y).at then.0 one.ok.but.ends then.1) k
+      on-asked : (M : ℕ) (r : Request) (u : TimedEndpoint) → IsOfLink service tei r → On M u → On M (asks u r)
+      on-asked M r u is y =
+          let one = asks-goes c service tei 0 ranged lengths rate u y.S' M y.ok y.soon r is in
+          let then = asks-kept u.at y.ok.but.ends y.kept r is in
+          record { S' = one.S'; ok = one.ok; soon = soon-then c service tei 0 ranged lengths rate y.S' M u (asks u r) one y.soon; kept = kept-same (asks u r).at then.0 one.ok.but.ends then.1 }
 
-      all-fall-kept : (n S M : ℕ) (a : TimedEndpoint) (ok : EndAt S M a) → IsSoon c service tei 0 ranged lengths rate a → Kept a.at ok.but.ends → (k : EndsAt (fall_due n a).at) → Kept (fall_due n a).at k
-      unfolding fall_due
-      all-fall-kept zero S M a ok soon x k = kept-same a.at ok.but.ends k x
-      all-fall-kept (suc n) S M a ok soon x k = fall-then n S M a ok soon x (λ S' u ok soon x k. all-fall-kept n S' M u ok soon x k) (due a.clock) refl k
+      on-fell : (M : ℕ) (e : Expiry) (u : TimedEndpoint) → due u.clock ≡ Some e → On M u → On M (falls u e)
+      on-fell M e u is y =
+          let one = fell-goes c service tei 0 ranged lengths rate u y.S' M y.ok y.soon e is in
+          let then = by-timer u.at y.ok.but.ends y.kept e.timer (first-of (RunsOurs service tei) u.clock.running u.clock.now e y.ok.but.ours is) in
+          record { S' = one.S'; ok = one.ok; soon = soon-then c service tei 0 ranged lengths rate y.S' M u (falls u e) one y.soon; kept = kept-same (falls u e).at then.0 one.ok.but.ends then.1 }
 
       -- The moment comes.
       module _ (transit moment n S M : ℕ) (rs : List Request) (a : TimedEndpoint) (h : EndAt S M a) (rests : Rests a) (low : a.clock.now ≤ moment) (high : moment ≤ a.clock.now + 1)
           (counts : Counts service tei transit lengths rate c ranged n a) (soon : n + 1 ≤ (moment + 1) * rate) (all : All (IsOfLink service tei) rs) where
         pub comes-kept : Kept a.at h.but.ends → (k : EndsAt (comes_to moment rs a).at) → Kept (comes_to moment rs a).at k
-        unfolding fall_due
         comes-kept x k =
-            let t = at_time moment a in
-            let u = asked moment rs a in
-            let none = comes-on service tei transit lengths rate c ranged moment n S M rs a h rests low high counts soon all 0 in
+            let ok = at-moment service tei transit lengths rate c ranged moment n S M rs a h rests low high counts soon all in
             let given = counts.given in
-            all-fall-kept (length u.clock.running) none.S' M u none.ok (soon-then c service tei 0 ranged lengths rate S M t u none (omega (arith, given, soon)))
-            (all-asked-kept rs t h.but.ends x all none.ok.but.ends) k
+            let y = comes-keep (On M) (IsOfLink service tei) (on-asked M) (on-fell M) moment rs all a (record { S' = S; ok = ok; soon = omega (arith, given, soon); kept = kept-same a.at h.but.ends ok.but.ends x }) in
+            kept-same (comes_to moment rs a).at y.ok.but.ends k y.kept

@@ -1,23 +1,11 @@
 -- An end of the circuit as a station of frames, after each event: layer 3 hears the same there, except what was dropped.
-use Rattle.std.proofs.Common.{arith, ◌≡◌, ℕ, true, false, cond, List, [], ◌++◌, Option, Some, None, option_map, refl, sym, ap, ◌∙◌, subst, append-nil}
-use Rattle.std.specs.Prelude.{flat_map}
-use Rattle.std.proofs.lemmas.Grind.{flat_map-append}
-use Rattle.std.proofs.lemmas.List.{set-get_or}
-use Rattle.lapd_frame.specs.declared.timers.Timer.{Timer}
+use Rattle.laws_time.proofs.Vocabulary.{FrameEndpoint, LineTold, List, None, OctetEndpoint, Option, Request, Some, Timer, [], ap, append-nil, as_endpoint, asked-as, cond, false, flat_map, flat_map-append, for_layer_3, fresh_line, gained, heard-as, if_meant, is_due, line_after, line_answer, option_map, port_of, pulled-as, refl, set-get_or, subst, sym, takes_slot, true, ℕ, ◌++◌, ◌∙◌, ◌≡◌}
 use Rattle.model_bits.specs.Stream as stream
 use Rattle.model_line.specs.Event as line
-use Rattle.model_line.specs.Event.{LineTold}
-unfoldable use Rattle.model_line.specs.Machine.{answer as line_answer, after as line_after, takes_slot}
-use Rattle.model_line.specs.Line.{fresh_line}
-use Rattle.model_line.specs.Request.{Request}
-unfoldable use Rattle.model_card.specs.ports.Card.{after, answer, meant}
 use Rattle.model_card.specs.ports.Port as port
-use Rattle.model_card.specs.ports.Port.{gained, is_due}
-use Rattle.laws_wire.specs.Losing.{for_layer_3}
 use Rattle.laws_wire.specs.Wire as wire
-use Rattle.laws_wire.specs.Wire.{Endpoint as FrameEndpoint}
-use Rattle.laws_order.specs.circuit.Circuit.{Endpoint as OctetEndpoint, port_of, happens}
-use Rattle.laws_order.proofs.OfCircuit.AsFrames.{as_endpoint, if_meant, heard-as, asked-as, pulled-as}
+use Rattle.laws_order.specs.circuit.Circuit.{happens}
+use Rattle.laws_time.proofs.OfCircuit.Standing.{expired-reply}
 
 abbrev pub heard_of : List LineTold → List LineTold
 heard_of ts = flat_map for_layer_3 ts
@@ -57,13 +45,9 @@ pub asked-becomes : (r : Request) (way : List (List ℕ)) (s : OctetEndpoint) (t
     → Becomes (wire.happens (line.request r) (station way ts s)) way (happens (port.request r) s)
 asked-becomes r way s ts heard = stirred (line.request r) way way s (happens (port.request r) s) (asked-as r s way) ts heard
 
-pub expired-as : (timer : Timer) (s : OctetEndpoint) (way : List (List ℕ)) → as_endpoint way (happens (port.expiry timer) s) ≡ wire.happens (line.expiry timer) (as_endpoint way s)
-unfolding after answer meant line_answer takes_slot
-expired-as timer s way = grind (arith, append-nil)
-
 pub expired-becomes : (timer : Timer) (way : List (List ℕ)) (s : OctetEndpoint) (ts : List LineTold) → heard_of ts ≡ heard_of s.told
     → Becomes (wire.happens (line.expiry timer) (station way ts s)) way (happens (port.expiry timer) s)
-expired-becomes timer way s ts heard = stirred (line.expiry timer) way way s (happens (port.expiry timer) s) (expired-as timer s way) ts heard
+expired-becomes timer way s ts heard = stirred (line.expiry timer) way way s (happens (port.expiry timer) s) (expired-reply timer s way) ts heard
 
 -- A pull, with which a frame is called for, or not.
 pub due-becomes : (way : List (List ℕ)) (s : OctetEndpoint) (ts : List LineTold) → heard_of ts ≡ heard_of s.told → is_due (port_of s) ≡ true
@@ -84,9 +68,6 @@ undue-becomes way s ts heard due =
 module _ (value : ℕ) (way : List (List ℕ)) (s : OctetEndpoint) (ts : List LineTold) (heard : heard_of ts ≡ heard_of s.told) where
   abbrev u : OctetEndpoint
   u = happens (port.octet value) s
-
-  abbrev got : Option stream.Event
-  got = gained s.card.card.config.n201 (port_of s).received value
 
   as-got : (o : Option stream.Event) → gained s.card.card.config.n201 (port_of s).received value ≡ o → as_endpoint way (happens (port.octet value) s) ≡ if_meant (option_map line.hears o) (as_endpoint way s)
   as-got o is = heard-as value s way ∙ ap (λ o. if_meant (option_map line.hears o) (as_endpoint way s)) is

@@ -1,30 +1,13 @@
 -- A beat of the clocked circuit is done on a wire of frames, and T200 is long enough there.
-use Rattle.std.proofs.Common.{arith, ◌≡◌, ℕ, ◌+◌, ◌*◌, ◌/◌, ◌≤◌, List, length, drop, refl, sym, ap, subst, All}
-use Rattle.std.specs.Prelude.{fold}
-use Rattle.model_link.specs.TwoEnds.{Endpoint as LinkEndpoint}
-use Rattle.model_line.specs.Event.{LineTold}
-use Rattle.model_line.specs.Heard.{heard_side}
-use Rattle.model_line.specs.Request.{Request}
-use Rattle.model_line.specs.Sound.{IsInRange}
-use Rattle.model_line.specs.Taken.{own_side}
+use Rattle.laws_time.proofs.Vocabulary.{All, Beat, Clocked, FrameEndpoint, HasNo, IsClearAt, IsInRange, IsTalk, Line, LineTold, LinkEndpoint, List, Port, Request, RunsLong, StationStands, TimedEndpoint, TimedOctetCard, Wire, answered_in, ap, arith, asks, beat, card_of, comes_to, drop, fall_due, fold, frames_among, fresh, gone, happens, heard_side, hears, is_final, length, own_side, port_of}
+use Rattle.laws_time.proofs.Vocabulary.{refl, subst, sym, ℕ, ◌*◌, ◌+◌, ◌/◌, ◌≡◌, ◌≤◌}
 use Rattle.model_card.specs.ports.Port as port
-use Rattle.model_card.specs.ports.Codec.{frames_among}
-use Rattle.model_card.specs.ports.Port.{Port, gained, is_due, item_of}
-use Rattle.model_timed.specs.Octets.{TimedOctetCard, fresh}
-use Rattle.laws_time.specs.circuit.Ends.{card_of}
 use Rattle.laws_time.proofs.OfCircuit.Fallen.{is_t200, is_t203, fallen}
-use Rattle.laws_link.specs.two.Timely.{HasNo}
-use Rattle.laws_wire.specs.Timely.{is_final}
-use Rattle.laws_wire.specs.Wire.{Endpoint as FrameEndpoint, Wire}
-use Rattle.laws_wire.proofs.Standing.{StationStands}
-use Rattle.laws_order.specs.circuit.Circuit.{port_of}
-use Rattle.laws_time.specs.circuit.Clocked.{TimedEndpoint, Clocked, Beat, happens, asks, hears, comes_to, gone, beat, fall_due}
-use Rattle.laws_time.specs.circuit.LongEnough.{Line, RunsLong, IsTalk, IsClearAt, IsFrame, answered_in}
 use Rattle.laws_time.proofs.OfCircuit.ArrivAs.{station, heard_of}
 use Rattle.laws_time.proofs.OfCircuit.ArrivFair.{IsFair}
 use Rattle.laws_time.proofs.OfCircuit.ArrivHeard.{IsKeptAt, Hears, hears-so}
 use Rattle.laws_time.proofs.OfCircuit.ArrivOpen.{parts, are-own, stands, has-none}
-use Rattle.laws_time.proofs.OfCircuit.ArrivPath.{Manner, Path, count, path-as, path-none, path-both, path-on, path-one, path-turned}
+use Rattle.laws_time.proofs.OfCircuit.ArrivPath.{Manner, Path, path-as, path-none, path-both, path-on, path-turned}
 use Rattle.laws_time.proofs.OfCircuit.ArrivPulls.{PulledTo, pulls-to, heard-port}
 use Rattle.laws_time.proofs.OfCircuit.ArrivSide.{Stood, After, all-comes, fair-happens}
 use Rattle.laws_time.proofs.OfCircuit.ArrivWay.{Going, going-with, before-long}
@@ -32,7 +15,6 @@ use Rattle.laws_time.proofs.OfCircuit.Beats.{at-moment, Gone}
 use Rattle.laws_time.proofs.OfCircuit.Ends.{Leads, leads-both, at_time, time-comes}
 use Rattle.laws_time.proofs.OfCircuit.LongEnough.{Pair, by_now, long-ago, near-in-all, far-in-all, in-all, near-low, near-high, far-low, far-high, soon, near-comes, far-comes, near-gone, far-gone}
 use Rattle.laws_time.proofs.OfCircuit.Standing.{bare}
-use Rattle.laws_time.proofs.OfCircuit.Under.{EndOk}
 
 module _ (l : Line) (some : 1 ≤ l.rate) (near : IsInRange l.near) (far : IsInRange l.far) (opposite : own_side l.far ≡ heard_side l.near) (size : l.near.n201 ≡ l.far.n201)
     (t200 : RunsLong l l.lengths × RunsLong l l.far_lengths) (t u : TimedOctetCard) where
@@ -69,18 +51,9 @@ module _ (how : Manner) (l : Line) (some : 1 ≤ l.rate) (near : IsInRange l.nea
   abbrev its_by_now : ℕ → ℕ
   its_by_now S = by_now l some near far opposite size t200 t u S
 
-  abbrev NearOk : ℕ → ℕ → TimedEndpoint → Type 0
-  NearOk S M a = EndOk l.near l.service l.tei 0 near l.lengths l.rate S M a
-
-  abbrev FarOk : ℕ → ℕ → TimedEndpoint → Type 0
-  FarOk S M a = EndOk l.far l.service l.tei 0 far l.far_lengths l.rate S M a
-
   module _ (w : Clocked) (p : PairNow l some near far opposite size t200 t u w) (b : Beat) (talk : IsTalk l b) where
     abbrev n : ℕ
     n = w.beats
-
-    abbrev moment : ℕ
-    moment = w.beats / l.rate
 
     its-soon : w.beats + 1 ≤ (w.beats / l.rate + 1) * l.rate
     its-soon = soon l some near far opposite size t200 t u w p b talk
@@ -140,12 +113,6 @@ module _ (how : Manner) (l : Line) (some : 1 ≤ l.rate) (near : IsInRange l.nea
           (both : All (λ r. Rattle.laws_time.specs.circuit.LongEnough.IsOfLink l.service l.tei r × Rattle.laws_time.proofs.OfCircuit.ArrivPath.MayAsk how l.service l.tei r) rs)
           (far_both : All (λ r. Rattle.laws_time.specs.circuit.LongEnough.IsOfLink l.service l.tei r × Rattle.laws_time.proofs.OfCircuit.ArrivPath.MayAsk how l.service l.tei r) b.far_asks)
           (fair : IsFair (gone l.rate b w).near.at.told) (far_fair : IsFair (gone l.rate b w).far.at.told) where
-        near_came : TimedEndpoint
-        near_came = comes_to (w.beats / l.rate) b.near_asks w.near
-
-        abbrev pub asked_near : TimedEndpoint
-        asked_near = fold asks a rs
-
         abbrev pub t200s : ℕ
         t200s = fallen is_t200 (length (fold asks a rs).clock.running) (fold asks a rs)
 

@@ -1,27 +1,9 @@
 -- The circuit begins as a call on a wire, as soon as it is asked for.
-use Rattle.std.proofs.Common.{◌≡◌, ℕ, ◌/◌, ◌<◌, ◌≤◌, List, [], ◌∷◌, ◌++◌, length, drop, sym, ap, subst, All}
-use Rattle.std.proofs.lemmas.List.Elements.{All-nil, All-head, All-tail}
-use Rattle.std.proofs.lemmas.List.Sums.{fold-append}
-use Rattle.lapd_clock.specs.Timer.{Lengths, AreInRange}
+use Rattle.laws_time.proofs.Vocabulary.{All, All-head, All-nil, All-tail, AreAsked, AreClear, AreInRange, Assign, Beat, Clocked, Config, Establish, FrameEndpoint, IsClearAt, IsFit, IsIdle as AsksNothing, IsInRange, IsOfLink, IsTalk, Lengths, Line, List, Ran, Request, Service, TimedEndpoint, [], after, ap, asked, asked-as, asked-way, beat, begins, calls, comes_to, drop, endpoint, flags}
+use Rattle.laws_time.proofs.Vocabulary.{fold-append, gone, hears, length, obeyed, octet_endpoint, port_of, stopped, subst, sym, ℕ, ◌++◌, ◌/◌, ◌<◌, ◌∷◌, ◌≡◌, ◌≤◌}
 use Rattle.model_line.specs.Event as line
-use Rattle.model_line.specs.Event.{LineTold}
-use Rattle.model_line.specs.Request.{Request, Establish, Assign}
-use Rattle.model_line.specs.Sound.{IsInRange}
-use Rattle.model_line.specs.declared.config.Config.{Config}
-use Rattle.model_timed.specs.Clock.{obeyed, stopped}
 use Rattle.laws_wire.specs.Call as call
 use Rattle.laws_wire.specs.Wire as wire
-use Rattle.laws_wire.specs.Wire.{Endpoint as FrameEndpoint, Wire}
-use Rattle.laws_order.specs.circuit.Circuit.{port_of}
-use Rattle.laws_order.specs.circuit.Through.{octet_endpoint}
-use Rattle.laws_order.proofs.OfCircuit.AsFrames.{asked-as}
-use Rattle.laws_order.proofs.OfCircuit.Projected.{asked-way}
-use Rattle.laws_order.proofs.OfCircuit.Ran.{Ran}
-use Rattle.lapd_frame.specs.declared.services.Service.{Service}
-use Rattle.laws_time.specs.circuit.Arriving.{calls, AreAsked, IsIdle as AsksNothing}
-use Rattle.laws_time.specs.circuit.Clocked.{TimedEndpoint, Clocked, Beat, hears, comes_to, gone, beat, after, flags, endpoint}
-use Rattle.laws_time.specs.circuit.LongEnough.{Line, IsFit, IsTalk, IsOfLink, IsClearAt, begins, asked}
-unfoldable use Rattle.laws_time.specs.circuit.LongEnough.{AreClear}
 use Rattle.laws_time.proofs.OfCircuit.ArrivAs.{station, heard_of}
 use Rattle.laws_time.proofs.OfCircuit.ArrivPulls.{heard-port}
 use Rattle.laws_time.proofs.OfCircuit.ArrivIdle.{IsIdle, comes-none, idle-at, pulls-idle, hears-idle}
@@ -31,7 +13,7 @@ use Rattle.laws_time.proofs.OfCircuit.ArrivWay.{Going, going-with}
 use Rattle.laws_time.proofs.OfCircuit.Beats.{Gone}
 use Rattle.laws_time.proofs.OfCircuit.Began.{port-is, none-ordered}
 use Rattle.laws_time.proofs.OfCircuit.InTime.{PairNow, near_card, far_card, pair-begins}
-use Rattle.laws_time.proofs.OfCircuit.LongEnough.{pair-then, near-comes, far-comes, near-gone, far-gone, by_now}
+use Rattle.laws_time.proofs.OfCircuit.LongEnough.{pair-then, near-comes, far-comes, near-gone, far-gone, by_now, clear-parts}
 
 assigned-as : (c : Config) (number way tei : ℕ) (lengths : Lengths) → let s = endpoint c number lengths way tei in station [] s.at.told s.at ≡ call.assigned c number tei
 assigned-as c number way tei lengths = asked-as (Assign tei) (record (octet_endpoint c number) { way = flags way }) []
@@ -122,9 +104,6 @@ module _ (l : Line) (fit : IsFit l) where
       abbrev vf : TimedEndpoint
       vf = (gone l.rate b w).far
 
-      abbrev size : l.near.n201 ≡ l.far.n201
-      size = fit.call.opposite.1
-
       near_has : Gone l.service l.tei l.way l.lengths l.rate l.near fit.call.near.0 (w.beats / l.rate) w.beats h.pair.S
           (by_now l fit.some fit.call.near.0 fit.call.far.0 fit.call.opposite.0 fit.call.opposite.1 fit.t200 (near_card l fit) (far_card l fit) h.pair.S2) (gone l.rate b w).near
       near_has =
@@ -170,17 +149,12 @@ module _ (l : Line) (fit : IsFit l) where
   all-idle (b ∷ before) all w h clear =
       all-idle before (All-tail AsksNothing b before all) (beat l.rate w b) (idle-beat w b h (All-head AsksNothing b before all) clear.0 clear.1) clear.2
 
-  pub clear-parts : (before rest : List Beat) (w : Clocked) → AreClear l (before ++ rest) w → AreClear l before w × AreClear l rest (after l.rate before w)
-  unfolding AreClear
-  clear-parts [] rest w clear = (tt, clear)
-  clear-parts (b ∷ before) rest w clear = let more = clear-parts before rest (beat l.rate w b) clear.2 in ((clear.0, clear.1, more.0), more.1)
-
   pub reached-by : (how : Manner) (before : List Beat) (b : Beat) (bs : List Beat) → All AsksNothing before → AreAskedSo how l b → All (AreAskedSo how l) bs → AreClear l (before ++ calls l b ∷ bs) (begins l)
       → AreKept how l (calls l b ∷ bs) (after l.rate before (begins l)) → IsFairBoth (after l.rate (before ++ calls l b ∷ bs) (begins l))
       → ReachedSome how l fit (call.calling l.service l.tei l.near l.near_line l.far l.far_line) (after l.rate (before ++ calls l b ∷ bs) (begins l))
   reached-by how before b bs nothing are_asked all clear kept fair =
       let v = after l.rate before (begins l) in
-      let parts = clear-parts before (calls l b ∷ bs) (begins l) clear in
+      let parts = clear-parts l before (calls l b ∷ bs) (begins l) clear in
       let h = all-idle before nothing (begins l) idle-begins parts.0 in
       let both : after l.rate (before ++ calls l b ∷ bs) (begins l) ≡ after l.rate (calls l b ∷ bs) v = fold-append (beat l.rate) (begins l) before (calls l b ∷ bs) in
       subst (ReachedSome how l fit (call.calling l.service l.tei l.near l.near_line l.far l.far_line)) (sym both)

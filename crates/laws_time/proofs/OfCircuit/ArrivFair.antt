@@ -1,28 +1,8 @@
 -- Which errors are told as T200 expires: those by which N200 is used up.
-use Rattle.std.proofs.Common.{arith, ◌≡◌, ℕ, ◌||◌, Bool, true, false, List, [], ◌∷◌, ◌++◌, refl, sym, ap, ◌∙◌, subst, append-nil}
-use Rattle.std.specs.Prelude.{flat_map}
-use Rattle.std.specs.List.{list_any}
-use Rattle.std.proofs.lemmas.Grind.{flat_map-append}
-use Rattle.std.proofs.lemmas.List.Folds.{list_any-append}
-use Rattle.lapd_frame.specs.declared.notes.ErrorCode.{ErrorCode}
-use Rattle.lapd_frame.specs.declared.notes.Note.{Note}
-use Rattle.lapd_frame.specs.declared.services.Service.{Service}
+use Rattle.laws_time.proofs.Vocabulary.{Config, Course, ErrorCode, FrameEndpoint as Endpoint, LineTold, Link, LinkEndpoint, List, MayRepeat, Note, Service, StationStands, T200, TellNoError, Terms, [], ap, append-nil, arith, course, error_in, expired, expires-said, expiry, false, flat_map, flat_map-append, heard_by, is_error, is_used_up, list_any, list_any-append, or_parts, refl, said_by, subst}
+use Rattle.laws_time.proofs.Vocabulary.{sym, ℕ, ◌++◌, ◌∙◌, ◌∷◌, ◌≡◌}
 use Rattle.lapd_frame.specs.declared.timers.Timer.TheVariants as timers
-use Rattle.model_link.specs.Events.{expired}
-use Rattle.model_link.specs.Link.{Link}
-use Rattle.model_link.specs.Machine.{course}
-use Rattle.model_link.specs.Steps.{Course}
-use Rattle.model_link.specs.TwoEnds.{Endpoint as LinkEndpoint}
-use Rattle.model_link.specs.declared.terms.Terms.{Terms}
-use Rattle.model_link.specs.declared.timers.LinkTimer.TheVariants.{T200}
-use Rattle.model_line.specs.Event.{LineTold, expiry}
-use Rattle.model_line.specs.declared.config.Config.{Config}
-use Rattle.laws_wire.specs.Losing.{is_error, TellNoError}
-use Rattle.laws_wire.specs.Timely.{MayRepeat}
-use Rattle.laws_wire.specs.Wire.{Endpoint, answered, told_by}
-use Rattle.laws_wire.proofs.Speaking.{heard_by, said_by}
-use Rattle.laws_wire.proofs.Standing.{StationStands, expires-said}
-use Rattle.laws_time.specs.circuit.Arriving.{error_in, is_used_up}
+use Rattle.laws_wire.specs.Wire.{answered, told_by}
 
 abbrev pub codes : List LineTold → List ErrorCode
 codes ts = flat_map error_in (flat_map (λ (t : LineTold). t.notes) ts)
@@ -35,13 +15,9 @@ codes-append ts us =
     ap (flat_map error_in) (flat_map-append (λ (t : LineTold). t.notes) ts us)
     ∙ flat_map-append error_in (flat_map (λ (t : LineTold). t.notes) ts) (flat_map (λ (t : LineTold). t.notes) us)
 
-pub neither : (a b : Bool) → (a || b) ≡ false → (a ≡ false) × (b ≡ false)
-neither true b is = absurd (cc is)
-neither false b is = (refl, is)
-
 pub fair-parts : (ts us : List LineTold) → IsFair (ts ++ us) → IsFair ts × IsFair us
 fair-parts ts us is =
-    neither (list_any is_used_up (codes ts)) (list_any is_used_up (codes us))
+    or_parts (list_any is_used_up (codes ts)) (list_any is_used_up (codes us))
     (sym (list_any-append is_used_up (codes ts) (codes us)) ∙ ap (list_any is_used_up) (sym (codes-append ts us)) ∙ is)
 
 -- A link whose T200 expires.

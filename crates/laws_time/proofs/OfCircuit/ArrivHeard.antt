@@ -1,22 +1,10 @@
 -- An octet of the other end comes, or noise in its place: at the stations a frame comes, or is lost, or nothing happens.
-use Rattle.std.proofs.Common.{arith, ◌≡◌, ℕ, ◌+◌, List, [], ◌∷◌, ◌++◌, length, drop, Option, Some, None, refl, ap, ◌∙◌, subst, ◌⊎◌, inl, inr}
-use Rattle.std.specs.Option.{unwrap_or}
-use Rattle.lapd_frame.specs.declared.services.Service.{Service}
+use Rattle.laws_time.proofs.Vocabulary.{Config, FrameEndpoint, IsFrame, IsInRange, LineTold, List, None, OctetEndpoint, Option, Ran, Service, Some, TimedEndpoint, Wire, [], ap, arith, came, drop, gained, hears, inl, inr, length, loses, port_of, receives, refl, subst, turned, unwrap_or, ℕ, ◌++◌, ◌+◌, ◌∙◌, ◌∷◌, ◌≡◌, ◌⊎◌}
 use Rattle.model_bits.specs.Stream as stream
-use Rattle.model_line.specs.Came.{came}
 use Rattle.model_line.specs.Event as line
-use Rattle.model_line.specs.Event.{LineTold}
-use Rattle.model_line.specs.Sound.{IsInRange}
-use Rattle.model_line.specs.declared.config.Config.{Config}
 use Rattle.model_card.specs.ports.Port as port
-use Rattle.model_card.specs.ports.Port.{gained}
 use Rattle.laws_wire.specs.Wire as wire
-use Rattle.laws_wire.specs.Wire.{Endpoint as FrameEndpoint, Wire, receives, loses, turned}
-use Rattle.laws_order.specs.circuit.Circuit.{Endpoint as OctetEndpoint, port_of}
 use Rattle.laws_order.specs.circuit.Circuit as circuit
-use Rattle.laws_order.proofs.OfCircuit.Ran.{Ran}
-use Rattle.laws_time.specs.circuit.Clocked.{TimedEndpoint, hears}
-use Rattle.laws_time.specs.circuit.LongEnough.{IsFrame}
 use Rattle.laws_time.proofs.OfCircuit.ArrivAs.{station, heard_of, Becomes, none-becomes, frame-becomes, dropped-becomes}
 use Rattle.laws_time.proofs.OfCircuit.ArrivPath.{Manner, MayLose, Path, path-none, path-one, path-turned}
 use Rattle.laws_time.proofs.OfCircuit.ArrivWay.{Going, IsNoFrame, Comes, Loses, comes}

@@ -1,45 +1,20 @@
 -- Before the call nothing is asked: no frame goes, no timer runs, and nothing is told but what noise makes.
-use Rattle.std.proofs.Common.{arith, ◌≡◌, ℕ, ◌+◌, ◌<◌, ◌≤◌, Bool, true, false, cond, List, [], ◌∷◌, ◌++◌, length, drop, Option, Some, None, option_map, refl, sym, ap, ◌∙◌, subst, inl, inr, append-nil}
-use Rattle.std.specs.Prelude.{set}
-use Rattle.std.specs.Option.{option_map_or, unwrap_or}
-use Rattle.std.proofs.lemmas.List.{set-get_or}
+use Rattle.laws_time.proofs.Vocabulary.{Bool, Config, FrameEndpoint, IsFrame, IsInRange, List, None, OctetEndpoint, Option, Ran, Request, Service, Some, StationStands, Taken, TimedEndpoint, [], answered, ap, append-nil, arith, as_endpoint, at, comes_to, cond, drop, fall_due, false, fresh_line, fresh_link, gained, gave, gives-none, happens, hears, inl, inr, is_due, length, line_after}
+use Rattle.laws_time.proofs.Vocabulary.{line_answer, line_at, next, next_of, obeyed, octet_at, octet_orders, option_map, option_map_or, orders_in, port_of, refl, set, set-get_or, subst, sym, taken, takes_slot, true, unwrap_or, ℕ, ◌++◌, ◌+◌, ◌<◌, ◌∙◌, ◌∷◌, ◌≡◌, ◌≤◌}
 use Rattle.model_bits.specs.Stream as stream
-use Rattle.model_link.specs.Link.{fresh as fresh_link}
 use Rattle.model_line.specs.Event as line
-use Rattle.model_line.specs.Event.{LineTold, gave, next}
-use Rattle.model_line.specs.Laws.{orders_in}
-use Rattle.model_line.specs.Line.{fresh_line}
-unfoldable use Rattle.model_line.specs.Machine.{answer as line_answer, after as line_after, takes_slot}
-use Rattle.model_line.specs.Request.{Request}
-use Rattle.model_line.specs.Sound.{IsInRange}
-use Rattle.model_line.specs.Taken.{Taken, taken, next_of, line_of}
-use Rattle.model_line.specs.declared.config.Config.{Config}
-use Rattle.model_card.specs.Card.{line_at}
-use Rattle.model_card.specs.Event.{at}
+use Rattle.model_line.specs.Taken.{line_of}
 use Rattle.model_card.specs.Machine as machine
-use Rattle.model_card.specs.ports.Event.{at as octet_at}
 use Rattle.model_card.specs.ports.Port as port
-use Rattle.model_card.specs.ports.Port.{gained, is_due}
-use Rattle.model_timed.specs.Clock.{obeyed}
-use Rattle.model_timed.specs.Octets.{orders_in as octet_orders}
 use Rattle.laws_wire.specs.Call as call
 use Rattle.laws_wire.specs.Wire as wire
-use Rattle.laws_wire.specs.Wire.{Endpoint as FrameEndpoint}
 use Rattle.laws_wire.proofs.Beginning.{answers}
-use Rattle.laws_wire.proofs.Standing.{StationStands, gives-none}
-use Rattle.laws_order.specs.circuit.Circuit.{Endpoint as OctetEndpoint, port_of, answered}
 use Rattle.laws_order.specs.circuit.Circuit as circuit
-use Rattle.laws_order.proofs.OfCircuit.AsFrames.{as_endpoint}
-use Rattle.laws_order.proofs.OfCircuit.Ran.{Ran}
-use Rattle.laws_time.specs.circuit.Clocked.{TimedEndpoint, happens, hears, comes_to}
-unfoldable use Rattle.laws_time.specs.circuit.Clocked.{fall_due}
-use Rattle.laws_time.specs.circuit.LongEnough.{IsFrame}
 use Rattle.laws_time.proofs.OctetsMean.{meant_at, orders-are}
 use Rattle.laws_time.proofs.OfCircuit.ArrivAs.{station, heard_of, Becomes, none-becomes, dropped-becomes, due-becomes, undue-becomes}
 use Rattle.laws_time.proofs.OfCircuit.ArrivWay.{Going, IsNoFrame, Comes, comes, pulled-way}
 use Rattle.laws_time.proofs.OfCircuit.Ends.{at_time}
 use Rattle.laws_time.proofs.OfCircuit.Standing.{bare}
-use Rattle.lapd_frame.specs.declared.services.Service.{Service}
 
 -- A call for the next frame that gives none leaves the station.
 pub untaken : (s : FrameEndpoint) → wire.answered next s ≡ gave None → wire.happens next s ≡ s

@@ -1,31 +1,14 @@
 -- With no octets in transit and no noise each frame that is heard was given; so a run meets the premises of `calls_bear_noise`.
-use Rattle.std.proofs.Common.{arith, ◌≡◌, ℕ, ◌<◌, ◌/◌, List, [], ◌∷◌, ◌++◌, length, drop, replicate, Option, Some, None, refl, sym, ap, ◌∙◌, subst, All, append_assoc}
-use Rattle.std.proofs.lemmas.List.Elements.{All-nil, All-cons, All-append, All-head, All-tail}
-use Rattle.model_bits.specs.StuffingLaws.{AreOctets}
+use Rattle.laws_time.proofs.Vocabulary.{All, All-append, All-cons, All-head, All-nil, All-replicate, All-tail, AreAsked, AreClear, AreOctets, Beat, Call, Clocked, Config, Establish, IsAsked, IsClearAt, IsFit, IsIdle, IsInRange, IsOfLink, IsTalk, Line, List, None, OctetEndpoint, Option, Port, Ran, Some, TimedEndpoint, [], answer, ap, append_assoc, arith, asked, asked-way, beat, begins, calls}
+use Rattle.laws_time.proofs.Vocabulary.{comes_to, contents_at, drop, flags, fresh_port, goes-on, gone, heard-way, hears, length, next_octet, octet_at as at, octet_endpoint, plain, port-after, port_of, refl, replicate, said, subst, sym, with_item, within-ports, without_first_octet, ℕ, ◌++◌, ◌/◌, ◌<◌, ◌∙◌, ◌∷◌, ◌≡◌}
 use Rattle.model_line.specs.Event as line
-use Rattle.model_line.specs.Request.{Request, Establish}
-use Rattle.model_line.specs.Sound.{IsInRange}
-use Rattle.model_line.specs.declared.config.Config.{Config}
-unfoldable use Rattle.model_card.specs.ports.Card.{answer, meant}
-use Rattle.model_card.specs.ports.Card.{said}
-use Rattle.model_card.specs.ports.Event.{at}
 use Rattle.model_card.specs.ports.Port as port
-use Rattle.model_card.specs.ports.Port.{Port, fresh_port, gained, with_item, with_octet, next_octet}
-use Rattle.laws_order.specs.circuit.Circuit.{Endpoint as OctetEndpoint, port_of}
 use Rattle.laws_order.specs.circuit.Circuit as circuit
-use Rattle.laws_order.specs.circuit.Through.{octet_endpoint}
-use Rattle.laws_order.proofs.OfCircuit.Projected.{port-after, heard-way, asked-way}
-use Rattle.laws_order.proofs.OfCircuit.Ran.{Ran, goes-on, within-ports}
-use Rattle.laws_time.specs.circuit.Arriving.{IsIdle, IsAsked, AreAsked, calls}
-use Rattle.laws_time.specs.circuit.Clocked.{TimedEndpoint, Clocked, Beat, plain, hears, without_first_octet, comes_to, gone, beat, flags, contents_at}
-use Rattle.laws_time.specs.circuit.LongEnough.{Line, IsFit, IsTalk, IsOfLink, IsClearAt, asked, begins}
-unfoldable use Rattle.laws_time.specs.circuit.LongEnough.{AreClear}
 use Rattle.laws_time.specs.circuit.WorkedArriving.{its_line, is_fit, sends, talks, talked, none_used, no_errors, has_places}
 use Rattle.laws_time.proofs.OfCircuit.ArrivLaw.{calls-bear-noise}
 use Rattle.laws_time.proofs.OfCircuit.Began.{port-is}
 use Rattle.laws_time.proofs.OfCircuit.InTime.{PairNow, near_card, far_card, pair-begins}
 use Rattle.laws_time.proofs.OfCircuit.LongEnough.{pair-then, near-comes, far-comes}
-use Rattle.lapd_frame.specs.declared.services.Service.TheVariants.{Call}
 
 -- All that an end gave was received by the other, or is in transit.
 abbrev IsStraight : OctetEndpoint → OctetEndpoint → Type 0
@@ -175,18 +158,10 @@ module _ (l : Line) (fit : IsFit l) where
             (asked-way (Rattle.model_line.specs.Request.Assign l.tei) (record (octet_endpoint l.far l.far_line) { way = flags l.way })),
       )
 
--- The run of `WorkedArriving`.
-all-same : (P : Beat → Type 0) (n : ℕ) (b : Beat) → P b → All P (replicate n b)
-all-same P n b is = go n
-  where
-    go : (n : ℕ) → All P (replicate n b)
-    go Rattle.std.specs.Prelude.zero = All-nil P
-    go (Rattle.std.specs.Prelude.suc n) = All-cons P b (replicate n b) is (go n)
-
 talks-all : (P : Beat → Type 0) → P plain → P sends → All P talks
-talks-all P first then = All-append P (replicate 15 plain) (sends ∷ replicate 20 plain) (all-same P 15 plain first) (All-cons P sends (replicate 20 plain) then (all-same P 20 plain first))
+talks-all P first then = All-append P (replicate 15 plain) (sends ∷ replicate 20 plain) (All-replicate P 15 plain first) (All-cons P sends (replicate 20 plain) then (All-replicate P 20 plain first))
 
-octet : AreOctets (0xAB ∷ [])
+pub octet : AreOctets (0xAB ∷ [])
 octet = All-cons (λ octet. octet < 256) 0xAB [] (omega arith) (All-nil (λ octet. octet < 256))
 
 its-data : IsAsked its_line (Rattle.model_line.specs.Request.Data Call 0 (0xAB ∷ []))

@@ -1,38 +1,11 @@
 -- No frame of a kind is under way from an end that gave all of that kind: neither on its way, nor waiting.
-use Rattle.std.proofs.Common.{arith, ◌≡◌, ℕ, ◌+◌, ◌*◌, ◌≤◌, ◌<◌, ◌||◌, Bool, true, false, List, [], ◌∷◌, ◌++◌, map, length, Option, Some, None, refl, sym, ap, ◌∙◌, subst, All, inl, inr, append-nil, length-append}
-use Rattle.std.specs.List.{list_any}
-use Rattle.std.proofs.lemmas.List.{append_cancel_left, map-append}
-use Rattle.std.proofs.lemmas.List.Elements.{All-nil, All-cons, All-head, All-tail}
-use Rattle.lapd_frame.specs.declared.controls.Control.{Control}
-use Rattle.lapd_frame.specs.declared.services.Service.{Service}
-use Rattle.lapd_frame.specs.Grammar.{Parts}
-use Rattle.lapd_frame.specs.Senders.{reading, spelling}
-use Rattle.model_bits.specs.Sent.{Item, idle, frame}
-use Rattle.model_bits.specs.Stream.{Event, frame as stream_frame, heard_in}
-use Rattle.model_link.specs.declared.frames.ControlFrame.{ControlFrame}
-use Rattle.model_link.specs.Sound.{IsSound as LinkIsSound, IsWaitingFrame}
-use Rattle.model_link.specs.TwoEnds.{Endpoint as LinkEndpoint}
-use Rattle.model_line.specs.Event.{LineTold}
-use Rattle.model_line.specs.Line.{terms}
-use Rattle.model_line.specs.Sound.{IsInRange}
-use Rattle.model_line.specs.Taken.{own_side}
-use Rattle.model_line.specs.declared.config.Config.{Config}
-use Rattle.model_card.proofs.OfPorts.LastItem.{IsCut}
-use Rattle.model_card.proofs.OfPorts.PortGoesOn.{frames_among-append}
-use Rattle.model_card.specs.ports.Codec.{frames_among}
-use Rattle.model_card.specs.ports.Port.{Port, gained}
-use Rattle.laws_link.specs.two.Timely.{HasNo}
-use Rattle.laws_wire.specs.Facing.{parts_of}
-use Rattle.laws_wire.proofs.Standing.{IsCarried, StationStands, link-sound}
-use Rattle.laws_order.specs.circuit.Circuit.{Endpoint as OctetEndpoint, port_of}
-use Rattle.laws_order.proofs.OfCircuit.AsFrames.{as_endpoint}
-use Rattle.laws_order.proofs.OfCircuit.OneWay.{framed, Carries, none-heard, one-heard}
+use Rattle.laws_time.proofs.Vocabulary.{All, All-cons, All-head, All-nil, All-tail, Bool, Carries, Config, Control, ControlFrame, HasNo, IsCarried, IsInRange, IsWaitingFrame, LineTold, LinkIsSound, List, None, OctetEndpoint, Option, Parts, Service, Some, StationStands, StreamEvent as Event, [], ap, append-nil, append_cancel_left, arith, as_endpoint, false, framed, frames_among, gained, heard_in}
+use Rattle.laws_time.proofs.Vocabulary.{length, length-append, link-sound, list_any, map, none-heard, one-heard, or-none, own_side, parts_of, port_of, reading, refl, spelling, subst, sym, terms, true, ℕ, ◌*◌, ◌++◌, ◌+◌, ◌<◌, ◌∙◌, ◌∷◌, ◌≡◌, ◌≤◌}
 use Rattle.laws_time.specs.circuit.LongEnough.{is_of}
 use Rattle.laws_time.proofs.OfCircuit.ArrivAs.{station}
 use Rattle.laws_time.proofs.OfCircuit.ArrivWay.{Going}
 use Rattle.laws_time.proofs.OfCircuit.Open.{ring, text-kind}
-use Rattle.laws_time.proofs.OfCircuit.Sender.{Fine, Sends, given-short, out, all-given, text_length}
-unfoldable use Rattle.laws_time.proofs.OfCircuit.Sender.{WaitIn}
+use Rattle.laws_time.proofs.OfCircuit.Sender.{Sends, given-short, out, text_length, last-is, WaitIn}
 use Rattle.laws_time.proofs.OfCircuit.Standing.{Ends, IsOwn, bare, fine}
 use Rattle.laws_time.proofs.OfCircuit.Taken.{text}
 
@@ -47,41 +20,6 @@ all-behind P fs [] gs is all = subst (All P) (same fs gs is) all
     same (f ∷ fs) (g ∷ gs) is = let one : f ≡ g = cc is in let more = same fs gs (cc is) in λ i. one i ∷ more i
 all-behind P [] (x ∷ xs) gs is all = absurd (cc is)
 all-behind P (f ∷ fs) (x ∷ xs) gs is all = all-behind P fs xs gs (cc is) (All-tail P f fs all)
-
-one-is : (xs : List Event) (e : Event) → [] ≡ xs ++ e ∷ [] → ⊥
-one-is [] e is = cc is
-one-is (x ∷ xs) e is = cc is
-
-last-same : (xs ys : List Event) (a b : Event) → xs ++ a ∷ [] ≡ ys ++ b ∷ [] → a ≡ b
-last-same [] [] a b is = cc is
-last-same [] (y ∷ ys) a b is = absurd (one-is ys b (cc is))
-last-same (x ∷ xs) [] a b is = absurd (one-is xs a (sym (cc is)))
-last-same (x ∷ xs) (y ∷ ys) a b is = last-same xs ys a b (cc is)
-
-same-frame : (f g : List ℕ) → stream_frame f ≡ stream_frame g → f ≡ g
-same-frame f g is = cc is
-
-none-more : (xs : List Event) (e : Event) → xs ≡ xs ++ e ∷ [] → ⊥
-none-more xs e is = let more = ap length is ∙ length-append xs (e ∷ []) in omega (arith, more)
-
--- The frame of which octets are still to be given is the last on the line.
-module _ (n201 : ℕ) (p : Port) (h : Fine n201 p) where
-  last-is : (f : List ℕ) → (out n201 p h).on_its_way ≡ f ∷ [] → IsCut p.items p.given → (front : List Item) × (p.items ≡ front ++ frame f ∷ [])
-  last-is f one (inl none) =
-      absurd (one-is (heard_in n201 p.given) (stream_frame f) (ap (λ items. framed (frames_among items)) (sym none) ∙ (out n201 p h).heard ∙ ap (λ fs. heard_in n201 p.given ++ framed fs) one))
-  last-is f one (inr x) = go x.last refl
-    where
-      go : (i : Item) → x.last ≡ i → (front : List Item) × (p.items ≡ front ++ frame f ∷ [])
-      go idle e =
-          let all = all-given n201 p h x.front (x.items_are ∙ ap (λ i. x.front ++ i ∷ []) e) in
-          absurd (none-more (heard_in n201 p.given) (stream_frame f) (sym all ∙ (out n201 p h).heard ∙ ap (λ fs. heard_in n201 p.given ++ framed fs) one))
-      go (frame g) e =
-          let items = x.items_are ∙ ap (λ i. x.front ++ i ∷ []) e in
-          let all = ap (λ is. framed (frames_among is)) items ∙ ap framed (frames_among-append x.front (frame g ∷ []))
-          ∙ map-append (λ octets. stream_frame octets) (frames_among x.front) (g ∷ []) in
-          let same = last-same (framed (frames_among x.front)) (heard_in n201 p.given) (stream_frame g) (stream_frame f)
-          (sym all ∙ (out n201 p h).heard ∙ ap (λ fs. heard_in n201 p.given ++ framed fs) one) in
-          (x.front, items ∙ ap (λ octets. x.front ++ frame octets ∷ []) (same-frame g f same))
 
 module _ (c : Config) (service : Service) (tei : ℕ) (ranged : IsInRange c) where
   -- ---- the frames on its way, as parts
@@ -111,10 +49,6 @@ module _ (c : Config) (service : Service) (tei : ℕ) (ranged : IsInRange c) whe
     pub are-own : All (IsOwn c service tei 0 ranged) there
     are-own = all-behind Own (frames_among (port_of s).items) (heard_in c.n201 goes.before) there goes.carries.are h.frames
 
-    -- The end of the link for which it stands.
-    abbrev pub link_end : LinkEndpoint
-    link_end = record (bare c service tei 0 ranged h.its) { way = parts there are-own }
-
     pub stands : (ts : List LineTold) → StationStands c service tei 0 (station there ts s) (record (bare c service tei 0 ranged h.its) { way = parts there are-own })
     stands ts = record {
       config = h.stands.config;
@@ -128,9 +62,6 @@ module _ (c : Config) (service : Service) (tei : ℕ) (ranged : IsInRange c) whe
 
     -- All of a kind was given before what is in transit.
     module _ (kind : Bool → Control → Bool) (most : ℕ) (ok : Sends c.n201 (is_of kind c) most (port_of s) (ring c service tei 0 ranged h.its)) (late : most < length goes.before) where
-      abbrev p : Port
-      p = port_of s
-
       abbrev IsNot : List ℕ → Type 0
       IsNot o = is_of kind c o ≡ false
 
@@ -206,17 +137,13 @@ module _ (c : Config) (service : Service) (tei : ℕ) (ranged : IsInRange c) whe
           by true e = let bound = w.0 (text-kind c service tei 0 ranged kind f (All-head (IsWaitingFrame (terms c service tei)) f ws all) ∙ e) in absurd (omega (arith, bound, long))
           by false e = refl
 
-      or-false : (b : Bool) → (b || false) ≡ b
-      or-false true = refl
-      or-false false = refl
-
       none-parts : (fs : List (List ℕ)) (all : All (IsOwn c service tei 0 ranged) fs) → All (λ o. is_of kind c o ≡ false) fs → All (λ (f : Parts). kind f.address.command f.control ≡ false) (parts fs all)
       unfolding parts
       none-parts [] all none = All-nil (λ (f : Parts). kind f.address.command f.control ≡ false)
       none-parts (o ∷ os) all none =
           let first = All-head Own o os all in
           All-cons (λ (f : Parts). kind f.address.command f.control ≡ false) first.0 (parts os (All-tail Own o os all))
-          (sym (or-false (kind first.0.address.command first.0.control))
+          (sym (or-none (kind first.0.address.command first.0.control))
           ∙ sym (ap (λ r. list_any (λ (f : Parts). kind f.address.command f.control) (parts_of r)) (ap (reading (own_side c)) first.1 ∙ first.2.carried.read)) ∙ All-head IsNot o os none)
           (none-parts os (All-tail Own o os all) (All-tail IsNot o os none))
 

@@ -1,21 +1,9 @@
 -- From one wire of two cards to another, by what is done in a call with losses, where T200 is long enough.
-use Rattle.std.proofs.Common.{arith, ◌≡◌, ℕ, ◌+◌, ◌&&◌, Bool, false, cond, List, [], ◌∷◌, ◌++◌, refl, sym, ap, ◌∙◌, subst, All}
-use Rattle.std.proofs.lemmas.List.Elements.{All-nil, All-cons, All-append, All-head, All-tail}
-use Rattle.lapd_frame.specs.declared.services.Service.{Service}
-use Rattle.model_line.specs.Request.{Request, Data}
-use Rattle.laws_wire.specs.Answering.{IsAsked, IsFullTalk, IsFullTalkOf}
-unfoldable use Rattle.laws_wire.specs.Answering.{StayPatient}
-use Rattle.laws_wire.specs.Arriving.{near_asks, far_asks, is_t200, runs_t200}
-use Rattle.laws_wire.specs.Call.{IsData}
+use Rattle.laws_time.proofs.Vocabulary.{All, All-append, All-cons, All-head, All-nil, All-tail, All-weaker, Bool, Data, EndStep as Step, IsAskedOfLink as IsAsked, IsData, IsFullTalk, IsFullTalkOf, IsTimelyOf, List, Request, Service, StayPatient, StepAt, Wire, [], acting, ap, arith, at_far, at_near, cond, doing, doing-append, expires, false, far_asks, is_t200, is_turn_of, loses, near_asks}
+use Rattle.laws_time.proofs.Vocabulary.{receives, refl, requests, runs_t200, sends, subst, sym, turned, wire_doing_all as doing_all, ℕ, ◌&&◌, ◌++◌, ◌+◌, ◌∙◌, ◌∷◌, ◌≡◌}
 unfoldable use Rattle.laws_wire.specs.Expiring.{how_often}
 use Rattle.laws_wire.specs.Losing.{IsOfLink}
-use Rattle.laws_wire.specs.Resting.{expiries_of}
-use Rattle.laws_wire.specs.Wire.{is_turn_of}
-unfoldable use Rattle.laws_wire.specs.Resting.{expiries}
-use Rattle.laws_wire.specs.Timely.{IsTimelyOf}
-use Rattle.laws_wire.specs.Wire.{Wire, Step, requests, expires, sends, receives, loses, StepAt, at_near, at_far, acting, turned, doing}
-unfoldable use Rattle.laws_wire.specs.Wire.{doing_all}
-use Rattle.laws_wire.proofs.RestedRounds.{doing-append}
+use Rattle.laws_wire.specs.Resting.{expiries_of, expiries}
 
 patient-append : (ds es : List StepAt) (w : Wire) → StayPatient ds w → StayPatient es (doing_all ds w) → StayPatient (ds ++ es) w
 unfolding StayPatient doing_all
@@ -71,11 +59,6 @@ module _ (service : Service) (tei : ℕ) where
   full-of how sends is = tt
   full-of how receives is = tt
   full-of how loses is = tt
-
--- Of all that is done.
-pub all-done : (P Q : StepAt → Type 0) → ((d : StepAt) → P d → Q d) → (ds : List StepAt) → All P ds → All Q ds
-all-done P Q so [] all = All-nil Q
-all-done P Q so (d ∷ ds) all = All-cons Q d ds (so d (All-head P d ds all)) (all-done P Q so ds (All-tail P d ds all))
 
 -- How often a timer expires in what is done in turn.
 abbrev pub count : Bool → ℕ
@@ -234,18 +217,4 @@ module _ (how : Manner) (service : Service) (tei : ℕ) where
 
   -- So all is of a full talk.
   pub talk-of : (w v : Wire) → {i j k n : ℕ} → (p : Path i j k n w v) → All (IsFullTalk service tei) p.steps
-  talk-of w v p = all-done (IsDone how service tei) (IsFullTalk service tei) full-one p.steps p.done
-
--- Data alone is asked for: so it is anything of a call.
-module _ (service : Service) (tei : ℕ) where
-  data-call : (d : StepAt) → IsDone of_data service tei d → IsDone of_call service tei d
-  data-call (at_near (requests r)) is = is-asked service tei r is
-  data-call (at_near (expires timer)) is = is
-  data-call (at_near sends) is = tt
-  data-call (at_near receives) is = tt
-  data-call (at_near loses) is = tt
-  data-call (at_far (requests r)) is = is-asked service tei r is
-  data-call (at_far (expires timer)) is = is
-  data-call (at_far sends) is = tt
-  data-call (at_far receives) is = tt
-  data-call (at_far loses) is = tt
+  talk-of w v p = All-weaker (IsDone how service tei) (IsFullTalk service tei) full-one p.steps p.done

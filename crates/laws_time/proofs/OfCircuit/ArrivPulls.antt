@@ -1,24 +1,10 @@
 -- A pull at an end and at its station: a frame is put on the line, or none; and what is heard leaves what was put there.
-use Rattle.std.proofs.Common.{arith, ◌≡◌, ℕ, ◌+◌, Bool, true, false, List, [], ◌∷◌, length, Option, None, Some, refl, ap, ◌∙◌, length-append}
-use Rattle.std.specs.Option.{unwrap_or}
-use Rattle.lapd_frame.specs.declared.services.Service.{Service}
+use Rattle.laws_time.proofs.Vocabulary.{Bool, Config, Fits, FrameEndpoint, IsInRange, LineTold, List, None, Option, Port, Ran, Service, Some, TimedEndpoint, [], ap, arith, as_endpoint, false, frames_among, given_in, happens, heard-way, hears, is_any, is_due, item_of, length, length-append, next_of_card, port-after, port_of, pull-between, pull-put, refl, sends, true, unwrap_or, within-ports, ℕ}
+use Rattle.laws_time.proofs.Vocabulary.{◌+◌, ◌∙◌, ◌∷◌, ◌≡◌}
 use Rattle.model_line.specs.Event as line
-use Rattle.model_line.specs.Event.{LineTold, given_in}
-use Rattle.model_line.specs.Sound.{IsInRange}
-use Rattle.model_line.specs.declared.config.Config.{Config}
 use Rattle.model_card.specs.ports.Port as port
-use Rattle.model_card.specs.ports.Codec.{frames_among}
-use Rattle.model_card.specs.ports.Port.{Port, gained, is_due, item_of}
-use Rattle.laws_order.proofs.OfCircuit.AtPort.{next_of_card, pull-between, pull-put}
 use Rattle.laws_order.proofs.OfCircuit.OneWay.{frames_among-append}
-use Rattle.laws_order.proofs.OfCircuit.Projected.{Fits}
 use Rattle.laws_wire.specs.Wire as wire
-use Rattle.laws_wire.specs.Wire.{Endpoint as FrameEndpoint, Wire, sends, turned, is_any}
-use Rattle.laws_order.specs.circuit.Circuit.{port_of}
-use Rattle.laws_order.proofs.OfCircuit.AsFrames.{as_endpoint}
-use Rattle.laws_order.proofs.OfCircuit.Projected.{port-after, heard-way}
-use Rattle.laws_order.proofs.OfCircuit.Ran.{Ran, within-ports}
-use Rattle.laws_time.specs.circuit.Clocked.{TimedEndpoint, happens, hears}
 use Rattle.laws_time.proofs.OfCircuit.ArrivAs.{station, heard_of, due-becomes, undue-becomes}
 use Rattle.laws_time.proofs.OfCircuit.ArrivPath.{Manner, Path, count, path-none, path-one}
 use Rattle.laws_time.proofs.OfCircuit.ArrivWay.{Going, pulled-way}
@@ -45,9 +31,6 @@ module _ (how : Manner) (service : Service) (tei : ℕ) (c : Config) (ranged : I
   pub pulls-to : PulledTo
   pulls-to = go (is_due (port_of a.at)) refl
     where
-      with : FrameEndpoint → Wire
-      with x = record { near = x; far = y }
-
       fits : Fits c.n201 c
       fits = record { ranged = ranged; size = refl }
 

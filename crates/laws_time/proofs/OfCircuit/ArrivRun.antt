@@ -1,24 +1,10 @@
 -- A call of the clocked circuit is one on a wire of frames, where T200 is long enough.
-use Rattle.std.proofs.Common.{arith, ◌≡◌, ℕ, ◌+◌, ◌/◌, Bool, List, [], ◌∷◌, length, Option, refl, sym, ◌∙◌, subst, All, inl, append-nil}
-use Rattle.std.proofs.lemmas.List.Elements.{All-nil, All-cons, All-head, All-tail}
-use Rattle.model_bits.specs.StuffingLaws.{AreOctets}
+use Rattle.laws_time.proofs.Vocabulary.{All, All-cons, All-head, All-nil, All-tail, AreAsked, AreClear, AreOctets, Beat, Bool, Carries, ClearBusy, Clocked, Data, Establish, FrameEndpoint, IsAsked, IsDataOf, IsFit, IsOfLink, IsTalk, Line, LineTold, List, Option, Port, Request, SetBusy, TimedEndpoint, Timer, Wire, [], after, answered_in, append-nil, arith, asked, asks, beat, calls, card_of}
+use Rattle.laws_time.proofs.Vocabulary.{comes_to, flags, fresh_port, gone, hears, inl, length, port_of, refl, subst, sym, unwrap_or, ℕ, ◌+◌, ◌/◌, ◌∙◌, ◌∷◌, ◌≡◌}
 use Rattle.model_line.specs.Event as line
-use Rattle.model_line.specs.Event.{LineTold}
-use Rattle.model_line.specs.Request.{Request, Establish, Data, SetBusy, ClearBusy}
 use Rattle.model_card.specs.ports.Port as port
-use Rattle.model_card.specs.ports.Port.{Port, fresh_port}
 use Rattle.laws_wire.specs.Wire as wire
-use Rattle.laws_wire.specs.Wire.{Endpoint as FrameEndpoint, Wire}
-use Rattle.laws_order.specs.circuit.Circuit.{port_of}
-use Rattle.laws_order.proofs.OfCircuit.OneWay.{Carries}
-use Rattle.laws_time.specs.circuit.Arriving.{calls, IsAsked, AreAsked}
-use Rattle.laws_time.specs.circuit.InBeats.{IsDataOf}
-use Rattle.laws_time.specs.circuit.Clocked.{TimedEndpoint, Clocked, Beat, asks, hears, comes_to, gone, beat, after, flags}
-use Rattle.lapd_frame.specs.declared.timers.Timer.{Timer}
-use Rattle.laws_time.proofs.OfCircuit.Fallen.{is_t200, is_t203, fallen_in}
-unfoldable use Rattle.laws_time.proofs.OfCircuit.Fallen.{near_fallen, far_fallen}
-use Rattle.laws_time.specs.circuit.LongEnough.{Line, IsFit, IsTalk, IsOfLink, asked, answered_in}
-unfoldable use Rattle.laws_time.specs.circuit.LongEnough.{AreClear}
+use Rattle.laws_time.proofs.OfCircuit.Fallen.{is_t200, is_t203, fallen_in, near_fallen, far_fallen}
 use Rattle.laws_time.proofs.OfCircuit.Acts.{Goes, asks-goes}
 use Rattle.laws_time.proofs.OfCircuit.ArrivAs.{station, heard_of, asked-becomes}
 use Rattle.laws_time.proofs.OfCircuit.ArrivBeat.{Same, Led, put_at, near-stood, beat-on, NearStood, ago, far_end, far-stands, far-finals}
@@ -29,10 +15,8 @@ use Rattle.laws_time.proofs.OfCircuit.ArrivSide.{fair-happens, fair-asks, fair-f
 use Rattle.laws_time.proofs.OfCircuit.ArrivWay.{Going}
 use Rattle.laws_time.proofs.OfCircuit.Ends.{Leads, at_time}
 use Rattle.laws_time.proofs.OfCircuit.InCallWalk.{event-walks}
-use Rattle.laws_time.specs.circuit.Ends.{card_of}
 use Rattle.laws_time.proofs.OfCircuit.InTime.{PairNow, near_card, far_card}
 use Rattle.laws_time.proofs.OfCircuit.LongEnough.{by_now, near-in-all, pair-then}
-use Rattle.std.specs.Option.{unwrap_or}
 
 -- What is told later leaves what was told.
 fair-hears : (noise : Option ℕ) (way : List ℕ) (a : TimedEndpoint) → IsFair (hears noise way a).at.told → IsFair a.at.told

@@ -1,22 +1,7 @@
 -- If T200 runs at an end, it runs at its link; so that one is not down.
-use Rattle.std.proofs.Common.{◌≡◌, ℕ, true, Option, Some, is_some, sym, ap, ◌∙◌}
-use Rattle.std.specs.Option.{option_map_or}
-use Rattle.std.proofs.lemmas.Bool.{true≢false}
-use Rattle.lapd_clock.specs.Moments.{moment_of}
-use Rattle.lapd_clock.specs.Timer.{Lengths}
-use Rattle.lapd_frame.specs.declared.services.Service.{Service}
+use Rattle.laws_time.proofs.Vocabulary.{Config, IsInRange, IsTimedCard, Lengths, Link, Option, Service, Some, T200, TeiAssigned, TimedEndpoint, ap, fresh_link as fresh, is_some, line_at, link_in, link_of, link_runs as runs, moment_of, needed_in, option_map_or, sym, true, true≢false, ℕ, ◌∙◌, ◌≡◌}
 use Rattle.lapd_frame.specs.declared.timers.Timer.TheVariants as timers
-use Rattle.model_link.specs.declared.states.State.TheVariants.{TeiAssigned}
-use Rattle.model_link.specs.declared.timers.LinkTimer.TheVariants.{T200}
-use Rattle.model_link.specs.Link.{Link, fresh}
-use Rattle.model_link.specs.Told.{runs}
-use Rattle.model_line.specs.Line.{Line, link_in, link_of}
-use Rattle.model_line.specs.Sound.{IsInRange}
-use Rattle.model_line.specs.declared.config.Config.{Config}
-use Rattle.model_card.specs.Card.{line_at}
-use Rattle.laws_link.specs.two.Needed.{needed_in}
-use Rattle.laws_time.specs.circuit.Clocked.{TimedEndpoint}
-use Rattle.laws_time.specs.circuit.Ends.{IsTimedCard}
+use Rattle.model_line.specs.Line.{Line}
 use Rattle.laws_time.proofs.OfCircuit.RestedClock.{has-timer, runs-t200}
 use Rattle.laws_time.proofs.OfCircuit.Standing.{Ends}
 

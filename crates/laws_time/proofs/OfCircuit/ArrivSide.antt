@@ -1,44 +1,15 @@
 -- What layer 3 asks at an end of the clocked circuit, and what falls due there, is done at the station for which it stands, where T200 is
 -- long enough.
-use Rattle.std.proofs.Common.{arith, ◌≡◌, ℕ, zero, suc, ◌+◌, ◌*◌, ◌≤◌, ◌<◌, ◌==◌, ◌||◌, ◌&&◌, Bool, true, false, List, [], ◌∷◌, length, Option, Some, None, refl, sym, ap, ◌∙◌, subst, All}
-use Rattle.std.specs.Prelude.{fold}
-use Rattle.std.specs.Option.{option_map_or}
-use Rattle.std.proofs.lemmas.List.Elements.{All-nil, All-cons, All-head, All-tail}
-use Rattle.lapd_clock.specs.Timer.{Lengths}
-use Rattle.lapd_clock.specs.Timers.{Expiry}
-use Rattle.lapd_frame.specs.declared.controls.Control.{Control}
-use Rattle.lapd_frame.specs.declared.services.Service.{Service}
-use Rattle.lapd_frame.specs.declared.timers.Timer.{Timer}
+use Rattle.laws_time.proofs.Vocabulary.{All, All-cons, All-head, All-nil, All-tail, Bool, Config, Control, ControlFrame, Expiry, FrameEndpoint, HasNo, IsInRange, IsLongEnough, IsOfLink, Lengths, LineTold, LinkEndpoint, List, None, Option, Parts, Request, Service, Some, StationStands, TimedEndpoint, Timer, Wire, [], ap, arith, asks, awaits_in, bit_of, card_of, due, expires, fall_due, falls}
+use Rattle.laws_time.proofs.Vocabulary.{false, fold, fresh, happens, is_final, is_poll, is_t200, is_timer_of, is_waiting, length, open-here, option_map_or, port_of, refl, requests, runs-is, runs_t200, state-is, state_number, subst, suc, sym, true, without_first, zero, ℕ, ◌&&◌, ◌*◌, ◌+◌, ◌<◌, ◌==◌, ◌||◌, ◌∙◌, ◌∷◌, ◌≡◌, ◌≤◌}
 use Rattle.lapd_frame.specs.declared.timers.Timer.TheVariants as timers
-use Rattle.lapd_frame.specs.Grammar.{Parts}
-use Rattle.model_link.specs.declared.frames.ControlFrame.{ControlFrame}
-use Rattle.model_link.specs.Link.{state_number}
-use Rattle.model_link.specs.TwoEnds.{Endpoint as LinkEndpoint}
 use Rattle.model_line.specs.Event as line
-use Rattle.model_line.specs.Event.{LineTold}
-use Rattle.model_line.specs.Request.{Request}
-use Rattle.model_line.specs.Sound.{IsInRange}
-use Rattle.model_line.specs.declared.config.Config.{Config}
 use Rattle.model_card.specs.ports.Port as port
-use Rattle.model_timed.specs.Clock.{due, without_first}
-use Rattle.model_timed.specs.Octets.{fresh}
-use Rattle.laws_link.specs.two.Timely.{HasNo}
-use Rattle.laws_trace.specs.TimersAreTimely.{is_timer_of}
-use Rattle.laws_wire.specs.Timely.{bit_of, is_poll, is_final, awaits_in, awaits_reply, IsLongEnough}
 use Rattle.laws_wire.specs.Wire as wire
-use Rattle.laws_wire.specs.Wire.{Endpoint as FrameEndpoint, Wire, requests, expires}
-use Rattle.laws_wire.proofs.Awaited.{open-here, runs-is, state-is}
-use Rattle.laws_wire.specs.Arriving.{is_t200, runs_t200}
-use Rattle.laws_wire.proofs.Standing.{StationStands}
-use Rattle.laws_order.specs.circuit.Circuit.{port_of}
-use Rattle.laws_time.specs.circuit.Clocked.{TimedEndpoint, happens, asks, falls}
-unfoldable use Rattle.laws_time.specs.circuit.Clocked.{fall_due}
-use Rattle.laws_time.specs.circuit.Ends.{card_of}
-use Rattle.laws_time.specs.circuit.LongEnough.{IsOfLink, is_waiting}
 use Rattle.laws_time.proofs.OfCircuit.Fallen as seldom
 unfoldable use Rattle.laws_time.proofs.OfCircuit.Fallen.{fallen}
 use Rattle.laws_time.proofs.OfCircuit.Acts.{Goes, asks-goes, fell-goes, soon-then, own-same}
-use Rattle.laws_time.proofs.OfCircuit.ArrivAs.{station, heard_of, Becomes, asked-becomes, expired-becomes, expired-as}
+use Rattle.laws_time.proofs.OfCircuit.ArrivAs.{station, heard_of, Becomes, asked-becomes, expired-becomes}
 use Rattle.laws_time.proofs.OfCircuit.ArrivFair.{IsFair, fair-parts, fair-may}
 use Rattle.laws_time.proofs.OfCircuit.ArrivOpen.{parts, are-own, stands, has-none}
 use Rattle.laws_time.proofs.OfCircuit.ArrivPath.{Manner, MayAsk, Path, count, path-as, path-none, path-both, path-one}
@@ -50,8 +21,9 @@ use Rattle.laws_time.proofs.OfCircuit.LongEnough.{due-is}
 use Rattle.laws_time.proofs.OfCircuit.Open.{half}
 use Rattle.laws_time.proofs.OfCircuit.Orders.{RunsOurs}
 use Rattle.laws_time.proofs.OfCircuit.ArrivRuns.{link-runs}
-use Rattle.laws_time.proofs.OfCircuit.Standing.{bare}
+use Rattle.laws_time.proofs.OfCircuit.Standing.{bare, expired-reply}
 use Rattle.laws_time.proofs.OfCircuit.Under.{EndOk}
+use Rattle.laws_time.proofs.OfCircuit.Keeping.{falls-keep}
 
 -- What is told later leaves what was told.
 pub fair-happens : (e : port.Event) (a : TimedEndpoint) → IsFair (happens e a).at.told → IsFair a.at.told
@@ -61,15 +33,9 @@ pub fair-asks : (rs : List Request) (a : TimedEndpoint) → IsFair (fold asks a 
 fair-asks [] a fair = fair
 fair-asks (r ∷ rs) a fair = fair-happens (port.request r) a (fair-asks rs (happens (port.request r) a) fair)
 
-fair-fell : (k : ℕ) (a : TimedEndpoint) → ((u : TimedEndpoint) → IsFair (fall_due k u).at.told → IsFair u.at.told) → (o : Option Expiry)
-    → IsFair (fall_due k (option_map_or (falls a) o a)).at.told → IsFair a.at.told
-fair-fell k a rest None fair = rest a fair
-fair-fell k a rest (Some x) fair = fair-happens (port.expiry x.timer) (record a { clock = without_first a.clock }) (rest (falls a x) fair)
-
 pub fair-falls : (k : ℕ) (a : TimedEndpoint) → IsFair (fall_due k a).at.told → IsFair a.at.told
-unfolding fall_due
-fair-falls zero a fair = fair
-fair-falls (suc k) a fair = fair-fell k a (fair-falls k) (due a.clock) fair
+fair-falls k a =
+    falls-keep (λ u. IsFair u.at.told → IsFair a.at.told) (λ x u is was fair. was (fair-happens (port.expiry x.timer) (record u { clock = without_first u.clock }) fair)) k a (λ fair. fair)
 
 -- A command with P=1 asks.
 poll-asks : (command : Bool) (control : Control) → asks_frame command control ≡ false → is_poll command control ≡ false
@@ -189,10 +155,6 @@ module _ (how : Manner) (service : Service) (tei : ℕ) (c : Config) (ranged : I
       let one = asks-one S a x h r first.0 first.1 in
       after-both x u (fold asks u rs) one (all-asks rs one.S u one.x' one.stood (All-tail IsBoth r rs all))
 
-  -- A timer falls due.
-  abbrev gone : TimedEndpoint → TimedEndpoint
-  gone a = record a { clock = without_first a.clock }
-
   module _ (S : ℕ) (a : TimedEndpoint) (x : FrameEndpoint) (h : Stood S a x) (e : Expiry) (falls_now : due a.clock ≡ Some e) where
     abbrev X : FrameEndpoint
     X = station h.there h.ts a.at
@@ -242,7 +204,7 @@ module _ (how : Manner) (service : Service) (tei : ℕ) (c : Config) (ranged : I
 
     t200-fell : e.timer ≡ timers.T200 service tei → IsFair (falls_so (timers.T200 service tei)).at.told → After 1 0 x (falls_so (timers.T200 service tei))
     t200-fell same fair =
-        let told = ap (λ (z : FrameEndpoint). z.told) (expired-as (timers.T200 service tei) a.at []) in
+        let told = ap (λ (z : FrameEndpoint). z.told) (expired-reply (timers.T200 service tei) a.at []) in
         fell-with (timers.T200 service tei) 1 0 (ap count (runs-so same)) refl same (refl, refl)
         (long same, fair-may service tei 0 c X its X-stands (fair-parts a.at.told (wire.told_by (wire.answered (line.expiry (timers.T200 service tei)) X)) (subst IsFair told fair)).1)
 

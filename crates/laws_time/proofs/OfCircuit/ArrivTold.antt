@@ -1,49 +1,15 @@
 -- What is told in a call with losses on a wire: which errors, and all data whose sender keeps nothing any more.
-use Rattle.std.proofs.Common.{arith, ◌≡◌, ℕ, ◌≤◌, ◌==◌, Bool, true, false, cond, List, [], ◌∷◌, ◌++◌, length, map, take, drop, Option, Some, None, Ok, refl, sym, ap, ◌∙◌, subst, All, ◌⊎◌, inl, inr, append-nil}
-use Rattle.std.specs.Prelude.{flat_map, option_to_list}
-use Rattle.std.proofs.lemmas.Bool.{true≢false}
-use Rattle.std.proofs.lemmas.Grind.{flat_map-append}
-use Rattle.std.proofs.lemmas.List.{length-drop, take_all}
-use Rattle.std.proofs.lemmas.List.Elements.{All-nil, All-cons, All-append, All-head, All-tail}
-use Rattle.lapd_frame.specs.declared.notes.ErrorCode.{ErrorCode}
-use Rattle.lapd_frame.specs.declared.notes.ErrorCode.TheVariants.{F}
-use Rattle.lapd_frame.specs.declared.refusals.Refusal.{Refusal}
-use Rattle.lapd_frame.specs.declared.services.Service.{Service}
+use Rattle.laws_time.proofs.Vocabulary.{All, All-append, All-cons, All-head, All-nil, All-tail, Bool, Called, CanCall, Config, ErrorCode, F, Face, FrameEndpoint as Endpoint, Held, IsBeginningOf, IsFullTalk, IsInRangeTerms as IsInRange, LineTold, Link, LinkEndpoint, List, None, Ok, Option, Room, Service, Some, StationStands, StayPatient, StepAt, Terms, ToldSo, Wire, [], all-left, ap, append-nil}
+use Rattle.laws_time.proofs.Vocabulary.{arith, at_far, at_near, bad_tei, behind, calling, cond, confirmed, data_told, doing, drop, end, error_f, expires, false, first_that_holds, flat_map, flat_map-append, for_layer_3, free_slots, front-none, indicated, inl, inr, length, length-drop, line_at, link-is, link-ranges, link-sound, link_of, loses, lossy-calls-come-through, map, nil_from_length}
+use Rattle.laws_time.proofs.Vocabulary.{no_link, not-told, option_to_list, patient-goes, queue_of, receives, refl, renewed, requests, rising-low, room_of, seeing, seen, sends, setting, subst, sym, take, take_all, takes_sabme, terms, true, true≢false, ua, uncalled, wire_doing_all as doing_all, with_before, with_sabme, ℕ, ◌++◌, ◌==◌, ◌∙◌, ◌∷◌, ◌≡◌, ◌≤◌, ◌⊎◌}
 use Rattle.model_link.proofs.Direction.{line_of}
-use Rattle.model_link.proofs.Lines.{rising-low}
-use Rattle.model_link.specs.Link.{Link, queue_of}
-use Rattle.model_link.specs.Room.{room_of}
-use Rattle.model_link.specs.TwoEnds.{Endpoint as LinkEndpoint}
-use Rattle.model_link.specs.declared.rooms.Room.{Room}
-use Rattle.model_link.specs.declared.terms.Terms.{Terms}
-use Rattle.model_line.specs.Event.{LineTold}
-use Rattle.model_line.specs.Line.{terms, link_of}
-use Rattle.model_line.specs.Refusal.{first_that_holds, bad_tei, no_link}
-use Rattle.model_line.specs.Room.{unless}
-use Rattle.model_line.specs.declared.config.Config.{Config}
-use Rattle.model_card.specs.Card.{line_at}
-use Rattle.model_card.specs.Room.{room, free as free_slots}
-use Rattle.laws_line.proofs.OfCard.Meanwhile.{all-left}
-use Rattle.laws_wire.specs.Answering.{IsFullTalk, Called, uncalled, with_sabme, takes_sabme, seeing, error_f, renewed, ToldSo}
-unfoldable use Rattle.laws_wire.specs.Answering.{StayPatient, seen}
-use Rattle.laws_wire.specs.Call.{CanCall, calling, confirmed, indicated, data_told, IsBeginningOf}
-use Rattle.laws_wire.specs.Losing.{for_layer_3, heard_in}
-use Rattle.laws_wire.specs.Wire.{Endpoint, Wire, requests, expires, sends, receives, loses, StepAt, at_near, at_far, doing}
-unfoldable use Rattle.laws_wire.specs.Wire.{doing_all}
-use Rattle.laws_wire.proofs.Awaited.{link-is}
-use Rattle.laws_wire.proofs.Calling.{end, ua}
-use Rattle.laws_wire.proofs.Held.{Held}
-use Rattle.laws_wire.proofs.LossyRun.{setting}
+use Rattle.model_card.specs.Room.{room}
+use Rattle.laws_wire.specs.Losing.{heard_in}
 use Rattle.laws_wire.proofs.Ringing.{answered}
-use Rattle.laws_wire.proofs.Standing.{StationStands, link-ranges, link-sound}
-use Rattle.laws_wire.proofs.Talking.{Face}
-use Rattle.laws_wire.proofs.UaBefore.{with_before}
-use Rattle.laws_wire.proofs.UaLost.{behind, not-told}
 use Rattle.laws_wire.proofs.UaLostRun as run
 use Rattle.laws_wire.proofs.UaPhases.{comes-none}
-use Rattle.laws_wire.proofs.UaTold.{lossy-calls-come-through, patient-goes}
-use Rattle.model_link.specs.Sound.{IsInRange}
 use Rattle.laws_time.proofs.OfCircuit.ArrivFair.{codes, codes-append}
+use Rattle.laws_time.proofs.OfCircuit.CaughtAll.{its-room}
 
 -- ---- codes and contents of what is told
 
@@ -87,10 +53,6 @@ pub contents-data : (service : Service) (tei : ℕ) (xs : List (List ℕ)) → c
 contents-data service tei [] = refl
 contents-data service tei (x ∷ xs) = ap (λ ys. x ∷ ys) (contents-data service tei xs)
 
-front-nil : (a b : List ErrorCode) → a ++ b ≡ [] → a ≡ []
-front-nil [] b e = refl
-front-nil (x ∷ a) b e = absurd (cc e)
-
 abbrev IsF : ErrorCode → Type 0
 IsF code = code ≡ F
 
@@ -124,7 +86,7 @@ module _ (service : Service) (tei : ℕ) where
           → ((told ++ news told sent ∷ [] ≡ []) × (cond sent granted g ≡ 0)) ⊎ (((told ++ news told sent ∷ [] ≡ indicated service tei ∷ []) × (cond sent granted g ≡ 0)) ⊎ (codes (told ++ news told sent ∷ []) ≡ [] → ⊥))
       go (inl (e, z)) = inr (inl (ap (λ ts. ts ++ news ts sent ∷ []) e, ap (λ b. cond b granted g) (quiet e) ∙ z))
       go (inr (inl (e, z))) = inr (inr (λ none. never sent (sym (ap (λ ts. codes (ts ++ news ts sent ∷ [])) e) ∙ none)))
-      go (inr (inr some)) = inr (inr (λ none. some (front-nil (codes told) (codes (news told sent ∷ [])) (sym (codes-append told (news told sent ∷ [])) ∙ none))))
+      go (inr (inr some)) = inr (inr (λ none. some (front-none (codes told) (codes (news told sent ∷ [])) (sym (codes-append told (news told sent ∷ [])) ∙ none))))
 
 module _ (service : Service) (tei : ℕ) (c d : Config) (p q : ℕ) (face : Face c d) (back : Face d c) (rt : IsInRange (terms c service tei)) (ru : IsInRange (terms d service tei)) where
   abbrev pub GoesSo : Called → Wire → Type 0
@@ -176,14 +138,6 @@ module _ (service : Service) (tei : ℕ) (c d : Config) (p q : ℕ) (face : Face
 
   module _ (k : Config) (place : ℕ) (s : Endpoint) (n : LinkEndpoint) (stands : StationStands k service tei place s n) (left : Room) (has : room s.line service tei s.card ≡ Ok left)
       (free : left.queue ≡ s.card.config.queue) where
-    its-room : (o : Option Refusal) (r l : Room) → unless o r ≡ Ok l → r ≡ l
-    its-room None r l is = cc is
-    its-room (Some why) r l is = absurd (cc is)
-
-    none-left : (xs : List (List ℕ)) → length xs ≡ 0 → xs ≡ []
-    none-left [] e = refl
-    none-left (x ∷ xs) e = absurd (omega (arith, e))
-
     own : StationStands s.card.config service tei place s n
     own = subst (λ k. StationStands k service tei place s n) (sym stands.config) stands
 
@@ -199,7 +153,7 @@ module _ (service : Service) (tei : ℕ) (c d : Config) (p q : ℕ) (face : Face
         let terms_are = ap (λ (t : Terms). t.queue) stands.terms in
         let queue_is = ap (λ (k : Config). k.queue) config in
         let low = ranges.k_low in let queue_low = ranges.queue_low in
-        none-left (queue_of n.link) (omega (arith, same, link, few, terms_are, queue_is, low, queue_low, free))
+        nil_from_length (queue_of n.link) (omega (arith, same, link, few, terms_are, queue_is, low, queue_low, free))
 
   from-first : (xs : List (List ℕ)) (a : ℕ) → a ≡ 0 → drop a xs ≡ [] → xs ≡ []
   from-first xs a zero none = sym (ap (λ a. drop a xs) zero) ∙ none
@@ -298,16 +252,12 @@ module _ (service : Service) (tei : ℕ) (c d : Config) (p q : ℕ) (face : Face
     pub far_all : codes (heard_in w.far) ≡ [] → IsFree w.near → contents_of (heard_in w.far) ≡ w.near.granted
 
   module _ (x : Called) (w : Wire) (h : GoesSo x w) (known : KnownOf x) (t : ToldSo service tei x w) where
-    none-of : (xs : List (List ℕ)) → length xs ≡ 0 → xs ≡ []
-    none-of [] e = refl
-    none-of (x ∷ xs) e = absurd (omega (arith, e))
-
     -- no error was told there
     pub few : codes (heard_in w.far) ≡ [] → ((x.told ≡ []) × (x.given_up ≡ 0)) ⊎ ((x.told ≡ indicated service tei ∷ []) × (x.given_up ≡ 0))
     few none = go known.kinds
       where
         quiet : codes x.told ≡ []
-        quiet = front-nil (codes x.told) (codes t.far_at_once.0) (sym (codes-append x.told t.far_at_once.0) ∙ ap codes t.far_at_once.1 ∙ none)
+        quiet = front-none (codes x.told) (codes t.far_at_once.0) (sym (codes-append x.told t.far_at_once.0) ∙ ap codes t.far_at_once.1 ∙ none)
 
         go : ((x.told ≡ []) × (x.given_up ≡ 0)) ⊎ (((x.told ≡ indicated service tei ∷ []) × (x.given_up ≡ 0)) ⊎ (codes x.told ≡ [] → ⊥))
             → ((x.told ≡ []) × (x.given_up ≡ 0)) ⊎ ((x.told ≡ indicated service tei ∷ []) × (x.given_up ≡ 0))
@@ -324,7 +274,7 @@ module _ (service : Service) (tei : ℕ) (c d : Config) (p q : ℕ) (face : Face
 
     pub no-earlier : codes (heard_in w.far) ≡ [] → w ≡ h.v
     no-earlier none =
-        h.is ∙ ap (λ g. with_before g h.v) (none-of h.earlier (sym h.given_up ∙ none-given none))
+        h.is ∙ ap (λ g. with_before g h.v) (nil_from_length h.earlier (sym h.given_up ∙ none-given none))
 
     told-contents : codes (heard_in w.far) ≡ [] → contents_of x.told ≡ []
     told-contents none = go (few none)
@@ -342,7 +292,7 @@ module _ (service : Service) (tei : ℕ) (c d : Config) (p q : ℕ) (face : Face
 
     pub concluded : Concluded w
     concluded = record {
-      near_codes = front-nil (codes (heard_in w.near)) (codes t.near.0.0)
+      near_codes = front-none (codes (heard_in w.near)) (codes t.near.0.0)
           (sym (codes-append (heard_in w.near) t.near.0.0) ∙ ap codes t.near.0.1 ∙ codes-data service tei (drop x.given_up w.far.granted));
       far_codes = all-left IsF (codes (heard_in w.far)) (codes t.far.0.0)
           (subst (All IsF)

@@ -1,29 +1,13 @@
 -- One direction of the clocked circuit: the frames on the way of an end, where what comes at the other may be noise.
-use Rattle.std.proofs.Common.{arith, ◌≡◌, ℕ, ◌+◌, ◌≤◌, Bool, true, false, cond, List, [], ◌∷◌, ◌++◌, length, drop, Option, Some, None, option_map, refl, sym, ap, ◌∙◌, subst, All, ◌⊎◌, inl, inr, append_assoc, length-append}
-use Rattle.std.proofs.lemmas.List.{append_cancel_right}
-use Rattle.model_bits.specs.StuffingLaws.{AreOctets}
+use Rattle.laws_time.proofs.Vocabulary.{All, AreOctets, Bool, Carries, Config, IsFrame, IsInRange, IsSoundPort, List, NextFrame, None, OctetEndpoint, OneHeard, Option, Port, Ran, Some, [], answer, answer_to, ap, append_assoc, append_cancel_right, arith, as_endpoint, came, cond, drop, false, frames_among, gained, given_in, gives-octets, if_meant, inl, inr, is_due, item_of, length, length-append}
+use Rattle.laws_time.proofs.Vocabulary.{line_answer, meant, next_octet, none-heard, on-line, one-given, one-heard, one-put, option_map, port-after, port_of, refl, sound-port, subst, sym, takes_slot, true, with_item, with_octet, within-ports, ℕ, ◌++◌, ◌+◌, ◌∙◌, ◌∷◌, ◌≡◌, ◌≤◌, ◌⊎◌}
 use Rattle.model_bits.specs.Stream as stream
-use Rattle.model_line.specs.Came.{came}
 use Rattle.model_line.specs.Event as line
-use Rattle.model_line.specs.Event.{NextFrame, given_in}
-unfoldable use Rattle.model_line.specs.Machine.{answer as line_answer, takes_slot}
-use Rattle.model_line.specs.Sound.{IsInRange}
-use Rattle.model_line.specs.declared.config.Config.{Config}
 use Rattle.model_card.specs.Event as frames
 use Rattle.model_card.specs.Machine as machine
-unfoldable use Rattle.model_card.specs.ports.Card.{answer, meant}
-use Rattle.model_card.specs.ports.Card.{answer_to}
-use Rattle.model_card.specs.ports.Codec.{frames_among}
 use Rattle.model_card.specs.ports.Port as port
-use Rattle.model_card.specs.ports.Port.{Port, gained, is_due, item_of, next_octet, with_item, with_octet}
-use Rattle.model_card.specs.ports.Sound.{IsSoundPort}
 use Rattle.laws_wire.specs.Wire as wire
-use Rattle.laws_order.specs.circuit.Circuit.{Endpoint as OctetEndpoint, port_of, happens}
-use Rattle.laws_order.proofs.OfCircuit.AsFrames.{as_endpoint, if_meant}
-use Rattle.laws_order.proofs.OfCircuit.OneWay.{Carries, one-given, one-put, none-heard, one-heard, OneHeard}
-use Rattle.laws_order.proofs.OfCircuit.Projected.{port-after}
-use Rattle.laws_order.proofs.OfCircuit.Ran.{Ran, within-ports, sound-port, on-line, gives-octets}
-use Rattle.laws_time.specs.circuit.LongEnough.{IsFrame}
+use Rattle.laws_order.specs.circuit.Circuit.{happens}
 
 -- The first octets in transit are flags that no pull gave; behind them is what was given, and not heard yet.
 pub record Going (n201 : ℕ) (p : Port) (way : List ℕ) (there : List (List ℕ)) : Type 0 where

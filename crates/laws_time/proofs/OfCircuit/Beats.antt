@@ -1,30 +1,10 @@
 -- Two ends of the clocked circuit, from beat to beat: what is under way from each, and until when T200 runs there.
-use Rattle.std.proofs.Common.{arith, ◌≡◌, ℕ, ◌+◌, ◌*◌, ◌/◌, ◌≤◌, List, [], ◌∷◌, ◌++◌, length, drop, Option, Some, None, refl, sym, ap, ◌∙◌, subst, All, length-append, append_assoc}
-use Rattle.std.specs.Prelude.{fold, option_to_list}
-use Rattle.std.specs.Option.{unwrap_or}
-use Rattle.std.proofs.lemmas.List.Elements.{All-head, All-tail}
-use Rattle.std.proofs.Math.Nat.{lt-div-mul-add}
-use Rattle.lapd_clock.specs.Timer.{Lengths}
-use Rattle.lapd_frame.specs.declared.services.Service.{Service}
+use Rattle.laws_time.proofs.Vocabulary.{All, All-head, All-tail, Config, IsClearAt, IsInRange, IsOfLink, Lengths, List, None, OctetEndpoint, Option, Port, Request, Service, Some, TimedEndpoint, [], answer as ports_answer, answered, ap, append_assoc, arith, asked, asks, comes_to, drop, fall_due, fold, framed, frames_among, gained, happens, heard-beyond, heard-way, heard_in, heard_side}
+use Rattle.laws_time.proofs.Vocabulary.{heard_with, hears, is_final, length, length-append, lt-div-mul-add, octet_at, octet_orders, octet_pulled, option_to_list, own_side, port-after, port_of, refl, subst, sym, unwrap_or, with_item, with_octet, within-ports, without_first_octet, ℕ, ◌*◌, ◌++◌, ◌+◌, ◌/◌, ◌∙◌, ◌∷◌, ◌≡◌, ◌≤◌}
 use Rattle.model_bits.specs.Stream as stream
-use Rattle.model_bits.specs.Stream.{heard_in}
 use Rattle.model_line.specs.Event as line
-use Rattle.model_line.specs.Heard.{heard_side}
-use Rattle.model_line.specs.Request.{Request}
-use Rattle.model_line.specs.Sound.{IsInRange}
-use Rattle.model_line.specs.declared.config.Config.{Config}
-unfoldable use Rattle.model_card.specs.ports.Card.{answer as ports_answer}
-use Rattle.model_card.specs.ports.Codec.{octet_pulled, frames_among}
-use Rattle.model_card.specs.ports.Event.{at as octet_at}
 use Rattle.model_card.specs.ports.Port as port
-use Rattle.model_card.specs.ports.Port.{Port, gained, with_item, with_octet}
-use Rattle.model_card.proofs.OfPorts.Gains.{heard_with}
-use Rattle.model_timed.specs.Octets.{orders_in as octet_orders}
-use Rattle.laws_order.specs.circuit.Circuit.{Endpoint as OctetEndpoint, port_of, answered}
 use Rattle.laws_order.specs.circuit.Circuit as circuit
-use Rattle.laws_order.proofs.OfCircuit.OneWay.{framed, heard-beyond}
-use Rattle.laws_order.proofs.OfCircuit.Projected.{port-after, heard-way}
-use Rattle.laws_order.proofs.OfCircuit.Ran.{within-ports}
 use Rattle.laws_time.proofs.Moments.{now-stays}
 use Rattle.laws_time.proofs.OfCircuit.Acts.{Goes, goes-both, soon-then, all-asked, all-fall}
 use Rattle.laws_time.proofs.OfCircuit.Ends.{Rests, at_time, time-comes}
@@ -33,10 +13,7 @@ use Rattle.laws_time.proofs.OfCircuit.Open.{ring, half}
 use Rattle.laws_time.proofs.OfCircuit.Sender.{out, sends-later}
 use Rattle.laws_time.proofs.OfCircuit.Standing.{IsOwn, fine, pulls}
 use Rattle.laws_time.proofs.OfCircuit.Under.{EndOk, Then}
-use Rattle.laws_time.specs.circuit.Clocked.{TimedEndpoint, happens, asks, comes_to, hears, without_first_octet, fall_due}
-use Rattle.laws_time.specs.circuit.LongEnough.{IsOfLink, IsClearAt, is_of, asked}
-use Rattle.laws_wire.specs.Timely.{is_final}
-use Rattle.model_line.specs.Taken.{own_side}
+use Rattle.laws_time.specs.circuit.LongEnough.{is_of}
 
 -- The next moment comes after so many beats.
 pub soon-now : (n rate : ℕ) → 1 ≤ rate → n + 1 ≤ (n / rate + 1) * rate

@@ -1,57 +1,18 @@
 -- Two ends of the clocked circuit as they begin: nothing is under way, and no timer runs.
-use Rattle.std.proofs.Common.{arith, ◌≡◌, ℕ, ◌+◌, ◌<◌, ◌≤◌, Bool, true, false, cond, List, [], ◌∷◌, ◌++◌, length, Option, Some, None, refl, sym, ap, ◌∙◌, subst, All}
-use Rattle.std.proofs.lemmas.List.{length-replicate}
-use Rattle.std.proofs.lemmas.Bool.{true≢false}
-use Rattle.std.proofs.lemmas.List.Elements.{All-nil}
-use Rattle.lapd_clock.specs.Timer.{Lengths, AreInRange}
-use Rattle.lapd_frame.specs.declared.refusals.Refusal.{Refusal}
-use Rattle.lapd_frame.specs.declared.refusals.Refusal.TheVariants.{PoolFull}
-use Rattle.lapd_frame.specs.declared.services.Service.{Service}
-unfoldable use Rattle.lapd_tei.specs.Events.{course as tei_course, refusal as tei_refusal}
-use Rattle.lapd_tei.specs.Events.{assign as tei_assign}
+use Rattle.laws_time.proofs.Vocabulary.{All, All-nil, AreInRange, AreOctets, Assign, Bool, Card, Config, GivesOctets, IsInRange, Lengths, List, None, OctetEndpoint, Option, PoolFull, Port, Ran, Refusal, Service, Some, StationStands, [], answered, ap, arith, asked-as, asked-way, at, at_management, cond, endpoint, false, first, flags, frames_among, fresh_at, fresh_link, fresh_port, goes-on}
+use Rattle.laws_time.proofs.Vocabulary.{is_final, is_terminal, length, length-replicate, line_answer, line_at, meant_all, moments as frame_moments, octet_at, octet_endpoint, octet_orders, of_aim, of_change, of_network, of_terminal, orders_in, port-after, port_of, ports_fresh as fresh, refl, refusal, some-in, stopped, subst, sym, tei_assign, tei_course, tei_refusal, terminal_course, terminal_in}
+use Rattle.laws_time.proofs.Vocabulary.{told_of_terminal, true, true≢false, unless_refused, unless_refused_told, wants_room, with_terminal, within-ports, ℕ, ◌+◌, ◌<◌, ◌∙◌, ◌≡◌, ◌≤◌}
 use Rattle.lapd_tei.specs.Table.{free_place}
 use Rattle.lapd_terminal.specs.Events as terminals
-unfoldable use Rattle.lapd_terminal.specs.Events.{course as terminal_course}
 use Rattle.lapd_terminal.specs.Rows.{join_at, put_on}
 use Rattle.lapd_terminal.specs.Words.{Course, begun as terminal_begun}
-use Rattle.model_bits.specs.StuffingLaws.{AreOctets}
-use Rattle.model_bits.specs.Sent.{Item}
-use Rattle.model_link.specs.Link.{fresh as fresh_link}
 use Rattle.model_line.specs.Event as line
-use Rattle.model_line.specs.Laws.{orders_in}
-use Rattle.model_line.specs.Effect.{at_management, of_aim, of_change, of_network, of_terminal, told_of_terminal}
-use Rattle.model_line.specs.Line.{Line, is_terminal, terminal_in, with_terminal}
-use Rattle.model_line.specs.Machine.{unless_refused, unless_refused_told}
-use Rattle.model_line.specs.Refusal.{refusal}
-unfoldable use Rattle.model_line.specs.Machine.{answer as line_answer, takes_slot}
-use Rattle.model_line.specs.Request.{Assign}
-use Rattle.model_line.specs.Sound.{IsInRange}
-use Rattle.model_line.specs.declared.config.Config.{Config}
-use Rattle.model_card.specs.Card.{Card, line_at}
-use Rattle.model_card.specs.Event.{at}
+use Rattle.model_line.specs.Line.{Line}
 use Rattle.model_card.specs.Machine as machine
-use Rattle.model_card.specs.Machine.{wants_room}
-unfoldable use Rattle.model_card.specs.Run.{moments as frame_moments}
-use Rattle.model_card.specs.ports.Card.{fresh}
-use Rattle.model_card.specs.ports.Codec.{frames_among}
-use Rattle.model_card.specs.ports.Event.{at as octet_at}
 use Rattle.model_card.specs.ports.Port as port
-use Rattle.model_card.specs.ports.Port.{Port, fresh_port}
-use Rattle.model_card.specs.ports.Run.{IsAtLine}
-unfoldable use Rattle.model_card.specs.ports.Run.{after_all, meant_all}
-use Rattle.model_card.proofs.OfPorts.GoingOut.{fresh_at}
-use Rattle.model_timed.specs.Clock.{stopped}
-use Rattle.model_timed.specs.Octets.{orders_in as octet_orders}
-use Rattle.laws_wire.specs.Timely.{is_final}
+use Rattle.model_card.specs.ports.Run.{IsAtLine, after_all}
 use Rattle.laws_wire.proofs.Beginning.{answers}
-use Rattle.laws_wire.proofs.Standing.{StationStands}
-use Rattle.laws_order.specs.circuit.Circuit.{Endpoint as OctetEndpoint, port_of, answered}
 use Rattle.laws_order.specs.circuit.Circuit as circuit
-use Rattle.laws_order.specs.circuit.Through.{octet_endpoint}
-use Rattle.laws_order.proofs.Vocabulary.{GivesOctets}
-use Rattle.laws_order.proofs.OfCircuit.AsFrames.{asked-as}
-use Rattle.laws_order.proofs.OfCircuit.Projected.{port-after, asked-way}
-use Rattle.laws_order.proofs.OfCircuit.Ran.{Ran, goes-on, within-ports}
 use Rattle.laws_time.proofs.OctetsMean.{orders-are}
 use Rattle.laws_time.proofs.Moments.{lengths-stay}
 use Rattle.laws_time.proofs.OfCircuit.Beats.{Counts}
@@ -62,7 +23,6 @@ use Rattle.laws_time.proofs.OfCircuit.Orders.{AreOurs, ours-obeyed}
 use Rattle.laws_time.proofs.OfCircuit.Sender.{Sends, none-wait, text_length}
 use Rattle.laws_time.proofs.OfCircuit.Standing.{Ends, IsOwn, bare}
 use Rattle.laws_time.proofs.OfCircuit.Under.{EndOk}
-use Rattle.laws_time.specs.circuit.Clocked.{TimedEndpoint, first, flags, endpoint}
 use Rattle.laws_time.specs.circuit.LongEnough.{is_of}
 
 -- An assignment orders nothing, whatever the side.
@@ -105,19 +65,11 @@ assign-orders number tei card = go (wants_room (at number (line.request (Assign 
     go true = refl
     go false = assigned-none card.config tei (line_at number card)
 
-none-given : (first : List ℕ) (value : ℕ) (more : List ℕ) → [] ≡ first ++ value ∷ more → ⊥
-none-given [] value more is = cc is
-none-given (x ∷ first) value more is = cc is
-
-none-put : (front : List Item) (i : Item) → [] ≡ front ++ i ∷ [] → ⊥
-none-put [] i is = cc is
-none-put (x ∷ front) i is = cc is
-
 -- A port that gave nothing, and has nothing to give.
 pub sends-none : (n201 : ℕ) (kind : List ℕ → Bool) (most : ℕ) (p : Port) → p ≡ fresh_port → Sends n201 kind most p []
 sends-none n201 kind most p is = subst (λ p. Sends n201 kind most p []) (sym is) (record {
-  done = λ first value more o given gains kind_is. absurd (none-given first value more given);
-  last = λ front o put kind_is. absurd (none-put front (Rattle.model_bits.specs.Sent.frame o) put);
+  done = λ first value more o given gains kind_is. absurd (some-in first value more given);
+  last = λ front o put kind_is. absurd (some-in front (Rattle.model_bits.specs.Sent.frame o) [] put);
   wait = none-wait n201 kind most (text_length fresh_port.items);
 })
 
@@ -127,9 +79,6 @@ module _ (c : Config) (service : Service) (tei number way : ℕ) (ranged : IsInR
 
   abbrev begun : OctetEndpoint
   begun = circuit.happens (port.request (Assign tei)) (record (octet_endpoint c number) { way = flags way })
-
-  abbrev end : TimedEndpoint
-  end = endpoint c number lengths way tei
 
   pub ran-start : Ran c (record (octet_endpoint c number) { way = flags way })
   unfolding after_all meant_all frame_moments

@@ -1,18 +1,8 @@
 -- An end that has caught up with all that is granted has each place of its queue.
-use Rattle.std.proofs.Common.{arith, ◌≡◌, ◌≤◌, [], ◌∷◌, length, Option, Some, None, Ok, ap}
-use Rattle.lapd_frame.specs.declared.refusals.Refusal.{Refusal}
-use Rattle.model_link.specs.Room.{room_of}
-use Rattle.model_link.specs.declared.rooms.Room.{Room}
-use Rattle.model_line.specs.Line.{terms, link_of}
-use Rattle.model_line.specs.Refusal.{first_that_holds, bad_tei, no_link}
-use Rattle.model_line.specs.Room.{unless}
-use Rattle.model_card.specs.Card.{line_at}
-use Rattle.model_card.specs.Room.{room, free as free_slots}
-use Rattle.laws_time.specs.circuit.CaughtUp.{AllPlacesAreFree}
-use Rattle.laws_time.specs.circuit.Clocked.{TimedEndpoint}
-use Rattle.laws_time.specs.circuit.LongEnough.{Line}
+use Rattle.laws_time.proofs.Vocabulary.{AllPlacesAreFree, Line, None, Ok, Option, Refusal, Room, Some, TimedEndpoint, [], ap, arith, bad_tei, first_that_holds, free_slots, length, line_at, link_of, no_link, room_of, terms, unless, ◌∷◌, ◌≡◌, ◌≤◌}
+use Rattle.model_card.specs.Room.{room}
 
-its-room : (o : Option Refusal) (r left : Room) → unless o r ≡ Ok left → r ≡ left
+pub its-room : (o : Option Refusal) (r left : Room) → unless o r ≡ Ok left → r ≡ left
 its-room None r left is = cc is
 its-room (Some why) r left is = absurd (cc is)
 

@@ -1,24 +1,8 @@
 -- A call on a wire in which no error F was told: once the end that calls was told the confirm, both links are up.
-use Rattle.std.proofs.Common.{◌≡◌, ℕ, ◌==◌, Bool, List, [], ◌∷◌, length, refl, sym, ap, ◌∙◌, subst, All, ◌⊎◌, inl, inr}
-use Rattle.std.proofs.lemmas.Bool.{true≢false}
-use Rattle.std.proofs.lemmas.List.Elements.{All-nil}
-use Rattle.lapd_frame.specs.declared.services.Service.{Service}
-use Rattle.model_link.specs.Sound.{IsInRange}
-use Rattle.model_line.specs.Event.{LineTold}
-use Rattle.model_line.specs.Line.{terms}
-use Rattle.model_line.specs.declared.config.Config.{Config}
-use Rattle.laws_wire.specs.Answering.{IsFullTalk, Called, uncalled}
-unfoldable use Rattle.laws_wire.specs.Answering.{StayPatient, seen}
-use Rattle.laws_wire.specs.Call.{CanCall, calling, confirmed, indicated}
+use Rattle.laws_time.proofs.Vocabulary.{All, All-nil, Bool, Called, CanCall, Config, Face, IsFullTalk, IsInRangeTerms as IsInRange, LineTold, List, LooseUp, Service, StayPatient, StepAt, Wire, [], ap, calling, confirmed, indicated, inl, inr, length, lossy-calls-come-through, not-told, patient-goes, refl, seen, setting, subst, sym, terms, true≢false, uncalled, wire_doing_all as doing_all, ℕ}
+use Rattle.laws_time.proofs.Vocabulary.{◌==◌, ◌∙◌, ◌∷◌, ◌≡◌, ◌⊎◌}
 use Rattle.laws_wire.specs.Losing.{heard_in}
-use Rattle.laws_wire.specs.Wire.{Wire, StepAt}
-unfoldable use Rattle.laws_wire.specs.Wire.{doing_all}
-use Rattle.laws_wire.proofs.LooseUp.{LooseUp}
-use Rattle.laws_wire.proofs.LossyRun.{setting}
-use Rattle.laws_wire.proofs.Talking.{Face}
-use Rattle.laws_wire.proofs.UaLost.{not-told}
 use Rattle.laws_wire.proofs.UaLostRun as run
-use Rattle.laws_wire.proofs.UaTold.{lossy-calls-come-through, patient-goes}
 use Rattle.laws_time.proofs.OfCircuit.ArrivFair.{codes}
 use Rattle.laws_time.proofs.OfCircuit.ArrivTold.{Known, all-known, few, no-earlier, starts, down-near}
 

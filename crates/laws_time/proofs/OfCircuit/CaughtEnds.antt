@@ -1,32 +1,9 @@
 -- A station whose link is up: how many of its contents are acknowledged, as its room says, and how many the other was told.
-use Rattle.std.proofs.Common.{arith, ◌≡◌, ℕ, ◌+◌, ◌≤◌, Bool, true, false, cond, not, List, [], ◌++◌, length, map, None, Some, Ok, refl, sym, ap, ◌∙◌, subst, ◌⊎◌, inl, inr}
-use Rattle.std.proofs.lemmas.Bool.{le-ltb}
-use Rattle.std.proofs.lemmas.List.{length-drop, length-take-le}
-use Rattle.lapd_frame.specs.declared.refusals.Refusal.{Refusal}
-use Rattle.lapd_frame.specs.declared.refusals.Refusal.TheVariants.{BadTei, NoLink}
-use Rattle.lapd_frame.specs.declared.services.Service.{Service}
-use Rattle.lapd_tei.proofs.Tables.{is_on-at, place_of-is}
+use Rattle.laws_time.proofs.Vocabulary.{BadTei, Bool, Config, Established, FrameEndpoint as Endpoint, Held, LineTold, Link, LinkEndpoint, List, LooseAt, LooseUp, NoLink, None, Ok, Refusal, Room, Service, Some, StationStands, Terms, TimerRecovery, Wire, [], ap, arith, cond, data_told, false, free_slots, inl, inr, is_on-at, le-ltb, length, length-drop, length-take-le, line_at, link-is}
+use Rattle.laws_time.proofs.Vocabulary.{link-ranges, link-sound, link_of, map, not, place_of-is, queue_of, refl, rising-low, room_of, subst, sym, terms, true, unless, ℕ, ◌++◌, ◌+◌, ◌∙◌, ◌≡◌, ◌≤◌, ◌⊎◌}
 use Rattle.model_link.proofs.Direction.{line_of}
-use Rattle.model_link.proofs.Lines.{rising-low}
-use Rattle.model_link.specs.Link.{Link, queue_of}
-use Rattle.model_link.specs.Room.{room_of}
-use Rattle.model_link.specs.TwoEnds.{Endpoint as LinkEndpoint}
-use Rattle.model_link.specs.declared.rooms.Room.{Room}
-use Rattle.model_link.specs.declared.states.State.TheVariants.{Established, TimerRecovery}
-use Rattle.model_link.specs.declared.terms.Terms.{Terms}
-use Rattle.model_line.specs.Event.{LineTold}
-use Rattle.model_line.specs.Line.{terms, link_of}
-use Rattle.model_line.specs.Room.{unless}
-use Rattle.model_line.specs.declared.config.Config.{Config}
-use Rattle.model_card.specs.Card.{line_at}
-use Rattle.model_card.specs.Room.{room, free as free_slots}
-use Rattle.laws_wire.specs.Call.{data_told}
+use Rattle.model_card.specs.Room.{room}
 use Rattle.laws_wire.specs.Losing.{heard_in}
-use Rattle.laws_wire.specs.Wire.{Endpoint, Wire}
-use Rattle.laws_wire.proofs.Awaited.{link-is}
-use Rattle.laws_wire.proofs.Held.{Held}
-use Rattle.laws_wire.proofs.LooseUp.{LooseUp, LooseAt}
-use Rattle.laws_wire.proofs.Standing.{StationStands, link-ranges, link-sound}
 use Rattle.laws_time.proofs.OfCircuit.ArrivTold.{contents_of, contents-append, contents-data}
 use Rattle.laws_time.proofs.OfCircuit.CaughtLinks.{Owes}
 use Rattle.laws_time.proofs.OfCircuit.CaughtWire.{UpWith}

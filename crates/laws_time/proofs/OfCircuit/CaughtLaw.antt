@@ -1,48 +1,35 @@
 -- An end that enquired catches up: on a wire, and as it is seen on the circuit.
-use Rattle.std.proofs.Common.{arith, ◌≡◌, ℕ, ◌≤◌, Bool, true, false, List, [], ◌∷◌, length, Option, Some, refl, sym, ap, ◌∙◌, subst}
-use Rattle.lapd_frame.specs.declared.services.Service.{Service}
-use Rattle.model_link.specs.Link.{Link, state_number}
-use Rattle.model_link.specs.TwoEnds.{Endpoint as LinkEndpoint}
-use Rattle.model_link.specs.declared.states.State.{State}
-use Rattle.model_link.specs.declared.states.State.TheVariants.{TeiAssigned, AwaitingEstablishment, AwaitingRelease, Established, TimerRecovery}
-use Rattle.model_line.specs.Event.{LineTold}
-use Rattle.model_line.specs.declared.config.Config.{Config}
-use Rattle.laws_wire.specs.Call.{confirmed, indicated}
+use Rattle.laws_time.proofs.Vocabulary.{AwaitingEstablishment, AwaitingRelease, Bool, Clocked, Config, Established, Face, FrameEndpoint, HasCaughtUp, IsFit, Line, LineTold, Link, LinkEndpoint, List, Option, Service, Setting, Some, State, StationStands, TeiAssigned, TimedEndpoint, TimerRecovery, Wire, [], ap, arith, confirmed, contents_at, false, indicated, length, refl, setting, state_at}
+use Rattle.laws_time.proofs.Vocabulary.{state_number, subst, sym, turned, ℕ, ◌∙◌, ◌∷◌, ◌≡◌, ◌≤◌}
 use Rattle.laws_wire.specs.Losing.{heard_in}
-use Rattle.laws_wire.specs.Wire.{Endpoint as FrameEndpoint, Wire, turned}
-use Rattle.laws_wire.proofs.LooseUp.{LooseUp}
-use Rattle.laws_wire.proofs.LossyRun.{Setting, setting}
-use Rattle.laws_wire.proofs.Standing.{StationStands}
-use Rattle.laws_wire.proofs.Talking.{Face}
 use Rattle.laws_time.proofs.OfCircuit.ArrivAs.{heard_of}
 use Rattle.laws_time.proofs.OfCircuit.ArrivPath.{of_call, Path, talk-of}
 use Rattle.laws_time.proofs.OfCircuit.ArrivRun.{SameNow}
 use Rattle.laws_time.proofs.OfCircuit.ArrivTold.{contents-heard, contents_of}
-use Rattle.laws_time.proofs.OfCircuit.CaughtEnds.{Acknowledges, told-as-many, acknowledges-some, no-more, owing, settled, paid}
+use Rattle.laws_time.proofs.OfCircuit.CaughtEnds.{Acknowledges, told-as-many, acknowledges-some, no-more, paid}
 use Rattle.laws_time.proofs.OfCircuit.CaughtLinks.{Owes, owes-keeps, owed-keeps}
 use Rattle.laws_time.proofs.OfCircuit.CaughtWire.{UpWith, all-steps}
 use Rattle.laws_time.proofs.OfCircuit.InCallPhase.{its-is}
 use Rattle.laws_time.proofs.OfCircuit.InTime.{PairNow}
 use Rattle.laws_time.proofs.OfCircuit.Under.{state-here}
-use Rattle.laws_time.specs.circuit.Answered.{state_at}
-use Rattle.laws_time.specs.circuit.CaughtUp.{HasCaughtUp}
-use Rattle.laws_time.specs.circuit.Clocked.{TimedEndpoint, Clocked, contents_at}
-use Rattle.laws_time.specs.circuit.LongEnough.{Line, IsFit}
 
 -- The states by their numbers.
-in-7 : (s : State) → state_number s ≡ 7 → s ≡ Established
+pub in-7 : (s : State) → state_number s ≡ 7 → s ≡ Established
 in-7 Established is = refl
 in-7 TeiAssigned is = cc is
 in-7 AwaitingEstablishment is = cc is
 in-7 AwaitingRelease is = cc is
 in-7 TimerRecovery is = cc is
 
-in-8 : (s : State) → state_number s ≡ 8 → s ≡ TimerRecovery
+pub in-8 : (s : State) → state_number s ≡ 8 → s ≡ TimerRecovery
 in-8 TimerRecovery is = refl
 in-8 TeiAssigned is = cc is
 in-8 AwaitingEstablishment is = cc is
 in-8 AwaitingRelease is = cc is
 in-8 Established is = cc is
+
+pub number-of : (a b : ℕ) (o : Option ℕ) → o ≡ Some a → o ≡ Some b → b ≡ a
+number-of a b o x y = cc (sym x ∙ y)
 
 -- On a wire, from one time to another.
 module _ (service : Service) (tei : ℕ) (c d : Config) (face : Face c d) (back : Face d c) (past other : List LineTold) (none : contents_of other ≡ []) where
@@ -52,14 +39,6 @@ module _ (service : Service) (tei : ℕ) (c d : Config) (face : Face c d) (back 
   pub goes-on : (asks : Bool) (k : ℕ) (f g : Wire) → {i j m n : ℕ} → Path of_call service tei i j m n f g → UpWith service tei c d 0 0 past other (Owes asks k) f → UpWith service tei c d 0 0 past other (Owes asks k) g
   goes-on asks k f g path h =
       subst (Up asks k) path.leads (all-steps service tei c d 0 0 face back past other (Owes asks k) (owes-keeps asks k) (owed-keeps asks k) path.steps f (talk-of of_call service tei f g path) path.patient h)
-
-  -- It asks at the first, and does not at the second.
-  pub caught : (f g : Wire) → {i j m n : ℕ} → Path of_call service tei i j m n f g → (h : LooseUp service tei c d 0 0 past other f) → h.n.link.state ≡ TimerRecovery
-      → ((n : LinkEndpoint) → StationStands c service tei 0 g.near n → n.link.state ≡ Established) → UpWith service tei c d 0 0 past other (Owes false (length (contents_of (heard_in f.far)))) g
-  caught f g path h at seven =
-      let k = told-as-many service tei c d 0 0 past other f h.n h.m (record { near = h.near; far = h.far; loose = h.loose }) none in
-      let last = goes-on true h.m.link.r f g path (owing service tei c d 0 0 past other f h at) in
-      subst (λ k. Up false k g) (sym k) (settled service tei c d 0 0 past other g h.m.link.r last (seven last.n last.at.near.stands))
 
   abbrev pub Shows : ℕ → Wire → Type 0
   Shows k g = (n : ℕ) × Acknowledges service tei n g.near × (k ≤ n) × (n ≤ length (contents_of (heard_in g.far)))
@@ -95,21 +74,6 @@ module _ (l : Line) (fit : IsFit l) where
     far-number n stands =
         state-here l.far l.service l.tei 0 fit.call.far.0 l.far_lengths l.rate w.far.at pair.far_ok.but.ends
         ∙ ap (λ (x : Link). Some (state_number x.state)) (its-is l.far l.service l.tei fit.call.far.0 w.far pair.far_ok.but.ends same.back same.us f.far same.far_is n stands)
-
-    number-of : (a b : ℕ) (o : Option ℕ) → o ≡ Some a → o ≡ Some b → b ≡ a
-    number-of a b o x y = cc (sym x ∙ y)
-
-    pub near-in-8 : state_at l w.near ≡ Some 8 → (n : LinkEndpoint) → StationStands l.near l.service l.tei 0 f.near n → n.link.state ≡ TimerRecovery
-    near-in-8 is n stands = in-8 n.link.state (number-of 8 (state_number n.link.state) (state_at l w.near) is (near-number n stands))
-
-    pub near-in-7 : state_at l w.near ≡ Some 7 → (n : LinkEndpoint) → StationStands l.near l.service l.tei 0 f.near n → n.link.state ≡ Established
-    near-in-7 is n stands = in-7 n.link.state (number-of 7 (state_number n.link.state) (state_at l w.near) is (near-number n stands))
-
-    pub far-in-8 : state_at l w.far ≡ Some 8 → (n : LinkEndpoint) → StationStands l.far l.service l.tei 0 f.far n → n.link.state ≡ TimerRecovery
-    far-in-8 is n stands = in-8 n.link.state (number-of 8 (state_number n.link.state) (state_at l w.far) is (far-number n stands))
-
-    pub far-in-7 : state_at l w.far ≡ Some 7 → (n : LinkEndpoint) → StationStands l.far l.service l.tei 0 f.far n → n.link.state ≡ Established
-    far-in-7 is n stands = in-7 n.link.state (number-of 7 (state_number n.link.state) (state_at l w.far) is (far-number n stands))
 
     pub near-heard : heard_in f.near ≡ heard_of w.near.at.told
     near-heard = ap heard_in same.near_is ∙ same.near_heard

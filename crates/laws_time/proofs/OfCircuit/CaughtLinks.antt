@@ -1,9 +1,7 @@
 -- Two links that are up: what the one had received while the other asks is acknowledged once that is answered.
-use Rattle.laws_wire.proofs.Vocabulary.{◌≡◌, ℕ, ◌+◌, ◌≤◌, Bool, true, IsTrue, List, ◌∷◌, ◌++◌, refl, sym, ap, subst, ◌∙◌, ◌⊎◌, inl, inr, arith, Control, Parts, Seq, seq, TimerRecovery, LinkTimer, Terms, Link, received, expired, frame, frames_of, is_multiple_frame, after}
-use Rattle.laws_wire.proofs.Vocabulary.{LinkEndpoint, with_link, with_sent, offer-gave, offer-goes, expires-goes, line, Kind, kind_of, numbered, enquiry, answer, report, rejection, alien, NoAlien, is-no-alien, Flow, Heard, heard, is_recovering, answer-says, Rising, rising-low, Means, frame-taken, named-within}
-use Rattle.laws_wire.proofs.Vocabulary.{named-means, named-is_seq, flows-low, most}
+use Rattle.laws_time.proofs.Vocabulary.{Bool, Control, IsTrue, Link, LinkEndpoint, LinkTimer, List, Loose, Means, Parts, Rising, Seq, Terms, TimerRecovery, ap, arith, expired, inl, inr, is_multiple_frame, link_after as after, named-means, received, refl, rising-low, seq, subst, sym, true, with_link, with_sent, ℕ, ◌++◌, ◌+◌, ◌∙◌, ◌∷◌, ◌≡◌, ◌≤◌, ◌⊎◌}
+use Rattle.laws_wire.proofs.Vocabulary.{frame, frames_of, offer-gave, offer-goes, expires-goes, line, Kind, kind_of, numbered, enquiry, answer, report, rejection, alien, NoAlien, is-no-alien, Flow, Heard, heard, is_recovering, answer-says, frame-taken, named-within, named-is_seq, flows-low, most}
 use Rattle.laws_wire.proofs.Joint.{timer-goes}
-use Rattle.laws_wire.proofs.Loose.{Loose}
 use Rattle.laws_wire.proofs.UaCalled.{Stirs}
 
 -- A link goes on by itself: its V(A) and V(R) stay, and state 8 does.

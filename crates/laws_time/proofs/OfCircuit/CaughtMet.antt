@@ -1,26 +1,13 @@
 -- The run of `WorkedCaughtUp` meets all premises.
-use Rattle.std.proofs.Common.{arith, ◌<◌, ℕ, zero, suc, [], ◌∷◌, ◌++◌, refl, All}
-use Rattle.std.specs.Prelude.{replicate}
-use Rattle.std.proofs.lemmas.List.Elements.{All-nil, All-cons, All-append}
-use Rattle.lapd_frame.specs.declared.services.Service.TheVariants.{Call}
-use Rattle.lapd_frame.specs.Reading.{reading, header_of, control_of, unnumbered_of, supervisory_of}
-use Rattle.lapd_frame.specs.Senders.{exchanged, reading as read_by}
-use Rattle.lapd_seq.specs.Circle.{distance_of, named}
-use Rattle.lapd_seq.specs.Numbers.{seq}
+use Rattle.laws_time.proofs.Vocabulary.{All, All-append, All-cons, All-nil, All-replicate, AreAsked, AreClear, Beat, Call, Data, Establish, GoesWell, IsAsked, IsClean, IsFit, IsIdle, IsOfLink, IsTalk, [], arith, begins, calls, control_of, distance_of, exchanged, fall_due, header_of, low_bits, named, plain, reading as read_by, refl, replicate, sapi_fault, seq, supervisory_of, unnumbered_of, ◌++◌}
+use Rattle.laws_time.proofs.Vocabulary.{◌∷◌}
+use Rattle.lapd_frame.specs.Reading.{reading}
 use Rattle.lapd_tei.specs.Events as teis
-use Rattle.model_bits.specs.Bits.{low_bits}
-use Rattle.model_bits.specs.StuffingLaws.{AreOctets}
-use Rattle.model_line.specs.Config.{sapi_fault}
 use Rattle.model_line.specs.Machine as lines
-use Rattle.model_line.specs.Request.{Establish, Data}
 use Rattle.model_card.specs.ports.Card as ports
 use Rattle.laws_time.proofs.OfCircuit.AnsweredClear.{no-noise-is-clear}
-use Rattle.laws_time.specs.circuit.Answered.{IsClean}
-use Rattle.laws_time.specs.circuit.Arriving.{IsIdle, IsAsked, AreAsked, calls}
-use Rattle.laws_time.specs.circuit.CaughtUp.{GoesWell}
-use Rattle.laws_time.specs.circuit.Clocked.{Beat, plain, fall_due}
-use Rattle.laws_time.specs.circuit.LongEnough.{IsFit, IsOfLink, IsTalk, AreClear, begins}
 use Rattle.laws_time.specs.circuit.WorkedCaughtUp.{AnEnquiryMeetsIt, its_line, sends, talks}
+use Rattle.laws_time.proofs.OfCircuit.ArrivMet.{octet}
 
 fits : IsFit its_line
 unfolding sapi_fault
@@ -34,20 +21,13 @@ fits = record {
   t200 = (omega arith, omega arith);
 }
 
-all-plain : (P : Beat → Type 0) → P plain → (n : ℕ) → All P (replicate n plain)
-all-plain P one zero = All-nil P
-all-plain P one (suc n) = All-cons P plain (replicate n plain) one (all-plain P one n)
-
 -- The beats after the first.
 later : (P : Beat → Type 0) → P plain → P sends → All P (talks ++ replicate 17 plain)
 later P one sent =
-    All-append P talks (replicate 17 plain) (All-append P (replicate 13 plain) (sends ∷ replicate 35 plain) (all-plain P one 13) (All-cons P sends (replicate 35 plain) sent (all-plain P one 35))) (all-plain P one 17)
+    All-append P talks (replicate 17 plain) (All-append P (replicate 13 plain) (sends ∷ replicate 35 plain) (All-replicate P 13 plain one) (All-cons P sends (replicate 35 plain) sent (All-replicate P 35 plain one))) (All-replicate P 17 plain one)
 
 all-beats : (P : Beat → Type 0) → P (calls its_line plain) → P plain → P sends → All P (calls its_line plain ∷ (talks ++ replicate 17 plain))
 all-beats P first one sent = All-cons P (calls its_line plain) (talks ++ replicate 17 plain) first (later P one sent)
-
-octet : AreOctets (0xAB ∷ [])
-octet = All-cons (λ octet. octet < 256) 0xAB [] (omega arith) (All-nil (λ octet. octet < 256))
 
 talk : All (IsTalk its_line) (calls its_line plain ∷ (talks ++ replicate 17 plain))
 talk =

@@ -1,12 +1,5 @@
 -- The circuit from the other side: the two ends are exchanged.
-use Rattle.std.proofs.Common.{arith, ◌≡◌, ℕ, suc, List, [], ◌∷◌, length, map, refl, sym, ap, subst, All}
-use Rattle.std.proofs.lemmas.List.Elements.{All-nil, All-cons, All-head, All-tail}
-use Rattle.laws_order.specs.circuit.Beats.{longest}
-use Rattle.laws_wire.proofs.Spelled.{sides-turned}
-use Rattle.laws_time.specs.circuit.Answered.{IsClean}
-use Rattle.laws_time.specs.circuit.Clocked.{Clocked, Beat, gone, beat, after}
-use Rattle.laws_time.specs.circuit.LongEnough.{Line, IsFit, IsTalk, IsClearAt, answered_in}
-unfoldable use Rattle.laws_time.specs.circuit.LongEnough.{AreClear}
+use Rattle.laws_time.proofs.Vocabulary.{All, All-cons, All-head, All-nil, All-tail, AreClear, Beat, Clocked, IsClean, IsClearAt, IsFit, IsTalk, Line, List, [], after, answered_in, ap, arith, beat, gone, length, longest, map, refl, sides-turned, subst, suc, sym, ℕ, ◌∷◌, ◌≡◌}
 
 abbrev pub turned_line : Line → Line
 turned_line l =
@@ -14,9 +7,6 @@ turned_line l =
 
 abbrev pub turned_beat : Beat → Beat
 turned_beat b = record { near_asks = b.far_asks; far_asks = b.near_asks; near_noise = b.far_noise; far_noise = b.near_noise }
-
-abbrev pub turned_beats : List Beat → List Beat
-turned_beats bs = map turned_beat bs
 
 abbrev pub turned_world : Clocked → Clocked
 turned_world w = record { near = w.far; far = w.near; beats = w.beats }

@@ -1,19 +1,10 @@
 -- A call on the circuit up to a time, and from there on, part by part: on a wire of frames both links are up.
-use Rattle.std.proofs.Common.{arith, ◌≡◌, ℕ, false, List, [], ◌∷◌, ◌++◌, Option, Some, refl, sym, ap, ◌∙◌, subst, All, ◌⊎◌, inl, inr, append_assoc}
-use Rattle.std.specs.List.{list_any}
-use Rattle.std.proofs.lemmas.List.Elements.{All-nil, All-cons, All-append, All-head, All-tail}
-use Rattle.std.proofs.lemmas.List.Folds.{list_any-append}
-use Rattle.std.proofs.lemmas.List.Sums.{fold-append}
-use Rattle.lapd_frame.specs.declared.notes.ErrorCode.{ErrorCode}
-use Rattle.model_line.specs.Request.{Request, Establish}
-use Rattle.laws_line.proofs.OfCard.Meanwhile.{all-left, all-right}
-use Rattle.laws_wire.specs.Call.{calling}
+use Rattle.laws_time.proofs.Vocabulary.{All, All-append, All-cons, All-head, All-nil, All-tail, AreAsked, AreClear, Beat, Clocked, Establish, GoesWell, IsFit, IsIdle, IsOfLink, IsTalk, IsUp, Line, List, LooseUp, Option, Request, Some, Wire, [], after, all-left, all-right, ap, append_assoc, arith, beat, begins, calling, calls, errors_at, false, fold-append, front-none, in_call, inl, inr}
+use Rattle.laws_time.proofs.Vocabulary.{is_used_up, list_any, list_any-append, or_parts, refl, state_at, subst, sym, ℕ, ◌++◌, ◌∙◌, ◌∷◌, ◌≡◌, ◌⊎◌}
 use Rattle.laws_wire.specs.Losing.{heard_in}
-use Rattle.laws_wire.specs.Wire.{Wire}
-use Rattle.laws_wire.proofs.LooseUp.{LooseUp}
 use Rattle.laws_time.proofs.OfCircuit.ArrivBeat.{put_at}
-use Rattle.laws_time.proofs.OfCircuit.ArrivBegan.{reached, clear-parts}
-use Rattle.laws_time.proofs.OfCircuit.ArrivFair.{codes, codes-append, neither}
+use Rattle.laws_time.proofs.OfCircuit.ArrivBegan.{reached}
+use Rattle.laws_time.proofs.OfCircuit.ArrivFair.{codes, codes-append}
 use Rattle.laws_time.proofs.OfCircuit.ArrivPath.{of_call, path-none, talk-of}
 use Rattle.laws_time.proofs.OfCircuit.ArrivRun.{Reached, IsFairBoth, all-beats, all-of-link, fair-all}
 use Rattle.laws_time.proofs.OfCircuit.ArrivTold.{codes-heard}
@@ -22,14 +13,7 @@ use Rattle.laws_time.proofs.OfCircuit.CaughtLaw.{near_past, far_past, near-heard
 use Rattle.laws_time.proofs.OfCircuit.InCallFair.{BothWalk, walks-all, talk-all}
 use Rattle.laws_time.proofs.OfCircuit.InCallPhase.{in-call}
 use Rattle.laws_time.proofs.OfCircuit.InTime.{PairNow, near_card, far_card, pair-begins}
-use Rattle.laws_time.proofs.OfCircuit.LongEnough.{all-pairs}
-use Rattle.laws_time.specs.circuit.Answered.{state_at}
-unfoldable use Rattle.laws_time.specs.circuit.Answered.{Enquires}
-use Rattle.laws_time.specs.circuit.Arriving.{IsIdle, AreAsked, calls, errors_at, is_used_up}
-use Rattle.laws_time.specs.circuit.CaughtUp.{GoesWell, in_call}
-use Rattle.laws_time.specs.circuit.Clocked.{Clocked, Beat, beat, after}
-use Rattle.laws_time.specs.circuit.InCall.{IsUp}
-use Rattle.laws_time.specs.circuit.LongEnough.{Line, IsFit, IsTalk, IsOfLink, AreClear, begins}
+use Rattle.laws_time.proofs.OfCircuit.LongEnough.{all-pairs, clear-parts}
 
 pub idle-talk : (l : Line) (before : List Beat) → All IsIdle before → All (IsTalk l) before
 idle-talk l [] all = All-nil (IsTalk l)
@@ -37,10 +21,6 @@ idle-talk l (b ∷ before) all = All-cons (IsTalk l) b before (none b.near_asks 
   where
     none : (rs : List Request) → rs ≡ [] → All (IsOfLink l.service l.tei) rs
     none rs is = subst (All (IsOfLink l.service l.tei)) (sym is) (All-nil (IsOfLink l.service l.tei))
-
-front-nil : (a b : List ErrorCode) → a ++ b ≡ [] → a ≡ []
-front-nil [] b e = refl
-front-nil (x ∷ a) b e = absurd (cc e)
 
 -- A call up to a time, and from there on.
 module _ (l : Line) (before bs more : List Beat) (b : Beat) (h : GoesWell l before b (bs ++ more)) where
@@ -63,7 +43,7 @@ module _ (l : Line) (before bs more : List Beat) (b : Beat) (h : GoesWell l befo
   same-world = ap (λ bs. after l.rate bs (begins l)) same-list ∙ fold-append (beat l.rate) (begins l) first more
 
   pub clear : AreClear l (before ++ calls l b ∷ bs) (begins l) × AreClear l more (in_call l before b bs)
-  clear = clear-parts l h.fit first more (begins l) (subst (λ bs. AreClear l bs (begins l)) same-list h.clear)
+  clear = clear-parts l first more (begins l) (subst (λ bs. AreClear l bs (begins l)) same-list h.clear)
 
   asked-b : AreAsked l b
   asked-b = All-head (AreAsked l) b (bs ++ more) h.asked
@@ -94,7 +74,7 @@ module _ (l : Line) (before bs more : List Beat) (b : Beat) (h : GoesWell l befo
   pub fair-u : IsFairBoth (after l.rate more (in_call l before b bs))
   fair-u =
       let used = subst (λ (u : Clocked). list_any is_used_up (errors_at u.near ++ errors_at u.far) ≡ false) same-world h.used in
-      neither (list_any is_used_up (errors_at u.near)) (list_any is_used_up (errors_at u.far)) (sym (list_any-append is_used_up (errors_at u.near) (errors_at u.far)) ∙ used)
+      or_parts (list_any is_used_up (errors_at u.near)) (list_any is_used_up (errors_at u.far)) (sym (list_any-append is_used_up (errors_at u.near) (errors_at u.far)) ∙ used)
 
   abbrev start : Wire
   start = calling l.service l.tei l.near l.near_line l.far l.far_line
@@ -109,7 +89,7 @@ module _ (l : Line) (before bs more : List Beat) (b : Beat) (h : GoesWell l befo
         let none = subst (λ (u : Clocked). errors_at u.far ≡ []) same-world h.heard in
         ap codes (far-heard l h.fit w pair-w r.f r.same)
         ∙ codes-heard w.far.at.told
-        ∙ front-nil (codes w.far.at.told) (codes walk.far.more) (sym (codes-append w.far.at.told walk.far.more) ∙ ap codes (sym walk.far.grows) ∙ none)
+        ∙ front-none (codes w.far.at.told) (codes walk.far.more) (sym (codes-append w.far.at.told walk.far.more) ∙ ap codes (sym walk.far.grows) ∙ none)
 
     -- Both links are up, once the end that calls is.
     pub up-there : IsUp l (in_call l before b bs).near → LooseUp l.service l.tei l.near l.far 0 0 (near_past l h.fit) (far_past l h.fit) r.f
@@ -136,7 +116,7 @@ module _ (l : Line) (before bs more : List Beat) (b : Beat) (h : GoesWell l befo
     parts-world = ap (λ bs. after l.rate bs w) (sym all) ∙ fold-append (beat l.rate) w done rest
 
     parts : AreClear l done (in_call l before b bs) × AreClear l rest (after l.rate done (in_call l before b bs))
-    parts = clear-parts l h.fit done rest w (subst (λ bs. AreClear l bs w) (sym all) clear.1)
+    parts = clear-parts l done rest w (subst (λ bs. AreClear l bs w) (sym all) clear.1)
 
     asked : All (AreAsked l) (done ++ rest)
     asked = subst (All (AreAsked l)) (sym all) asked-more

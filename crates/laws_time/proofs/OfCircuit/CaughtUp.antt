@@ -1,18 +1,8 @@
 -- An end that enquired catches up, whatever noise there is; and in time where there is none.
-use Rattle.std.proofs.Common.{arith, ◌≡◌, ◌≤◌, List, [], ◌∷◌, ◌++◌, length, map, Some, sym, ap, ◌∙◌, subst, All, inl, inr, append_assoc, append-nil}
-use Rattle.std.proofs.lemmas.List.{map-append}
-use Rattle.std.proofs.lemmas.List.Sums.{fold-append}
+use Rattle.laws_time.proofs.Vocabulary.{All, AnEnquiryCatchesUp, AnswersTellWhatCame, AreClear, Beat, Clocked, Enquires, GoesWell, HasCaughtUp, IsTalk, IsUndisturbed, IsUp, Line, List, Some, [], after, answered_in, ap, append-nil, append_assoc, arith, beat, begins, begun, calls, fold-append, in_call, inl, inr, length, lost_at, map, map-append, state_at, subst, sym, ◌++◌, ◌∙◌, ◌∷◌, ◌≡◌, ◌≤◌}
 use Rattle.laws_time.proofs.OfCircuit.Answered.{an-enquiry-is-answered}
 use Rattle.laws_time.proofs.OfCircuit.CaughtMirror.{turned_line, turned_beat, turned_world, after-turned, answered-same, fit-turned, talk-turned, clear-turned, clean-turned, length-turned}
-use Rattle.laws_time.proofs.OfCircuit.CaughtBack.{caught-by-then-back, asks-or-caught-back}
-use Rattle.laws_time.proofs.OfCircuit.CaughtNear.{caught-by-then, asks-or-caught, other-up}
-use Rattle.laws_time.specs.circuit.Answered.{IsUndisturbed, begun, lost_at, state_at}
-unfoldable use Rattle.laws_time.specs.circuit.Answered.{Enquires}
-use Rattle.laws_time.specs.circuit.Arriving.{calls}
-use Rattle.laws_time.specs.circuit.CaughtUp.{HasCaughtUp, GoesWell, in_call, AnswersTellWhatCame, AnEnquiryCatchesUp}
-use Rattle.laws_time.specs.circuit.Clocked.{Clocked, Beat, beat, after}
-use Rattle.laws_time.specs.circuit.InCall.{IsUp}
-use Rattle.laws_time.specs.circuit.LongEnough.{Line, IsTalk, AreClear, answered_in, begins}
+use Rattle.laws_time.proofs.OfCircuit.CaughtNear.{caught-by-then, asks-or-caught, other-up, caught-by-then-back, asks-or-caught-back}
 
 pub answers-tell-what-came : AnswersTellWhatCame
 answers-tell-what-came l before bs more b h = (
@@ -33,9 +23,6 @@ module _ (l : Line) (before noisy clean : List Beat) (b c d : Beat) (h : GoesWel
 
 -- The same from the other side.
 module _ (l : Line) (bs clean : List Beat) (c : Beat) (h : IsUndisturbed l bs c clean) where
-  abbrev l' : Line
-  l' = turned_line l
-
   list : map turned_beat (bs ++ c ∷ clean) ≡ map turned_beat bs ++ turned_beat c ∷ map turned_beat clean
   list = map-append turned_beat bs (c ∷ clean)
 

@@ -1,15 +1,11 @@
 -- Two stations whose links are up: what holds of the ends for which they stand goes on to hold, whatever is done there, if either end
 -- keeps it.
-use Rattle.laws_wire.proofs.Vocabulary.{◌≡◌, ℕ, false, IsTrue, List, [], ◌∷◌, drop, refl, ap, subst, All, All-head, All-tail, Service, Parts, Timer, TimerRecovery, LinkTimer, LinkEndpoint, is_multiple_frame, with_link, with_sent, Config, LineTold, Request, expired, CanRepeat, T200, T203, Wire, EndStep, requests, expires}
-use Rattle.laws_wire.proofs.Vocabulary.{sends, receives, loses, acting, turned, StepAt, at_near, at_far, doing, doing_all, awaits_answer, IsAsked, IsFullTalkOf, IsFullTalk, IsTimelyOf, StayPatient, timer_T200, timer_T203, two_ends_with_first_of, two_ends_without_first}
+use Rattle.laws_time.proofs.Vocabulary.{All, All-head, All-tail, Config, EndStep, Face, IsAskedOfLink as IsAsked, IsFullTalk, IsFullTalkOf, IsTimelyOf, IsTrue, LineTold, LinkEndpoint, LinkTimer, List, Loose, LooseAt, Parts, Request, Service, StayPatient, StepAt, T200, T203, Timer, TimerRecovery, Wire, [], acting, ap, at-expires, at-gives, at-takes, at-turned, at_far, at_near, closed, doing}
+use Rattle.laws_time.proofs.Vocabulary.{drop, expired, expires, false, held-lost, is_multiple_frame, long-there, loose-after, loses, may-there, receives, refl, requests, sends, subst, timer_T200, timer_T203, turned, wire_doing_all as doing_all, with_link, with_sent, ℕ, ◌∷◌, ◌≡◌}
+use Rattle.laws_wire.proofs.Vocabulary.{CanRepeat, awaits_answer}
 use Rattle.model_link.specs.TwoEnds as two_ends
 use Rattle.laws_link.specs.two.Timely as two_links_timely
-use Rattle.laws_wire.proofs.Awaited.{closed, may-there, long-there}
-use Rattle.laws_wire.proofs.Held.{held-lost}
-use Rattle.laws_wire.proofs.Loose.{Loose, loose-after}
-use Rattle.laws_wire.proofs.LooseUp.{LooseAt, at-turned, at-gives, at-takes, at-expires}
 use Rattle.laws_wire.proofs.LossyPhases.{Aims}
-use Rattle.laws_wire.proofs.Talking.{Face}
 use Rattle.laws_wire.proofs.TimelyUp.{each-timer, never}
 use Rattle.laws_wire.proofs.UaCalledAt.{Free, asked-at}
 use Rattle.laws_time.proofs.OfCircuit.CaughtLinks.{sent-still, timer-still, stirred, Keeps}

@@ -1,29 +1,12 @@
 -- An end of the clocked circuit is a timed card of octets that is prompt.
-use Rattle.std.proofs.Common.{arith, ◌≡◌, ℕ, zero, suc, ◌+◌, ◌-◌, ◌/◌, ◌<◌, ◌≤◌, List, [], ◌∷◌, ◌++◌, Option, Some, None, refl, sym, ap, ◌∙◌, subst, length, drop, All, nat_le, Bool, cond}
-use Rattle.std.proofs.lemmas.List.Elements.{All-nil, All-cons}
-use Rattle.std.proofs.Math.Nat.{div-le_self}
-use Rattle.std.specs.List.{AllByRecursion}
-use Rattle.std.specs.Option.{option_map_or, unwrap_or}
-use Rattle.std.specs.Prelude.{fold}
-use Rattle.lapd_clock.specs.InOrder.{IsInOrder}
-use Rattle.lapd_clock.specs.Timer.{Lengths, AreInRange}
-use Rattle.lapd_clock.specs.Timers.{Expiry, is_before}
-use Rattle.model_line.specs.Request.{Request, Assign}
-use Rattle.model_line.specs.declared.config.Config.{Config}
+use Rattle.laws_time.proofs.Vocabulary.{All-from_recursion, AllByRecursion, AreInRange, ArePrompt, Assign, Beat, Bool, Clocked, Config, EndsAreTimedCards, Expiry, IsInOrder, IsInTime, IsNoOctetsExpiry as IsNoExpiry, IsPrompt, IsTimedCard, Lengths, List, None, OctetEvent as Event, Option, Request, Some, Step, TimedEndpoint, TimedOctetCard, [], after, after_all, all_due, answered, ap, arith, asks}
+use Rattle.laws_time.proofs.Vocabulary.{at_moment, beat, card_of, comes_to, cond, div-le_self, drop, due, endpoint, fall_due, falls, falls_due, first, first_due, fold, fresh, gone, happens, hears, is_before, length, nat_le, obeyed, octet_at as at, octet_orders as orders_in, octets, option_map_or, refl, step_happens, subst, suc, sym, time, unwrap_or, with_expiry, without_first}
+use Rattle.laws_time.proofs.Vocabulary.{without_first_octet, zero, ℕ, ◌++◌, ◌+◌, ◌-◌, ◌/◌, ◌<◌, ◌∙◌, ◌∷◌, ◌≡◌, ◌≤◌}
 use Rattle.model_card.proofs.OfPorts.Steps.{config_after}
-use Rattle.model_card.specs.ports.Event.{Event, at}
 use Rattle.model_card.specs.ports.Port as port
-use Rattle.model_timed.specs.Clock.{obeyed, due, first_due, without_first, at_moment}
-use Rattle.model_timed.specs.Octets.{TimedOctetCard, octets, orders_in, IsNoExpiry, fresh}
-use Rattle.model_timed.specs.Timed.{Step, happens as step_happens, time, falls_due, after as next, with_expiry, IsInTime, IsPrompt}
-unfoldable use Rattle.model_timed.specs.Timed.{after_all, ArePrompt}
-use Rattle.laws_order.specs.circuit.Circuit.{answered}
+use Rattle.model_timed.specs.Timed.{after as next}
 use Rattle.laws_time.proofs.Moments.{now-stays, lengths-stay}
-use Rattle.laws_time.proofs.OfCircuit.Prompt.{long, all-obeyed, ordered-obeyed, due-obeyed, none-due, one-due, few-due, all-later, div-stays}
-unfoldable use Rattle.laws_time.proofs.OfCircuit.Prompt.{many_due}
-use Rattle.laws_time.specs.circuit.Ends.{card_of, IsTimedCard, EndsAreTimedCards}
-use Rattle.laws_time.specs.circuit.Clocked.{TimedEndpoint, first, happens, asks, falls, all_due, comes_to, hears, without_first_octet, Clocked, Beat, gone, beat, after, endpoint}
-unfoldable use Rattle.laws_time.specs.circuit.Clocked.{fall_due}
+use Rattle.laws_time.proofs.OfCircuit.Prompt.{long, all-obeyed, ordered-obeyed, due-obeyed, none-due, one-due, few-due, all-later, div-stays, many_due}
 
 -- Steps that are prompt lead from one timed card to another.
 pub record Leads (t u : TimedOctetCard) : Type 0 where
@@ -181,11 +164,7 @@ pub record Rests (s : TimedEndpoint) : Type 0 where
   pub stands : Stands s
   pub later : AllByRecursion (λ x. s.clock.now < x.moment) s.clock.running
 
-from-recursion : (P : Expiry → Type 0) (xs : List Expiry) → AllByRecursion P xs → All P xs
-from-recursion P [] all = All-nil P
-from-recursion P (x ∷ xs) all = All-cons P x xs all.0 (from-recursion P xs all.1)
-
-weaker : (P Q : Expiry → Type 0) → ((x : Expiry) → P x → Q x) → (xs : List Expiry) → AllByRecursion P xs → AllByRecursion Q xs
+pub weaker : (P Q : Expiry → Type 0) → ((x : Expiry) → P x → Q x) → (xs : List Expiry) → AllByRecursion P xs → AllByRecursion Q xs
 weaker P Q more [] all = tt
 weaker P Q more (x ∷ xs) all = (more x all.0, weaker P Q more xs all.1)
 
@@ -197,7 +176,7 @@ time-comes moment s h low high =
     let timely = weaker (λ x. s.clock.now < x.moment) (λ x. moment ≤ x.moment) (λ x later. omega (arith, later, high)) s.clock.running h.later in (
       record { within = h.stands.within; ranged = h.stands.ranged; in_order = h.stands.in_order; here = h.stands.here; timely = timely },
       leads-one (time moment) (card_of s)
-          (low, from-recursion (IsInTime 0 moment) s.clock.running (weaker (λ x. moment ≤ x.moment) (IsInTime 0 moment) (λ x later. omega (arith, later)) s.clock.running timely)),
+          (low, All-from_recursion (IsInTime 0 moment) s.clock.running (weaker (λ x. moment ≤ x.moment) (IsInTime 0 moment) (λ x later. omega (arith, later)) s.clock.running timely)),
     )
 
 pub record Comes (moment : ℕ) (s u : TimedEndpoint) : Type 0 where
@@ -249,10 +228,6 @@ heard-then moment noise (value ∷ way) s u h =
   where
     still : (u : TimedEndpoint) → Stands u → Stands (without_first_octet u)
     still u h = record { within = h.within; ranged = h.ranged; in_order = h.in_order; here = h.here; timely = h.timely }
-
--- A beat, and beats.
-abbrev ready : ℕ → ℕ → TimedEndpoint → Type 0
-ready rate beats s = Rests s × (s.clock.now ≡ (beats - 1) / rate)
 
 pub record Both (rate : ℕ) (t u : TimedOctetCard) (w : Clocked) : Type 0 where
   pub near : Rests w.near

@@ -1,13 +1,5 @@
 -- How many timers of a kind fall due at an end, as all that is due does; and in so many beats.
-use Rattle.std.proofs.Common.{ℕ, zero, suc, ◌+◌, ◌/◌, Bool, true, false, List, [], ◌∷◌, length, Option, None, Some, if◌then◌else◌}
-use Rattle.std.specs.Option.{option_map_or}
-use Rattle.lapd_clock.specs.Timers.{Expiry}
-use Rattle.lapd_frame.specs.declared.timers.Timer.{Timer}
-use Rattle.lapd_frame.specs.declared.timers.Timer.TheVariants.{T200, T203}
-use Rattle.model_line.specs.Request.{Request}
-use Rattle.model_timed.specs.Clock.{due}
-use Rattle.laws_time.specs.circuit.Clocked.{TimedEndpoint, Clocked, Beat, falls, beat}
-use Rattle.laws_time.specs.circuit.LongEnough.{asked}
+use Rattle.laws_time.proofs.Vocabulary.{Beat, Bool, Clocked, Expiry, List, None, Option, Request, Some, TimedEndpoint, Timer, [], asked, beat, due, falls, false, if◌then◌else◌, length, option_map_or, suc, timer_T200 as T200, timer_T203 as T203, true, zero, ℕ, ◌+◌, ◌/◌, ◌∷◌}
 
 abbrev pub is_t200 : Timer → Bool
 is_t200 (T200 service tei) = true

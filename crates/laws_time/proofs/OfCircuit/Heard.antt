@@ -1,48 +1,17 @@
 -- An octet comes to an end of the clocked circuit, and one is pulled there.
-use Rattle.std.proofs.Common.{arith, ◌≡◌, ℕ, ◌+◌, ◌≤◌, ◌||◌, Bool, true, false, cond, List, [], ◌∷◌, ◌++◌, length, Option, Some, None, Ok, refl, sym, ap, ◌∙◌, subst, is_some, option_map, length-append}
-use Rattle.std.specs.Prelude.{fold}
-use Rattle.std.specs.Option.{option_map_or}
-use Rattle.std.specs.List.{list_any}
-use Rattle.std.proofs.lemmas.Bool.{true≢false}
-use Rattle.lapd_clock.specs.Moments.{moment_of}
-use Rattle.lapd_clock.specs.Timer.{Lengths}
-use Rattle.lapd_frame.specs.declared.services.Service.{Service}
+use Rattle.laws_time.proofs.Vocabulary.{Bool, Clock, Config, IsInRange, Lengths, LinkEvent, List, None, Observed, Ok, Option, Parts, Service, Some, TimedCard, TimedEndpoint, View, [], answered, ap, arith, at, came, card_of, cond, false, frame_in, gained, happens, heard_side, is_due, is_final, is_on, is_some, is_time, is_waiting, length, length-append, list_any, meant_all, moment_at, moment_of}
+use Rattle.laws_time.proofs.Vocabulary.{obeyed, octet_at, octet_orders, option_map, option_map_or, or-none, own_side, parts_of, port_of, ports_fresh as fresh, reading, refl, same_Some, state, state_number, subst, sym, true, true≢false, view_behind, view_of, ℕ, ◌++◌, ◌+◌, ◌∙◌, ◌∷◌, ◌≡◌, ◌≤◌}
 use Rattle.lapd_frame.specs.declared.timers.Timer.TheVariants as timers
-use Rattle.lapd_frame.specs.Grammar.{Parts}
-use Rattle.lapd_frame.specs.Senders.{reading}
 use Rattle.model_bits.specs.Stream as stream
 use Rattle.model_link.specs.Events as link
-use Rattle.model_link.specs.Events.{Event as LinkEvent}
-use Rattle.model_link.specs.Link.{state_number}
 use Rattle.model_link.specs.Machine as links
-use Rattle.model_line.specs.Came.{came}
 use Rattle.model_line.specs.Event as line
-use Rattle.model_line.specs.Heard.{heard_side}
-use Rattle.model_line.specs.Sound.{IsInRange}
-use Rattle.model_line.specs.declared.config.Config.{Config}
-use Rattle.model_card.specs.Card.{state}
 use Rattle.model_card.specs.Event as frame_event
-use Rattle.model_card.specs.Event.{at}
-use Rattle.model_card.specs.ports.Card.{fresh}
-use Rattle.model_card.specs.ports.Event.{at as octet_at}
 use Rattle.model_card.specs.ports.Port as port
-use Rattle.model_card.specs.ports.Port.{gained, is_due}
-unfoldable use Rattle.model_card.specs.ports.Run.{meant_all}
-use Rattle.model_timed.specs.Clock.{Clock, obeyed}
-use Rattle.model_timed.specs.Frames.{TimedCard}
-use Rattle.model_timed.specs.Octets.{orders_in as octet_orders}
-use Rattle.laws_link.specs.Waiting.{is_time}
-use Rattle.laws_trace.specs.Observer.{Observed, View, view_of, view_behind, moment_of as moment_at, by_frame_begun}
-use Rattle.laws_trace.specs.Managing.{is_on}
-use Rattle.laws_trace.specs.Trace.{frame_in}
-use Rattle.laws_wire.specs.Facing.{parts_of}
-use Rattle.laws_wire.specs.Timely.{is_final}
-use Rattle.laws_order.specs.circuit.Circuit.{Endpoint as OctetEndpoint, port_of, answered}
 use Rattle.laws_order.specs.circuit.Circuit as circuit
 use Rattle.laws_time.proofs.Links.{on-where, stays-on, view-then}
 use Rattle.laws_time.proofs.Moments.{lengths-stay}
 use Rattle.laws_time.proofs.OctetsMean.{meant_at, orders-are, event-inside}
-use Rattle.laws_time.specs.circuit.Ends.{card_of}
 use Rattle.laws_time.proofs.OfCircuit.Ends.{stands-on}
 use Rattle.laws_time.proofs.OfCircuit.Kinds.{asks, is_asked}
 use Rattle.laws_time.proofs.OfCircuit.Moments.{counts-on, not-anew, runs-on}
@@ -52,21 +21,8 @@ use Rattle.laws_time.proofs.OfCircuit.Sender.{Sends, sends-with, sends-later}
 use Rattle.laws_time.proofs.OfCircuit.Standing.{Ends, IsOwn, Moved, Pulled, heard-none, heard-dropped, heard-frame, pulls}
 use Rattle.laws_time.proofs.OfCircuit.Under.{EndOk, IsLong, Then, here-is, all-past, all-then, next-card, o-is, q-is, clock-is, state-here, moved-on}
 use Rattle.laws_time.proofs.OfCircuit.Acts.{IsSoon, sound-line, speaks-here, orders-mean}
-use Rattle.laws_time.specs.circuit.Clocked.{TimedEndpoint, happens}
-use Rattle.laws_time.specs.circuit.LongEnough.{is_of, is_waiting}
-use Rattle.model_line.specs.Taken.{own_side}
-
-pub or-false : (b : Bool) → (b || false) ≡ b
-or-false true = refl
-or-false false = refl
-
--- A frame that goes leaves the state that an observer knows.
-one-state : (c : Config) (service : Service) (tei : ℕ) (o : Observed) (f : List ℕ) → (by_frame_begun c service tei o f).state ≡ o.state
-one-state c service tei o f = grind arith
-
-begun-state : (c : Config) (service : Service) (tei : ℕ) (fs : List (List ℕ)) (o : Observed) → (fold (by_frame_begun c service tei) o fs).state ≡ o.state
-begun-state c service tei [] o = refl
-begun-state c service tei (f ∷ fs) o = begun-state c service tei fs (by_frame_begun c service tei o f) ∙ one-state c service tei o f
+use Rattle.laws_time.specs.circuit.LongEnough.{is_of}
+use Rattle.laws_time.proofs.Effects.{sent-like}
 
 module _ (c : Config) (service : Service) (tei place : ℕ) (ranged : IsInRange c) (lengths : Lengths) (rate : ℕ) where
   abbrev EndHere : ℕ → ℕ → TimedEndpoint → Type 0
@@ -86,12 +42,9 @@ module _ (c : Config) (service : Service) (tei place : ℕ) (ranged : IsInRange 
     none-ours : AreOurs service tei (octet_orders (answered ev a.at))
     none-ours = subst (AreOurs service tei) (sym no-orders) tt
 
-    some-same : (m n : ℕ) → Some m ≡ Some n → m ≡ n
-    some-same m n e = cc e
-
     same-state : (h : Ends c service tei place ranged a.at) (k : Ends c service tei place ranged (circuit.happens ev a.at)) → state_number k.its.state ≡ state_number h.its.state
     same-state h k =
-        some-same (state_number k.its.state) (state_number h.its.state)
+        same_Some (state_number k.its.state) (state_number h.its.state)
         (sym (state-here c service tei place ranged lengths rate (circuit.happens ev a.at) k) ∙ ap (state a.at.line service tei) same-card
         ∙ state-here c service tei place ranged lengths rate a.at h)
 
@@ -167,7 +120,7 @@ module _ (c : Config) (service : Service) (tei place : ℕ) (ranged : IsInRange 
           moved-on c service tei place ranged lengths rate a (port.octet value) S M M' h.but (line.hears (stream.frame octets)) means (λ x. x ≡ e) mv
           (λ x is. subst IsOrdinary (sym (mv.by x is)) tt)
           (λ x is asks_it. soon_asked
-          (ap (λ r. list_any (λ (f : Parts). asks f.address.command f.control) (parts_of r)) read_there ∙ or-false (asks f.address.command f.control) ∙ sym (ap is_asked (mv.by x is)) ∙ asks_it))
+          (ap (λ r. list_any (λ (f : Parts). asks f.address.command f.control) (parts_of r)) read_there ∙ or-none (asks f.address.command f.control) ∙ sym (ap is_asked (mv.by x is)) ∙ asks_it))
           less
           (subst (AreOurs service tei) (sym (orders-mean c service tei place ranged lengths rate a h.but.ends (port.octet value) (line.hears (stream.frame octets)) means))
           (heard-ours service tei c place a.at.line a.at.card.card h.but.ends.stands.config h.but.ends.its (sound-line c service tei place ranged lengths rate a h.but.ends)
@@ -220,7 +173,7 @@ module _ (c : Config) (service : Service) (tei place : ℕ) (ranged : IsInRange 
         (ap is_some (ap (state number service tei) (sym then_card) ∙ state-here c service tei place ranged lengths rate (circuit.happens port.pull a.at) x.ends)) in
         let by = stays-on c past number ranged all within service tei line.next on on_then in
         let said = (moment_at c past number line.next).answer in
-        let same : q.state ≡ o.state = ap (λ (o : Observed). o.state) by ∙ begun-state c service tei (frame_in said) o in
+        let same : q.state ≡ o.state = ap (λ (o : Observed). o.state) by ∙ (sent-like c service tei o (frame_in said)).state in
         let few : q.expiries ≤ o.expiries = subst (λ (q : Observed). q.expiries ≤ o.expiries) (sym by) (counts-on c service tei line.next said o refl) in
         let waits_o : is_waiting o.state ≡ true = ap is_waiting (sym same ∙ q_is) ∙ waits in
         let none = not-anew c past number ranged all within service tei line.next a.clock waits_o same few in

@@ -1,48 +1,18 @@
 -- A call without noise, in which no timer falls due: so many beats after the last request all is told.
-use Rattle.std.proofs.Common.{arith, ◌≡◌, ℕ, zero, suc, ◌+◌, ◌*◌, ◌-◌, ◌/◌, ◌≤◌, ◌<◌, false, List, [], ◌∷◌, ◌++◌, length, map, replicate, drop, refl, sym, ap, ◌∙◌, subst, All, append-nil}
-use Rattle.std.specs.Prelude.{fold}
-use Rattle.std.proofs.lemmas.List.{length-replicate}
-use Rattle.std.proofs.lemmas.List.Elements.{All-nil, All-cons, All-head, All-tail}
-use Rattle.model_bits.specs.StuffingLaws.{AreOctets}
-use Rattle.model_bits.specs.Sent.{idle}
-use Rattle.model_bits.specs.Stream.{heard_in}
-use Rattle.model_line.specs.Request.{Request, Establish}
+use Rattle.laws_time.proofs.Vocabulary.{ACallTakesBeats, AShortCallTakesBeats, All, All-cons, All-head, All-nil, All-tail, All-weaker, AreOctets, AreShort, AsksData, AsksOctets, Beat, CanCall, Carries, Circuit, Clocked, Config, Establish, Fits, Follows, FrameEndpoint, IsClean, IsDataOf, IsInRange, IsToldAll, IsUndue, Line, List, NoneFallsDue, OctetEndpoint as Endpoint, Port, Ran, Request}
+use Rattle.laws_time.proofs.Vocabulary.{TimedEndpoint, [], after, ap, append-nil, arith, as_endpoint, as_wire, asked-as, asked-way, assigned, beat, begins, calls, clean, comes_to, confirmed, data_told, doing_all, drop, enough_beats, false, flags, fold, framed, frames_among, fresh_port, goes-on, gone, granted_in, heard_in, idle, indicated, length, length-replicate, longest, many, map, plain}
+use Rattle.laws_time.proofs.Vocabulary.{port-after, port_of, pulling, refl, replicate, subst, suc, sym, with_first_of, within-ports, zero, ℕ, ◌*◌, ◌++◌, ◌+◌, ◌-◌, ◌/◌, ◌<◌, ◌∙◌, ◌∷◌, ◌≡◌, ◌≤◌}
 use Rattle.model_line.specs.Event as line
-use Rattle.model_line.specs.Sound.{IsInRange}
-use Rattle.model_line.specs.declared.config.Config.{Config}
-use Rattle.model_card.specs.ports.Codec.{frames_among}
 use Rattle.model_card.specs.ports.Port as port
-use Rattle.model_card.specs.ports.Port.{Port, fresh_port}
-use Rattle.model_line.specs.Event.{LineTold}
 use Rattle.laws_wire.specs.Call as call
-unfoldable use Rattle.laws_wire.specs.Call.{both_call}
-unfoldable use Rattle.laws_wire.specs.Wire.{doing_all as wire_doing_all, turns as wire_turns}
-use Rattle.laws_wire.specs.Call.{CanCall, confirmed, indicated, data_told}
-use Rattle.laws_order.specs.circuit.Beats.{enough_beats, longest}
 use Rattle.laws_wire.specs.Wire as wire
-use Rattle.laws_wire.specs.Wire.{Endpoint as FrameEndpoint}
 use Rattle.laws_order.specs.circuit.Circuit as circuit
-use Rattle.laws_order.specs.circuit.Circuit.{Endpoint, Circuit, port_of, receives, StepAt, at_near, at_far, with_first_of, without_first}
-unfoldable use Rattle.laws_order.specs.circuit.Circuit.{doing_all}
-use Rattle.laws_order.specs.circuit.Through.{assigned}
-unfoldable use Rattle.laws_order.proofs.OfCircuit.Onward.{many}
-use Rattle.laws_order.proofs.OfCircuit.AsFrames.{as_endpoint, asked-as}
-use Rattle.laws_order.proofs.OfCircuit.OneWay.{Carries, framed}
-use Rattle.laws_order.proofs.OfCircuit.Projected.{as_wire, Fits, Follows, port-after, asked-way}
-use Rattle.laws_order.proofs.OfCircuit.Ran.{Ran, AsksOctets, goes-on, within-ports}
-use Rattle.laws_time.specs.circuit.Answered.{IsClean}
-use Rattle.laws_time.specs.circuit.Arriving.{calls}
-use Rattle.laws_time.specs.circuit.Clocked.{TimedEndpoint, Clocked, Beat, plain, comes_to, gone, beat, after, clean, flags}
-use Rattle.laws_time.specs.circuit.InBeats.{IsDataOf, AsksData, IsUndue, IsToldAll, ACallTakesBeats, granted_in, AreShort, AShortCallTakesBeats}
-unfoldable use Rattle.laws_time.specs.circuit.InBeats.{NoneFallsDue}
-use Rattle.laws_time.specs.circuit.LongEnough.{Line, begins}
-unfoldable use Rattle.laws_time.specs.circuit.LongEnough.{pulling}
+use Rattle.laws_order.specs.circuit.Circuit.{receives, StepAt, at_near, at_far, without_first}
 use Rattle.laws_time.proofs.OfCircuit.InBeatsAs.{Alike, alike-asked, Twin, plus, first-way}
 use Rattle.laws_time.proofs.OfCircuit.InBeatsIdle as idles
 use Rattle.laws_time.proofs.OfCircuit.InBeatsIdle.{opened, first-port, first-station}
 use Rattle.laws_time.proofs.OfCircuit.InBeatsRun as run
-unfoldable use Rattle.laws_time.proofs.OfCircuit.InBeatsRun.{steps_near, steps_far, all_steps}
-use Rattle.laws_time.proofs.OfCircuit.InBeatsRun.{ask, near-done, far-done, both_hear, comes-at}
+use Rattle.laws_time.proofs.OfCircuit.InBeatsRun.{steps_near, steps_far, all_steps, ask, near-done, far-done, both_hear, comes-at}
 use Rattle.laws_time.proofs.OfCircuit.InBeatsCall.{Due, near-none, far-none, call-comes}
 use Rattle.laws_time.proofs.OfCircuit.InBeatsShort.{short-at}
 use Rattle.laws_time.proofs.OfCircuit.InBeatsTold.{Comes, all-told, all-told-short}
@@ -96,9 +66,6 @@ module _ (l : Line) (c : Config) (ranged : IsInRange c) (number : ℕ) (within :
 
   pub as_idle : idles.Idle l.service c ranged number l.tei within few l.way (pulling (suc l.way) (assigned c number l.tei))
   as_idle = idles.idle-end l.service c ranged number l.tei within few l.way
-
-  asked : Endpoint
-  asked = fold ask begun rs
 
   ran-begun : Ran c begun
   ran-begun = idles.ran-begun l.service c ranged number l.tei within few (flags l.way)
@@ -172,18 +139,11 @@ module _ (l : Line) (b : Beat) (bs : List Beat) (n : ℕ) (can : CanCall l.near 
   now-clean : IsClean b
   now-clean = All-head IsClean b bs are_clean
 
-  octets-of : (rs : List Request) → All (IsDataOf l) rs → All Octets rs
-  octets-of [] all = All-nil Octets
-  octets-of (r ∷ rs) all = All-cons Octets r rs (run.asks-octets l near far r (All-head (IsDataOf l) r rs all)) (octets-of rs (All-tail (IsDataOf l) r rs all))
-
-  abbrev near_rs : List Request
-  near_rs = ring ∷ b.near_asks
-
   pub near-octets : All Octets (ring ∷ b.near_asks)
-  near-octets = All-cons Octets ring b.near_asks (All-nil (λ octet. octet < 256)) (octets-of b.near_asks now-data.0)
+  near-octets = All-cons Octets ring b.near_asks (All-nil (λ octet. octet < 256)) (All-weaker (IsDataOf l) Octets (run.asks-octets l near far) b.near_asks now-data.0)
 
   pub far-octets : All Octets b.far_asks
-  far-octets = octets-of b.far_asks now-data.1
+  far-octets = All-weaker (IsDataOf l) Octets (run.asks-octets l near far) b.far_asks now-data.1
 
   undue-now : IsUndue ((begins l).beats / l.rate) (ring ∷ b.near_asks) (begins l).near × IsUndue ((begins l).beats / l.rate) b.far_asks (begins l).far × NoneFallsDue l.rate (bs ++ replicate n plain) (beat l.rate (begins l) (calls l b))
   unfolding NoneFallsDue

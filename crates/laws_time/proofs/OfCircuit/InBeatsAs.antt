@@ -1,25 +1,10 @@
 -- An end of the clocked circuit is one of the circuit without clocks, as if the flags in transit at first had been pulled there.
-use Rattle.std.proofs.Common.{◌≡◌, ℕ, zero, suc, ◌<◌, Bool, cond, List, [], ◌∷◌, ◌++◌, length, drop, replicate, take, Option, Some, None, is_some, option_map, refl, sym, ap, ◌∙◌, append_assoc}
-use Rattle.std.specs.Option.{option_map_or}
-use Rattle.model_bits.specs.Bits.{number_of}
-unfoldable use Rattle.model_bits.specs.Bits.{low_bits}
-use Rattle.model_bits.specs.Framer.{runs_low}
-use Rattle.model_bits.specs.Sent.{Item, idle}
+use Rattle.laws_time.proofs.Vocabulary.{AsksOctets, Bool, Card, Config, IsInRange, Item, List, None, OctetEndpoint as Endpoint, Option, Port, Ran, Request, Some, [], answer, answer_of, answer_to, answered, ap, append_assoc, card_after, cond, contents_in, drop, frame_begun, frames_among, given_in, goes-on, heard-way, idle, is_some, item_of, left_of, length, low_bits, meant, next_octet, number_of}
+use Rattle.laws_time.proofs.Vocabulary.{octet_pulled, option_map, option_map_or, orders_with, port-after, port_of, ports_after as after, refl, replicate, runs_low, suc, sym, take, told_by, with_first_of, with_item, with_octet, within-ports, zero, ℕ, ◌++◌, ◌<◌, ◌∙◌, ◌∷◌, ◌≡◌}
 use Rattle.model_line.specs.Event as line
-use Rattle.model_line.specs.Event.{LineTold, given_in}
-use Rattle.model_line.specs.Request.{Request}
-use Rattle.model_line.specs.Sound.{IsInRange}
-use Rattle.model_line.specs.declared.config.Config.{Config}
-use Rattle.model_card.specs.Card.{Card}
 use Rattle.model_card.specs.Event as frames
-unfoldable use Rattle.model_card.specs.ports.Card.{after, answer, meant}
-use Rattle.model_card.specs.ports.Card.{answer_to, card_after}
-use Rattle.model_card.specs.ports.Codec.{frames_among, octet_pulled}
 use Rattle.model_card.specs.ports.Port as port
-use Rattle.model_card.specs.ports.Port.{Port, left_of, next_octet, with_item, with_octet, item_of, frame_begun, orders_with, answer_of}
-use Rattle.laws_order.specs.circuit.Circuit.{Endpoint, port_of, happens, answered, told_by, unless_refused, contents_in, with_first_of, without_first}
-use Rattle.laws_order.proofs.OfCircuit.Projected.{port-after, heard-way}
-use Rattle.laws_order.proofs.OfCircuit.Ran.{Ran, AsksOctets, goes-on, within-ports}
+use Rattle.laws_order.specs.circuit.Circuit.{happens, unless_refused, without_first}
 
 -- A port with so many idle flags more, which were put and given first.
 abbrev pub plus : ℕ → Port → Port

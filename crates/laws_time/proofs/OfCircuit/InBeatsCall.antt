@@ -1,23 +1,8 @@
 -- A call of frames, in which data alone is asked for once one end has asked for the establishment.
-use Rattle.std.proofs.Common.{arith, ◌≡◌, ℕ, ◌||◌, false, List, [], ◌∷◌, ◌++◌, length, map, refl, ap, ◌∙◌, subst, All, append-nil}
-use Rattle.std.proofs.lemmas.List.Elements.{All-nil, All-cons, All-head, All-tail}
-use Rattle.model_line.specs.Request.{Request, Establish, Data, Assign}
+use Rattle.laws_time.proofs.Vocabulary.{All, All-head, All-tail, All-weaker, Assign, CanCall, Config, Data, Establish, FrameEndpoint, LineTold, List, Request, Service, [], ap, append-nil, arith, both_call, calls-come-through, confirmed, data_told, false, indicated, length, map, refl, subst, wire_doing_all, wire_turns, ℕ, ◌++◌, ◌||◌, ◌∙◌, ◌∷◌, ◌≡◌}
 use Rattle.model_line.specs.Event as line
-use Rattle.model_line.specs.declared.config.Config.{Config}
-use Rattle.lapd_frame.specs.declared.services.Service.{Service}
-use Rattle.model_line.specs.Event.{LineTold}
 use Rattle.laws_wire.specs.Call as call
-unfoldable use Rattle.laws_wire.specs.Call.{both_call}
-unfoldable use Rattle.laws_wire.specs.Wire.{doing_all as wire_doing_all, turns as wire_turns}
-use Rattle.laws_wire.proofs.Run.{calls-come-through}
-use Rattle.laws_wire.specs.Call.{CanCall, confirmed, indicated, data_told}
 use Rattle.laws_wire.specs.Wire as wire
-use Rattle.laws_wire.specs.Wire.{Endpoint as FrameEndpoint}
-unfoldable use Rattle.laws_order.specs.circuit.Circuit.{doing_all}
-unfoldable use Rattle.laws_order.proofs.OfCircuit.Onward.{many}
-unfoldable use Rattle.laws_time.specs.circuit.InBeats.{NoneFallsDue}
-unfoldable use Rattle.laws_time.specs.circuit.LongEnough.{pulling}
-unfoldable use Rattle.laws_time.proofs.OfCircuit.InBeatsRun.{steps_near, steps_far, all_steps}
 use Rattle.laws_time.proofs.OfCircuit.InBeatsTold.{Comes}
 
 module _ (service : Service) (tei : ℕ) where
@@ -37,8 +22,7 @@ module _ (service : Service) (tei : ℕ) where
   one-call other is = absurd is
 
   pub are-calls : (es : List wire.StepAt) → All Talks es → All (call.IsCall service tei) es
-  are-calls [] all = All-nil (call.IsCall service tei)
-  are-calls (e ∷ es) all = All-cons (call.IsCall service tei) e es (one-call e (All-head Talks e es all)) (are-calls es (All-tail Talks e es all))
+  are-calls = All-weaker Talks (call.IsCall service tei) one-call
 
   one-none : (x : wire.StepAt) → Talks x → (w : wire.Wire) → call.calls_back x w ≡ false
   one-none (wire.at_near act) is w = refl

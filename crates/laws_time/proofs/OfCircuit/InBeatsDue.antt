@@ -1,24 +1,12 @@
 -- What holds of each timer that is started holds of each that runs. So none falls due in the first milliseconds.
-use Rattle.std.proofs.Common.{arith, ◌≡◌, ℕ, zero, suc, ◌+◌, ◌*◌, ◌/◌, ◌<◌, ◌≤◌, Bool, true, false, cond, List, [], ◌∷◌, length, Option, Some, None, refl, sym, ◌∙◌, subst, nat_le}
-use Rattle.std.specs.List.{AllByRecursion}
-use Rattle.std.specs.Option.{option_map_or, unwrap_or}
-use Rattle.std.specs.Prelude.{fold}
-use Rattle.std.proofs.Math.Nat.{div-lt_iff_lt-mul}
-use Rattle.lapd_clock.specs.Timer.{Lengths, Timer, duration}
-use Rattle.lapd_clock.specs.Timers.{Expiry}
-use Rattle.model_line.specs.Request.{Request, Assign}
+use Rattle.laws_time.proofs.Vocabulary.{AllByRecursion, Assign, Beat, Bool, Clocked, Expiry, IsUndue, Lengths, Line, List, None, NoneFallsDue, Option, Request, Some, TimedEndpoint, [], after, answered, arith, asked, asks, beat, begins, comes_to, cond, div-lt_iff_lt-mul, due, duration, false, first, first_due, fold, happens, hears, leb-true, length, nat_le, octet_orders as orders_in, refl}
+use Rattle.laws_time.proofs.Vocabulary.{same_Some, subst, sym, true, unwrap_or, without_first, ℕ, ◌*◌, ◌+◌, ◌/◌, ◌<◌, ◌∙◌, ◌∷◌, ◌≡◌, ◌≤◌}
+use Rattle.lapd_clock.specs.Timer.{Timer}
 use Rattle.model_card.specs.ports.Port as port
-use Rattle.model_timed.specs.Clock.{due, first_due, without_first}
-use Rattle.model_timed.specs.Octets.{orders_in}
-use Rattle.laws_order.specs.circuit.Circuit.{answered}
-use Rattle.laws_time.specs.circuit.Clocked.{TimedEndpoint, Clocked, Beat, first, happens, asks, falls, hears, comes_to, beat, after}
-unfoldable use Rattle.laws_time.specs.circuit.Clocked.{fall_due}
-use Rattle.laws_time.specs.circuit.InBeats.{IsUndue}
-unfoldable use Rattle.laws_time.specs.circuit.InBeats.{NoneFallsDue}
-use Rattle.laws_time.specs.circuit.LongEnough.{Line, asked, begins}
 use Rattle.laws_time.proofs.Moments.{now-stays, lengths-stay}
-use Rattle.laws_time.proofs.OfCircuit.Ends.{at_time, rest-of, first-of}
+use Rattle.laws_time.proofs.OfCircuit.Ends.{at_time, rest-of, first-of, weaker}
 use Rattle.laws_time.proofs.OfCircuit.Prompt.{all-obeyed, div-stays}
+use Rattle.laws_time.proofs.OfCircuit.Keeping.{comes-keep, fold-keeps}
 
 -- What holds of each timer that runs, by the moment now and that at which it falls due: of each that is started from a moment on, and then as
 -- time goes on.
@@ -51,31 +39,17 @@ module _ (r : Rule) where
       }
 
   keeps-asks : (rs : List Request) (s : TimedEndpoint) → Keeps s → Keeps (fold asks s rs)
-  keeps-asks [] s h = h
-  keeps-asks (q ∷ rs) s h = keeps-asks rs (asks s q) (keeps-event (port.request q) s h)
-
-  keeps-fell : (s : TimedEndpoint) (o : Option Expiry) → Keeps s → Keeps (option_map_or (falls s) o s)
-  keeps-fell s None h = h
-  keeps-fell s (Some x) h =
-      keeps-event (port.expiry x.timer) (record s { clock = without_first s.clock })
-      (record { running = rest-of (HoldsAt s.clock.now) s.clock.running h.running; lengths = h.lengths; since = h.since })
-
-  keeps-falls : (k : ℕ) (s : TimedEndpoint) → Keeps s → Keeps (fall_due k s)
-  unfolding fall_due
-  keeps-falls zero s h = h
-  keeps-falls (suc k) s h = keeps-falls k (option_map_or (falls s) (due s.clock) s) (keeps-fell s (due s.clock) h)
-
-  all-stay : (now later : ℕ) → now ≤ later → (xs : List Expiry) → AllByRecursion (HoldsAt now) xs → AllByRecursion (HoldsAt later) xs
-  all-stay now later more [] all = tt
-  all-stay now later more (x ∷ xs) all = (r.stays now later x.timer x.moment more all.0, all-stay now later more xs all.1)
+  keeps-asks rs = fold-keeps asks (λ r. Unit {0}) Keeps (λ q u is. keeps-event (port.request q) u) rs (λ k d lt. tt)
 
   keeps-time : (moment : ℕ) (s : TimedEndpoint) → s.clock.now ≤ moment → Keeps s → Keeps (at_time moment s)
   keeps-time moment s later h =
-      let since = h.since in record { running = all-stay s.clock.now moment later s.clock.running h.running; lengths = h.lengths; since = omega (arith, later, since) }
+      let since = h.since in record { running = weaker (HoldsAt s.clock.now) (HoldsAt moment) (λ x. r.stays s.clock.now moment x.timer x.moment later) s.clock.running h.running; lengths = h.lengths; since = omega (arith, later, since) }
 
   keeps-comes : (moment : ℕ) (rs : List Request) (s : TimedEndpoint) → s.clock.now ≤ moment → Keeps s → Keeps (comes_to moment rs s)
   keeps-comes moment rs s later h =
-      let a = fold asks (at_time moment s) rs in keeps-falls (length a.clock.running) a (keeps-asks rs (at_time moment s) (keeps-time moment s later h))
+      comes-keep Keeps (λ r. Unit {0}) (λ q u is. keeps-event (port.request q) u)
+      (λ x u is h. keeps-event (port.expiry x.timer) (record u { clock = without_first u.clock }) (record { running = rest-of (HoldsAt u.clock.now) u.clock.running h.running; lengths = h.lengths; since = h.since }))
+      moment rs (λ k d lt. tt) s (keeps-time moment s later h)
 
   keeps-hears : (noise : Option ℕ) (way : List ℕ) (s : TimedEndpoint) → Keeps s → Keeps (hears noise way s)
   keeps-hears noise [] s h = h
@@ -83,20 +57,12 @@ module _ (r : Rule) where
 
 -- The moment after a beat.
 now-asked : (rs : List Request) (s : TimedEndpoint) → (fold asks s rs).clock.now ≡ s.clock.now
-now-asked [] s = refl
-now-asked (r ∷ rs) s = now-asked rs (asks s r) ∙ now-stays s.at.line s.clock (orders_in (answered (port.request r) s.at))
-
-now-fell : (s : TimedEndpoint) (o : Option Expiry) → (option_map_or (falls s) o s).clock.now ≡ s.clock.now
-now-fell s None = refl
-now-fell s (Some x) = now-stays s.at.line (without_first s.clock) (orders_in (answered (port.expiry x.timer) s.at))
-
-now-falls : (k : ℕ) (s : TimedEndpoint) → (fall_due k s).clock.now ≡ s.clock.now
-unfolding fall_due
-now-falls zero s = refl
-now-falls (suc k) s = now-falls k (option_map_or (falls s) (due s.clock) s) ∙ now-fell s (due s.clock)
+now-asked rs s = fold-keeps asks (λ r. Unit {0}) (λ u. u.clock.now ≡ s.clock.now) (λ r u is same. now-stays u.at.line u.clock (orders_in (answered (port.request r) u.at)) ∙ same) rs (λ k d lt. tt) s refl
 
 now-comes : (moment : ℕ) (rs : List Request) (s : TimedEndpoint) → (comes_to moment rs s).clock.now ≡ moment
-now-comes moment rs s = let a = fold asks (at_time moment s) rs in now-falls (length a.clock.running) a ∙ now-asked rs (at_time moment s)
+now-comes moment rs s =
+    comes-keep (λ u. u.clock.now ≡ moment) (λ r. Unit {0}) (λ r u is same. now-stays u.at.line u.clock (orders_in (answered (port.request r) u.at)) ∙ same)
+    (λ x u is same. now-stays u.at.line (without_first u.clock) (orders_in (answered (port.expiry x.timer) u.at)) ∙ same) moment rs (λ k d lt. tt) s refl
 
 now-hears : (noise : Option ℕ) (way : List ℕ) (s : TimedEndpoint) → (hears noise way s).clock.now ≡ s.clock.now
 now-hears noise [] s = refl
@@ -150,18 +116,12 @@ first-keeps r moment rs s later h x is =
     let k = keeps-asks r rs (at_time moment s) (keeps-time r moment s later h) in
     subst (λ n. r.holds n x.timer x.moment) (now-asked rs (at_time moment s)) (first-of (HoldsAt r a.clock.now) a.clock.running a.clock.now x k.running is)
 
-the-same : (e x : Expiry) → Some e ≡ Some x → e ≡ x
-the-same e x is = cc is
-
-is-due : (n m : ℕ) → nat_le n m ≡ true → n ≤ m
-is-due n m is = grind arith
-
 due-soon : (xs : List Expiry) (now : ℕ) (x : Expiry) → first_due xs now ≡ Some x → x.moment ≤ now
 due-soon [] now x is = cc is
 due-soon (e ∷ es) now x is = go (nat_le e.moment now) refl is
   where
     go : (b : Bool) → nat_le e.moment now ≡ b → cond b (Some e) None ≡ Some x → x.moment ≤ now
-    go true low is = subst (λ (y : Expiry). y.moment ≤ now) (the-same e x is) (is-due e.moment now low)
+    go true low is = subst (λ (y : Expiry). y.moment ≤ now) (same_Some e x is) (leb-true e.moment now low)
     go false low is = cc is
 
 pub early : (rate : ℕ) → 1 ≤ rate → (t n : ℕ) → n < t * rate → n / rate < t

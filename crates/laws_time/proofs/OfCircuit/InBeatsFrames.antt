@@ -1,26 +1,8 @@
 -- Without noise each frame that was put on the line is received so many beats later.
-use Rattle.std.proofs.Common.{arith, ◌≡◌, ℕ, suc, ◌+◌, ◌≤◌, List, [], ◌∷◌, ◌++◌, length, take, drop, refl, sym, ap, ◌∙◌, subst, All, inr, append-nil, append_assoc, length-append}
-use Rattle.std.proofs.lemmas.List.{length-drop, length-map, take-append-drop, length-take-le}
-use Rattle.std.proofs.lemmas.List.Elements.{All-head, All-tail, All-take, All-drop}
-use Rattle.std.proofs.lemmas.List.Sums.{fold-append}
-use Rattle.model_bits.specs.Sent.{Item}
+use Rattle.laws_time.proofs.Vocabulary.{All, All-drop, All-head, All-tail, All-take, AreShort, Beat, Begins, Carries, Clocked, Config, Fits, FramesComeInBeats, HasReceived, IsBehind, IsClean, IsSoundPort, IsTalk, Item, Line, List, OctetEndpoint as Endpoint, Port, Ran, [], after, all-out, ap, append-nil, append_assoc, arith, beat, begins, drop, fold-append, framed, frames_among, heard-beyond}
+use Rattle.laws_time.proofs.Vocabulary.{heard_in, inr, left_of, length, length-append, length-drop, length-map, length-take-le, longest, longest_text, on-line, out, port_of, refl, sound-port, subst, suc, sym, take, take-append-drop, ℕ, ◌++◌, ◌+◌, ◌∙◌, ◌∷◌, ◌≡◌, ◌≤◌}
 use Rattle.model_bits.specs.Stream as stream
-use Rattle.model_bits.specs.Stream.{heard_in}
-use Rattle.model_line.specs.declared.config.Config.{Config}
-use Rattle.model_card.specs.ports.Codec.{frames_among}
-use Rattle.model_card.specs.ports.Port.{Port, left_of}
-use Rattle.model_card.specs.ports.Pulls.{longest_text}
-use Rattle.model_card.specs.ports.Sound.{IsSoundPort}
-use Rattle.laws_order.specs.circuit.Beats.{longest}
-use Rattle.laws_order.specs.circuit.Circuit.{Endpoint, port_of}
-use Rattle.laws_order.proofs.OfCircuit.Coming.{IsBehind, all-out}
-use Rattle.laws_order.proofs.OfCircuit.OneWay.{Carries, framed, out, heard-beyond, frames_among-append}
-use Rattle.laws_order.proofs.OfCircuit.Projected.{Fits}
-use Rattle.laws_order.proofs.OfCircuit.Ran.{Ran, sound-port, on-line}
-use Rattle.laws_time.specs.circuit.Answered.{IsClean}
-use Rattle.laws_time.specs.circuit.Clocked.{Clocked, Beat, beat, after}
-use Rattle.laws_time.specs.circuit.InBeats.{Begins, AreShort, HasReceived, FramesComeInBeats}
-use Rattle.laws_time.specs.circuit.LongEnough.{Line, IsTalk, begins}
+use Rattle.laws_order.proofs.OfCircuit.OneWay.{frames_among-append}
 use Rattle.laws_time.proofs.OfCircuit.AnsweredBits.{longer-begins}
 use Rattle.laws_time.proofs.OfCircuit.InBeatsAs.{plus, frames-plus}
 use Rattle.laws_time.proofs.OfCircuit.InBeatsKept.{Kept, one-kept, all-kept, first-kept, fits, fits-far, On, Beaten}

@@ -1,34 +1,12 @@
 -- An end of the circuit at which nothing was asked, after some pulls: flags are in transit, and the card is as it began.
-use Rattle.std.proofs.Common.{arith, ◌≡◌, ℕ, zero, suc, ◌+◌, ◌<◌, ◌≤◌, true, false, cond, List, [], ◌∷◌, ◌++◌, length, replicate, Option, Some, None, refl, sym, ap, ◌∙◌, subst, append_assoc}
-use Rattle.std.proofs.lemmas.List.Elements.{All-nil}
-unfoldable use Rattle.model_bits.specs.Bits.{low_bits}
-use Rattle.model_bits.specs.Framer.{runs_low}
-use Rattle.model_bits.specs.Sent.{idle}
-use Rattle.lapd_frame.specs.declared.services.Service.{Service}
+use Rattle.laws_time.proofs.Vocabulary.{All-nil, Assign, Config, FrameEndpoint, GivesOctets, IsInRange, List, None, OctetEndpoint as Endpoint, Option, Port, Ran, Service, Some, [], answer, ap, append_assoc, arith, as_endpoint, asked-as, asked-way, assigned, cond, false, fresh_at, fresh_port, gave, goes-on, idle, if_meant, is_due, length, low_bits, meant, meant_all, moments as frame_moments}
+use Rattle.laws_time.proofs.Vocabulary.{next, octet_endpoint, octet_pulled, port-after, port_of, ports_fresh as fresh, pulled-as, pulling, refl, replicate, runs_low, subst, suc, sym, true, within-ports, zero, ℕ, ◌++◌, ◌+◌, ◌<◌, ◌∙◌, ◌∷◌, ◌≡◌, ◌≤◌}
 use Rattle.model_line.specs.Event as line
-use Rattle.model_line.specs.Event.{gave, next}
-use Rattle.model_line.specs.Request.{Assign}
-use Rattle.model_line.specs.Sound.{IsInRange}
-use Rattle.model_line.specs.declared.config.Config.{Config}
-use Rattle.model_card.proofs.OfPorts.GoingOut.{fresh_at}
-use Rattle.model_card.specs.ports.Card.{fresh}
-unfoldable use Rattle.model_card.specs.ports.Card.{answer, meant}
-unfoldable use Rattle.model_card.specs.ports.Run.{after_all, meant_all}
-unfoldable use Rattle.model_card.specs.Run.{moments as frame_moments}
-use Rattle.model_card.specs.ports.Run.{IsAtLine}
-use Rattle.model_card.specs.ports.Codec.{octet_pulled}
+use Rattle.model_card.specs.ports.Run.{after_all, IsAtLine}
 use Rattle.model_card.specs.ports.Port as port
-use Rattle.model_card.specs.ports.Port.{Port, fresh_port, is_due, with_item, next_octet}
-use Rattle.laws_trace.specs.FramesAreRead.{GivesOctets}
 use Rattle.laws_wire.specs.Call as call
 use Rattle.laws_wire.specs.Wire as wire
-use Rattle.laws_wire.specs.Wire.{Endpoint as FrameEndpoint}
-use Rattle.laws_order.specs.circuit.Circuit.{Endpoint, port_of, happens}
-use Rattle.laws_order.specs.circuit.Through.{octet_endpoint, assigned}
-use Rattle.laws_order.proofs.OfCircuit.AsFrames.{as_endpoint, if_meant, asked-as, pulled-as}
-use Rattle.laws_order.proofs.OfCircuit.Projected.{port-after, asked-way}
-use Rattle.laws_order.proofs.OfCircuit.Ran.{Ran, goes-on, within-ports}
-unfoldable use Rattle.laws_time.specs.circuit.LongEnough.{pulling}
+use Rattle.laws_order.specs.circuit.Circuit.{happens}
 use Rattle.laws_time.proofs.OfCircuit.ArrivIdle.{untaken, idle-answer}
 use Rattle.laws_time.proofs.OfCircuit.InBeatsAs.{plus, left-plus, after-plus, answer-plus, said_of, meaning}
 
@@ -67,9 +45,6 @@ fresh-gives o none s =
 module _ (s : Endpoint) (is : port_of s ≡ fresh_port) (inside : s.line < length s.card.ports) where
   none-meant : meaning port.pull s ≡ None
   none-meant = ap (λ p. port.meant s.card.card.config.n201 port.pull p) is ∙ ap (λ b. cond b (Some line.next) None) fresh-undue
-
-  abbrev its : Option line.Event → Port → Port
-  its o p = port.after port.pull (said_of s.card.card s.line o) p
 
   pub first-port : port_of (happens port.pull s) ≡ opened
   unfolding meant

@@ -1,48 +1,19 @@
 -- Beats without noise, in which anything of the link is asked for and timers fall due, are beats of a circuit without clocks.
-use Rattle.std.proofs.Common.{arith, ◌≡◌, ℕ, zero, suc, ◌+◌, ◌*◌, ◌/◌, ◌<◌, ◌≤◌, Bool, true, false, List, [], ◌∷◌, ◌++◌, length, Option, None, Some, refl, sym, ap, ◌∙◌, subst, All, ◌⊎◌, inl, inr, append-nil, append_assoc, length-append}
-use Rattle.std.specs.Option.{option_map_or}
-use Rattle.std.specs.Prelude.{fold}
-use Rattle.std.proofs.lemmas.List.Elements.{All-nil, All-cons, All-head, All-tail}
-use Rattle.lapd_clock.specs.Timers.{Expiry}
-use Rattle.lapd_frame.specs.declared.services.Service.{Service}
+use Rattle.laws_time.proofs.Vocabulary.{All, All-head, All-nil, All-tail, All-weaker, AsksOctets, Beat, Begins, Bool, CanCall, Carries, Circuit, ClearBusy, Clocked, Config, Data, Establish, Fits, Follows, IsBehind, IsClean, IsInRange, IsOfLink, IsTalk, IsUndue, Item, Line, List, NoneFallsDue, OctetEndpoint as Endpoint, Option, Port, Ran, Release, Request, Service, SetBusy, TimedEndpoint, []}
+use Rattle.laws_time.proofs.Vocabulary.{after, answer, answer_of, answered, ap, append-nil, append_assoc, arith, asked-way, beat, begins, comes_to, doing_all, false, fold, given_in, goes-on, gone, inl, inr, is_due, item_of, left_of, length, length-append, many, many-stay, next_of_card, octet_pulled, one-act, option_map_or, other-way, port-after, port_of, pull-between, pull-given, pull-put}
+use Rattle.laws_time.proofs.Vocabulary.{pull-received, refl, subst, sym, true, with_first_of, within-ports, ℕ, ◌*◌, ◌++◌, ◌+◌, ◌/◌, ◌<◌, ◌∙◌, ◌∷◌, ◌≡◌, ◌≤◌, ◌⊎◌}
 use Rattle.model_line.specs.Event as line
-use Rattle.model_line.specs.Event.{LineTold, given_in}
-use Rattle.model_bits.specs.Sent.{Item}
-use Rattle.model_line.specs.Request.{Request, Establish, Release, SetBusy, ClearBusy, Data}
-use Rattle.model_line.specs.Sound.{IsInRange}
-use Rattle.model_line.specs.declared.config.Config.{Config}
-unfoldable use Rattle.model_card.specs.ports.Card.{answer}
-use Rattle.model_card.specs.ports.Codec.{octet_pulled}
 use Rattle.model_card.specs.ports.Port as port
-use Rattle.model_card.specs.ports.Port.{Port, answer_of, is_due, item_of, left_of}
-use Rattle.model_timed.specs.Clock.{due}
-use Rattle.laws_wire.specs.Call.{CanCall}
-unfoldable use Rattle.laws_wire.specs.Wire.{doing_all as wire_doing_all, turns as wire_turns}
 use Rattle.laws_order.specs.circuit.Circuit as circuit
-use Rattle.laws_order.specs.circuit.Circuit.{Endpoint, Circuit, port_of, answered, sends, receives, StepAt, acting, turned, with_first_of, without_first}
-unfoldable use Rattle.laws_order.specs.circuit.Circuit.{doing_all}
-unfoldable use Rattle.laws_order.proofs.OfCircuit.Onward.{many}
-use Rattle.laws_order.proofs.OfCircuit.AtPort.{next_of_card, pull-between, pull-put, pull-given, pull-received}
-use Rattle.laws_order.proofs.OfCircuit.Coming.{IsBehind}
-use Rattle.laws_order.proofs.OfCircuit.Onward.{many-stay}
-use Rattle.laws_order.proofs.OfCircuit.OneWay.{Carries}
-use Rattle.laws_order.proofs.OfCircuit.Projected.{Fits, Follows, other-way, one-act, port-after, asked-way}
-use Rattle.laws_order.proofs.OfCircuit.Ran.{Ran, AsksOctets, goes-on, within-ports}
-use Rattle.laws_time.specs.circuit.Answered.{IsClean}
-use Rattle.laws_time.specs.circuit.Clocked.{TimedEndpoint, Clocked, Beat, asks, falls, comes_to, gone, beat, after}
-unfoldable use Rattle.laws_time.specs.circuit.Clocked.{fall_due}
-use Rattle.laws_time.specs.circuit.InBeats.{IsUndue, Begins}
-unfoldable use Rattle.laws_time.specs.circuit.InBeats.{NoneFallsDue}
-use Rattle.laws_time.specs.circuit.LongEnough.{Line, IsOfLink, IsTalk, begins}
-use Rattle.laws_time.proofs.OfCircuit.Ends.{at_time}
+use Rattle.laws_order.specs.circuit.Circuit.{sends, receives, acting, turned, without_first}
 use Rattle.laws_time.proofs.OfCircuit.InBeats.{Octets, pulled_first, as_idle, first-end, first-long, long-both, carries-none}
 use Rattle.laws_time.proofs.OfCircuit.InBeatsAs.{Twin, twin-event, first-way}
 use Rattle.laws_time.proofs.OfCircuit.InBeatsDue.{none-at-first}
 use Rattle.laws_time.proofs.OfCircuit.Prompt.{long}
 use Rattle.laws_time.proofs.OfCircuit.InBeatsIdle as idles
 use Rattle.laws_time.proofs.OfCircuit.InBeatsRun as run
-unfoldable use Rattle.laws_time.proofs.OfCircuit.InBeatsRun.{all_steps}
-use Rattle.laws_time.proofs.OfCircuit.InBeatsRun.{ask, both_hear, comes-at, undue-parts, plain-clean}
+use Rattle.laws_time.proofs.OfCircuit.InBeatsRun.{ask, both_hear, comes-at}
+use Rattle.laws_time.proofs.OfCircuit.Keeping.{comes-keep}
 
 -- ---- what is asked for, and what falls due, leaves the port and what is in transit
 
@@ -97,23 +68,9 @@ module _ (k size : ℕ) (service : Service) (tei : ℕ) (c d : Config) (ranged :
   stood-one : (e : port.Event) → IsSilent e → AsksOctets e → (s : Endpoint) → Stood s → Stood (circuit.happens e s)
   stood-one e is octets s h = record { u = circuit.happens e h.u; twin = twin-event k c ranged e octets s h.u h.twin; follows = follows-silent e is octets h.u h.follows; long = ap length (silent-way e is h.u) ∙ h.long; port = silent-port e is h.u (within-ports c ranged h.u h.twin.there) ∙ h.port }
 
-  stood-asks : (rs : List Request) → All (IsOfLink service tei) rs → (a : TimedEndpoint) → Stood a.at → Stood (fold asks a rs).at
-  stood-asks [] all a h = h
-  stood-asks (r ∷ rs) all a h =
-      stood-asks rs (All-tail (IsOfLink service tei) r rs all) (asks a r)
-      (stood-one (port.request r) tt (of-octets service tei r (All-head (IsOfLink service tei) r rs all)) a.at h)
-
-  stood-fell : (a : TimedEndpoint) (o : Option Expiry) → Stood a.at → Stood (option_map_or (falls a) o a).at
-  stood-fell a None h = h
-  stood-fell a (Some x) h = stood-one (port.expiry x.timer) tt tt a.at h
-
-  stood-falls : (n : ℕ) (a : TimedEndpoint) → Stood a.at → Stood (fall_due n a).at
-  unfolding fall_due
-  stood-falls zero a h = h
-  stood-falls (suc n) a h = stood-falls n (option_map_or (falls a) (due a.clock) a) (stood-fell a (due a.clock) h)
-
   stood-comes : (moment : ℕ) (rs : List Request) → All (IsOfLink service tei) rs → (a : TimedEndpoint) → Stood a.at → Stood (comes_to moment rs a).at
-  stood-comes moment rs all a h = let b = fold asks (at_time moment a) rs in stood-falls (length b.clock.running) b (stood-asks rs all (at_time moment a) h)
+  stood-comes =
+      comes-keep (λ u. Stood u.at) (IsOfLink service tei) (λ r u is. stood-one (port.request r) tt (of-octets service tei r is) u.at) (λ x u is. stood-one (port.expiry x.timer) tt tt u.at)
 
   follows-asks : (rs : List Request) → All Octets rs → (u : Endpoint) → Follows size c d (record { near = u; far = y }) there back → Follows size c d (record { near = fold ask u rs; far = y }) there back
   follows-asks [] all u h = h
@@ -283,11 +240,6 @@ module _ (l : Line) (fit : Begins l) where
 
   -- ---- the first beat
 
-  octets-of : (rs : List Request) → All (IsOfLink l.service l.tei) rs → All Octets rs
-  octets-of [] all = All-nil Octets
-  octets-of (r ∷ rs) all =
-      All-cons Octets r rs (of-octets l.service l.tei r (All-head (IsOfLink l.service l.tei) r rs all)) (octets-of rs (All-tail (IsOfLink l.service l.tei) r rs all))
-
   module _ (b : Beat) (talk : IsTalk l b) (is_clean : IsClean b) where
     undue : IsUndue ((begins l).beats / l.rate) b.near_asks (begins l).near × IsUndue ((begins l).beats / l.rate) b.far_asks (begins l).far
     unfolding NoneFallsDue
@@ -296,10 +248,10 @@ module _ (l : Line) (fit : Begins l) where
         let none = none-at-first l (b ∷ []) 1 fit.some (long l.lengths fit.lengths.0) (long l.far_lengths fit.lengths.1) (omega (arith, some)) in (none.0, none.1)
 
     near-octets : All Octets b.near_asks
-    near-octets = octets-of b.near_asks talk.0
+    near-octets = All-weaker (IsOfLink l.service l.tei) Octets (of-octets l.service l.tei) b.near_asks talk.0
 
     far-octets : All Octets b.far_asks
-    far-octets = octets-of b.far_asks talk.1
+    far-octets = All-weaker (IsOfLink l.service l.tei) Octets (of-octets l.service l.tei) b.far_asks talk.1
 
     abbrev n0 : Endpoint
     n0 = pulled_first l l.near here l.near_line can.near.1 can.terminal b.near_asks near-octets

@@ -1,18 +1,7 @@
 -- The worked call meets the premises: so after 144 beats more all is told.
-use Rattle.std.proofs.Common.{arith, ◌≡◌, ◌≤◌, ◌<◌, false, [], ◌∷◌, ◌++◌, length, replicate, refl, sym, subst, All}
-use Rattle.std.proofs.lemmas.List.Elements.{All-nil, All-cons, All-append}
-use Rattle.lapd_clock.specs.Timer.{Timer, T200, T203, T201, T202, duration}
-use Rattle.lapd_frame.specs.declared.services.Service.TheVariants.{Call}
-use Rattle.model_line.specs.Config.{sapi_fault}
-use Rattle.model_line.specs.Request.{Data}
-use Rattle.laws_wire.specs.Call.{CanCall}
-use Rattle.laws_order.specs.circuit.Beats.{enough_beats}
-use Rattle.laws_time.specs.circuit.Answered.{IsClean}
-use Rattle.laws_time.specs.circuit.Arriving.{calls}
-use Rattle.laws_time.specs.circuit.Clocked.{Beat, plain, after, clean}
-use Rattle.laws_time.specs.circuit.InBeats.{IsDataOf, AsksData, IsToldAll}
-use Rattle.laws_time.specs.circuit.LongEnough.{begins}
-use Rattle.laws_time.specs.circuit.WorkedInBeats.{its_line, user, network, talks, one_granted}
+use Rattle.laws_time.proofs.Vocabulary.{All, All-append, All-cons, All-nil, AsksData, Beat, Call, CanCall, Data, IsClean, IsDataOf, IsToldAll, T201, T202, [], after, arith, begins, calls, clean, duration, enough_beats, false, its_line, length, network, one_granted, plain, refl, replicate, sapi_fault, subst, sym, user, ◌++◌, ◌<◌, ◌∷◌, ◌≡◌, ◌≤◌}
+use Rattle.lapd_clock.specs.Timer.{Timer, T200, T203}
+use Rattle.laws_time.specs.circuit.WorkedInBeats.{talks}
 use Rattle.laws_time.proofs.OfCircuit.InBeats.{a-call-takes-beats}
 use Rattle.laws_time.proofs.OfCircuit.InBeatsRun.{plain-data, plain-clean}
 use Rattle.laws_time.proofs.OfCircuit.InBeatsDue.{none-at-first}

@@ -1,39 +1,14 @@
 -- A link at rest on a line without noise: so many beats after the last request all is told that was granted since.
-use Rattle.std.proofs.Common.{arith, ◌≡◌, ℕ, suc, ◌+◌, ◌*◌, ◌-◌, ◌≤◌, List, [], ◌∷◌, ◌++◌, length, map, drop, replicate, refl, sym, ap, ◌∙◌, subst, All, append_assoc}
-use Rattle.std.proofs.lemmas.List.{length-drop}
-use Rattle.std.proofs.lemmas.List.Elements.{All-head, All-tail}
-use Rattle.model_bits.specs.Stream.{heard_in}
-use Rattle.model_line.specs.Event.{LineTold}
-use Rattle.model_line.specs.Sound.{IsInRange}
-unfoldable use Rattle.model_card.specs.ports.Card.{answer}
-use Rattle.model_card.specs.ports.Codec.{frames_among}
-use Rattle.model_card.specs.ports.Port.{Port}
+use Rattle.laws_time.proofs.Vocabulary.{All, All-head, All-tail, AreShort, AsksData, Beat, Begins, Circuit, Clocked, Delivers, Follows, FrameEndpoint, IsAtRest, IsBeginningOf, IsClean, IsInRange, IsStill, IsTalk, IsToldSince, Line, LineTold, List, MessagesTakeBeats, NoneFallsDue, OctetEndpoint as Endpoint, Port, ShortMessagesTakeBeats, ToldSince, Wire, [], after, ap, append_assoc, arith}
+use Rattle.laws_time.proofs.Vocabulary.{as_endpoint, as_frames, as_wire, beat, begins, cards-deliver, clean, data_told, doing_all, drop, due_since, framed, frames_among, granted_in, heard_in, length, length-drop, longest, many, map, most_turns, nil_from_length, own_link, plain, port_of, replicate, subst, suc, sym, unsent_at, wire_doing_all, wire_turns, ℕ, ◌*◌, ◌++◌, ◌+◌, ◌-◌, ◌∙◌, ◌∷◌, ◌≡◌, ◌≤◌}
 use Rattle.laws_wire.specs.Call as call
-use Rattle.laws_wire.specs.Call.{CanCall, IsBeginningOf, ToldInOrder, data_told}
-use Rattle.laws_wire.specs.Facing.{Delivers, IsToldSince as ToldSince, most_turns, unsent_at, due_since, own_link}
 use Rattle.laws_wire.specs.Wire as wire
-use Rattle.laws_wire.specs.Wire.{Endpoint as FrameEndpoint, Wire, IsStill}
-unfoldable use Rattle.laws_wire.specs.Wire.{doing_all as wire_doing_all, turns as wire_turns}
-use Rattle.laws_wire.proofs.Delivering.{cards-deliver}
-use Rattle.laws_order.specs.circuit.Beats.{longest}
-use Rattle.laws_order.specs.circuit.Circuit.{Endpoint, Circuit, port_of, StepAt}
-unfoldable use Rattle.laws_order.specs.circuit.Circuit.{doing_all}
-unfoldable use Rattle.laws_order.proofs.OfCircuit.Onward.{many}
-use Rattle.laws_order.proofs.OfCircuit.AsFrames.{as_endpoint}
-use Rattle.laws_order.proofs.OfCircuit.OneWay.{framed}
-use Rattle.laws_order.proofs.OfCircuit.Projected.{as_wire, Follows}
+use Rattle.laws_order.specs.circuit.Circuit.{StepAt}
 use Rattle.laws_order.proofs.OfCircuit.Through.{all-heard}
-use Rattle.laws_time.specs.circuit.Answered.{IsClean}
-use Rattle.laws_time.specs.circuit.Clocked.{Clocked, Beat, plain, beat, after, clean}
-unfoldable use Rattle.laws_time.specs.circuit.Clocked.{fall_due}
-use Rattle.laws_time.specs.circuit.InBeats.{AsksData, granted_in, as_frames, IsAtRest, IsToldSince, Begins, MessagesTakeBeats, AreShort, ShortMessagesTakeBeats}
-unfoldable use Rattle.laws_time.specs.circuit.InBeats.{NoneFallsDue}
-use Rattle.laws_time.specs.circuit.LongEnough.{Line, IsTalk, begins}
 use Rattle.laws_time.proofs.OfCircuit.InBeatsAs.{Alike, plus, frames-plus}
 use Rattle.laws_time.proofs.OfCircuit.InBeatsKept.{Kept, all-kept, first-kept, fits, fits-far}
 use Rattle.laws_time.proofs.OfCircuit.InBeatsRun as run
-unfoldable use Rattle.laws_time.proofs.OfCircuit.InBeatsRun.{all_steps}
-use Rattle.laws_time.proofs.OfCircuit.InBeatsRun.{ask, both_hear, comes-at, undue-parts, plain-clean}
+use Rattle.laws_time.proofs.OfCircuit.InBeatsRun.{all_steps, undue-parts, plain-clean}
 use Rattle.laws_time.proofs.OfCircuit.InBeatsShort.{short-at}
 use Rattle.laws_time.proofs.OfCircuit.InBeatsTold.{Comes, all-told, all-told-short}
 
@@ -55,15 +30,11 @@ module _ (l : Line) (fit : Begins l) where
       all-heard l.near.n201 p r.received frames
       (ap (λ (p : Port). framed (frames_among p.items)) here ∙ ap framed (frames-plus l.way q.items) ∙ all ∙ ap (λ (r : Port). heard_in l.near.n201 r.received) (sym there)) are
 
-  nothing : (xs : List (List ℕ)) → length xs ≡ 0 → xs ≡ []
-  nothing [] none = refl
-  nothing (x ∷ xs) none = absurd (omega (arith, none))
-
   unsent-none : (s : FrameEndpoint) → most_turns l.service l.tei s ≡ 0 → unsent_at l.service l.tei s ≡ []
   unsent-none s none =
       let link = own_link l.service l.tei s in
       let few = length-drop link.s link.contents in
-      nothing (drop link.s link.contents) (omega (arith, none, few))
+      nil_from_length (drop link.s link.contents) (omega (arith, none, few))
 
   module _ (r : Clocked) (k : Kept l fit r) (rest : IsAtRest l r) where
     abbrev v : Circuit

@@ -1,37 +1,14 @@
 -- A worked link is at rest, and T203 runs on: so after 72 beats more all is told that is granted then. And its SABME comes in nine beats.
-use Rattle.std.proofs.Common.{arith, ◌≡◌, ℕ, zero, suc, ◌+◌, ◌-◌, ◌*◌, ◌≤◌, ◌<◌, false, List, [], ◌∷◌, ◌++◌, length, map, replicate, Some, refl, sym, ap, ◌∙◌, subst, All}
-use Rattle.std.proofs.lemmas.List.Elements.{All-nil, All-cons}
-use Rattle.lapd_clock.specs.Timer.{T203, AreInRange}
-use Rattle.lapd_clock.specs.Timers.{Expiry}
-use Rattle.lapd_frame.specs.declared.services.Service.TheVariants.{Call}
-use Rattle.lapd_frame.specs.Reading.{reading, header_of, control_of, unnumbered_of, supervisory_of}
-use Rattle.lapd_frame.specs.Senders.{exchanged, reading as read_by}
-use Rattle.lapd_seq.specs.Circle.{distance_of, named}
-use Rattle.lapd_seq.specs.Numbers.{seq}
+use Rattle.laws_time.proofs.Vocabulary.{All, All-cons, All-nil, AreInRange, AreOpposite, AreShort, AsksData, Beat, Begins, Call, Clock, Clocked, Config, Establish, Expiry, FrameEndpoint as Endpoint, HasReceived, IsAtRest, IsCalmSince, IsClean, IsOfLink, IsSoundCard as IsSound, IsTalk, IsToldSince, Item, List, RunsOn, Some, TimedEndpoint, [], after, ap, arith, as_frames, beat, begins, calls}
+use Rattle.laws_time.proofs.Vocabulary.{clean, config, control_of, distance_of, exchanged, fall_due, false, far_clock, frame, frames_among, frames_at, granted_in, header_of, idle, is_busy, its_line, length, line_of, longest, low_bits, map, most_turns, named, near_clock, network, own_frames_at, own_link, plain, port_of, reading as read_by, refl, replicate, rested, runs_until, seq, sound}
+use Rattle.laws_time.proofs.Vocabulary.{state_of, subst, suc, supervisory_of, sym, unnumbered_of, user, zero, ℕ, ◌*◌, ◌++◌, ◌+◌, ◌-◌, ◌<◌, ◌∙◌, ◌∷◌, ◌≡◌, ◌≤◌}
+use Rattle.lapd_clock.specs.Timer.{T203}
+use Rattle.lapd_frame.specs.Reading.{reading}
 use Rattle.lapd_tei.specs.Events as teis
-use Rattle.model_bits.specs.Bits.{low_bits}
 use Rattle.model_line.specs.Machine as lines
-use Rattle.model_line.specs.Request.{Establish}
 use Rattle.model_card.specs.ports.Card as ports
-use Rattle.model_bits.specs.Sent.{Item, idle, frame}
 use Rattle.model_bits.specs.Stream as stream
-use Rattle.model_card.specs.Sound.{IsSound}
-use Rattle.model_card.specs.ports.Codec.{frames_among}
-use Rattle.model_line.specs.Line.{state_of}
-use Rattle.model_line.specs.declared.config.Config.{Config}
-use Rattle.model_timed.specs.Clock.{Clock}
-use Rattle.laws_wire.specs.Call.{AreOpposite}
-use Rattle.laws_wire.specs.Facing.{Face, Speaks, own_link, line_of, is_busy, frames_at, own_frames_at, most_turns}
-use Rattle.laws_wire.specs.Wire.{Endpoint}
-use Rattle.laws_order.specs.circuit.Beats.{longest}
-use Rattle.laws_order.specs.circuit.Circuit.{port_of}
-use Rattle.laws_order.proofs.OfCircuit.Ran.{sound, config}
-use Rattle.laws_time.specs.circuit.Answered.{IsClean}
-use Rattle.laws_time.specs.circuit.Arriving.{calls}
-use Rattle.laws_time.specs.circuit.Clocked.{TimedEndpoint, Clocked, Beat, plain, beat, after, clean, fall_due}
-use Rattle.laws_time.specs.circuit.InBeats.{AreShort, HasReceived, AsksData, Begins, IsAtRest, IsToldSince, IsCalmSince, RunsOn, granted_in, as_frames}
-use Rattle.laws_time.specs.circuit.LongEnough.{IsOfLink, IsTalk, begins}
-use Rattle.laws_time.specs.circuit.WorkedInBeats.{its_line, user, network, rested, runs_until, near_clock, far_clock}
+use Rattle.laws_wire.specs.Facing.{Face, Speaks}
 use Rattle.laws_time.proofs.OfCircuit.InBeatsFrames.{frames-come-in-beats}
 use Rattle.laws_time.proofs.OfCircuit.InBeatsKept.{Kept, all-kept, first-kept}
 use Rattle.laws_time.proofs.OfCircuit.InBeatsMet.{can, sends, asks-one}

@@ -1,26 +1,10 @@
 -- The beats of the clocked circuit, without noise and with no timer that falls due, are done on the circuit without clocks.
-use Rattle.std.proofs.Common.{◌≡◌, ℕ, zero, suc, ◌/◌, List, [], ◌∷◌, ◌++◌, length, replicate, Option, None, refl, sym, ap, ◌∙◌, subst, All}
-use Rattle.std.specs.Prelude.{fold}
-use Rattle.std.specs.Option.{option_map_or, unwrap_or}
-use Rattle.std.proofs.lemmas.List.Elements.{All-nil, All-cons, All-head, All-tail}
-use Rattle.model_line.specs.Request.{Request, Data}
-use Rattle.model_line.specs.Sound.{IsInRange}
-use Rattle.model_line.specs.declared.config.Config.{Config}
+use Rattle.laws_time.proofs.Vocabulary.{All, All-cons, All-head, All-nil, All-tail, AsksData, AsksOctets, Beat, Circuit, Clocked, Config, Data, IsClean, IsDataOf, IsInRange, IsUndue, Line, List, None, NoneFallsDue, OctetEndpoint as Endpoint, Option, Request, TimedEndpoint, [], after, ap, asked, asked-way, asks, beat, comes_to, doing_all, due, fall_due, falls, fold, gone, hears, length, many}
+use Rattle.laws_time.proofs.Vocabulary.{many-stay, option_map_or, plain, refl, replicate, subst, suc, sym, unwrap_or, with_first_of, without_first_octet, zero, ℕ, ◌++◌, ◌/◌, ◌∙◌, ◌∷◌, ◌≡◌}
 use Rattle.model_card.specs.ports.Port as port
-use Rattle.model_timed.specs.Clock.{due}
 use Rattle.laws_order.specs.circuit.Circuit as circuit
-use Rattle.laws_order.specs.circuit.Circuit.{Endpoint, Circuit, requests, sends, receives, StepAt, at_near, at_far, with_first_of, without_first}
-unfoldable use Rattle.laws_order.specs.circuit.Circuit.{doing_all}
-use Rattle.laws_order.proofs.OfCircuit.Ran.{AsksOctets}
-unfoldable use Rattle.laws_order.proofs.OfCircuit.Onward.{many}
-use Rattle.laws_order.proofs.OfCircuit.Onward.{many-stay}
-use Rattle.laws_order.proofs.OfCircuit.Projected.{asked-way}
-use Rattle.laws_time.specs.circuit.Answered.{IsClean}
-use Rattle.laws_time.specs.circuit.Clocked.{TimedEndpoint, Clocked, Beat, plain, asks, falls, hears, comes_to, gone, heard, beat, after, without_first_octet}
-unfoldable use Rattle.laws_time.specs.circuit.Clocked.{fall_due}
-use Rattle.laws_time.specs.circuit.InBeats.{IsDataOf, AsksData, IsUndue}
-unfoldable use Rattle.laws_time.specs.circuit.InBeats.{NoneFallsDue}
-use Rattle.laws_time.specs.circuit.LongEnough.{Line, asked}
+use Rattle.laws_order.specs.circuit.Circuit.{requests, sends, receives, StepAt, at_near, at_far, without_first}
+use Rattle.laws_time.specs.circuit.Clocked.{heard}
 use Rattle.laws_time.proofs.OfCircuit.Ends.{at_time}
 use Rattle.laws_time.proofs.OfCircuit.InBeatsTold.{IsDataAt}
 use Rattle.laws_time.proofs.OfCircuit.InBeatsAs.{Twin, twin-event, twin-drop, twin-first, twin-late, first-way}
@@ -185,25 +169,21 @@ module _ (l : Line) (here : IsInRange l.near) (there : IsInRange l.far) where
   abbrev pub IsData : StepAt → Type 0
   IsData x = IsDataAt l.service l.tei x
 
+  data-one : (r : Request) → IsDataOf l r → IsData (at_near (requests r)) × IsData (at_far (requests r))
+  data-one (Data s t contents) is = (is, is)
+  data-one other is = absurd is
+
   data-near : (rs : List Request) → All (IsDataOf l) rs → (ds : List StepAt) → All IsData ds → All IsData (steps_near rs ds)
   unfolding steps_near
   data-near [] all ds h = h
   data-near (r ∷ rs) all ds h =
-      All-cons IsData (at_near (requests r)) (steps_near rs ds) (one r (All-head (IsDataOf l) r rs all)) (data-near rs (All-tail (IsDataOf l) r rs all) ds h)
-    where
-      one : (r : Request) → IsDataOf l r → IsData (at_near (requests r))
-      one (Data s t contents) is = is
-      one other is = absurd is
+      All-cons IsData (at_near (requests r)) (steps_near rs ds) (data-one r (All-head (IsDataOf l) r rs all)).0 (data-near rs (All-tail (IsDataOf l) r rs all) ds h)
 
   data-far : (rs : List Request) → All (IsDataOf l) rs → (ds : List StepAt) → All IsData ds → All IsData (steps_far rs ds)
   unfolding steps_far
   data-far [] all ds h = h
   data-far (r ∷ rs) all ds h =
-      All-cons IsData (at_far (requests r)) (steps_far rs ds) (one r (All-head (IsDataOf l) r rs all)) (data-far rs (All-tail (IsDataOf l) r rs all) ds h)
-    where
-      one : (r : Request) → IsDataOf l r → IsData (at_far (requests r))
-      one (Data s t contents) is = is
-      one other is = absurd is
+      All-cons IsData (at_far (requests r)) (steps_far rs ds) (data-one r (All-head (IsDataOf l) r rs all)).1 (data-far rs (All-tail (IsDataOf l) r rs all) ds h)
 
   pub data-hears : (ds : List StepAt) → All IsData ds → All IsData (at_near receives ∷ at_far receives ∷ ds)
   data-hears ds h = All-cons IsData (at_near receives) (at_far receives ∷ ds) tt (All-cons IsData (at_far receives) ds tt h)

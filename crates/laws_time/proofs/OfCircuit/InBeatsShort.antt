@@ -1,33 +1,10 @@
 -- How few bits are left at a port, if the frames that were put there have so few octets.
-use Rattle.std.proofs.Common.{arith, ◌≡◌, ℕ, zero, suc, ◌+◌, ◌-◌, ◌≤◌, Bool, true, false, List, [], ◌∷◌, ◌++◌, length, refl, sym, ap, ◌∙◌, subst, All, inl, inr, append-nil, append_assoc, length-append}
-use Rattle.std.specs.Prelude.{flat_map}
-use Rattle.std.proofs.lemmas.List.{length-drop}
-use Rattle.std.proofs.lemmas.List.Elements.{All-nil, All-cons, All-head, All-tail}
-use Rattle.lapd_frame.specs.declared.services.Service.{Service}
-use Rattle.model_bits.specs.Bits.{bits}
-use Rattle.model_bits.specs.Framer.{item_octets}
-use Rattle.model_bits.specs.Sent.{Item, idle, frame, item_text, line_text}
-use Rattle.model_bits.proofs.BitLemmas.{length-bits}
-use Rattle.model_bits.proofs.Division.Unique.{length-check}
-use Rattle.model_card.proofs.OfPorts.LastItem.{IsCut}
-use Rattle.model_card.specs.ports.Codec.{frames_among}
+use Rattle.laws_time.proofs.Vocabulary.{All, All-cons, All-head, All-nil, All-tail, AreFew, Bool, Circuit, Config, Fits, Follows, IsCut, Item, List, OctetEndpoint as Endpoint, Port, Ran, Service, [], acts-append, all-done, all-left, all-right, all-talk, ap, append-nil, append_assoc, arith, bits, doing_all, false, flat_map, frame, frames_among, given_in, goes-on, idle, inl, inr, is_due}
+use Rattle.laws_time.proofs.Vocabulary.{item_octets, item_of, item_text, left_of, length, length-append, length-bits, length-check, length-drop, line_text, longest_text, many, many-append, many-mute, next_of_card, on-line, port-after, port_of, pull-between, pull-put, refl, sender, subst, suc, sym, true, with_first_of, within-ports, zero, ℕ, ◌++◌, ◌+◌, ◌-◌, ◌∙◌, ◌∷◌, ◌≡◌, ◌≤◌}
 use Rattle.model_card.specs.ports.Port as port
-use Rattle.model_card.specs.ports.Port.{Port, left_of, is_due, item_of}
-use Rattle.model_card.specs.ports.Pulls.{longest_text}
-use Rattle.model_line.specs.Event.{given_in}
-use Rattle.model_line.specs.declared.config.Config.{Config}
-use Rattle.laws_line.proofs.OfCard.Meanwhile.{all-left, all-right}
 use Rattle.laws_order.specs.circuit.Circuit as circuit
-use Rattle.laws_order.specs.circuit.Circuit.{Endpoint, Circuit, port_of, with_first_of, without_first}
-unfoldable use Rattle.laws_order.specs.circuit.Circuit.{doing_all}
-use Rattle.laws_order.proofs.OfCircuit.AtPort.{next_of_card, pull-between, pull-put}
-use Rattle.laws_order.proofs.OfCircuit.Comes.{AreFew, sender}
+use Rattle.laws_order.specs.circuit.Circuit.{without_first}
 use Rattle.laws_order.proofs.OfCircuit.OneWay.{frames_among-append}
-unfoldable use Rattle.laws_order.proofs.OfCircuit.Onward.{many}
-use Rattle.laws_order.proofs.OfCircuit.Onward.{many-append, many-mute, acts-append}
-use Rattle.laws_order.proofs.OfCircuit.Projected.{Fits, Follows, port-after, all-done}
-use Rattle.laws_order.proofs.OfCircuit.Ran.{Ran, goes-on, on-line, within-ports}
-use Rattle.laws_order.proofs.OfCircuit.Takings.{all-talk}
 use Rattle.laws_time.proofs.OfCircuit.InBeatsAs.{plus, frames-plus}
 use Rattle.laws_time.proofs.OfCircuit.Open.{stuffed-longest}
 

@@ -1,44 +1,19 @@
 -- On the circuit without clocks: in how many beats all is told, if so many turns are left for it at most.
-use Rattle.std.proofs.Common.{arith, ◌≡◌, ℕ, suc, ◌+◌, ◌*◌, ◌-◌, ◌≤◌, Bool, true, false, cond, List, [], ◌∷◌, ◌++◌, length, None, Some, is_some, option_map, refl, sym, ap, ◌∙◌, subst, All, append-nil, append_assoc}
-use Rattle.std.specs.Prelude.{option_to_list}
-use Rattle.std.proofs.Math.Nat.{suc-mul}
-use Rattle.std.proofs.lemmas.List.{append_cancel_left}
-use Rattle.std.proofs.lemmas.List.Elements.{All-append, All-nil, All-cons, All-head, All-tail}
-use Rattle.lapd_frame.specs.declared.services.Service.{Service}
-use Rattle.model_line.specs.Event.{LineTold}
-use Rattle.model_line.specs.Request.{Data}
-use Rattle.model_line.specs.declared.config.Config.{Config}
-use Rattle.model_bits.specs.StuffingLaws.{AreOctets}
-use Rattle.model_card.specs.ports.Port.{gained, is_due}
+use Rattle.laws_time.proofs.Vocabulary.{All, All-append, All-cons, All-head, All-nil, All-tail, All-weaker, AreFew, AreOctets, Bool, Circuit, Config, Data, Done, Fits, Follows, IsBeginningOf, IsStill, LineTold, List, None, OctetEndpoint as Endpoint, Service, Some, Wire, [], acts-append, all-done, all-few, all-paid, ap, append-nil, append_assoc, append_cancel_left, arith, as_wire, block, cond}
+use Rattle.laws_time.proofs.Vocabulary.{doing-append, doing_all, doing_meant, doings_meant, false, few-fewer, front-none, gained, hearing_means, is_due, is_some, length, longest, many, many-add, many-append, meant-append, on_ways, option_map, option_to_list, port_of, subst, suc, suc-mul, sym, takings, takings-append, true, wire_doing_all, wire_turns, ℕ, ◌*◌, ◌++◌, ◌+◌, ◌-◌, ◌∙◌, ◌∷◌, ◌≡◌, ◌≤◌}
 use Rattle.laws_wire.specs.Call as call
-use Rattle.laws_wire.specs.Call.{IsBeginningOf}
 use Rattle.laws_wire.specs.Wire as wire
-use Rattle.laws_wire.specs.Wire.{Wire, IsStill}
-unfoldable use Rattle.laws_wire.specs.Wire.{doing_all as wire_doing_all, turns as wire_turns}
-use Rattle.laws_wire.proofs.RestedRounds.{doing-append}
-use Rattle.laws_order.specs.circuit.Beats.{longest}
-use Rattle.laws_order.specs.circuit.Circuit.{Endpoint, Circuit, Step, requests, sends, receives, StepAt, at_near, at_far, doing, port_of}
-unfoldable use Rattle.laws_order.specs.circuit.Circuit.{doing_all}
+use Rattle.laws_order.specs.circuit.Circuit.{Step, requests, sends, receives, StepAt, at_near, at_far, doing}
 use Rattle.laws_order.specs.circuit.Through.{IsTalk}
 use Rattle.laws_order.proofs.OfCircuit.Beats.{finds}
-use Rattle.laws_order.proofs.OfCircuit.Comes.{block, AreFew, all-few, few-fewer}
 use Rattle.laws_time.proofs.OfCircuit.InBeatsShort.{AreShortAt, few-of-short}
-use Rattle.laws_order.proofs.OfCircuit.Onward.{acts-append, meant-append, many-append, many-add}
-unfoldable use Rattle.laws_order.proofs.OfCircuit.Onward.{many}
-use Rattle.laws_order.proofs.OfCircuit.Projected.{as_wire, hearing_means, doing_meant, Fits, Follows, Done, all-done}
-unfoldable use Rattle.laws_order.proofs.OfCircuit.Projected.{doings_meant}
-use Rattle.laws_order.proofs.OfCircuit.Takings.{takings, takings-append, on_ways, all-paid}
 
 -- What was told stays told.
 pub front-is-all : (all told now more rest : List LineTold) → told ≡ all → now ≡ told ++ more → now ++ rest ≡ all → now ≡ all
 front-is-all all told now more rest same grown beginning =
     let long : all ++ (more ++ rest) ≡ all ++ [] =
     sym (append_assoc all more rest) ∙ ap (λ l. (l ++ more) ++ rest) (sym same) ∙ ap (λ l. l ++ rest) (sym grown) ∙ beginning ∙ sym (append-nil all) in
-    grown ∙ ap (λ l. told ++ l) (no-front more rest (append_cancel_left all (more ++ rest) [] long)) ∙ append-nil told ∙ same
-  where
-    no-front : (xs ys : List LineTold) → xs ++ ys ≡ [] → xs ≡ []
-    no-front [] ys e = refl
-    no-front (x ∷ xs) ys e = absurd (cc e)
+    grown ∙ ap (λ l. told ++ l) (front-none more rest (append_cancel_left all (more ++ rest) [] long)) ∙ append-nil told ∙ same
 
 -- ---- data alone is asked for
 
@@ -63,8 +38,7 @@ module _ (service : Service) (tei : ℕ) where
   one-talk other is = absurd is
 
   pub are-talk : (ds : List StepAt) → All IsDataAt ds → All (IsTalk service tei) ds
-  are-talk [] all = All-nil (IsTalk service tei)
-  are-talk (d ∷ ds) all = All-cons (IsTalk service tei) d ds (one-talk d (All-head IsDataAt d ds all)) (are-talk ds (All-tail IsDataAt d ds all))
+  are-talk = All-weaker IsDataAt (IsTalk service tei) one-talk
 
   abbrev IsWireTalk : wire.StepAt → Type 0
   IsWireTalk x = call.IsTalk service tei x

@@ -1,61 +1,20 @@
 -- An end that rings, one thing at a time: T200 runs on, or SABME is due again; as long as no frame is lost.
-use Rattle.std.proofs.Common.{arith, ◌≡◌, ℕ, ◌+◌, ◌≤◌, ◌==◌, ◌&&◌, ◌||◌, Bool, true, false, cond, is_some, List, [], ◌∷◌, ◌++◌, length, Option, Some, None, refl, sym, ap, ◌∙◌, subst, ◌⊎◌, inl, inr}
-use Rattle.std.specs.Option.{option_map_or}
-use Rattle.std.proofs.lemmas.Bool.{true≢false}
-use Rattle.lapd_clock.specs.Moments.{moment_of}
-use Rattle.lapd_clock.specs.Timer.{Lengths, is_same}
-use Rattle.lapd_clock.specs.Timers.{Expiry, is_of}
-use Rattle.lapd_frame.specs.declared.controls.Control.{Control}
-use Rattle.lapd_frame.specs.declared.controls.Control.TheVariants.{Sabme}
-use Rattle.lapd_frame.specs.declared.services.Service.{Service}
-use Rattle.lapd_frame.specs.declared.timers.Timer.{Timer}
+use Rattle.laws_time.proofs.Vocabulary.{AreOctets, AwaitingEstablishment, AwaitingRelease, Bool, Clock, Config, ControlFrame, Course, Established, Expiry, IsInRange, Lengths, LineTold, Link, LinkEvent, LinkTimer, List, None, Note, Observed, Option, Request, Sabme, Service, Some, State, T200, T203, TeiAssigned, Terms, TimedEndpoint, Timer, TimerRecovery, View, [], aim_of_expiry, aim_of_request}
+use Rattle.laws_time.proofs.Vocabulary.{and-false, answers, ap, arith, as_heard, at, at_requested, at_timer, by_request, command_in, cond, contents_given, due, event-follows, expired, false, flat_map, for_layer_3, fresh_link, happens, inl, inr, is_of, is_on, is_same, is_some, is_timer_of, length, line_at, link_after as after, link_in, link_of, link_runs, moment_at, moment_of, moves}
+use Rattle.laws_time.proofs.Vocabulary.{none-of-both, octet_at, option_map_or, place_in, port_of, refl, said_by, state, state_number, subst, sym, terms, true, true≢false, view_behind, view_of, without_first, ℕ, ◌&&◌, ◌++◌, ◌+◌, ◌==◌, ◌||◌, ◌∙◌, ◌∷◌, ◌≡◌, ◌≤◌, ◌⊎◌}
 use Rattle.lapd_frame.specs.declared.timers.Timer.TheVariants as timers
-use Rattle.lapd_frame.specs.Grammar.{Parts}
-use Rattle.model_bits.specs.StuffingLaws.{AreOctets}
-use Rattle.model_link.specs.declared.frames.ControlFrame.{ControlFrame}
-use Rattle.model_link.specs.declared.states.State.{State}
-use Rattle.model_link.specs.declared.states.State.TheVariants.{TeiAssigned, AwaitingEstablishment, AwaitingRelease, Established, TimerRecovery}
-use Rattle.model_link.specs.declared.terms.Terms.{Terms}
-use Rattle.model_link.specs.declared.timers.LinkTimer.{LinkTimer}
-use Rattle.model_link.specs.declared.timers.LinkTimer.TheVariants.{T200, T203}
 use Rattle.model_link.specs.Events as link
-use Rattle.model_link.specs.Events.{Event as LinkEvent, received, frame, expired}
-use Rattle.model_link.specs.Link.{Link, state_number, is_multiple_frame, may_repeat, fresh as fresh_link}
+use Rattle.model_link.specs.Link.{may_repeat}
 use Rattle.model_link.specs.Machine as links
-use Rattle.model_link.specs.Steps.{Course}
-use Rattle.lapd_frame.specs.declared.notes.Note.{Note}
-use Rattle.model_line.specs.Event.{LineTold}
-use Rattle.std.specs.Prelude.{flat_map}
 use Rattle.std.proofs.lemmas.List.Concat.{flat_map-append}
-use Rattle.model_link.specs.Machine.{after, told}
-use Rattle.model_link.specs.Told.{runs as link_runs}
 use Rattle.model_line.specs.Event as line
-use Rattle.model_line.specs.Expiry.{aim_of_expiry, at_timer}
-use Rattle.model_line.specs.Line.{Line, link_of, link_in, place_in, terms}
-use Rattle.model_line.specs.Request.{Request}
-use Rattle.model_line.specs.Requested.{aim_of_request, at_requested}
-use Rattle.model_line.specs.Sound.{IsInRange}
-use Rattle.model_line.specs.declared.config.Config.{Config}
+use Rattle.model_line.specs.Line.{Line}
 use Rattle.model_card.specs.Card as cards
-use Rattle.model_card.specs.Card.{state, line_at}
 use Rattle.model_card.specs.Event as frame_event
-use Rattle.model_card.specs.Event.{at}
 use Rattle.model_card.specs.Run as frame_runs
-use Rattle.model_card.specs.ports.Event.{at as octet_at}
 use Rattle.model_card.specs.ports.Port as port
-use Rattle.model_card.specs.ports.Port.{Port}
-use Rattle.model_timed.specs.Clock.{Clock, due, without_first}
-use Rattle.laws_link.specs.States.{as_heard, by_expiry, by_request, moves}
+use Rattle.laws_link.specs.States.{by_expiry}
 use Rattle.laws_link.specs.Telling.{told_expired}
-use Rattle.laws_link.proofs.Follows.{event-follows}
-use Rattle.laws_wire.specs.Losing.{for_layer_3}
-use Rattle.laws_wire.proofs.Speaking.{said_by}
-use Rattle.laws_link.specs.Waiting.{answers, command_in}
-use Rattle.laws_trace.specs.FramesAreRead.{contents_given}
-use Rattle.laws_trace.specs.Managing.{is_on}
-use Rattle.laws_trace.specs.Observer.{Observed, View, view_of, view_behind, moment_of as moment_at}
-use Rattle.laws_trace.specs.TimersAreTimely.{is_timer_of}
-use Rattle.laws_order.specs.circuit.Circuit.{Endpoint as OctetEndpoint, port_of, answered}
 use Rattle.laws_order.specs.circuit.Circuit as circuit
 use Rattle.laws_time.proofs.Falls.{dropped}
 use Rattle.laws_time.proofs.Links.{on-where, stays-on, view-then}
@@ -70,8 +29,6 @@ use Rattle.laws_time.proofs.OfCircuit.Open.{half, IsOrdinary}
 use Rattle.laws_time.proofs.OfCircuit.Orders.{RunsOurs}
 use Rattle.laws_time.proofs.OfCircuit.Standing.{Ends, Moved, ends-asked, ends-expired, expired-event}
 use Rattle.laws_time.proofs.OfCircuit.Under.{EndBut, EndOk, past, all-past, all-then, here-is, next-card, o-is, q-is, clock-is, state-here}
-use Rattle.laws_time.specs.circuit.Clocked.{TimedEndpoint, happens}
-unfoldable use Rattle.laws_time.specs.circuit.Clocked.{fall_due}
 
 -- ---- the link
 
@@ -96,10 +53,6 @@ expiry-closed TimerRecovery timer true again (inr e) = cc e
 -- Nothing was told layer 3: so it was at any time before.
 abbrev pub IsUntold : List LineTold → Type 0
 IsUntold ts = flat_map for_layer_3 ts ≡ []
-
-none-of-both : (xs ys : List LineTold) → xs ++ ys ≡ [] → (xs ≡ []) × (ys ≡ [])
-none-of-both [] ys e = (refl, e)
-none-of-both (x ∷ xs) ys e = absurd (cc e)
 
 pub untold-parts : (ts us : List LineTold) → IsUntold (ts ++ us) → IsUntold ts × IsUntold us
 untold-parts ts us none = none-of-both (flat_map for_layer_3 ts) (flat_map for_layer_3 us) (sym (flat_map-append for_layer_3 ts us) ∙ none)
@@ -136,12 +89,6 @@ sabme-again t l is run =
     always false fs = refl
 
 module _ (c : Config) (service : Service) (tei : ℕ) (ranged : IsInRange c) (lengths : Lengths) (rate : ℕ) where
-  abbrev its_t200 : Timer
-  its_t200 = timers.T200 service tei
-
-  abbrev EndsAt : OctetEndpoint → Type 0
-  EndsAt s = Ends c service tei 0 ranged s
-
   abbrev pub runs_at : TimedEndpoint → Option ℕ
   runs_at a = moment_of a.at.line (timers.T200 service tei) a.clock.running
 
@@ -335,11 +282,7 @@ module _ (c : Config) (service : Service) (tei : ℕ) (ranged : IsInRange c) (le
           (λ few five then_five. go five then_five (x.due (omega (arith, more, few)) five))
         where
           other : is_of a.at.line (timers.T200 service tei) e ≡ false
-          other = ap (λ t. (e.line == a.at.line) && is_same t (timers.T200 service tei)) same ∙ and-none (e.line == a.at.line)
-            where
-              and-none : (b : Bool) → (b && false) ≡ false
-              and-none true = refl
-              and-none false = refl
+          other = ap (λ t. (e.line == a.at.line) && is_same t (timers.T200 service tei)) same ∙ and-false (e.line == a.at.line)
 
           go : state_number h.but.ends.its.state ≡ 5 → state_number (fell_mv (timers.T203 service tei) T203 (λ l. refl)).ends.its.state ≡ 5 → IsDue a h.but.ends
               → IsDue (happens (port.expiry (timers.T203 service tei)) gone) (fell_mv (timers.T203 service tei) T203 (λ l. refl)).ends

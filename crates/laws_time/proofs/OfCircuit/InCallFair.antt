@@ -1,31 +1,13 @@
 -- In the first (N200 + 1) T200 of a call N200 is not used up, whatever noise there is.
-use Rattle.std.proofs.Common.{arith, ◌≡◌, ℕ, ◌+◌, ◌-◌, ◌*◌, ◌/◌, ◌<◌, ◌≤◌, ◌||◌, false, List, [], ◌∷◌, ◌++◌, length, map, Some, refl, sym, ap, ◌∙◌, subst, All, ◌⊎◌, inl, inr}
-use Rattle.std.specs.List.{list_any}
-use Rattle.std.proofs.lemmas.Bool.{cases_lt}
-use Rattle.std.proofs.lemmas.List.Elements.{All-nil, All-head, All-tail, All-cons}
-use Rattle.std.proofs.lemmas.List.Folds.{list_any-append}
-use Rattle.std.proofs.lemmas.List.Sums.{fold-append}
-use Rattle.std.proofs.Math.Nat.{lt-div-mul-add, mul-div-le}
-use Rattle.std.proofs.lemmas.Nat.{mul-le}
-use Rattle.lapd_clock.specs.Timer.{Lengths}
-use Rattle.lapd_frame.specs.declared.services.Service.{Service}
-use Rattle.model_link.specs.Link.{Link, state_number, fresh as fresh_link}
-use Rattle.model_line.specs.Line.{link_in, tries}
-use Rattle.model_line.specs.Request.{Establish}
-use Rattle.model_line.specs.Sound.{IsInRange}
-use Rattle.model_line.specs.declared.config.Config.{Config}
-use Rattle.model_card.specs.Card.{state, line_at}
-use Rattle.model_timed.specs.Octets.{TimedOctetCard, octets, fresh}
-use Rattle.model_timed.specs.Timed.{after_all, ArePrompt}
+use Rattle.laws_time.proofs.Vocabulary.{All, All-cons, All-head, All-tail, All-weaker, AreAsked, AreClear, ArePrompt, Beat, Clocked, Config, Establish, FrameEndpoint, IsClearAt, IsFit, IsInRange, IsOfLink, IsShortAt, IsTalk, Lengths, Line, Link, List, N200LastsInACall, Service, Some, TimedEndpoint, TimedOctetCard, [], after, after_all, ap, arith, beat, begins, calls, card_of, cases_lt}
+use Rattle.laws_time.proofs.Vocabulary.{data_told, errors_at, false, fold-append, fresh, fresh_link, gone, inl, inr, is_used_up, length, line_at, link_in, list_any, list_any-append, lt-div-mul-add, map, mul-div-le, mul-le, news, octets, of_octets, refl, state, state_number, subst, sym, tries, ℕ, ◌*◌, ◌++◌, ◌+◌, ◌-◌, ◌/◌, ◌<◌, ◌||◌, ◌∙◌, ◌∷◌, ◌≡◌, ◌≤◌, ◌⊎◌}
 use Rattle.laws_wire.specs.Call as call
-use Rattle.laws_wire.specs.Call.{data_told}
-use Rattle.laws_wire.specs.Wire.{Endpoint as FrameEndpoint}
 use Rattle.laws_wire.proofs.Beginning.{answers}
 use Rattle.laws_time.proofs.ArrivalsErrors.{Used}
 use Rattle.laws_time.proofs.ArrivalsOfOctets.{n200-takes-its-time-of-octets}
 use Rattle.laws_time.proofs.OfCircuit.Answered.{beats-then}
 use Rattle.laws_time.proofs.OfCircuit.ArrivAs.{heard_of}
-use Rattle.laws_time.proofs.OfCircuit.ArrivBegan.{IdleNow, idle-begins, all-idle, clear-parts}
+use Rattle.laws_time.proofs.OfCircuit.ArrivBegan.{IdleNow, idle-begins, all-idle}
 use Rattle.laws_time.proofs.OfCircuit.ArrivFair.{codes, IsFair}
 use Rattle.laws_time.proofs.OfCircuit.ArrivIdle.{IsIdle}
 use Rattle.laws_time.proofs.OfCircuit.ArrivRun.{all-of-link}
@@ -33,16 +15,8 @@ use Rattle.laws_time.proofs.OfCircuit.ArrivTold.{codes-heard}
 use Rattle.laws_time.proofs.OfCircuit.Ends.{Leads, leads-both, at_time, time-comes}
 use Rattle.laws_time.proofs.OfCircuit.InCallWalk.{Walks, walks-none, walks-both, time-walks, pulled-walks, heard-walks}
 use Rattle.laws_time.proofs.OfCircuit.InTime.{PairNow, near_card, far_card}
-use Rattle.laws_time.proofs.OfCircuit.LongEnough.{by_now, pair-then, near-gone, far-gone, near-low, near-high, far-low, far-high, soon}
+use Rattle.laws_time.proofs.OfCircuit.LongEnough.{by_now, pair-then, near-gone, far-gone, near-low, near-high, far-low, far-high, soon, clear-parts}
 use Rattle.laws_time.proofs.OfCircuit.Under.{EndOk, state-here}
-use Rattle.laws_time.specs.circuit.Arriving.{AreAsked, calls, errors_at, is_used_up}
-use Rattle.laws_time.specs.circuit.Clocked.{TimedEndpoint, Clocked, Beat, gone, beat, after}
-use Rattle.laws_time.specs.circuit.Ends.{card_of}
-use Rattle.laws_time.specs.circuit.InCall.{N200LastsInACall, IsShortAt}
-use Rattle.laws_time.specs.circuit.LongEnough.{Line, IsFit, IsTalk, IsOfLink, IsClearAt, begins}
-unfoldable use Rattle.laws_time.specs.circuit.LongEnough.{AreClear}
-use Rattle.laws_time.specs.Silence.{news}
-use Rattle.laws_time.specs.Watched.{of_octets}
 
 -- Beats of a call are fewer than so many milliseconds.
 pub fewer : (n b rate X : ℕ) → 1 ≤ rate → b + rate ≤ X * rate → (n + b) / rate < n / rate + X
@@ -157,8 +131,7 @@ module _ (l : Line) (fit : IsFit l) where
   talk-of b asked = (all-of-link l fit b.near_asks asked.0, all-of-link l fit b.far_asks asked.1)
 
   pub talk-all : (bs : List Beat) → All (AreAsked l) bs → All (IsTalk l) bs
-  talk-all [] all = All-nil (IsTalk l)
-  talk-all (b ∷ bs) all = All-cons (IsTalk l) b bs (talk-of b (All-head (AreAsked l) b bs all)) (talk-all bs (All-tail (AreAsked l) b bs all))
+  talk-all = All-weaker (AreAsked l) (IsTalk l) talk-of
 
   pub calls-talk : (b : Beat) → AreAsked l b → IsTalk l (calls l b)
   calls-talk b asked = (All-cons (IsOfLink l.service l.tei) (Establish l.service l.tei) b.near_asks (refl, refl) (talk-of b asked).0, (talk-of b asked).1)
@@ -197,9 +170,6 @@ module _ (c : Config) (service : Service) (number tei : ℕ) (ranged : IsInRange
         told-none
 
 module _ (l : Line) (before bs : List Beat) (b : Beat) (fit : IsFit l) (all : All (AreAsked l) (b ∷ bs)) (v : Clocked) (idle : IdleNow l fit v) (clear : AreClear l (calls l b ∷ bs) v) where
-  abbrev last : Clocked
-  last = after l.rate (calls l b ∷ bs) v
-
   abbrev IsFairAt : TimedEndpoint → Type 0
   IsFairAt a = IsFair a.at.told
 
@@ -237,7 +207,7 @@ module _ (l : Line) (before bs : List Beat) (b : Beat) (fit : IsFit l) (all : Al
 pub n200-lasts-in-a-call : N200LastsInACall
 n200-lasts-in-a-call l before bs b fit nothing all clear short =
     let v = after l.rate before (begins l) in
-    let parts = clear-parts l fit before (calls l b ∷ bs) (begins l) clear in
+    let parts = clear-parts l before (calls l b ∷ bs) (begins l) clear in
     let idle = all-idle l fit before nothing (begins l) (idle-begins l fit) parts.0 in
     let both : after l.rate (before ++ calls l b ∷ bs) (begins l) ≡ after l.rate (calls l b ∷ bs) v = fold-append (beat l.rate) (begins l) before (calls l b ∷ bs) in
     let fair = both-fair l before bs b fit all v idle parts.1 short.0 short.1 in

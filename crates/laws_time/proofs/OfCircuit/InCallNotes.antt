@@ -1,40 +1,18 @@
 -- An event of a line: if no T200 but that of one link expires there, no other link tells that N200 is used up.
-use Rattle.std.proofs.Common.{arith, ◌≡◌, ℕ, ◌<◌, ◌==◌, not, Bool, true, false, cond, List, [], ◌∷◌, ◌++◌, refl, sym, ap, ◌∙◌, ◌⊎◌, inl, inr, eq-eqb, filter}
-use Rattle.std.specs.Prelude.{flat_map}
-use Rattle.std.specs.List.{list_any}
-use Rattle.std.proofs.lemmas.Bool.{true≢false}
-use Rattle.std.proofs.lemmas.Grind.{flat_map-append}
-use Rattle.std.proofs.lemmas.List.Folds.{list_any-append}
-use Rattle.lapd_frame.specs.declared.notes.Note.{Note}
-use Rattle.lapd_frame.specs.declared.notes.Note.TheVariants.{Error}
-use Rattle.lapd_frame.specs.declared.services.Service.{Service}
-use Rattle.lapd_frame.specs.declared.timers.Timer.{Timer}
+use Rattle.laws_time.proofs.Vocabulary.{Answer, AreAtLines, Bool, Config, Error, Event, IsInRange, List, Note, Observed, Service, T200, Timer, [], ap, arith, at, by_event, cond, eq-eqb, error_in, expiry, false, filter, flat_map, flat_map-append, in_state, inl, inr, is_news, is_on, is_timer_of, is_used_up, list_any, list_any-append, moment_at, news-is-told-so, next, not, notes_due, notes_of}
+use Rattle.laws_time.proofs.Vocabulary.{or_parts, own-is, refl, request, sym, true, true≢false, view_behind, view_of, ℕ, ◌++◌, ◌<◌, ◌==◌, ◌∙◌, ◌∷◌, ◌≡◌, ◌⊎◌}
 use Rattle.lapd_frame.specs.declared.timers.Timer.TheVariants as timers
-use Rattle.model_link.specs.declared.timers.LinkTimer.TheVariants.{T200}
 use Rattle.model_line.specs.Event as line_event
-use Rattle.model_line.specs.Event.{Answer, expiry, hears, request, next}
-use Rattle.model_line.specs.Sound.{IsInRange}
-use Rattle.model_line.specs.declared.config.Config.{Config}
+use Rattle.model_line.specs.Event.{hears}
 use Rattle.model_card.specs.Card.{fresh}
-use Rattle.model_card.specs.Event.{Event, at}
-use Rattle.model_card.specs.Run.{AreAtLines}
-use Rattle.laws_line.specs.Heard.{notes_of}
-use Rattle.laws_trace.specs.Managing.{is_on}
-use Rattle.laws_trace.specs.News.{notes_due, is_news}
-use Rattle.laws_trace.specs.Observer.{Observed, view_of, view_behind, by_event, in_state, moment_of as moment_at}
-use Rattle.laws_trace.specs.TimersAreTimely.{is_timer_of}
-use Rattle.laws_trace.proofs.LinkLed.{own-is}
-use Rattle.laws_trace.proofs.ObservedLaws.{news-is-told-so}
 use Rattle.laws_time.proofs.ArrivalsErrors.{used-append, used-means, expiry-means, is_own_t200, Used}
 use Rattle.laws_time.proofs.Links.{stays-on, there}
 use Rattle.laws_time.proofs.OfCircuit.Acts.{own-same}
-use Rattle.laws_time.proofs.OfCircuit.ArrivFair.{neither}
 use Rattle.laws_time.proofs.OfCircuit.Moments.{is_waiting, awaits-in}
-use Rattle.laws_time.specs.circuit.Arriving.{error_in, is_used_up}
 
 pub used-split : (ns ms : List Note) → Used (ns ++ ms) ≡ false → (Used ns ≡ false) × (Used ms ≡ false)
 used-split ns ms none =
-    neither (Used ns) (Used ms) (sym (ap (list_any is_used_up) (flat_map-append error_in ns ms) ∙ list_any-append is_used_up (flat_map error_in ns) (flat_map error_in ms)) ∙ none)
+    or_parts (Used ns) (Used ms) (sym (ap (list_any is_used_up) (flat_map-append error_in ns ms) ∙ list_any-append is_used_up (flat_map error_in ns) (flat_map error_in ms)) ∙ none)
 
 -- Where no link tells it, it is not told.
 rest-none : (b : Bool) (n : Note) (ms : List Note) → Used (cond b (n ∷ ms) ms) ≡ false → Used ms ≡ false

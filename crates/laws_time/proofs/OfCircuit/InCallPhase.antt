@@ -1,43 +1,16 @@
 -- In a call on the circuit the end that calls rings, in state 5, and has heard nothing; or both ends are up.
-use Rattle.std.proofs.Common.{◌≡◌, ℕ, ◌==◌, Bool, true, false, cond, List, [], ◌∷◌, ◌++◌, length, map, Some, refl, sym, ap, ◌∙◌, subst, ◌⊎◌, inl, inr}
-use Rattle.std.proofs.lemmas.Bool.{true≢false}
-use Rattle.lapd_frame.specs.declared.services.Service.{Service}
-use Rattle.lapd_frame.specs.Grammar.{Parts}
-use Rattle.model_link.specs.Link.{Link, state_number, is_multiple_frame}
-use Rattle.model_link.specs.TwoEnds.{Endpoint as LinkEndpoint}
-use Rattle.model_link.specs.declared.frames.ControlFrame.{ControlFrame}
-use Rattle.model_link.specs.declared.states.State.{State}
-use Rattle.model_link.specs.declared.states.State.TheVariants.{TeiAssigned, AwaitingEstablishment, AwaitingRelease, Established, TimerRecovery}
-use Rattle.model_link.specs.Sound.{IsInRange as IsInRangeTerms}
-use Rattle.model_line.specs.Event.{LineTold}
-use Rattle.model_line.specs.Line.{terms, link_in}
-use Rattle.model_line.specs.Sound.{IsInRange}
-use Rattle.model_line.specs.declared.config.Config.{Config}
-use Rattle.model_card.specs.Card.{line_at}
-use Rattle.laws_wire.specs.Answering.{Called, uncalled, seeing, with_sabme, takes_sabme, renewed, error_f}
-unfoldable use Rattle.laws_wire.specs.Answering.{seen}
-use Rattle.laws_wire.specs.Call.{calling, confirmed, indicated, data_told}
+use Rattle.laws_time.proofs.Vocabulary.{AwaitingEstablishment, AwaitingRelease, Bool, Called, Clocked, Config, ControlFrame, Established, Face, FrameEndpoint, Held, IsFit, IsInRange, IsInRangeTerms, IsUp, Line, LineTold, Link, LinkEndpoint, List, Parts, Service, Some, State, StationStands, StepAt, TeiAssigned, TimedEndpoint, TimerRecovery, WasTold, Wire, [], ap, at_far, at_near, calling, cond}
+use Rattle.laws_time.proofs.Vocabulary.{confirmed, data_told, doing, end, error_f, expires, false, indicated, inl, inr, is_multiple_frame, its_sabme, length, line_at, link_in, loses, map, patient-goes, receives, refl, regranted, renewed, requests, ringing, sabme, seeing, seen, sends, setting, state_at, state_number, subst, sym, takes_sabme, terms, true, true≢false, uncalled, with_sabme, ℕ, ◌++◌}
+use Rattle.laws_time.proofs.Vocabulary.{◌==◌, ◌∙◌, ◌∷◌, ◌≡◌, ◌⊎◌}
 use Rattle.laws_wire.specs.Losing.{heard_in}
-use Rattle.laws_wire.specs.Wire.{Endpoint as FrameEndpoint, Wire, requests, expires, sends, receives, loses, StepAt, at_near, at_far, doing}
-use Rattle.laws_wire.proofs.Calling.{end, sabme}
-use Rattle.laws_wire.proofs.Held.{Held}
-use Rattle.laws_wire.proofs.LossyRun.{setting}
-use Rattle.laws_wire.proofs.Ringing.{ringing, its_sabme}
-use Rattle.laws_wire.proofs.Standing.{StationStands}
-use Rattle.laws_wire.proofs.Talking.{Face}
-use Rattle.laws_wire.proofs.UaBefore.{regranted}
+use Rattle.laws_wire.proofs.Ringing.{Tries}
 use Rattle.laws_wire.proofs.UaLostRun as run
-use Rattle.laws_wire.proofs.UaTold.{patient-goes}
 use Rattle.laws_time.proofs.OfCircuit.ArrivAs.{station, heard_of}
 use Rattle.laws_time.proofs.OfCircuit.ArrivPath.{of_call, talk-of}
 use Rattle.laws_time.proofs.OfCircuit.ArrivRun.{Reached}
 use Rattle.laws_time.proofs.OfCircuit.InTime.{PairNow}
 use Rattle.laws_time.proofs.OfCircuit.Standing.{Ends}
 use Rattle.laws_time.proofs.OfCircuit.Under.{state-here}
-use Rattle.laws_time.specs.circuit.Answered.{state_at}
-use Rattle.laws_time.specs.circuit.Clocked.{TimedEndpoint, Clocked}
-use Rattle.laws_time.specs.circuit.InCall.{IsUp, WasTold}
-use Rattle.laws_time.specs.circuit.LongEnough.{Line, IsFit}
 
 up-number : (s : State) → is_multiple_frame s ≡ true → (state_number s ≡ 7) ⊎ (state_number s ≡ 8)
 up-number Established up = inl refl
@@ -55,7 +28,7 @@ module _ (c : Config) (service : Service) (tei : ℕ) (ranged : IsInRange c) (a 
 module _ (service : Service) (tei : ℕ) (c d : Config) (p q : ℕ) (face : Face c d) (back : Face d c) (rt : IsInRangeTerms (terms c service tei)) (ru : IsInRangeTerms (terms d service tei)) where
   -- It rings.
   pub record Rung (v : Wire) : Type 0 where
-    pub repeats : ℕ
+    pub repeats : Tries
     pub waiting : List ControlFrame
     pub way : List Parts
     pub near : Held c service tei p [] v.near (end (terms c service tei) (ringing repeats waiting) way)

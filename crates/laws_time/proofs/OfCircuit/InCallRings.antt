@@ -1,42 +1,21 @@
 -- An end that rings, as its moment comes and an octet is pulled: T200 runs on, or SABME is due again.
-use Rattle.std.proofs.Common.{arith, ◌≡◌, ℕ, zero, suc, ◌+◌, ◌*◌, ◌<◌, ◌≤◌, Bool, true, false, cond, List, [], ◌∷◌, length, Option, Some, None, refl, sym, ap, ◌∙◌, subst, All, inl, inr}
-use Rattle.std.specs.Prelude.{fold}
-use Rattle.std.specs.Option.{option_map_or}
-use Rattle.std.proofs.lemmas.List.Elements.{All-nil, All-head, All-tail}
-use Rattle.lapd_clock.specs.Moments.{moment_of}
-use Rattle.lapd_clock.specs.Timer.{Lengths}
-use Rattle.lapd_clock.specs.Timers.{Expiry}
-use Rattle.lapd_frame.specs.declared.services.Service.{Service}
+use Rattle.laws_time.proofs.Vocabulary.{All, All-nil, Bool, ClearBusy, Config, Data, Expiry, IsAskedOfLink as IsAsked, IsInRange, IsOfLink, Lengths, Link, List, None, Port, Request, Service, SetBusy, Some, State, TimedEndpoint, ap, arith, asks, at_requested, by_request, comes_to, cond, due, falls, false, happens, inl, inr, is_due, length, moment_of, obeyed, octet_at, place_in, port_of, refl}
+use Rattle.laws_time.proofs.Vocabulary.{state_number, subst, sym, terms, true, ℕ, ◌*◌, ◌+◌, ◌<◌, ◌∙◌, ◌≡◌, ◌≤◌}
 use Rattle.lapd_frame.specs.declared.timers.Timer.TheVariants as timers
-use Rattle.model_link.specs.declared.states.State.{State}
 use Rattle.model_link.specs.Events as link
-use Rattle.model_link.specs.Link.{Link, state_number}
 use Rattle.model_line.specs.Event as line
-use Rattle.model_line.specs.Line.{place_in, terms}
-use Rattle.model_line.specs.Request.{Request, SetBusy, ClearBusy, Data}
-use Rattle.model_line.specs.Requested.{at_requested}
-use Rattle.model_line.specs.Sound.{IsInRange}
-use Rattle.model_line.specs.declared.config.Config.{Config}
-use Rattle.model_card.specs.ports.Event.{at as octet_at}
 use Rattle.model_card.specs.ports.Port as port
-use Rattle.model_card.specs.ports.Port.{Port, is_due}
-use Rattle.model_timed.specs.Clock.{due, obeyed}
-use Rattle.laws_link.specs.States.{by_request}
-use Rattle.laws_order.specs.circuit.Circuit.{port_of}
 use Rattle.laws_time.proofs.OctetsMean.{orders-are}
 use Rattle.laws_time.proofs.OfCircuit.Acts.{IsSoon, asks-goes, all-asked, fell-goes, soon-then}
 use Rattle.laws_time.proofs.OfCircuit.AnsweredEnds.{lost-more, due-pull}
 use Rattle.laws_time.proofs.OfCircuit.AnsweredRows.{establishes, offer-stays}
-use Rattle.laws_time.proofs.OfCircuit.Beats.{Counts, at-moment, comes-on}
+use Rattle.laws_time.proofs.OfCircuit.Beats.{Counts, at-moment}
 use Rattle.laws_time.proofs.OfCircuit.Ends.{Rests, at_time}
 use Rattle.laws_time.proofs.OfCircuit.InCallDue.{Rings, untold-parts, Kept, kept-same, Then, IsDue, runs_at, on-runs, asked-kept, falls-kept}
 use Rattle.laws_time.proofs.OfCircuit.Open.{half}
 use Rattle.laws_time.proofs.OfCircuit.Standing.{Ends, Pulled}
 use Rattle.laws_time.proofs.OfCircuit.Under.{EndOk}
-use Rattle.laws_time.specs.circuit.Clocked.{TimedEndpoint, happens, asks, falls, comes_to}
-unfoldable use Rattle.laws_time.specs.circuit.Clocked.{fall_due}
-use Rattle.laws_time.specs.circuit.LongEnough.{IsOfLink, asked}
-use Rattle.laws_wire.specs.Answering.{IsAsked}
+use Rattle.laws_time.proofs.OfCircuit.Keeping.{comes-keep}
 
 module _ (c : Config) (service : Service) (tei : ℕ) (ranged : IsInRange c) (lengths : Lengths) (rate : ℕ) (low most way heard : ℕ) (m base : ℕ) where
   abbrev EndAt : ℕ → ℕ → TimedEndpoint → Type 0
@@ -66,35 +45,36 @@ module _ (c : Config) (service : Service) (tei : ℕ) (ranged : IsInRange c) (le
       (λ l. λ i. at_requested (is.0.0 i) (is.0.1 i) link.ClearBusy (place_in l (is.0.1 i))) (All-nil (λ octet. octet < 256)) (λ state. grind arith)
   asks-one other S M a h x is = absurd is.1
 
-  asks-kept : (rs : List Request) (S M : ℕ) (a : TimedEndpoint) (h : EndAt S M a) → IsSoonAt a → KeptAt a h.but.ends → All IsBoth rs → (k : Ends c service tei 0 ranged (fold asks a rs).at) → KeptAt (fold asks a rs) k
-  asks-kept [] S M a h soon x all k = kept-same c service tei ranged lengths rate low most way heard m base a h.but.ends k x
-  asks-kept (r ∷ rs) S M a h soon x all k =
-      let both = All-head IsBoth r rs all in
-      let u = asks a r in
-      let one = asks-goes c service tei 0 ranged lengths rate a S M h soon r both.0 in
-      let then = asks-one r S M a h x both in
-      asks-kept rs one.S' M u one.ok (soon-then c service tei 0 ranged lengths rate S M a u one soon)
-      (kept-same c service tei ranged lengths rate low most way heard m base u then.0 one.ok.but.ends then.1) (All-tail IsBoth r rs all) k
-
   -- So many octets were given.
   module _ (g : ℕ) (low_given : low ≤ g) (soon_given : g + half c service tei 0 ranged ≤ most) where
     abbrev Given : TimedEndpoint → Type 0
     Given a = length (port_of a.at).given ≡ g
 
-    fall-then : (n S M : ℕ) (a : TimedEndpoint) (h : EndAt S M a) → IsSoonAt a → Given a → KeptAt a h.but.ends
-        → ((S' : ℕ) (u : TimedEndpoint) (h : EndAt S' M u) → IsSoonAt u → Given u → KeptAt u h.but.ends → (k : Ends c service tei 0 ranged (fall_due n u).at) → KeptAt (fall_due n u) k)
-        → (o : Option Expiry) → due a.clock ≡ o → (k : Ends c service tei 0 ranged (fall_due n (option_map_or (falls a) o a)).at) → KeptAt (fall_due n (option_map_or (falls a) o a)) k
-    fall-then n S M a h soon given x rest None is k = rest S a h soon given x k
-    fall-then n S M a h soon given x rest (Some e) is k =
-        let one = fell-goes c service tei 0 ranged lengths rate a S M h soon e is in
-        let then = falls-kept c service tei ranged lengths rate low most way heard m base a S M h x e is (omega (arith, given, low_given)) (omega (arith, given, soon_given)) in
-        rest one.S' (falls a e) one.ok (soon-then c service tei 0 ranged lengths rate S M a (falls a e) one soon) (ap (λ (p : Port). length p.given) one.port ∙ given)
-        (kept-same c service tei ranged lengths rate low most way heard m base (falls a e) then.0 one.ok.but.ends then.1) k
+    -- As the moment comes, it goes on so.
+    record On (M : ℕ) (u : TimedEndpoint) : Type 0 where
+      S' : ℕ
+      ok : EndAt S' M u
+      soon : IsSoonAt u
+      given : Given u
+      kept : KeptAt u ok.but.ends
 
-    falls-all : (n S M : ℕ) (a : TimedEndpoint) (h : EndAt S M a) → IsSoonAt a → Given a → KeptAt a h.but.ends → (k : Ends c service tei 0 ranged (fall_due n a).at) → KeptAt (fall_due n a) k
-    unfolding fall_due
-    falls-all zero S M a h soon given x k = kept-same c service tei ranged lengths rate low most way heard m base a h.but.ends k x
-    falls-all (suc n) S M a h soon given x k = fall-then n S M a h soon given x (λ S' u h soon given x k. falls-all n S' M u h soon given x k) (due a.clock) refl k
+    on-then : (M : ℕ) (u v : TimedEndpoint) (y : On M u) → Rattle.laws_time.proofs.OfCircuit.Acts.Goes c service tei 0 ranged lengths rate y.S' M u v → (k : Ends c service tei 0 ranged v.at) × KeptAt v k → On M v
+    on-then M u v y one then = record {
+      S' = one.S';
+      ok = one.ok;
+      soon = soon-then c service tei 0 ranged lengths rate y.S' M u v one y.soon;
+      given = ap (λ (p : Port). length p.given) one.port ∙ y.given;
+      kept = kept-same c service tei ranged lengths rate low most way heard m base v then.0 one.ok.but.ends then.1;
+    }
+
+    on-asked : (M : ℕ) (r : Request) (u : TimedEndpoint) → IsBoth r → On M u → On M (asks u r)
+    on-asked M r u is y = on-then M u (asks u r) y (asks-goes c service tei 0 ranged lengths rate u y.S' M y.ok y.soon r is.0) (asks-one r y.S' M u y.ok y.kept is)
+
+    on-fell : (M : ℕ) (e : Expiry) (u : TimedEndpoint) → due u.clock ≡ Some e → On M u → On M (falls u e)
+    on-fell M e u is y =
+        let given = y.given in
+        on-then M u (falls u e) y (fell-goes c service tei 0 ranged lengths rate u y.S' M y.ok y.soon e is)
+        (falls-kept c service tei ranged lengths rate low most way heard m base u y.S' M y.ok y.kept e is (omega (arith, given, low_given)) (omega (arith, given, soon_given)))
 
     -- The moment comes.
     module _ (transit moment n S M : ℕ) (rs : List Request) (a : TimedEndpoint) (h : EndAt S M a) (rests : Rests a) (now_low : a.clock.now ≤ moment) (high : moment ≤ a.clock.now + 1)
@@ -102,15 +82,11 @@ module _ (c : Config) (service : Service) (tei : ℕ) (ranged : IsInRange c) (le
       pub comes-kept : KeptAt a h.but.ends → (k : Ends c service tei 0 ranged (comes_to moment rs a).at) → KeptAt (comes_to moment rs a) k
       comes-kept x k =
           let t = at_time moment a in
-          let u = asked moment rs a in
           let ok = at-moment service tei transit lengths rate c ranged moment n S M rs a h rests now_low high counts soon of_link in
           let given = counts.given in
-          let soon_now : IsSoonAt t = omega (arith, given, soon) in
-          let first = all-asked c service tei 0 ranged lengths rate S M rs t ok soon_now of_link in
-          let none = comes-on service tei transit lengths rate c ranged moment n S M rs a h rests now_low high counts soon of_link 0 in
           let at_first : KeptAt t ok.but.ends = kept-same c service tei ranged lengths rate low most way heard m base t h.but.ends ok.but.ends (record { low_lost = x.low_lost; rings = x.rings; said = x.said; due = x.due }) in
-          falls-all (length u.clock.running) first.S' M u first.ok (soon-then c service tei 0 ranged lengths rate S M t u first soon_now)
-          (ap (λ (p : Port). length p.given) first.port ∙ given ∙ here) (asks-kept rs S M t ok soon_now at_first all first.ok.but.ends) k
+          let y = comes-keep (On M) IsBoth (on-asked M) (on-fell M) moment rs all a (record { S' = S; ok = ok; soon = omega (arith, given, soon); given = given ∙ here; kept = at_first }) in
+          kept-same c service tei ranged lengths rate low most way heard m base (comes_to moment rs a) y.ok.but.ends k y.kept
 
   -- An octet is pulled.
   module _ (a : TimedEndpoint) (S M : ℕ) (h : EndAt S M a) (x : KeptAt a h.but.ends) (y : Pulled c service tei 0 ranged a.at h.but.ends) (few : heard ≤ length (port_of a.at).given) where

@@ -1,53 +1,23 @@
 -- An end that rings on a line without noise: within T200 SABME goes again, and then it is answered in time.
-use Rattle.std.proofs.Common.{arith, ◌≡◌, ℕ, ◌+◌, ◌-◌, ◌*◌, ◌/◌, ◌<◌, ◌≤◌, ◌&&◌, Bool, true, false, cond, List, [], ◌∷◌, length, Option, Some, None, option_map, refl, sym, ap, ◌∙◌, subst, All, ◌⊎◌, inl, inr}
-use Rattle.std.specs.List.{AllByRecursion}
-use Rattle.std.specs.Option.{option_map_or}
-use Rattle.std.proofs.lemmas.List.Elements.{All-head, All-tail}
-use Rattle.std.proofs.Math.Nat.{lt-div-mul-add, mul-div-le}
-use Rattle.std.proofs.lemmas.Nat.{mul-le}
-use Rattle.lapd_clock.specs.Moments.{moment_of}
-use Rattle.lapd_clock.specs.Timer.{Lengths}
-use Rattle.lapd_clock.specs.Timers.{Expiry, is_of}
-use Rattle.lapd_frame.specs.declared.services.Service.{Service}
-use Rattle.lapd_frame.specs.declared.timers.Timer.{Timer}
+use Rattle.laws_time.proofs.Vocabulary.{All, All-head, All-tail, AllByRecursion, AreClear, Beat, Bool, Clocked, Config, Expiry, IsAskedOfLink, IsClean, IsClearAt, IsFit, IsInRange, IsOfLink, IsTalk, Lengths, Line, Link, List, None, Option, Parts, Port, Service, Some, Step, T200, TimedEndpoint, Timer, [], after, answered_in, ap, arith, beat, card_of, comes_to, cond, false, fresh, gained, gone}
+use Rattle.laws_time.proofs.Vocabulary.{happens, inl, inr, is_of, length, lt-div-mul-add, moment_of, mul-div-le, mul-le, obeyed, octet_at, option_map, port_of, received, refl, same_Some, state, state_at, state_number, subst, sym, true, ℕ, ◌*◌, ◌+◌, ◌-◌, ◌/◌, ◌<◌, ◌∙◌, ◌∷◌, ◌≡◌, ◌≤◌, ◌⊎◌}
 use Rattle.lapd_frame.specs.declared.timers.Timer.TheVariants as timers
-use Rattle.lapd_frame.specs.Grammar.{Parts}
 use Rattle.model_bits.specs.Stream as stream
-use Rattle.model_link.specs.declared.states.State.{State}
-use Rattle.model_link.specs.declared.states.State.TheVariants.{TeiAssigned, AwaitingEstablishment, AwaitingRelease, Established, TimerRecovery}
-use Rattle.model_link.specs.declared.terms.Terms.{Terms}
-use Rattle.model_link.specs.declared.timers.LinkTimer.TheVariants.{T200}
 use Rattle.model_link.specs.Events as link
-use Rattle.model_link.specs.Events.{Event as LinkEvent, received, frame, overlong}
-use Rattle.model_link.specs.Link.{Link, state_number, is_multiple_frame}
-use Rattle.model_link.specs.Machine as links
-use Rattle.model_link.specs.Machine.{after as link_after}
+use Rattle.model_link.specs.Events.{frame}
 use Rattle.model_line.specs.Event as line
-use Rattle.model_line.specs.Line.{terms}
-use Rattle.model_line.specs.Sound.{IsInRange}
-use Rattle.model_line.specs.declared.config.Config.{Config}
-use Rattle.model_card.specs.Card.{state}
 use Rattle.model_card.specs.Event as frame_event
-use Rattle.model_card.specs.ports.Event.{at as octet_at}
 use Rattle.model_card.specs.ports.Port as port
-use Rattle.model_card.specs.ports.Port.{Port, gained}
-use Rattle.model_timed.specs.Clock.{obeyed}
 use Rattle.model_timed.specs.Frames as timed_frames
-use Rattle.model_timed.specs.Octets.{fresh}
-use Rattle.model_timed.specs.Timed.{Step}
-use Rattle.laws_link.specs.States.{is_overlong, is_faulty, state_after}
-use Rattle.laws_wire.specs.Answering.{IsAsked as IsAskedOfLink}
-use Rattle.laws_order.specs.circuit.Circuit.{port_of}
 use Rattle.laws_order.specs.circuit.Circuit as circuit
 use Rattle.laws_time.proofs.Before.{Goes as TimedGoes, before-goes, begins as timed-begins}
 use Rattle.laws_time.proofs.Links.{state-is}
 use Rattle.laws_time.proofs.OctetsMean.{inside, orders-are, steps-inside, prompt-inside, frame_steps}
 use Rattle.laws_time.proofs.Walk.{seen}
-use Rattle.laws_time.proofs.OfCircuit.Answered.{Waits, grows-all, stage-all, soon-over}
-use Rattle.laws_time.proofs.OfCircuit.AnsweredBeat.{same-some}
+use Rattle.laws_time.proofs.OfCircuit.Answered.{Waits, grows-all, stage-all, soon-over, Waits}
 use Rattle.laws_time.proofs.OfCircuit.AnsweredBeats.{PairAt, near-come, near-pulls}
 use Rattle.laws_time.proofs.OfCircuit.AnsweredEnds.{lost, its-same, DueAt}
-use Rattle.laws_time.proofs.OfCircuit.AnsweredRows.{establishment, establishment-asks, leads}
+use Rattle.laws_time.proofs.OfCircuit.AnsweredRows.{establishment, establishment-asks}
 use Rattle.laws_time.proofs.OfCircuit.AnsweredRun.{Ready, Stage, asked_by, ready-then, near-lost, near_mv, near-is, near-state, near-after, z}
 use Rattle.laws_time.proofs.OfCircuit.Beats.{Gone}
 use Rattle.laws_time.proofs.OfCircuit.Ends.{Leads}
@@ -57,12 +27,6 @@ use Rattle.laws_time.proofs.OfCircuit.LongEnough.{by_now, soon, near-low, near-h
 use Rattle.laws_time.proofs.OfCircuit.Moments.{awaits-in, is_waiting}
 use Rattle.laws_time.proofs.OfCircuit.Standing.{Ends, Moved}
 use Rattle.laws_time.proofs.OfCircuit.Under.{state-here}
-use Rattle.laws_time.specs.circuit.Answered.{IsClean, state_at}
-use Rattle.laws_time.specs.circuit.Clocked.{TimedEndpoint, Clocked, Beat, gone, beat, after, happens, comes_to}
-use Rattle.laws_time.specs.circuit.Ends.{card_of}
-use Rattle.laws_time.specs.circuit.LongEnough.{Line, IsFit, IsTalk, IsOfLink, IsClearAt, answered_in}
-unfoldable use Rattle.laws_time.specs.circuit.LongEnough.{AreClear}
-unfoldable use Rattle.laws_time.proofs.OfCircuit.Answered.{Waits}
 
 -- Nothing is told at the near end, beat by beat.
 abbrev pub AreUntold : Line → List Beat → Clocked → Type 0
@@ -251,7 +215,7 @@ module _ (l : Line) (fit : IsFit l) (clean base other_base m : ℕ) where
   number_at w p = state_number p.near_ok.but.ends.its.state
 
   five-of : (w : Clocked) (p : PairAt l fit w) → state_at l w.near ≡ Some 5 → number_at w p ≡ 5
-  five-of w p is = same-some (number_at w p) 5 (sym (state-here l.near l.service l.tei 0 fit.call.near.0 l.lengths l.rate w.near.at p.near_ok.but.ends) ∙ is)
+  five-of w p is = same_Some (number_at w p) 5 (sym (state-here l.near l.service l.tei 0 fit.call.near.0 l.lengths l.rate w.near.at p.near_ok.but.ends) ∙ is)
 
   abbrev AskBoth : Beat → Type 0
   AskBoth b = All (λ r. IsOfLink l.service l.tei r × IsAskedOfLink l.service l.tei r) b.near_asks

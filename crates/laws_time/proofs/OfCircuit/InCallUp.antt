@@ -1,44 +1,22 @@
 -- A call comes through: T200 and an answer's time after noise has ended both ends are up.
-use Rattle.std.proofs.Common.{arith, ◌≡◌, ◌+◌, ◌*◌, ◌<◌, ◌≤◌, List, [], ◌∷◌, ◌++◌, length, Some, refl, sym, ap, ◌∙◌, subst, All, ◌⊎◌, inl, inr, append_assoc, append-nil, length-append}
-use Rattle.std.specs.List.{list_any}
-use Rattle.std.proofs.lemmas.Grind.{flat_map-append}
-use Rattle.std.proofs.lemmas.List.Elements.{All-nil, All-cons, All-append, All-head, All-tail}
-use Rattle.std.proofs.lemmas.List.Folds.{list_any-append}
-use Rattle.std.proofs.lemmas.List.Sums.{fold-append}
-use Rattle.model_line.specs.Event.{LineTold}
-use Rattle.model_line.specs.Request.{Request, Data, SetBusy, ClearBusy}
-use Rattle.laws_line.proofs.OfCard.Meanwhile.{all-left, all-right}
-use Rattle.laws_wire.specs.Answering.{IsAsked as IsAskedOfLink}
-use Rattle.laws_wire.specs.Call.{confirmed, indicated}
-use Rattle.laws_wire.specs.Losing.{for_layer_3}
-use Rattle.laws_time.proofs.OfCircuit.Answered.{Waits, behind-begins, first-ready, grows-all, beats-then, clear-parts}
-unfoldable use Rattle.laws_time.proofs.OfCircuit.Answered.{Waits}
+use Rattle.laws_time.proofs.Vocabulary.{ACallOutlastsNoise, All, All-append, All-cons, All-head, All-nil, All-tail, All-weaker, AreAsked, AreClear, Beat, ClearBusy, Clocked, Data, IsAsked, IsAskedOfLink, IsClean, IsFit, IsIdle, IsOfLink, IsShort, IsTalk, IsUndisturbed, IsUp, Line, LineTold, List, Outlasts, Request, SetBusy, Some, WasTold, [], after, all-left, all-right, answered_in, ap}
+use Rattle.laws_time.proofs.Vocabulary.{append-nil, append_assoc, arith, beat, begins, begun, calls, confirmed, errors_at, flat_map-append, fold-append, for_layer_3, front-none, indicated, inl, inr, is_used_up, length, length-append, list_any, list_any-append, or_parts, refl, state_at, subst, sym, ◌*◌, ◌++◌, ◌+◌, ◌<◌, ◌∙◌, ◌∷◌, ◌≡◌, ◌≤◌, ◌⊎◌}
+use Rattle.laws_time.proofs.OfCircuit.Answered.{Waits, behind-begins, first-ready, grows-all, beats-then, Waits}
 use Rattle.laws_time.proofs.OfCircuit.AnsweredBeats.{BothBehind, behind-all}
 use Rattle.laws_time.proofs.OfCircuit.AnsweredEnds.{lost}
 use Rattle.laws_time.proofs.OfCircuit.AnsweredRows.{establishment}
 use Rattle.laws_time.proofs.OfCircuit.ArrivAs.{heard_of}
 use Rattle.laws_time.proofs.OfCircuit.ArrivBegan.{reached}
-use Rattle.laws_time.proofs.OfCircuit.ArrivFair.{neither}
 use Rattle.laws_time.proofs.OfCircuit.InCallFair.{BothWalk, walks-all, talk-all, n200-lasts-in-a-call}
 use Rattle.laws_time.proofs.OfCircuit.InCallPhase.{in-call}
 use Rattle.laws_time.proofs.OfCircuit.InCallThrough.{t200-there, all-ring, rings-shortly, AreUntold}
 use Rattle.laws_time.proofs.OfCircuit.InCallDue.{IsUntold}
 use Rattle.laws_time.proofs.OfCircuit.InTime.{PairNow, near_card, far_card, pair-begins}
-use Rattle.laws_time.proofs.OfCircuit.LongEnough.{all-pairs, pair-then}
-use Rattle.laws_time.specs.circuit.Answered.{IsClean, IsUndisturbed, begun, state_at}
-use Rattle.laws_time.specs.circuit.Arriving.{IsIdle, IsAsked, AreAsked, calls, errors_at, is_used_up}
-use Rattle.laws_time.specs.circuit.Clocked.{Clocked, Beat, beat, after}
-use Rattle.laws_time.specs.circuit.InCall.{IsShort, IsUp, WasTold, Outlasts, ACallOutlastsNoise}
-use Rattle.laws_time.specs.circuit.LongEnough.{Line, IsFit, IsTalk, IsOfLink, answered_in, begins}
-unfoldable use Rattle.laws_time.specs.circuit.LongEnough.{AreClear}
+use Rattle.laws_time.proofs.OfCircuit.LongEnough.{all-pairs, pair-then, clear-parts}
 
 -- Both ends are up, and were told so.
 abbrev CameThrough : Line → Clocked → Type 0
 CameThrough l w = IsUp l w.near × IsUp l w.far × WasTold (confirmed l.service l.tei) w.near × WasTold (indicated l.service l.tei) w.far
-
-front-none : (xs ys : List LineTold) → xs ++ ys ≡ [] → xs ≡ []
-front-none [] ys is = refl
-front-none (x ∷ xs) ys is = absurd (cc is)
 
 both-asked : (l : Line) (rs : List Request) → All (IsAsked l) rs → All (λ r. IsOfLink l.service l.tei r × IsAskedOfLink l.service l.tei r) rs
 both-asked l [] all = All-nil (λ r. IsOfLink l.service l.tei r × IsAskedOfLink l.service l.tei r)
@@ -79,7 +57,7 @@ module _ (l : Line) (before noisy clean : List Beat) (b c : Beat) (nothing : All
     some-clear : AreClear l some (begins l)
     some-clear =
         subst (λ bs. AreClear l bs (begins l)) (sym same-list)
-        (clear-parts l h.fit (first ++ c ∷ done) rest (begins l) (subst (λ bs. AreClear l bs (begins l)) (sym whole) h.clear)).0
+        (clear-parts l (first ++ c ∷ done) rest (begins l) (subst (λ bs. AreClear l bs (begins l)) (sym whole) h.clear)).0
 
     some-talk : All (IsTalk l) some
     some-talk = subst (All (IsTalk l)) (sym same-list) (all-left (IsTalk l) (first ++ c ∷ done) rest (subst (All (IsTalk l)) (sym whole) h.talk))
@@ -105,14 +83,14 @@ module _ (l : Line) (before noisy clean : List Beat) (b c : Beat) (nothing : All
     call-now =
         let u = after l.rate some (begins l) in
         let none = n200-lasts-in-a-call l before (noisy ++ c ∷ done) b h.fit nothing some-asked some-clear some-short in
-        let fair = neither (list_any is_used_up (errors_at u.near)) (list_any is_used_up (errors_at u.far)) (sym (list_any-append is_used_up (errors_at u.near) (errors_at u.far)) ∙ none) in
+        let fair = or_parts (list_any is_used_up (errors_at u.near)) (list_any is_used_up (errors_at u.far)) (sym (list_any-append is_used_up (errors_at u.near) (errors_at u.far)) ∙ none) in
         subst InCall same-world
         (in-call l h.fit u pair
         (reached l h.fit before b (noisy ++ c ∷ done) nothing (All-head (AreAsked l) b (noisy ++ c ∷ done) some-asked) (All-tail (AreAsked l) b (noisy ++ c ∷ done) some-asked) some-clear fair))
 
   -- The beats without noise.
   parts : AreClear l (before ++ calls l b ∷ noisy) (begins l) × AreClear l (c ∷ clean) v
-  parts = clear-parts l h.fit first (c ∷ clean) (begins l) h.clear
+  parts = clear-parts l first (c ∷ clean) (begins l) h.clear
 
   talk-c : All (IsTalk l) (c ∷ clean)
   talk-c = all-right (IsTalk l) first (c ∷ clean) h.talk
@@ -195,15 +173,9 @@ module _ (l : Line) (before noisy clean : List Beat) (b c : Beat) (nothing : All
         let same : begun l first c ≡ w = fold-append (beat l.rate) (begins l) first (c ∷ []) in
         let near_kept : lost (after l.rate clean w).near.at ≡ lost w.near.at = subst (λ (u : Clocked). lost (after l.rate clean u).near.at ≡ lost u.near.at) same h.near_kept in
         let far_kept : lost (after l.rate clean w).far.at ≡ lost w.far.at = subst (λ (u : Clocked). lost (after l.rate clean u).far.at ≡ lost u.far.at) same h.far_kept in
-        let asked_clean = all-asked clean (all-right (AreAsked l) (c ∷ []) clean (all-right (AreAsked l) (b ∷ noisy) (c ∷ clean) asked)) in
+        let asked_clean = All-weaker (AreAsked l) (λ (b : Beat). All (λ r. IsOfLink l.service l.tei r × IsAskedOfLink l.service l.tei r) b.near_asks) (λ d is. both-asked l d.near_asks is.0) clean (all-right (AreAsked l) (c ∷ []) clean (all-right (AreAsked l) (b ∷ noisy) (c ∷ clean) asked)) in
         rings-shortly l h.fit v.beats base other_base falls.0 w (after l.rate clean w) (length clean) p (omega arith) falls.2 (beats-then l.rate clean w) rest.ready
         (all-ring l h.fit v.beats base other_base falls.0 clean w (omega arith) y ts asked_clean parts.1.2 cleans (waits [] clean refl parts.1.2 p ts) (untold-all [] clean refl parts.1.2 p ts) in_5 falls.1 (omega (arith, near_kept)) (omega (arith, far_kept)))
-      where
-        all-asked : (bs : List Beat) → All (AreAsked l) bs → All (λ (b : Beat). All (λ r. IsOfLink l.service l.tei r × IsAskedOfLink l.service l.tei r) b.near_asks) bs
-        all-asked [] all = All-nil (λ (b : Beat). All (λ r. IsOfLink l.service l.tei r × IsAskedOfLink l.service l.tei r) b.near_asks)
-        all-asked (d ∷ bs) all =
-            All-cons (λ (b : Beat). All (λ r. IsOfLink l.service l.tei r × IsAskedOfLink l.service l.tei r) b.near_asks) d bs (both-asked l d.near_asks (All-head (AreAsked l) d bs all).0)
-            (all-asked bs (All-tail (AreAsked l) d bs all))
 
   pub both-up : l.lengths.t200 * l.rate + answered_in l.near l.far l.way ≤ length clean → CameThrough l (after l.rate clean w)
   both-up long = go (call-now clean [] (append-nil clean))
@@ -278,7 +250,7 @@ module _ (l : Line) (before noisy clean later : List Beat) (b c : Beat) (h : Out
   stays-up =
       let u = after l.rate all_beats (begins l) in
       let none = n200-lasts-in-a-call l before (noisy ++ c ∷ clean ++ later) b fit h.idle h.asked whole-clear h.short in
-      let fair = neither (list_any is_used_up (errors_at u.near)) (list_any is_used_up (errors_at u.far)) (sym (list_any-append is_used_up (errors_at u.near) (errors_at u.far)) ∙ none) in
+      let fair = or_parts (list_any is_used_up (errors_at u.near)) (list_any is_used_up (errors_at u.far)) (sym (list_any-append is_used_up (errors_at u.near) (errors_at u.far)) ∙ none) in
       let first_pair = subst (PairNow l fit) first-world (pair-at (start ++ c ∷ clean) h.undisturbed.talk h.undisturbed.clear) in
       let whole_talk = subst (All (IsTalk l)) (sym same-beats) (All-append (IsTalk l) (start ++ c ∷ clean) later h.undisturbed.talk later-talk) in
       let walk = walks-all l fit later up_by first_pair later-talk h.clear in

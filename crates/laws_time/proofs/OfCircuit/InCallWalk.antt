@@ -1,55 +1,25 @@
 -- Prompt steps from one end of the circuit to another. If its link's N200 is not used up by them, no error that says so is told there.
-use Rattle.std.proofs.Common.{arith, ◌≡◌, ℕ, zero, suc, ◌+◌, ◌*◌, ◌<◌, ◌≤◌, ◌||◌, Bool, true, false, cond, List, [], ◌∷◌, ◌++◌, length, Option, Some, None, option_map, refl, sym, ap, ◌∙◌, subst, All, append-nil, append_assoc, eq-eqb, filter}
-use Rattle.std.specs.Prelude.{fold, flat_map}
-use Rattle.std.specs.List.{list_any}
-use Rattle.std.specs.Option.{option_map_or, unwrap_or}
-use Rattle.std.proofs.lemmas.List.Elements.{All-head, All-tail}
-use Rattle.std.proofs.lemmas.List.Folds.{list_any-append}
-use Rattle.lapd_clock.specs.Timer.{Lengths}
-use Rattle.lapd_clock.specs.Timers.{Expiry}
-use Rattle.lapd_frame.specs.declared.notes.Note.{Note}
-use Rattle.lapd_frame.specs.declared.services.Service.{Service}
-use Rattle.lapd_frame.specs.declared.timers.Timer.{Timer}
+use Rattle.laws_time.proofs.Vocabulary.{All, ArePrompt, Bool, Card, Config, Expiry, IsInRange, IsNoOctetsExpiry as IsNoExpiry, IsOfLink, Lengths, LineTold, List, None, Note, OctetEvent as Event, Option, Port, Request, Service, Some, Step, TimedEndpoint, TimedOctetCard, Timer, [], after_all, answered, ap, append-nil, append_assoc, arith, asks, card_of, comes_to, cond, due, eq-eqb, error_in}
+use Rattle.laws_time.proofs.Vocabulary.{expiry_at, falls, falls_due, false, filter, flat_map, gained, happens, hears, is_due, is_news, is_timer_of, is_used_up, list_any, list_any-append, news, news_in, notes_in, notes_of, octet_at, octets, of_octets, option_map, option_map_or, port_of, refl, step_happens, subst, sym, tells_nothing, told_by, true, unwrap_or, with_expiry, without_first_octet, ℕ}
+use Rattle.laws_time.proofs.Vocabulary.{◌*◌, ◌++◌, ◌+◌, ◌<◌, ◌||◌, ◌∙◌, ◌∷◌, ◌≡◌, ◌≤◌}
 use Rattle.model_bits.specs.Stream as stream
 use Rattle.model_line.specs.Event as line
-use Rattle.model_line.specs.Event.{LineTold}
-use Rattle.model_line.specs.Request.{Request}
-use Rattle.model_line.specs.Sound.{IsInRange}
-use Rattle.model_line.specs.declared.config.Config.{Config}
 use Rattle.model_card.specs.Card as cards
-use Rattle.model_card.specs.Card.{Card}
 use Rattle.model_card.specs.Event as frames
 use Rattle.model_card.specs.Machine as machine
 use Rattle.model_card.specs.Run as frame_runs
-use Rattle.model_card.specs.ports.Event.{Event, at as octet_at}
 use Rattle.model_card.specs.ports.Port as port
-use Rattle.model_card.specs.ports.Port.{Port, gained, is_due}
-use Rattle.model_timed.specs.Clock.{due}
-use Rattle.model_timed.specs.Octets.{TimedOctetCard, octets, IsNoExpiry}
-use Rattle.model_timed.specs.Timed.{Step, happens as step_happens, falls_due, after as next, with_expiry, expiry_at, event_of}
-unfoldable use Rattle.model_timed.specs.Timed.{after_all, ArePrompt}
-use Rattle.laws_line.specs.Heard.{notes_of}
-use Rattle.laws_trace.specs.News.{is_news}
-use Rattle.laws_trace.specs.TimersAreTimely.{is_timer_of}
-use Rattle.laws_wire.specs.Wire.{tells_nothing}
-use Rattle.laws_order.specs.circuit.Circuit.{port_of, answered, told_by}
+use Rattle.model_timed.specs.Timed.{after as next, event_of}
 use Rattle.laws_time.proofs.ArrivalsErrors.{Used}
 use Rattle.laws_time.proofs.OctetsMean.{meant_at, notes-are}
-use Rattle.laws_time.proofs.OfCircuit.Acts.{IsSoon, asks-goes, all-asked, fell-goes, soon-then}
+use Rattle.laws_time.proofs.OfCircuit.Acts.{IsSoon, asks-goes, fell-goes, soon-then, Goes, goes-both, goes-none}
 use Rattle.laws_time.proofs.OfCircuit.ArrivFair.{codes, codes-append, IsFair}
-use Rattle.laws_time.proofs.OfCircuit.Beats.{Counts, at-moment, comes-on}
+use Rattle.laws_time.proofs.OfCircuit.Beats.{Counts, at-moment}
 use Rattle.laws_time.proofs.OfCircuit.Ends.{Leads, Rests, at_time, time-comes, both-lead, both-prompt, first-of}
 use Rattle.laws_time.proofs.OfCircuit.InCallNotes.{used-split, all-own}
 use Rattle.laws_time.proofs.OfCircuit.Orders.{RunsOurs}
 use Rattle.laws_time.proofs.OfCircuit.Under.{EndBut, EndOk, all-past, all-then, here-is, past}
-use Rattle.laws_time.specs.circuit.Arriving.{error_in, is_used_up}
-use Rattle.laws_time.specs.circuit.Clocked.{TimedEndpoint, happens, asks, falls, comes_to, hears, without_first_octet}
-unfoldable use Rattle.laws_time.specs.circuit.Clocked.{fall_due}
-use Rattle.laws_time.specs.circuit.Ends.{card_of}
-use Rattle.laws_time.specs.circuit.LongEnough.{IsOfLink, asked}
-use Rattle.laws_time.specs.Silence.{news_in}
-unfoldable use Rattle.laws_time.specs.Silence.{news}
-use Rattle.laws_time.specs.Watched.{of_octets, notes_in}
+use Rattle.laws_time.proofs.OfCircuit.Keeping.{comes-keep}
 
 pub fair-both : (ts us : List LineTold) → IsFair ts → IsFair us → IsFair (ts ++ us)
 fair-both ts us first then =
@@ -216,27 +186,6 @@ module _ (service : Service) (tei : ℕ) where
         same-timer : (s t : Timer) → Some (line.expiry s) ≡ Some (line.expiry t) → s ≡ t
         same-timer s t is = cc is
 
-    asks-walk : (rs : List Request) (S M : ℕ) (a : TimedEndpoint) → EndAt S M a → IsSoon c service tei 0 ranged lengths rate a → All (IsOfLink service tei) rs → Walks a (fold asks a rs)
-    asks-walk [] S M a h soon all = walks-none a
-    asks-walk (r ∷ rs) S M a h soon all =
-        let u = happens (port.request r) a in
-        let one = asks-goes c service tei 0 ranged lengths rate a S M h soon r (All-head (IsOfLink service tei) r rs all) in
-        walks-both a u (fold asks u rs) (event-walks (port.request r) a S M h tt)
-        (asks-walk rs one.S' M u one.ok (soon-then c service tei 0 ranged lengths rate S M a u one soon) (All-tail (IsOfLink service tei) r rs all))
-
-    fell-then : (n S M : ℕ) (a : TimedEndpoint) → EndAt S M a → IsSoon c service tei 0 ranged lengths rate a
-        → ((S' : ℕ) (u : TimedEndpoint) → EndAt S' M u → IsSoon c service tei 0 ranged lengths rate u → Walks u (fall_due n u))
-        → (o : Option Expiry) → due a.clock ≡ o → Walks a (fall_due n (option_map_or (falls a) o a))
-    fell-then n S M a h soon rest None is = rest S a h soon
-    fell-then n S M a h soon rest (Some x) is =
-        let one = fell-goes c service tei 0 ranged lengths rate a S M h soon x is in
-        walks-both a (falls a x) (fall_due n (falls a x)) (due-walks a S M h x is) (rest one.S' (falls a x) one.ok (soon-then c service tei 0 ranged lengths rate S M a (falls a x) one soon))
-
-    falls-walk : (n S M : ℕ) (a : TimedEndpoint) → EndAt S M a → IsSoon c service tei 0 ranged lengths rate a → Walks a (fall_due n a)
-    unfolding fall_due
-    falls-walk zero S M a h soon = walks-none a
-    falls-walk (suc n) S M a h soon = fell-then n S M a h soon (λ S' u k later. falls-walk n S' M u k later) (due a.clock) refl
-
     -- The moment comes, with what is asked and what falls due; an octet is pulled,
     module _ (transit moment n S M : ℕ) (rs : List Request) (a : TimedEndpoint) (h : EndAt S M a) (rests : Rests a) (low : a.clock.now ≤ moment) (high : moment ≤ a.clock.now + 1)
         (counts : Counts service tei transit lengths rate c ranged n a) (soon : n + 1 ≤ (moment + 1) * rate) (all : All (IsOfLink service tei) rs) where
@@ -246,16 +195,22 @@ module _ (service : Service) (tei : ℕ) where
       pub pulled-walks : Walks (at_time moment a) (happens port.pull (comes_to moment rs a))
       pulled-walks =
           let t = at_time moment a in
-          let u = asked moment rs a in
           let v = comes_to moment rs a in
           let ok = at-moment service tei transit lengths rate c ranged moment n S M rs a h rests low high counts soon all in
           let given = counts.given in
           let soon_now : IsSoon c service tei 0 ranged lengths rate t = omega (arith, given, soon) in
-          let first = all-asked c service tei 0 ranged lengths rate S M rs t ok soon_now all in
-          let then = comes-on service tei transit lengths rate c ranged moment n S M rs a h rests low high counts soon all (length u.clock.running) in
-          walks-both t v (happens port.pull v)
-          (walks-both t u v (asks-walk rs S M t ok soon_now all) (falls-walk (length u.clock.running) first.S' M u first.ok (soon-then c service tei 0 ranged lengths rate S M t u first soon_now)))
-          (event-walks port.pull v then.S' M then.ok tt)
+          let later = λ (u : TimedEndpoint) (g : Goes c service tei 0 ranged lengths rate S M t u). soon-then c service tei 0 ranged lengths rate S M t u g soon_now in
+          let w = comes-keep (λ u. Goes c service tei 0 ranged lengths rate S M t u × Walks t u) (IsOfLink service tei)
+          (λ r u is w. (
+            goes-both c service tei 0 ranged lengths rate S M t u (asks u r) w.0 (asks-goes c service tei 0 ranged lengths rate u w.0.S' M w.0.ok (later u w.0) r is),
+            walks-both t u (asks u r) w.1 (event-walks (port.request r) u w.0.S' M w.0.ok tt),
+          ))
+          (λ x u is w. (
+            goes-both c service tei 0 ranged lengths rate S M t u (falls u x) w.0 (fell-goes c service tei 0 ranged lengths rate u w.0.S' M w.0.ok (later u w.0) x is),
+            walks-both t u (falls u x) w.1 (due-walks u w.0.S' M w.0.ok x is),
+          ))
+          moment rs all a (goes-none c service tei 0 ranged lengths rate S M t ok, walks-none t) in
+          walks-both t v (happens port.pull v) w.1 (event-walks port.pull v w.0.S' M w.0.ok tt)
 
     -- and one is heard.
     pub heard-walks : (noise : Option ℕ) (way : List ℕ) (S M : ℕ) (a : TimedEndpoint) → EndAt S M a → Walks a (without_first_octet (hears noise way a))

@@ -1,13 +1,8 @@
 -- Answers come in time, from the start on.
-use Rattle.std.proofs.Common.{[], ◌∷◌}
-use Rattle.std.proofs.lemmas.List.Elements.{All-head}
-use Rattle.model_timed.specs.Octets.{TimedOctetCard, fresh}
-use Rattle.laws_line.proofs.OfCard.Meanwhile.{all-left, all-right}
+use Rattle.laws_time.proofs.Vocabulary.{All-head, AnswersComeInTime, Clocked, IsFit, IsTalk, Line, TimedOctetCard, [], after, all-left, all-right, begins, fresh, ◌∷◌}
 use Rattle.laws_time.proofs.OfCircuit.Began.{end-begins, counts-begin}
 use Rattle.laws_time.proofs.OfCircuit.Ends.{both-begin}
 use Rattle.laws_time.proofs.OfCircuit.LongEnough.{Pair, by_now, all-pairs, near-long, far-long}
-use Rattle.laws_time.specs.circuit.Clocked.{Clocked, after}
-use Rattle.laws_time.specs.circuit.LongEnough.{Line, IsFit, IsTalk, AnswersComeInTime, begins}
 
 module _ (l : Line) (fit : IsFit l) where
   abbrev pub near_card : TimedOctetCard

@@ -1,16 +1,6 @@
 -- Which control frames of a kind an event puts, and what a call for the next frame gives of those that wait.
-use Rattle.std.proofs.Common.{arith, ◌≡◌, ℕ, zero, suc, ◌&&◌, ◌||◌, Bool, true, false, cond, List, [], ◌∷◌, ◌++◌, take, sym, ap, subst}
-use Rattle.std.specs.List.{AllByRecursion}
-use Rattle.lapd_frame.specs.declared.controls.Control.{Control}
-use Rattle.lapd_frame.specs.declared.controls.Control.TheVariants.{Information, Sabme, Disc}
-use Rattle.model_link.specs.declared.frames.ControlFrame.{ControlFrame}
-use Rattle.model_link.specs.declared.states.State.{State}
-use Rattle.model_link.specs.declared.terms.Terms.{Terms}
-use Rattle.model_link.specs.Events.{Event, received, frame}
-use Rattle.model_link.specs.Link.{Link}
-use Rattle.laws_link.specs.States.{moves, as_heard}
-use Rattle.laws_link.specs.Waiting.{answers, commands, put, room, is_time}
-use Rattle.laws_wire.specs.Timely.{bit_of, is_final}
+use Rattle.laws_time.proofs.Vocabulary.{AllByRecursion, Bool, Control, ControlFrame, Disc, Information, Link, LinkEvent as Event, List, Sabme, State, Terms, [], answers, ap, arith, as_heard, bit_of, commands, cond, false, is_final, is_time, moves, put, received, subst, suc, sym, take, true, zero, ℕ, ◌&&◌, ◌++◌, ◌||◌, ◌∷◌, ◌≡◌}
+use Rattle.model_link.specs.Events.{frame}
 
 -- A frame that asks for an answer: a command with P=1.
 abbrev pub is_command : Control → Bool
@@ -56,9 +46,6 @@ first-of P (suc n) (x ∷ xs) h = (h.0, first-of P n xs h.1)
 
 pub put-asks-not : (e : Event) (l : Link) (to : State) → (moves l.state to || is_time e l) ≡ false → AllByRecursion AsksNot (put e l to)
 put-asks-not e l to none = both AsksNot (answers e l) (commands e l to) (answers-ask-not e l) (subst (AllByRecursion AsksNot) (sym (no-commands e l to none)) tt)
-
-pub put-asks-less : (e : Event) (l : Link) (to : State) → commands e l to ≡ [] → AllByRecursion AsksNot (put e l to)
-put-asks-less e l to none = both AsksNot (answers e l) (commands e l to) (answers-ask-not e l) (subst (AllByRecursion AsksNot) (sym none) tt)
 
 pub put-ends-not : (e : Event) (l : Link) (to : State) → is_asked e ≡ false → AllByRecursion EndsNot (put e l to)
 put-ends-not e l to none = both EndsNot (answers e l) (commands e l to) (answers-end-not e l none) (commands-end-not e l to)

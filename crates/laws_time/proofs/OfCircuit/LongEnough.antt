@@ -1,29 +1,9 @@
 -- T200 is long enough: as it falls due in a state that awaits an answer, none is under way.
-use Rattle.std.proofs.Common.{arith, ◌≡◌, ℕ, zero, suc, ◌+◌, ◌*◌, ◌/◌, ◌<◌, ◌≤◌, ◌==◌, ◌&&◌, ◌||◌, Bool, true, false, cond, List, [], ◌∷◌, ◌++◌, length, drop, Some, None, refl, sym, ap, ◌∙◌, subst, All, nat_le, eq-eqb}
-use Rattle.std.specs.List.{AllByRecursion, list_any}
-use Rattle.std.proofs.lemmas.Bool.{true≢false}
-use Rattle.std.proofs.lemmas.List.Elements.{All-head, All-tail}
-use Rattle.std.proofs.Math.Nat.{mul-div-le}
-use Rattle.std.proofs.lemmas.Nat.{mul-le}
-use Rattle.lapd_clock.specs.Moments.{moment_of}
-use Rattle.lapd_clock.specs.Timer.{Lengths, is_same}
-use Rattle.lapd_clock.specs.Timers.{Expiry, is_of as timer_is_of}
-use Rattle.lapd_frame.specs.declared.controls.Control.{Control}
-use Rattle.lapd_frame.specs.declared.services.Service.{Service}
+use Rattle.laws_time.proofs.Vocabulary.{All, All-head, All-tail, AllByRecursion, AreClear, Beat, Bool, Clocked, Config, Control, Expiry, IsClearAt, IsInRange, IsTalk, Lengths, Line, List, None, OctetEndpoint, Parts, Port, RunsLong, Service, Some, TimedEndpoint, TimedOctetCard, [], after, answered_in, ap, arith, asked, beat, cond, drop, eq-eqb, fall_due, false, first_due, gained, gone}
+use Rattle.laws_time.proofs.Vocabulary.{heard_side, is_final, is_of as timer_is_of, is_poll, is_same, is_waiting, leb-true, length, list_any, longest_text, moment_of, mul-div-le, mul-le, nat_le, own_side, port_of, pulling, read_as, refl, same_Some, sides-turned, state_number, subst, suc, sym, true, true≢false, zero, ℕ, ◌&&◌, ◌*◌, ◌++◌, ◌+◌, ◌/◌, ◌<◌, ◌==◌, ◌||◌, ◌∙◌, ◌∷◌, ◌≡◌, ◌≤◌}
 use Rattle.lapd_frame.specs.declared.timers.Timer.TheVariants as timers
-use Rattle.lapd_frame.specs.Grammar.{Parts}
 use Rattle.model_bits.specs.Stream as stream
-use Rattle.model_link.specs.Link.{state_number}
-use Rattle.model_line.specs.Sound.{IsInRange}
-use Rattle.model_line.specs.declared.config.Config.{Config}
 use Rattle.model_card.specs.ports.Port as port
-use Rattle.model_card.specs.ports.Pulls.{longest_text}
-use Rattle.model_card.specs.ports.Port.{Port, gained}
-use Rattle.model_timed.specs.Clock.{first_due}
-use Rattle.model_timed.specs.Octets.{TimedOctetCard}
-use Rattle.laws_wire.specs.Facing.{read_as}
-use Rattle.laws_wire.specs.Timely.{is_poll, is_final}
-use Rattle.laws_order.specs.circuit.Circuit.{Endpoint as OctetEndpoint, port_of}
 use Rattle.laws_order.specs.circuit.Circuit as circuit
 use Rattle.laws_time.proofs.Moments.{itself}
 use Rattle.laws_time.proofs.OfCircuit.Acts.{Goes}
@@ -34,12 +14,7 @@ use Rattle.laws_time.proofs.OfCircuit.Open.{ring, half, pulled-on}
 use Rattle.laws_time.proofs.OfCircuit.Sender.{Sends}
 use Rattle.laws_time.proofs.OfCircuit.Standing.{Ends, pulls}
 use Rattle.laws_time.proofs.OfCircuit.Under.{EndOk, state-here}
-use Rattle.laws_time.specs.circuit.Clocked.{TimedEndpoint, Clocked, Beat, gone, beat, after, fall_due}
-use Rattle.laws_time.specs.circuit.LongEnough.{Line, RunsLong, IsTalk, IsClearAt, IsLongEnough, is_of, is_waiting, asked, answered_in}
-use Rattle.model_line.specs.Taken.{own_side}
-use Rattle.model_line.specs.Heard.{heard_side}
-use Rattle.laws_wire.proofs.Spelled.{sides-turned}
-unfoldable use Rattle.laws_time.specs.circuit.LongEnough.{pulling, AreClear}
+use Rattle.laws_time.specs.circuit.LongEnough.{IsLongEnough, is_of}
 
 -- A command with P=1 asks for an answer.
 or-true : (b : Bool) → (b || true) ≡ true
@@ -62,30 +37,30 @@ of-asks : (c : Config) (octets : List ℕ) → is_of is_poll c octets ≡ true �
 of-asks c octets is =
     any-more (λ (f : Parts). is_poll f.address.command f.control) (λ (f : Parts). asks_frame f.address.command f.control) (λ f. poll-asks f.address.command f.control) (read_as c octets) is
 
-is-due : (n m : ℕ) → nat_le n m ≡ true → n ≤ m
-is-due n m is = grind arith
-
 -- The moment of a timer that falls due.
 pub due-is : (line now : ℕ) (its : Rattle.lapd_frame.specs.declared.timers.Timer.Timer) (xs : List Expiry) (x : Expiry) → AllByRecursion (λ x. x.line ≡ line) xs → first_due xs now ≡ Some x → x.timer ≡ its
     → (moment_of line its xs ≡ Some x.moment) × (x.moment ≤ now)
 due-is line now its [] x here is same = cc is
 due-is line now its (e ∷ es) x here is same = go (nat_le e.moment now) refl is
   where
-    the-same : (e x : Expiry) → Some e ≡ Some x → e ≡ x
-    the-same e x is = cc is
-
     go : (b : Bool) → nat_le e.moment now ≡ b → cond b (Some e) None ≡ Some x → (moment_of line its (e ∷ es) ≡ Some x.moment) × (x.moment ≤ now)
     go false later is = cc is
     go true low is =
-        let own = the-same e x is in
+        let own = same_Some e x is in
         let mine : timer_is_of line its e ≡ true =
         ap (λ n. (n == line) && is_same e.timer its) here.0 ∙ ap (λ b. b && is_same e.timer its) (eq-eqb line line refl)
         ∙ ap (λ t. is_same t its) (ap (λ (e : Expiry). e.timer) own ∙ same) ∙ itself its in (
           ap (λ b. cond b (Some e.moment) (moment_of line its es)) mine ∙ ap (λ (e : Expiry). Some e.moment) own,
-          subst (λ (e : Expiry). e.moment ≤ now) own (is-due e.moment now low),
+          subst (λ (e : Expiry). e.moment ≤ now) own (leb-true e.moment now low),
         )
 
 -- What is given by an octet at most is given by it, too, if an end is only pulled.
+-- Where no noise makes a frame in some beats, none does in the first of them, nor in the others.
+pub clear-parts : (l : Line) (bs more : List Beat) (w : Clocked) → AreClear l (bs ++ more) w → AreClear l bs w × AreClear l more (after l.rate bs w)
+unfolding AreClear
+clear-parts l [] more w clear = (tt, clear)
+clear-parts l (b ∷ bs) more w clear = let rest = clear-parts l bs more (beat l.rate w b) clear.2 in ((clear.0, clear.1, rest.0), rest.1)
+
 module _ (c : Config) (service : Service) (tei : ℕ) (ranged : IsInRange c) (kind : Bool → Control → Bool)
     (plain : (p : Parts) → (asks_frame p.address.command p.control ≡ false) × (is_final p.address.command p.control ≡ false) → kind p.address.command p.control ≡ false) (most : ℕ) where
   pub pulling-on : (n : ℕ) (s : OctetEndpoint) (h : Ends c service tei 0 ranged s) → Sends c.n201 (is_of kind c) most (port_of s) (ring c service tei 0 ranged h.its)
@@ -239,7 +214,7 @@ module _ (l : Line) (some : 1 ≤ l.rate) (near : IsInRange l.near) (far : IsInR
         let a = fall_due n (asked (w.beats / l.rate) b.near_asks w.near) in
         let g = near-comes w p b talk n in
         let at_due = due-is a.at.line a.clock.now (timers.T200 l.service l.tei) a.clock.running x g.ok.but.clock.here falls timer in
-        let number = same-number (state_number g.ok.but.ends.its.state) state_now (sym (state-here l.near l.service l.tei 0 near l.lengths l.rate a.at g.ok.but.ends) ∙ is) in
+        let number = same_Some (state_number g.ok.but.ends.its.state) state_now (sym (state-here l.near l.service l.tei 0 near l.lengths l.rate a.at g.ok.but.ends) ∙ is) in
         let started = g.ok.timer x.moment (ap is_waiting number ∙ waits) at_due.0 in
         let ago = long-ago l.lengths t200.0 g.S' w.beats x.moment started (subst (λ k. x.moment ≤ k) g.now at_due.1) in
         let later = g.later in let far_received = p.far_counts.received in
@@ -252,16 +227,13 @@ module _ (l : Line) (some : 1 ≤ l.rate) (near : IsInRange l.near) (far : IsInR
               let early = pulling-on l.far l.service l.tei far is_final (λ q z. z.1) (by_now p.S) k w.far.at p.far_ok.but.ends p.far_ok.but.finals before value more octets given gains final in
               let all = in-all g.S' in omega (arith, early, ago, near_received, later, all)),
         )
-      where
-        same-number : (m n : ℕ) → Some m ≡ Some n → m ≡ n
-        same-number m n e = cc e
 
     pub far-long : IsLongEnough l l.far l.near (fall_due n (asked (w.beats / l.rate) b.far_asks w.far)) w.near
     far-long x state_now falls timer is waits =
         let a = fall_due n (asked (w.beats / l.rate) b.far_asks w.far) in
         let g = far-comes w p b talk n in
         let at_due = due-is a.at.line a.clock.now (timers.T200 l.service l.tei) a.clock.running x g.ok.but.clock.here falls timer in
-        let number = same-number (state_number g.ok.but.ends.its.state) state_now (sym (state-here l.far l.service l.tei 0 far l.far_lengths l.rate a.at g.ok.but.ends) ∙ is) in
+        let number = same_Some (state_number g.ok.but.ends.its.state) state_now (sym (state-here l.far l.service l.tei 0 far l.far_lengths l.rate a.at g.ok.but.ends) ∙ is) in
         let started = g.ok.timer x.moment (ap is_waiting number ∙ waits) at_due.0 in
         let ago = long-ago l.far_lengths t200.1 g.S' w.beats x.moment started (subst (λ k. x.moment ≤ k) g.now at_due.1) in
         let later = g.later in let near_received = p.near_counts.received in
@@ -274,6 +246,3 @@ module _ (l : Line) (some : 1 ≤ l.rate) (near : IsInRange l.near) (far : IsInR
               let early = pulling-on l.near l.service l.tei near is_final (λ q z. z.1) (by_now p.S2) k w.near.at p.near_ok.but.ends p.near_ok.but.finals before value more octets given gains final in
               let all = in-all g.S' in omega (arith, early, ago, far_received, later, all)),
         )
-      where
-        same-number : (m n : ℕ) → Some m ≡ Some n → m ≡ n
-        same-number m n e = cc e

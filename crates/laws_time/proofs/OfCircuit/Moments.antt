@@ -1,27 +1,12 @@
 -- When T200 falls due in a state that awaits an answer: as long after the command as it runs.
-use Rattle.std.proofs.Common.{arith, ◌≡◌, ℕ, ◌+◌, ◌<◌, ◌≤◌, ◌==◌, ◌&&◌, ◌||◌, not, Bool, true, false, cond, List, [], ◌∷◌, Some, None, refl, sym, ap, ◌∙◌, eqb-true, eq-eqb}
-use Rattle.std.specs.Prelude.{nat_lt, fold}
-use Rattle.std.proofs.lemmas.Bool.{le-ltb}
-use Rattle.lapd_clock.specs.Moments.{moment_of}
-use Rattle.lapd_frame.specs.declared.services.Service.{Service}
-use Rattle.lapd_frame.specs.declared.timers.Timer.{Timer}
+use Rattle.laws_time.proofs.Vocabulary.{Answer, AreAtLines, Bool, Clock, Config, Event, IsInRange, List, None, Observed, Service, Some, T200, Timer, ap, arith, awaits, brings, by_event, cond, enters, eq-eqb, eqb-true, expiry, false, frame_in, is_anew, is_own, le-ltb, moment_at, moment_of, nat_lt, next, not, obeyed, orders_in, refl, renews, request, runs, sym, true, view_behind, view_of, ℕ, ◌&&◌}
+use Rattle.laws_time.proofs.Vocabulary.{◌+◌, ◌<◌, ◌==◌, ◌||◌, ◌∙◌, ◌≡◌, ◌≤◌}
 use Rattle.lapd_frame.specs.declared.timers.Timer.TheVariants as timers
-use Rattle.model_link.specs.declared.timers.LinkTimer.TheVariants.{T200}
 use Rattle.model_line.specs.Event as line
-use Rattle.model_line.specs.Event.{expiry, hears, request, next, Answer}
-use Rattle.model_line.specs.Laws.{orders_in}
-use Rattle.model_line.specs.Sound.{IsInRange}
-use Rattle.model_line.specs.declared.config.Config.{Config}
+use Rattle.model_line.specs.Event.{hears}
 use Rattle.model_card.specs.Card as cards
-use Rattle.model_card.specs.Card.{Card, line_at, state}
-use Rattle.model_card.specs.Event.{Event}
-use Rattle.model_card.specs.Run.{AreAtLines}
-use Rattle.model_timed.specs.Clock.{Clock, obeyed}
-use Rattle.laws_trace.specs.Observer.{Observed, view_of, view_behind, moment_of as moment_at, by_event, enters, awaits, by_frame_begun}
-use Rattle.laws_trace.specs.Trace.{is_own, frame_in}
-use Rattle.laws_trace.specs.TimersAreTimely.{is_anew, runs, renews}
-use Rattle.laws_trace.specs.News.{brings}
 use Rattle.laws_time.proofs.Ordered.{moment-left}
+use Rattle.laws_time.proofs.Effects.{sent-like}
 
 abbrev pub is_waiting : ℕ → Bool
 is_waiting n = n == 5 || (n == 6 || n == 8)
@@ -36,19 +21,12 @@ abbrev pub is_own_t200 : Service → ℕ → line.Event → Bool
 is_own_t200 service tei (expiry (timers.T200 of by)) = is_own service tei of by
 is_own_t200 service tei other = false
 
-one-count : (c : Config) (service : Service) (tei : ℕ) (o : Observed) (f : List ℕ) → (by_frame_begun c service tei o f).expiries ≡ o.expiries
-one-count c service tei o f = grind arith
-
-begun-count : (c : Config) (service : Service) (tei : ℕ) (fs : List (List ℕ)) (o : Observed) → (fold (by_frame_begun c service tei) o fs).expiries ≤ o.expiries
-begun-count c service tei [] o = omega arith
-begun-count c service tei (f ∷ fs) o = omega (arith, begun-count c service tei fs (by_frame_begun c service tei o f), one-count c service tei o f)
-
 -- T200 alone counts expiries.
 pub counts-on : (c : Config) (service : Service) (tei : ℕ) (what : line.Event) (a : Answer) (o : Observed) → is_own_t200 service tei what ≡ false → (by_event c service tei what a o).expiries ≤ o.expiries
 counts-on c service tei (hears e) a o other = grind arith
 counts-on c service tei (request r) a o other = grind arith
 counts-on c service tei (expiry timer) a o other = grind arith
-counts-on c service tei next a o other = begun-count c service tei (frame_in a) o
+counts-on c service tei next a o other = omega (arith, (sent-like c service tei o (frame_in a)).expiries)
 
 -- An event of the line, of a card that began, after these events.
 module _ (c : Config) (events : List Event) (number : ℕ) (ranged : IsInRange c) (all : AreAtLines (cards.fresh c) events) (within : number < c.lines) (service : Service) (tei : ℕ) (what : line.Event) (k : Clock) where

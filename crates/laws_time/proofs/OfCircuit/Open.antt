@@ -1,49 +1,16 @@
 -- What is under way from an end, and until when T200 runs there: after each event.
-use Rattle.std.proofs.Common.{arith, ◌≡◌, ℕ, ◌+◌, ◌*◌, ◌/◌, ◌≤◌, ◌||◌, Bool, true, false, List, [], ◌∷◌, ◌++◌, length, map, take, Ok, refl, sym, ap, ◌∙◌, subst, All, inl, inr, length-append}
-use Rattle.std.proofs.lemmas.Bool.{true≢false}
-use Rattle.std.proofs.lemmas.List.{length-map, map-append}
-use Rattle.std.proofs.lemmas.List.Elements.{All-head, All-tail}
-use Rattle.std.specs.List.{AllByRecursion, list_any}
-use Rattle.lapd_frame.specs.declared.controls.Control.{Control}
-use Rattle.lapd_frame.specs.declared.services.Service.{Service}
-use Rattle.lapd_frame.specs.Grammar.{Parts}
-use Rattle.lapd_frame.specs.Senders.{reading, spelling}
+use Rattle.laws_time.proofs.Vocabulary.{All, All-head, All-tail, AllByRecursion, Bool, Config, Control, ControlFrame, IsInRange, IsWaitingFrame, Item, Link, LinkEvent, LinkIsSound, List, OctetEndpoint, Ok, Parts, Service, StationStands, [], ap, arith, as_endpoint, as_heard, bits, event-follows, expired, false, few-left, frame, inl, inr, is_final, item_text, left_of, length, length-append}
+use Rattle.laws_time.proofs.Vocabulary.{length-bits, length-check, length-map, link-sound, link_cleared as cleared, list_any, longest_text, map, map-append, offer, or-none, own_side, parts_of, port_of, put, reading, received, refl, requested, room, spelling, subst, sym, take, terms, true, true≢false, ℕ, ◌*◌, ◌++◌, ◌+◌, ◌/◌, ◌∙◌, ◌∷◌, ◌≡◌, ◌≤◌}
 use Rattle.lapd_frame.proofs.Naming.{reading-again}
-use Rattle.model_bits.proofs.BitLemmas.{length-bits}
-use Rattle.model_bits.proofs.Division.Unique.{length-check}
-use Rattle.model_bits.specs.Bits.{bits}
-use Rattle.model_bits.specs.Sent.{Item, frame, item_text}
 use Rattle.model_bits.specs.Stuffing.{stuffed}
-use Rattle.model_link.specs.declared.frames.ControlFrame.{ControlFrame}
-use Rattle.model_link.specs.declared.states.State.{State}
-use Rattle.model_link.specs.declared.states.State.TheVariants.{TeiAssigned, AwaitingEstablishment, AwaitingRelease, Established, TimerRecovery}
-use Rattle.model_link.specs.declared.terms.Terms.{Terms}
 use Rattle.model_link.specs.Events as link
-use Rattle.model_link.specs.Events.{Event as LinkEvent, received, requested, expired, offer, cleared}
-use Rattle.model_link.specs.Link.{Link, frame_of, state_number}
+use Rattle.model_link.specs.Link.{frame_of}
 use Rattle.model_link.specs.Machine as links
-use Rattle.model_link.specs.Sound.{IsSound as LinkIsSound, IsWaitingFrame}
-use Rattle.model_line.specs.Line.{terms}
-use Rattle.model_line.specs.Sound.{IsInRange}
-use Rattle.model_line.specs.declared.config.Config.{Config}
-use Rattle.model_card.specs.ports.Port.{Port, left_of}
-use Rattle.model_card.specs.ports.Pulls.{longest_text}
-use Rattle.laws_link.specs.States.{as_heard}
-use Rattle.laws_link.specs.Waiting.{commands, put, room, is_time, command_in, answers}
-use Rattle.laws_link.proofs.Follows.{event-follows}
-use Rattle.laws_wire.specs.Facing.{parts_of}
-use Rattle.laws_wire.specs.Timely.{is_final}
-use Rattle.laws_wire.proofs.Standing.{StationStands, link-sound}
-use Rattle.laws_order.specs.circuit.Circuit.{Endpoint as OctetEndpoint, port_of}
-use Rattle.laws_order.proofs.OfCircuit.AsFrames.{as_endpoint}
-use Rattle.laws_order.proofs.OfCircuit.Ran.{few-left}
-use Rattle.laws_time.specs.circuit.LongEnough.{is_of, is_waiting}
+use Rattle.laws_time.specs.circuit.LongEnough.{is_of}
 use Rattle.laws_time.proofs.OfCircuit.Kinds.{asks}
-use Rattle.laws_time.proofs.OfCircuit.Sender.{Sends, IsIn, text_length, wait-more, sends-with, sends-on, Takes}
-unfoldable use Rattle.laws_time.proofs.OfCircuit.Sender.{WaitIn}
+use Rattle.laws_time.proofs.OfCircuit.Sender.{Sends, IsIn, text_length, wait-more, sends-with, sends-on, Takes, WaitIn}
 use Rattle.laws_time.proofs.OfCircuit.Standing.{Ends, Pulled, pulls, bare, fine}
 use Rattle.laws_time.proofs.OfCircuit.Taken.{text, Took}
-use Rattle.model_line.specs.Taken.{own_side}
 
 -- A control frame takes at most 72 bits.
 pub stuffed-longest : (b : List Bool) → 5 * length (stuffed b) ≤ 6 * length b
@@ -54,23 +21,12 @@ stuffed-longest (x ∷ b) = let more = stuffed-longest b in omega (arith, more)
 pub short-text : (octets : List ℕ) → length octets ≤ 4 → length (item_text (frame octets)) ≤ 72
 short-text octets few = grind (arith, stuffed-longest, length-append, length-bits, length-check)
 
--- A state that awaits nothing puts no command.
-pub no-command : (e : LinkEvent) (l : Link) (to : State) → is_waiting (state_number to) ≡ false → commands e l to ≡ []
-no-command e l TeiAssigned none = grind arith
-no-command e l Established none = grind arith
-no-command e l AwaitingEstablishment none = cc none
-no-command e l AwaitingRelease none = cc none
-no-command e l TimerRecovery none = cc none
-
 abbrev pub IsOrdinary : LinkEvent → Type 0
 IsOrdinary offer = ⊥
 IsOrdinary cleared = ⊥
 IsOrdinary other = Unit {0}
 
 module _ (c : Config) (service : Service) (tei place : ℕ) (ranged : IsInRange c) where
-  abbrev t : Terms
-  t = terms c service tei
-
   abbrev pub ring : Link → List (List ℕ)
   ring l = map (text c service tei) l.waiting
 
@@ -95,18 +51,11 @@ module _ (c : Config) (service : Service) (tei place : ℕ) (ranged : IsInRange 
 
   -- A frame that waits is read as it is.
   module _ (kind : Bool → Control → Bool) where
-    abbrev pub its_kind : List ℕ → Bool
-    its_kind = is_of kind c
-
     pub text-kind : (f : ControlFrame) → IsWaitingFrame (terms c service tei) f → is_of kind c (text c service tei f) ≡ kind f.command f.control
     text-kind f w =
         ap (λ r. list_any (λ (f : Parts). kind f.address.command f.control) (parts_of r))
         (reading-again (own_side c) (frame_of (terms c service tei) f) (text c service tei f) (record { is_frame = w.is_frame; octets_are = refl }))
-        ∙ or-false (kind f.command f.control)
-      where
-        or-false : (b : Bool) → (b || false) ≡ b
-        or-false true = refl
-        or-false false = refl
+        ∙ or-none (kind f.command f.control)
 
     abbrev IsNotOf : ControlFrame → Type 0
     IsNotOf f = kind f.command f.control ≡ false
@@ -182,14 +131,10 @@ module _ (c : Config) (service : Service) (tei place : ℕ) (ranged : IsInRange 
       takes new ws now all (inr (inr y)) =
           inr (inr (ap (map (text c service tei)) y.0, λ o put. by-parts o (y.1 o put)))
         where
-          or-false : (b : Bool) → (b || false) ≡ b
-          or-false true = refl
-          or-false false = refl
-
           by-parts : (o : List ℕ) → (p : Parts) × (o ≡ spelling (own_side c) p) × (reading (own_side c) o ≡ Ok p) × ((asks p.address.command p.control ≡ false) × (is_final p.address.command p.control ≡ false)) → is_of kind c o ≡ false
           by-parts o z =
               ap (λ r. list_any (λ (f : Parts). kind f.address.command f.control) (parts_of r)) z.2
-              ∙ or-false (kind z.0.address.command z.0.control) ∙ plain z.0 z.3
+              ∙ or-none (kind z.0.address.command z.0.control) ∙ plain z.0 z.3
 
       pub pulled-on : Sends c.n201 (is_of kind c) most (port_of s) (ring h.its) → Sends c.n201 (is_of kind c) most (port_of u) (ring x.ends.its)
       pulled-on ok =

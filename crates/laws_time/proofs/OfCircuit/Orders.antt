@@ -1,49 +1,13 @@
 -- All that is ordered at an end is of its link's timers.
-use Rattle.std.proofs.Common.{◌≡◌, ℕ, ◌&&◌, not, Bool, true, false, cond, List, [], ◌∷◌, ◌++◌, Option, Some, None, Ok, option_map, refl, sym, ap, ◌∙◌, subst}
-use Rattle.std.specs.List.{AllByRecursion}
-use Rattle.lapd_clock.specs.Timer.{Order, Start, Stop, duration}
-use Rattle.lapd_clock.specs.Timers.{Expiry, is_before, is_of, without}
-use Rattle.lapd_clock.proofs.Ordered.{All-filter, All-put_in_order}
-use Rattle.lapd_frame.specs.declared.refusals.Refusal.{Refusal}
-use Rattle.lapd_frame.specs.declared.refusals.Refusal.TheVariants.{PoolFull}
-use Rattle.lapd_frame.specs.declared.services.Service.{Service}
-use Rattle.lapd_frame.specs.declared.timers.Timer.{Timer}
-use Rattle.lapd_frame.specs.Grammar.{Parts}
-use Rattle.lapd_frame.specs.Senders.{reading}
-use Rattle.lapd_frame.specs.Services.{sapi_of}
+use Rattle.laws_time.proofs.Vocabulary.{All-filter, All-put_in_order, AllByRecursion, Answer, Bool, Card, Clock, Config, Course, Expiry, IsSound, Link, LinkTimer, List, None, Ok, Option, Order, Parts, PoolFull, Refusal, Request, Sent, Service, Some, Speaks, Start, Stop, T200, T203, Timer, [], aim_of_expiry, aim_of_request, ap, asks-told, at, at_requested, at_timer, came, comes-told, cond}
+use Rattle.laws_time.proofs.Vocabulary.{expires-told, expiry_of, false, heard_side, is_before, is_of, is_order_of, is_timer_of, line_answer, line_at, link_number, link_runs as runs, next_of, not, obey, obeyed, of_request, option_map, order_for, orders_for, orders_in, own-is, place_in, reading, refl, refusal, sapi_of, subst, sym, takes-own, takes_slot, terms, told_of_link, true}
+use Rattle.laws_time.proofs.Vocabulary.{unless_refused_told, wants_room, with_given_frame, without, ℕ, ◌&&◌, ◌++◌, ◌∙◌, ◌∷◌, ◌≡◌}
 use Rattle.model_bits.specs.Stream as stream
-use Rattle.model_link.specs.declared.terms.Terms.{Terms}
-use Rattle.model_link.specs.declared.timers.LinkTimer.{LinkTimer}
-use Rattle.model_link.specs.declared.timers.LinkTimer.TheVariants.{T200, T203}
 use Rattle.model_link.specs.Events as link
-use Rattle.model_link.specs.Link.{Link}
 use Rattle.model_link.specs.Machine as links
-use Rattle.model_link.specs.Steps.{Course, Sent}
-use Rattle.model_link.specs.Told.{orders_for, order_for, runs}
-use Rattle.model_line.specs.Came.{came}
-use Rattle.model_line.specs.Effect.{told_of_link}
 use Rattle.model_line.specs.Event as line
-use Rattle.model_line.specs.Event.{Answer}
-use Rattle.model_line.specs.Expiry.{aim_of_expiry, at_timer}
-use Rattle.model_line.specs.Heard.{heard_side}
-use Rattle.model_line.specs.Laws.{orders_in}
-use Rattle.model_line.specs.Line.{Line, terms, place_in, link_number}
-unfoldable use Rattle.model_line.specs.Machine.{answer as line_answer, takes_slot}
-use Rattle.model_line.specs.Machine.{of_request, unless_refused_told}
-use Rattle.model_line.specs.Refusal.{refusal}
-use Rattle.model_line.specs.Request.{Request}
-use Rattle.model_line.specs.Requested.{aim_of_request, at_requested}
-use Rattle.model_line.specs.Sound.{IsSound}
-use Rattle.model_line.specs.Taken.{next_of, with_given_frame}
-use Rattle.model_line.specs.declared.config.Config.{Config}
-use Rattle.model_card.specs.Card.{Card, line_at}
-use Rattle.model_card.specs.Event.{at}
+use Rattle.model_line.specs.Line.{Line}
 use Rattle.model_card.specs.Machine as machine
-use Rattle.model_card.specs.Machine.{wants_room}
-use Rattle.model_timed.specs.Clock.{Clock, obey, obeyed, expiry_of}
-use Rattle.laws_trace.proofs.LinkLed.{own-is}
-use Rattle.laws_trace.specs.TimersAreTimely.{is_order_of, is_timer_of}
-use Rattle.laws_wire.proofs.LineSpeaks.{Speaks, comes-told, asks-told, expires-told, takes-own}
 
 module _ (service : Service) (tei : ℕ) where
   abbrev pub IsOurs : Order → Type 0
@@ -65,9 +29,6 @@ module _ (service : Service) (tei : ℕ) where
       ours-obeyed number (obey number k (Stop timer)) orders own.1 (All-filter RunsOurs (λ e. not (is_of number timer e)) k.running all)
 
   module _ (c : Config) where
-    abbrev t : Terms
-    t = terms c service tei
-
     both : (xs ys : List Order) → AreOurs xs → AreOurs ys → AreOurs (xs ++ ys)
     both [] ys h g = g
     both (x ∷ xs) ys h g = (h.0, both xs ys h.1 g)

@@ -1,16 +1,7 @@
 -- A clock at which all that is due falls due before time goes on.
-use Rattle.std.proofs.Common.{arith, ◌≡◌, ℕ, suc, ◌+◌, ◌/◌, ◌<◌, ◌≤◌, not, Bool, true, false, cond, List, [], ◌∷◌, Some, None, refl, ap, ◌∙◌, nat_le, length, filter, drop}
-use Rattle.std.specs.List.{AllByRecursion}
-use Rattle.std.proofs.lemmas.Bool.{le-ltb}
-use Rattle.std.proofs.Math.Nat.{div-le_of_le-mul, mul-div-le}
-use Rattle.std.proofs.lemmas.Nat.{le-div}
-use Rattle.lapd_clock.specs.InOrder.{IsInOrder, put_in_order}
-use Rattle.lapd_clock.specs.Timer.{Timer, T200, T203, T201, T202, Order, Start, Stop, Lengths, AreInRange, duration}
-use Rattle.lapd_clock.specs.Timers.{Expiry, is_before, is_of, without}
-use Rattle.lapd_clock.proofs.First.{no_earlier}
-use Rattle.lapd_clock.proofs.Ordered.{All-filter, All-put_in_order, IsInOrder-put_in_order, IsInOrder-filter}
-use Rattle.lapd_clock.proofs.TimerOrder.{before_order}
-use Rattle.model_timed.specs.Clock.{Clock, obey, obeyed, first_due, expiry_of}
+use Rattle.laws_time.proofs.Vocabulary.{All-filter, All-put_in_order, AllByRecursion, AreInRange, Bool, Clock, Expiry, IsInOrder, IsInOrder-filter, IsInOrder-put_in_order, Lengths, List, None, Order, Some, Start, Stop, T201, T202, [], ap, arith, before_order, cond, div-le_of_le-mul, drop, duration, expiry_of, false, filter, first_due, is_before, is_of, le-div, le-ltb, length, mul-div-le, nat_le}
+use Rattle.laws_time.proofs.Vocabulary.{no_earlier, not, obey, obeyed, put_in_order, refl, suc, true, without, ℕ, ◌+◌, ◌/◌, ◌<◌, ◌∙◌, ◌∷◌, ◌≡◌, ◌≤◌}
+use Rattle.lapd_clock.specs.Timer.{Timer, T200, T203}
 
 pub long : (ls : Lengths) → AreInRange ls → (timer : Timer) → 1 ≤ duration ls timer
 long ls r (T200 service tei) = r.t200

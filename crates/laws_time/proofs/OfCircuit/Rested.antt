@@ -1,49 +1,23 @@
 -- From a link at rest T203 is the first timer that falls due, if T200 runs long enough. So all is told in so many beats.
-use Rattle.std.proofs.Common.{arith, ◌≡◌, ℕ, suc, ◌+◌, ◌*◌, ◌/◌, ◌<◌, ◌≤◌, true, false, cond, List, [], ◌∷◌, ◌++◌, length, replicate, Some, None, refl, sym, ap, ◌∙◌, subst, All, ◌⊎◌, inl, inr, length-append}
-use Rattle.std.proofs.lemmas.Bool.{cases_lt, or_parts}
-use Rattle.std.proofs.lemmas.List.{length-replicate}
-use Rattle.std.proofs.lemmas.List.Elements.{All-nil, All-head, All-append, recursion_from_All}
-use Rattle.lapd_clock.specs.Moments.{moment_of}
-use Rattle.lapd_clock.specs.Timer.{Lengths}
-use Rattle.lapd_clock.specs.Timers.{Expiry}
-use Rattle.lapd_frame.specs.declared.services.Service.{Service}
+use Rattle.laws_time.proofs.Vocabulary.{All, All-append, All-head, All-nil, AsksData, Beat, Begins, Circuit, Clocked, Config, Expiry, FallsDueFirst, FrameEndpoint, IsAtRest, IsCalmSince, IsClean, IsInRange, IsTalk, IsTimedCard, Lengths, Line, Link, List, MessagesComeInTime, None, NoneFallsDue, Ran, Service, Some, T203FallsDueFirstSince, Talk, TimedEndpoint, Wire, [], after, all-left, all-right}
+use Rattle.laws_time.proofs.Vocabulary.{ap, arith, as_frames, as_wire, asked, begins, cases_lt, cond, config, due, false, inl, inr, is-established, is-sound, kept-up, length, length-append, length-replicate, line_at, longest, moment_of, most_turns, or_parts, owed, own_link, place_in, plain, recursion_from_All, refl, replicate, subst, suc, sym, terms_in_range, true, ℕ, ◌*◌, ◌++◌, ◌+◌, ◌/◌, ◌<◌}
+use Rattle.laws_time.proofs.Vocabulary.{◌∙◌, ◌∷◌, ◌≡◌, ◌≤◌, ◌⊎◌}
 use Rattle.lapd_frame.specs.declared.timers.Timer.TheVariants as timers
-use Rattle.model_link.specs.Link.{Link}
-use Rattle.model_line.specs.Line.{place_in}
-use Rattle.model_line.specs.Sound.{IsInRange}
-use Rattle.model_line.specs.declared.config.Config.{Config}
-use Rattle.model_line.proofs.Ranges.{terms_in_range}
-use Rattle.model_card.specs.Card.{line_at}
-use Rattle.model_timed.specs.Clock.{due}
-use Rattle.laws_line.proofs.OfCard.Meanwhile.{all-left, all-right}
-use Rattle.laws_wire.specs.Facing.{Speaks, own_link, owed, most_turns}
-use Rattle.laws_wire.specs.Wire.{Endpoint as FrameEndpoint, Wire}
-use Rattle.laws_wire.proofs.Delivering.{is-established, is-sound, kept-up}
-use Rattle.laws_wire.proofs.Up.{Talk}
-use Rattle.laws_order.specs.circuit.Beats.{longest}
-use Rattle.laws_order.specs.circuit.Circuit.{Circuit}
-use Rattle.laws_order.proofs.OfCircuit.Projected.{as_wire}
-use Rattle.laws_order.proofs.OfCircuit.Ran.{Ran, config}
-use Rattle.laws_time.specs.circuit.Answered.{IsClean}
-use Rattle.laws_time.specs.circuit.Clocked.{TimedEndpoint, Clocked, Beat, plain, after}
-use Rattle.laws_time.specs.circuit.Ends.{IsTimedCard}
-use Rattle.laws_time.specs.circuit.InBeats.{AsksData, as_frames, IsAtRest, Begins, FallsDueFirst, IsCalmSince, MessagesComeInTime, T203FallsDueFirstSince}
-unfoldable use Rattle.laws_time.specs.circuit.InBeats.{NoneFallsDue}
-use Rattle.laws_time.specs.circuit.LongEnough.{Line, IsTalk, asked, begins}
+use Rattle.laws_wire.specs.Facing.{Speaks}
 use Rattle.laws_time.proofs.OfCircuit.AckedBeats.{Now, done, none-done, data-steps, Stands}
 use Rattle.laws_time.proofs.OfCircuit.AckedLogs.{Log, relogged}
 use Rattle.laws_time.proofs.OfCircuit.AckedOn as on
 use Rattle.laws_time.proofs.OfCircuit.AckedRun.{EndHeld, OldAt, At, near-first, far-first, at-all, none-falls-due}
-use Rattle.laws_time.proofs.OfCircuit.AckedSides.{face, rng, OnWire, IsUpAt, up-stays}
+use Rattle.laws_time.proofs.OfCircuit.AckedSides.{face, IsUpAt, up-stays}
 use Rattle.laws_time.proofs.OfCircuit.Answered.{beats-then}
 use Rattle.laws_time.proofs.OfCircuit.Ends.{ends-are-timed-cards}
-use Rattle.laws_time.proofs.OfCircuit.InBeatsDue.{Rule, Keeps, AreOnTime, all-on-time, AreKept, all-kept, begins-on-time, begins-kept}
+use Rattle.laws_time.proofs.OfCircuit.InBeatsDue.{AreOnTime, all-on-time, AreKept, all-kept, begins-on-time, begins-kept}
 use Rattle.laws_time.proofs.OfCircuit.InBeatsKept.{Kept}
 use Rattle.laws_time.proofs.OfCircuit.InBeatsRest.{follows, same, messages-take-beats}
 use Rattle.laws_time.proofs.OfCircuit.InBeatsRun as run
 unfoldable use Rattle.laws_time.proofs.OfCircuit.InBeatsRun.{all_steps}
 use Rattle.laws_time.proofs.OfCircuit.RestedClock.{t200-none, t203-some, recent, all-late, lasts, enough-since}
-use Rattle.laws_time.proofs.OfCircuit.RestedOwn.{Own, BothOwn, own-then}
+use Rattle.laws_time.proofs.OfCircuit.RestedOwn.{BothOwn, own-then}
 
 -- An end of a link at rest.
 module _ (service : Service) (tei : ℕ) (a : TimedEndpoint) (other : FrameEndpoint) (speaks : Speaks service tei (as_frames a) other) (none : most_turns service tei other ≡ 0) where

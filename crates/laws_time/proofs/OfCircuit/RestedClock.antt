@@ -1,40 +1,12 @@
 -- At an end of a link at rest T203 runs, and T200 does not.
-use Rattle.std.proofs.Common.{arith, ◌≡◌, ℕ, ◌+◌, ◌*◌, ◌<◌, ◌≤◌, ◌==◌, ◌||◌, not, Bool, true, false, cond, List, [], ◌∷◌, Option, Some, None, is_some, refl, sym, ap, ◌∙◌, subst, All, eq-eqb}
-use Rattle.std.specs.List.{AllByRecursion}
-use Rattle.std.specs.Option.{option_map_or}
-use Rattle.std.proofs.lemmas.Bool.{true≢false, and_parts}
-use Rattle.std.proofs.lemmas.List.Elements.{All-head, All-tail}
-use Rattle.std.proofs.lemmas.Nat.{mul-le}
-use Rattle.lapd_clock.specs.Moments.{moment_of}
-use Rattle.lapd_clock.specs.Timer.{Lengths, duration, is_same}
-use Rattle.lapd_clock.specs.Timers.{Expiry, is_held, is_of}
-use Rattle.lapd_frame.specs.declared.services.Service.{Service}
-use Rattle.lapd_frame.specs.declared.timers.Timer.{Timer}
+use Rattle.laws_time.proofs.Vocabulary.{All, All-head, All-tail, AllByRecursion, Bool, Config, Established, Expiry, HasItsTimer, IsInRange, IsTimedCard, Lengths, Link, List, None, OctetCard, Option, Ran, Service, Some, T200, T203, TimedEndpoint, TimedOctetCard, Timer, [], and_parts, ap, arith, cond, config, duration, eq-eqb, false, fresh_link as fresh, held-is, is_held, is_of, is_running}
+use Rattle.laws_time.proofs.Vocabulary.{is_same, is_some, line_at, link_in, link_number, link_of, link_runs as runs, meant_all, meant_at_lines, moment_of, mul-le, needed_in, not, octet_timers_run_the_same, option_map_or, place_in, ports_fresh as fresh_card, refined_card, refl, runs_at, subst, sym, timely-now, true, true≢false, ℕ, ◌*◌, ◌+◌, ◌<◌, ◌==◌, ◌||◌, ◌∙◌, ◌∷◌, ◌≡◌, ◌≤◌}
 use Rattle.lapd_frame.specs.declared.timers.Timer.TheVariants as timers
-use Rattle.model_link.specs.declared.states.State.TheVariants.{Established}
-use Rattle.model_link.specs.declared.timers.LinkTimer.TheVariants.{T200, T203}
-use Rattle.model_link.specs.Link.{Link, fresh}
-use Rattle.model_link.specs.Told.{runs}
-use Rattle.model_line.specs.Expiry.{is_running, runs_at}
-use Rattle.model_line.specs.Line.{Line, link_in, link_number, link_of, place_in}
-use Rattle.model_line.specs.Sound.{IsInRange}
-use Rattle.model_line.specs.declared.config.Config.{Config}
+use Rattle.model_line.specs.Line.{Line}
 use Rattle.model_card.specs.Card as cards
-use Rattle.model_card.specs.Card.{line_at}
 use Rattle.model_card.specs.Run as frame_runs
-use Rattle.model_card.specs.ports.Card.{OctetCard, fresh as fresh_card}
-use Rattle.model_card.specs.ports.Run.{meant_all}
-use Rattle.model_card.proofs.OfPorts.Codec.{refined_card, meant_at_lines}
-use Rattle.model_timed.specs.Octets.{TimedOctetCard}
 use Rattle.model_timed.specs.RunTheSame.{RunAs, as_they_are}
-use Rattle.model_timed.proofs.Orders.{held-is}
-use Rattle.model_timed.proofs.RunTheSame.{octet_timers_run_the_same}
-use Rattle.laws_link.specs.two.Needed.{HasItsTimer, needed_in}
 use Rattle.laws_line.specs.card.Timers.{AllHaveTheirTimers}
-use Rattle.laws_trace.proofs.TimersAreTimely.{timely-now}
-use Rattle.laws_order.proofs.OfCircuit.Ran.{Ran, config}
-use Rattle.laws_time.specs.circuit.Clocked.{TimedEndpoint}
-use Rattle.laws_time.specs.circuit.Ends.{IsTimedCard}
 use Rattle.laws_time.proofs.Moments.{same}
 use Rattle.laws_time.proofs.OfCircuit.InBeatsDue.{Rule}
 

@@ -1,47 +1,19 @@
 -- Beats without noise, in which anything of the link is asked for and timers fall due: at either end the link alone speaks, and its timers
 -- alone run.
-use Rattle.std.proofs.Common.{◌≡◌, ℕ, zero, suc, ◌/◌, ◌<◌, true, List, [], ◌∷◌, ◌++◌, length, Option, Some, None, refl, sym, ap, ◌∙◌, subst, All, append_assoc}
-use Rattle.std.specs.List.{AllByRecursion}
-use Rattle.std.specs.Option.{option_map_or, unwrap_or}
-use Rattle.std.specs.Prelude.{fold, option_to_list}
-use Rattle.std.proofs.lemmas.List.Elements.{All-head, All-tail}
-use Rattle.lapd_clock.specs.Timers.{Expiry}
-use Rattle.lapd_frame.specs.declared.services.Service.{Service}
-use Rattle.lapd_frame.specs.declared.timers.Timer.{Timer}
-use Rattle.lapd_frame.specs.Senders.{spelling}
+use Rattle.laws_time.proofs.Vocabulary.{All, All-head, All-tail, AllByRecursion, Beat, Begins, Clocked, Config, Expiry, Face, IsClean, IsInRange, IsOfLink, IsTalk, Line, List, None, OctetEndpoint as Endpoint, Option, Port, Request, Service, Some, TimedEndpoint, Timer, [], after, answered, ap, append_assoc, asks, beat, begins, comes_to, due, faces, faces-back, falls, framed, frames_among, gained}
+use Rattle.laws_time.proofs.Vocabulary.{gone, happens, heard_in, heard_with, hears, is_timer_of, octet_orders, option_to_list, own_side, port-after, port_of, refl, spelling, sym, true, unwrap_or, within-ports, without_first, without_first_octet, ℕ, ◌++◌, ◌/◌, ◌∙◌, ◌∷◌, ◌≡◌}
 use Rattle.model_bits.specs.Stream as stream
-use Rattle.model_bits.specs.Stream.{heard_in}
-use Rattle.model_line.specs.Request.{Request}
-use Rattle.model_line.specs.Sound.{IsInRange}
-use Rattle.model_line.specs.Taken.{own_side}
-use Rattle.model_line.specs.declared.config.Config.{Config}
-use Rattle.model_card.specs.ports.Codec.{frames_among}
 use Rattle.model_card.specs.ports.Port as port
-use Rattle.model_card.specs.ports.Port.{Port, gained}
-use Rattle.model_card.proofs.OfPorts.Gains.{heard_with}
-use Rattle.model_timed.specs.Clock.{due, without_first}
-use Rattle.model_timed.specs.Octets.{orders_in as octet_orders}
-use Rattle.laws_trace.specs.TimersAreTimely.{is_timer_of}
-use Rattle.laws_wire.proofs.Run.{faces, faces-back}
-use Rattle.laws_wire.proofs.Talking.{Face}
 use Rattle.laws_order.specs.circuit.Circuit as circuit
-use Rattle.laws_order.specs.circuit.Circuit.{Endpoint, port_of, answered}
-use Rattle.laws_order.proofs.OfCircuit.OneWay.{framed}
-use Rattle.laws_order.proofs.OfCircuit.Projected.{port-after}
-use Rattle.laws_order.proofs.OfCircuit.Ran.{within-ports}
-use Rattle.laws_time.specs.circuit.Answered.{IsClean}
-use Rattle.laws_time.specs.circuit.Clocked.{TimedEndpoint, Clocked, Beat, happens, asks, falls, comes_to, gone, hears, beat, after, without_first_octet}
-unfoldable use Rattle.laws_time.specs.circuit.Clocked.{fall_due}
-use Rattle.laws_time.specs.circuit.InBeats.{Begins}
-use Rattle.laws_time.specs.circuit.LongEnough.{Line, IsOfLink, IsTalk, begins}
 use Rattle.laws_time.proofs.OfCircuit.AckedOurs.{of-link, of-timer, link-ours, expired-ours, pull-ours, octet-ours, IsTheirs}
 use Rattle.laws_time.proofs.OfCircuit.Began.{end-begins}
-use Rattle.laws_time.proofs.OfCircuit.Ends.{at_time, rest-of, first-of}
+use Rattle.laws_time.proofs.OfCircuit.Ends.{rest-of, first-of}
 use Rattle.laws_time.proofs.OfCircuit.InBeatsAs.{Twin, frames-plus}
 use Rattle.laws_time.proofs.OfCircuit.InBeatsKept.{Kept, one-kept, first-kept}
 use Rattle.laws_time.proofs.OfCircuit.Orders.{AreOurs, RunsOurs, ours-obeyed}
 use Rattle.laws_time.proofs.OfCircuit.Prompt.{all-obeyed}
 use Rattle.laws_time.proofs.OfCircuit.Standing.{Ends, IsOwn, bare, ends-asked, ends-expired, heard-none, heard-frame, pulls}
+use Rattle.laws_time.proofs.OfCircuit.Keeping.{comes-keep}
 
 -- What is heard in a stream of frames is one of them.
 one-framed : (P : List ℕ → Type 0) (fs : List (List ℕ)) (xs ys : List stream.Event) (e : stream.Event) → framed fs ≡ xs ++ e ∷ ys → All P fs → (o : List ℕ) × (e ≡ stream.frame o) × P o
@@ -67,36 +39,26 @@ module _ (service : Service) (tei : ℕ) (c d : Config) (ranged : IsInRange c) (
   }
 
   -- Layer 3 asks, and timers fall due.
-  own-asks : (rs : List Request) → All (IsOfLink service tei) rs → (a : TimedEndpoint) → Own a → Own (fold asks a rs)
-  own-asks [] all a h = h
-  own-asks (r ∷ rs) all a h =
-      let is = All-head (IsOfLink service tei) r rs all in
+  own-asked : (r : Request) (a : TimedEndpoint) → IsOfLink service tei r → Own a → Own (asks a r)
+  own-asked r a is h =
       let x = of-link service tei r is in
-      own-asks rs (All-tail (IsOfLink service tei) r rs all) (asks a r)
-      (own-event (port.request r) a h (ends-asked c service tei 0 ranged a.at h.ends r x.0 x.1 x.2).ends (link-ours service tei c d face a.at [] 0 (bare c service tei 0 ranged h.ends.its) h.ends.stands r is))
+      own-event (port.request r) a h (ends-asked c service tei 0 ranged a.at h.ends r x.0 x.1 x.2).ends (link-ours service tei c d face a.at [] 0 (bare c service tei 0 ranged h.ends.its) h.ends.stands r is)
 
   own-expires : (timer : Timer) → is_timer_of service tei timer ≡ true → (a : TimedEndpoint) → Own a → Own (happens (port.expiry timer) a)
   own-expires timer is a h =
       let x = of-timer service tei timer is in
       own-event (port.expiry timer) a h (ends-expired c service tei 0 ranged a.at h.ends timer x.0 x.1).ends (expired-ours service tei c d face a.at [] 0 (bare c service tei 0 ranged h.ends.its) h.ends.stands timer is)
 
-  own-fell : (a : TimedEndpoint) (o : Option Expiry) → due a.clock ≡ o → Own a → Own (option_map_or (falls a) o a)
-  own-fell a None is h = h
-  own-fell a (Some x) is h =
+  own-fell : (x : Expiry) (a : TimedEndpoint) → due a.clock ≡ Some x → Own a → Own (falls a x)
+  own-fell x a is h =
       own-expires x.timer (first-of (RunsOurs service tei) a.clock.running a.clock.now x h.ours is) (record a { clock = without_first a.clock })
       (record { ends = h.ends; here = rest-of (IsHere a.at.line) a.clock.running h.here; ours = rest-of (RunsOurs service tei) a.clock.running h.ours })
-
-  own-falls : (k : ℕ) (a : TimedEndpoint) → Own a → Own (fall_due k a)
-  unfolding fall_due
-  own-falls zero a h = h
-  own-falls (suc k) a h = own-falls k (option_map_or (falls a) (due a.clock) a) (own-fell a (due a.clock) refl h)
 
   -- An octet is pulled.
   pub own-gone : (moment : ℕ) (rs : List Request) → All (IsOfLink service tei) rs → (a : TimedEndpoint) → Own a → Own (happens port.pull (comes_to moment rs a))
   own-gone moment rs all a h =
-      let b = fold asks (at_time moment a) rs in
       let u = comes_to moment rs a in
-      let k = own-falls (length b.clock.running) b (own-asks rs all (at_time moment a) (record { ends = h.ends; here = h.here; ours = h.ours })) in
+      let k = comes-keep Own (IsOfLink service tei) own-asked own-fell moment rs all a (record { ends = h.ends; here = h.here; ours = h.ours }) in
       own-event port.pull u k (pulls c service tei 0 ranged u.at k.ends).ends (pull-ours service tei c d face u.at [] 0 (bare c service tei 0 ranged k.ends.its) k.ends.stands)
 
   -- An octet is heard: if it ends a frame, that is one that the other end has put.

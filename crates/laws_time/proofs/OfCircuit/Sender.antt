@@ -1,35 +1,13 @@
 -- Up to which octet a port gives frames of a kind, that are on its line, or wait to be put there.
-use Rattle.std.proofs.Common.{arith, ◌≡◌, ℕ, ◌+◌, ◌*◌, ◌≤◌, Bool, true, false, List, [], ◌∷◌, ◌++◌, map, length, Some, refl, sym, ap, ◌∙◌, subst, All, ◌⊎◌, inl, inr, append-nil, append_assoc, length-append}
-use Rattle.std.specs.Prelude.{flat_map, option_to_list}
-use Rattle.std.proofs.lemmas.List.{append_cancel_left, map-append}
-use Rattle.std.proofs.lemmas.Bool.{true≢false}
-use Rattle.model_bits.proofs.BitLemmas.{length-bits}
-use Rattle.model_bits.proofs.Items.{line_text-push}
-use Rattle.model_bits.specs.Bits.{bits}
-use Rattle.model_bits.specs.Sent.{Item, idle, frame, item_text, line_text}
-use Rattle.model_bits.specs.StuffingLaws.{AreOctets}
-use Rattle.model_bits.specs.Stream.{Event, frame as stream_frame, heard_in}
-use Rattle.model_card.proofs.OfPorts.PortGoesOn.{frames_among-append}
-use Rattle.model_card.proofs.OfPorts.LastItem.{IsCut}
-use Rattle.model_card.specs.ports.Codec.{frames_among}
-use Rattle.model_card.specs.ports.GoingOut.{GoOut}
-use Rattle.model_card.specs.ports.Port.{Port, gained, left_of}
-use Rattle.model_card.specs.ports.Sound.{IsSoundPort}
-use Rattle.laws_order.proofs.Vocabulary.{IsOnItsWay, go_out, all_out, sent, same_text, heard_whole, cut_sent, frames_sent, all_exact, heard_with}
-use Rattle.laws_order.proofs.OfCircuit.OneWay.{framed}
-
-one-is : (xs : List Event) (e : Event) → [] ≡ xs ++ e ∷ [] → ⊥
-one-is [] e is = cc is
-one-is (x ∷ xs) e is = cc is
-
-last-same : (xs ys : List Event) (a b : Event) → xs ++ a ∷ [] ≡ ys ++ b ∷ [] → a ≡ b
-last-same [] [] a b is = cc is
-last-same [] (y ∷ ys) a b is = absurd (one-is ys b (cc is))
-last-same (x ∷ xs) [] a b is = absurd (one-is xs a (sym (cc is)))
-last-same (x ∷ xs) (y ∷ ys) a b is = last-same xs ys a b (cc is)
+use Rattle.laws_time.proofs.Vocabulary.{All, AreOctets, Bool, GoOut, IsCut, IsOnItsWay, IsSoundPort, Item, List, Port, Some, StreamEvent as Event, [], all_exact, ap, append-nil, append_assoc, append_cancel_left, arith, bits, cut_sent, false, flat_map, frame, framed, frames_among, frames_among-append, frames_sent, gained, heard_in, heard_whole, heard_with, idle, inl, inr, item_text, left_of}
+use Rattle.laws_time.proofs.Vocabulary.{length, length-append, length-bits, line_text, line_text-push, map, map-append, option_to_list, refl, same_from_push, same_text, sent, some-in, stream_frame, subst, sym, true, true≢false, ℕ, ◌*◌, ◌++◌, ◌+◌, ◌∙◌, ◌∷◌, ◌≡◌, ◌≤◌, ◌⊎◌}
+use Rattle.laws_order.proofs.Vocabulary.{go_out, all_out}
 
 same-frame : (f g : List ℕ) → stream_frame f ≡ stream_frame g → f ≡ g
 same-frame f g is = cc is
+
+none-more : (xs : List Event) (e : Event) → xs ≡ xs ++ e ∷ [] → ⊥
+none-more xs e is = let more = ap length is ∙ length-append xs (e ∷ []) in omega (arith, more)
 
 abbrev pub IsIn : List ℕ → List (List ℕ) → Type 0
 IsIn o [] = ⊥
@@ -62,6 +40,24 @@ module _ (n201 : ℕ) where
         subst (λ frames. framed frames ≡ heard_in n201 p.given) exact
         (all_out n201 sent_items p.given (left_of p) (same_text p.items ∙ h.sound.text.text) (heard_whole n201 p.items h.on.long h.sound.sizes)
         (map sent front) (ap (map sent) is ∙ map-append sent front (idle ∷ [])) (cut_sent p.items p.given h.on.cut))
+
+    -- The frame of which octets are still to be given is the last on the line.
+    pub last-is : (f : List ℕ) → out.on_its_way ≡ f ∷ [] → IsCut p.items p.given → (front : List Item) × (p.items ≡ front ++ frame f ∷ [])
+    last-is f one (inl none) =
+        absurd (some-in (heard_in n201 p.given) (stream_frame f) [] (ap (λ items. framed (frames_among items)) (sym none) ∙ out.heard ∙ ap (λ fs. heard_in n201 p.given ++ framed fs) one))
+    last-is f one (inr x) = go x.last refl
+      where
+        go : (i : Item) → x.last ≡ i → (front : List Item) × (p.items ≡ front ++ frame f ∷ [])
+        go idle e =
+            let all = all-given x.front (x.items_are ∙ ap (λ i. x.front ++ i ∷ []) e) in
+            absurd (none-more (heard_in n201 p.given) (stream_frame f) (sym all ∙ out.heard ∙ ap (λ fs. heard_in n201 p.given ++ framed fs) one))
+        go (frame g) e =
+            let items = x.items_are ∙ ap (λ i. x.front ++ i ∷ []) e in
+            let all = ap (λ is. framed (frames_among is)) items ∙ ap framed (frames_among-append x.front (frame g ∷ []))
+            ∙ map-append (λ octets. stream_frame octets) (frames_among x.front) (g ∷ []) in
+            let same = same_from_push (framed (frames_among x.front)) (heard_in n201 p.given) (stream_frame g) (stream_frame f)
+            (sym all ∙ out.heard ∙ ap (λ fs. heard_in n201 p.given ++ framed fs) one) in
+            (x.front, items ∙ ap (λ octets. x.front ++ frame octets ∷ []) (same-frame g f same.1))
 
     -- what was given is no longer than the text
     pub given-short : 8 * length p.given ≤ text_length p.items
@@ -107,45 +103,16 @@ module _ (n201 : ℕ) where
     put-now (frame f ∷ []) few e = ap (λ octets. frame octets ∷ []) (same-frame f o (cc e))
     put-now (a ∷ b ∷ items) few e = absurd (omega (arith, few))
 
-    its-last : (f : List ℕ) → (out p h).on_its_way ≡ f ∷ [] → f ≡ o → IsCut p.items p.given → (front : List Item) × (p.items ≡ front ++ frame o ∷ [])
-    its-last f one same (inl none) =
-        absurd (one-is H (stream_frame f) (ap (λ items. framed (frames_among items)) (sym none) ∙ (out p h).heard ∙ ap (λ fs. H ++ framed fs) one))
-    its-last f one same (inr x) = go x.last refl
-      where
-        none-more : (xs : List Event) (f : List ℕ) → xs ≡ xs ++ stream_frame f ∷ [] → ⊥
-        none-more xs f e = let more = ap length e ∙ length-append xs (stream_frame f ∷ []) in omega (arith, more)
-
-        go : (i : Item) → x.last ≡ i → (front : List Item) × (p.items ≡ front ++ frame o ∷ [])
-        go idle e =
-            let all = all-given p h x.front (x.items_are ∙ ap (λ i. x.front ++ i ∷ []) e) in
-            absurd (none-more H f (sym all ∙ (out p h).heard ∙ ap (λ fs. H ++ framed fs) one))
-        go (frame g) e =
-            let items = x.items_are ∙ ap (λ i. x.front ++ i ∷ []) e in
-            let all = ap (λ is. framed (frames_among is)) items ∙ ap framed (frames_among-append x.front (frame g ∷ []))
-            ∙ map-append (λ octets. stream_frame octets) (frames_among x.front) (g ∷ []) in
-            let same-event = last-same (framed (frames_among x.front)) H (stream_frame g) (stream_frame f) (sym all ∙ (out p h).heard ∙ ap (λ fs. H ++ framed fs) one) in
-            (x.front, items ∙ ap (λ octets. x.front ++ frame octets ∷ []) (same-frame g f same-event ∙ same))
-
     pub ends : Ends p new o
     ends = go (out p h).on_its_way refl (out p h).one rest-is
       where
         go : (fs : List (List ℕ)) → (out p h).on_its_way ≡ fs → length fs ≤ 1 → framed fs ++ framed (frames_among new) ≡ stream_frame o ∷ framed (out q k).on_its_way → Ends p new o
         go [] e few all = inr (put-now new g.few all)
-        go (f ∷ []) e few all = inl (its-last f e (same-frame f o (cc all)) h.on.cut)
+        go (f ∷ []) e few all = let x = last-is p h f e h.on.cut in inl (x.0, x.1 ∙ ap (λ octets. x.0 ++ frame octets ∷ []) (same-frame f o (cc all)))
         go (f ∷ f2 ∷ fs) e few all = absurd (omega (arith, few))
 
-  none-item : (xs : List Item) (i : Item) → [] ≡ xs ++ i ∷ [] → ⊥
-  none-item [] i is = cc is
-  none-item (x ∷ xs) i is = cc is
-
-  last-of : (xs ys : List Item) (a b : Item) → xs ++ a ∷ [] ≡ ys ++ b ∷ [] → a ≡ b
-  last-of [] [] a b is = cc is
-  last-of [] (y ∷ ys) a b is = absurd (none-item ys b (cc is))
-  last-of (x ∷ xs) [] a b is = absurd (none-item xs a (sym (cc is)))
-  last-of (x ∷ xs) (y ∷ ys) a b is = last-of xs ys a b (cc is)
-
   last-item : (xs ys : List Item) (a b : List ℕ) → xs ++ frame a ∷ [] ≡ ys ++ frame b ∷ [] → a ≡ b
-  last-item xs ys a b is = cc (last-of xs ys (frame a) (frame b) is)
+  last-item xs ys a b is = cc (same_from_push xs ys (frame a) (frame b) is).1
 
   -- Frames of a kind are given by some octet, counted from 0: those of which octets were given, the last that is on the line, and those
   -- that wait, in this order, which take at most 72 bits each.
@@ -212,11 +179,7 @@ module _ (n201 : ℕ) where
 
     split : (xs : List ℕ) (v : ℕ) (first : List ℕ) (w : ℕ) (more : List ℕ) → xs ++ v ∷ [] ≡ first ++ w ∷ more → Same xs v first w more
     split [] v [] w more e = inl (refl, sym (cc e))
-    split [] v (f ∷ first) w more e = absurd (none first w more (cc e))
-      where
-        none : (first : List ℕ) (w : ℕ) (more : List ℕ) → [] ≡ first ++ w ∷ more → ⊥
-        none [] w more e = cc e
-        none (f ∷ first) w more e = cc e
+    split [] v (f ∷ first) w more e = absurd (some-in first w more (cc e))
     split (x ∷ xs) v [] w more e = inr (xs, ap (λ y. y ∷ xs) (cc e))
     split (x ∷ xs) v (f ∷ first) w more e = go (split xs v first w more (cc e)) (cc e)
       where
@@ -295,7 +258,7 @@ module _ (n201 : ℕ) where
                   by-item [] few items none =
                       let same : q.items ≡ p.items = items ∙ append-nil p.items in
                       subst (λ items. text_length items + 1 ≤ 8 * (most + 1)) (sym same) (s.last front o (sym same ∙ is) kind_is)
-                  by-item (i ∷ []) few items none = absurd (true≢false (sym kind_is ∙ none o (ap (λ i. i ∷ []) (last-of p.items front i (frame o) (sym items ∙ is)))))
+                  by-item (i ∷ []) few items none = absurd (true≢false (sym kind_is ∙ none o (ap (λ i. i ∷ []) (same_from_push p.items front i (frame o) (sym items ∙ is)).1)))
                   by-item (i ∷ j ∷ more) few items none = absurd (omega (arith, few))
 
   -- What is given by some octet is given by each later one.

@@ -1,55 +1,18 @@
 -- An end of the circuit, on whose line one link alone speaks, after each event.
-use Rattle.std.proofs.Common.{arith, ◌≡◌, ℕ, ◌<◌, Bool, true, false, cond, List, [], ◌∷◌, ◌++◌, length, map, Option, Some, None, option_map, refl, sym, ap, ◌∙◌, subst, All, ◌⊎◌, inl, inr, append-nil}
-use Rattle.std.proofs.lemmas.List.{set-get_or}
-use Rattle.std.proofs.lemmas.List.Elements.{All-nil, All-append, All-cons, All-head, All-tail}
-use Rattle.std.specs.Option.{option_map_or}
-use Rattle.lapd_frame.specs.declared.services.Service.{Service}
-use Rattle.lapd_frame.specs.declared.timers.Timer.{Timer}
-use Rattle.lapd_frame.specs.Grammar.{Parts}
-use Rattle.lapd_frame.specs.Senders.{reading, spelling}
-use Rattle.model_bits.specs.Sent.{Item}
-use Rattle.model_bits.specs.StuffingLaws.{AreOctets}
+use Rattle.laws_time.proofs.Vocabulary.{All, All-append, All-cons, All-head, All-nil, All-tail, Answer, AreOctets, Bool, Card, Config, Fits, FrameEndpoint, Granted, IsCarried, IsInRange, IsSoundCard, Item, Link, LinkEndpoint, LinkTimer, List, NextFrame, None, OctetEndpoint, Option, Parts, Port, Ran, Request, Service, Some, Speaks, StationStands, StreamEvent, Timer, [], aim_of_expiry}
+use Rattle.laws_time.proofs.Vocabulary.{aim_of_request, answer, ap, append-nil, arith, as_endpoint, asked-as, asks-stands, at_requested, at_timer, came, cond, contents_given, expires-stands, false, frame_given, frames_among, frames_among-append, frames_by, fresh_line, gained, given_in, gives-frames, gives-octets, gives-stands, gives-taken, goes-on, heard-as, heard_side, if_meant, inl, inr}
+use Rattle.laws_time.proofs.Vocabulary.{is_due, item_of, line_after, line_answer, line_at, map, meant, next_of_card, on-line, option_map, option_map_or, own_side, place_in, port-after, port_of, ports_after as after, pull-between, pull-given, pull-put, pulled-as, reading, refl, said_by, set-get_or, sound-port, spelling, subst, sym, takes-stands, takes_slot, terms, true, with_link, with_sent}
+use Rattle.laws_time.proofs.Vocabulary.{within-ports, ℕ, ◌++◌, ◌<◌, ◌∙◌, ◌∷◌, ◌≡◌, ◌⊎◌}
 use Rattle.model_bits.specs.Stream as stream
-use Rattle.model_bits.specs.Stream.{Event as StreamEvent}
-use Rattle.model_link.specs.declared.timers.LinkTimer.{LinkTimer}
 use Rattle.model_link.specs.Events as link
-use Rattle.model_link.specs.Link.{Link}
 use Rattle.model_link.specs.Machine as links
-use Rattle.model_link.specs.Machine.{given_of}
-use Rattle.model_link.specs.TwoEnds.{Endpoint as LinkEndpoint, frame_given, with_link, with_sent}
-use Rattle.model_line.specs.Came.{came}
 use Rattle.model_line.specs.Event as line
-use Rattle.model_line.specs.Event.{given_in, Answer, NextFrame}
-use Rattle.model_line.specs.Expiry.{aim_of_expiry, at_timer}
-use Rattle.model_line.specs.Heard.{heard_side}
-unfoldable use Rattle.model_line.specs.Machine.{answer as line_answer, after as line_after, takes_slot}
-use Rattle.model_line.specs.Line.{Line, terms, place_in, fresh_line}
-use Rattle.model_line.specs.Request.{Request}
-use Rattle.model_line.specs.Requested.{aim_of_request, at_requested}
-use Rattle.model_line.specs.Sound.{IsInRange}
-use Rattle.model_line.specs.declared.config.Config.{Config}
-use Rattle.model_card.specs.Card.{Card, line_at}
-use Rattle.model_card.specs.Sound.{IsSound as IsSoundCard}
-unfoldable use Rattle.model_card.specs.ports.Card.{after, answer, meant}
-use Rattle.model_card.specs.ports.Codec.{frames_among}
+use Rattle.model_line.specs.Line.{Line}
 use Rattle.model_card.specs.ports.Port as port
-use Rattle.model_card.specs.ports.Port.{Port, gained, is_due, item_of}
-use Rattle.model_card.proofs.OfPorts.PortGoesOn.{frames_among-append}
-use Rattle.laws_trace.specs.FramesAreRead.{contents_given}
 use Rattle.laws_wire.specs.Wire as wire
-use Rattle.laws_wire.specs.Wire.{Endpoint as FrameEndpoint, frames_by}
-use Rattle.laws_wire.proofs.LineSpeaks.{Speaks}
-use Rattle.laws_wire.proofs.Answered.{gives-taken}
-use Rattle.laws_wire.proofs.Speaking.{said_by}
-use Rattle.laws_wire.proofs.Standing.{IsCarried, StationStands, asks-stands, Granted, expires-stands, takes-stands, gives-stands, gives-frames}
-use Rattle.laws_order.specs.circuit.Circuit.{Endpoint as OctetEndpoint, port_of, happens}
-use Rattle.laws_order.proofs.OfCircuit.AsFrames.{as_endpoint, if_meant, heard-as, asked-as, pulled-as}
-use Rattle.laws_order.proofs.OfCircuit.AtPort.{next_of_card, pull-between, pull-put, pull-given}
-use Rattle.laws_order.proofs.OfCircuit.Projected.{Fits, port-after}
-use Rattle.laws_order.proofs.OfCircuit.Ran.{Ran, goes-on, within-ports, sound-port, on-line, gives-octets}
+use Rattle.laws_order.specs.circuit.Circuit.{happens}
 use Rattle.laws_time.proofs.OfCircuit.Sender.{Fine, Gave}
 use Rattle.laws_time.proofs.OfCircuit.Taken.{Took, takes-now}
-use Rattle.model_line.specs.Taken.{own_side}
 
 -- An expiry as the card of frames inside has it.
 pub expired-reply : (timer : Timer) (s : OctetEndpoint) (way : List (List ℕ))
@@ -142,9 +105,6 @@ module _ (c : Config) (service : Service) (tei place : ℕ) (ranged : IsInRange 
 
     abbrev own : StationStands s.card.card.config service tei place (as_endpoint [] s) (bare h.its)
     own = own-config (as_endpoint [] s) (bare h.its) h.stands
-
-    inside : s.line < length s.card.ports
-    inside = within-ports c ranged s h.ran
 
     -- layer 3 asks
     module _ (r : Request) (asked : link.Request) (aims : (l : Line) → aim_of_request r l ≡ at_requested service tei asked (place_in l tei)) (octets : AreOctets (contents_given r)) where
@@ -326,9 +286,6 @@ module _ (c : Config) (service : Service) (tei place : ℕ) (ranged : IsInRange 
           its_is = inl refl;
         }
 
-    given-now : Option NextFrame
-    given-now = given_in (next_of_card s.line s.card.card)
-
     gives-now : frames_by (wire.answered line.next (as_endpoint [] s)) ≡ frames_among (item_of (given_in (next_of_card s.line s.card.card)) ∷ [])
     gives-now = go _ (gives-taken (as_endpoint [] s))
       where
@@ -338,9 +295,6 @@ module _ (c : Config) (service : Service) (tei place : ℕ) (ranged : IsInRange 
 
         go : (o : Option NextFrame) → wire.answered line.next (as_endpoint [] s) ≡ line.gave o → frames_by (wire.answered line.next (as_endpoint [] s)) ≡ frames_among (item_of (given_in (next_of_card s.line s.card.card)) ∷ [])
         go o is = ap frames_by is ∙ put o ∙ ap (λ a. frames_among (item_of (given_in a) ∷ [])) (sym is)
-
-    its-frames : List Parts
-    its-frames = frame_given (terms c service tei) (links.given (terms c service tei) h.its)
 
     frames-are : frames_among (item_of (given_in (next_of_card s.line s.card.card)) ∷ []) ≡ map (spelling (own_side c)) (frame_given (terms c service tei) (links.given (terms c service tei) h.its))
     frames-are = sym gives-now ∙ gives-frames service tei place (as_endpoint [] s) (bare h.its) own

@@ -1,39 +1,14 @@
 -- What a call for the next frame takes of the control frames that wait.
-use Rattle.std.proofs.Common.{arith, ◌≡◌, ℕ, Bool, true, false, cond, List, [], ◌∷◌, map, Option, Some, None, Ok, refl, sym, ap, ◌∙◌, subst, All, ◌⊎◌, inl, inr}
-use Rattle.std.proofs.lemmas.List.Elements.{All-head}
-use Rattle.lapd_frame.specs.declared.services.Service.{Service}
-use Rattle.lapd_frame.specs.Grammar.{Parts}
-use Rattle.lapd_frame.specs.Senders.{reading, spelling}
-use Rattle.model_bits.specs.Sent.{Item, frame}
+use Rattle.laws_time.proofs.Vocabulary.{All, All-head, AllByRecursion, Bool, Config, ControlFrame, Course, IsCarried, Item, Link, List, NextFrame, None, Ok, Option, Parts, Service, Some, T200, [], ap, arith, changed, cond, false, frame, frame_given, frames_among, give_information, given_of, inl, inr, is_awaiting_acknowledgement, is_final, item_of, map, may_send_information, offer_among}
+use Rattle.laws_time.proofs.Vocabulary.{own_side, reading, refl, send_acknowledgement, spelling, subst, sym, terms, true, with_one_sent, ℕ, ◌∙◌, ◌∷◌, ◌≡◌, ◌⊎◌}
 use Rattle.model_link.specs.Events as link
-use Rattle.model_link.specs.Link.{Link}
 use Rattle.model_link.specs.Machine as links
-use Rattle.model_link.specs.Machine.{given_of}
-use Rattle.model_link.specs.Offers.{offer_among, may_send_information, is_awaiting_acknowledgement, give_information, send_acknowledgement, with_one_sent}
-use Rattle.model_link.specs.Steps.{Course, begun, changed}
+use Rattle.model_link.specs.Steps.{begun}
 use Rattle.model_link.specs.Words.{pending_is, start}
-use Rattle.model_link.specs.declared.timers.LinkTimer.TheVariants.{T200}
-use Rattle.model_link.specs.TwoEnds.{frame_given}
-use Rattle.model_line.specs.Event.{NextFrame}
-unfoldable use Rattle.model_line.specs.Machine.{answer as line_answer, after as line_after, takes_slot}
-use Rattle.model_line.specs.Line.{terms}
-use Rattle.model_line.specs.declared.config.Config.{Config}
-unfoldable use Rattle.model_card.specs.ports.Card.{after, answer, meant}
-use Rattle.model_card.specs.ports.Codec.{frames_among}
-use Rattle.model_card.specs.ports.Port.{item_of}
-use Rattle.laws_wire.proofs.Standing.{IsCarried}
 use Rattle.laws_time.proofs.OfCircuit.Kinds.{asks}
-use Rattle.laws_wire.specs.Timely.{is_final}
-use Rattle.model_link.specs.declared.frames.ControlFrame.{ControlFrame}
-use Rattle.model_link.specs.declared.terms.Terms.{Terms}
 use Rattle.model_link.specs.Link.{frame_of}
-use Rattle.std.specs.List.{AllByRecursion}
-use Rattle.model_line.specs.Taken.{own_side}
 
 module _ (c : Config) (service : Service) (tei : ℕ) where
-  abbrev t : Terms
-  t = terms c service tei
-
   abbrev pub text : ControlFrame → List ℕ
   text f = spelling (own_side c) (frame_of (terms c service tei) f)
 

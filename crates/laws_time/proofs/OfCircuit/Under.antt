@@ -1,55 +1,20 @@
 -- An end of the clocked circuit after each event: what is under way from it, and until when T200 runs.
-use Rattle.std.proofs.Common.{arith, ◌≡◌, ℕ, ◌+◌, ◌*◌, ◌<◌, ◌≤◌, ◌==◌, ◌||◌, not, Bool, true, false, cond, List, [], ◌∷◌, ◌++◌, length, take, Option, Some, None, option_map, refl, sym, ap, ◌∙◌, subst, append-nil, eqb-true, eq-eqb}
-use Rattle.std.specs.Option.{option_map_or}
-use Rattle.std.specs.List.{AllByRecursion}
-use Rattle.std.proofs.lemmas.Bool.{true≢false}
-use Rattle.lapd_clock.specs.Moments.{moment_of}
-use Rattle.lapd_clock.specs.Timer.{Lengths}
-use Rattle.lapd_frame.specs.declared.services.Service.{Service}
-use Rattle.lapd_frame.specs.declared.timers.Timer.{Timer}
+use Rattle.laws_time.proofs.Vocabulary.{All-append, All-cons, All-nil, AllByRecursion, AreAtLines, Bool, Clock, Config, ControlFrame, IsInRange, Lengths, Link, LinkEvent, List, None, Observed, OctetCard, OctetEndpoint, Option, Service, Some, T200, TimedCard, TimedEndpoint, Timer, View, [], after_all-append, answered, ap, append-nil, arith, as_heard, at, card_of, cond, eq-eqb, eqb-true, false}
+use Rattle.laws_time.proofs.Vocabulary.{frames_after_all, happens, is_anew, is_final, is_time, is_waiting, length, line_at, link_in, lt-ltb, meant_all, meant_at_lines, moment_at, moment_of, moves, not, obeyed, octet_at, octet_orders, option_map, option_map_or, orders_in, port_of, ports_fresh as fresh, put, refined_card, refl, room, same_Some, state, state_number, state_of, subst, sym, take}
+use Rattle.laws_time.proofs.Vocabulary.{terms, true, true≢false, view_behind, view_of, ℕ, ◌*◌, ◌++◌, ◌+◌, ◌<◌, ◌==◌, ◌||◌, ◌∙◌, ◌∷◌, ◌≡◌, ◌≤◌}
 use Rattle.lapd_frame.specs.declared.timers.Timer.TheVariants as timers
-use Rattle.model_link.specs.Events.{Event as LinkEvent}
-use Rattle.model_link.specs.declared.frames.ControlFrame.{ControlFrame}
-use Rattle.model_link.specs.Link.{Link, state_number}
 use Rattle.model_link.specs.Machine as links
-use Rattle.model_link.specs.declared.timers.LinkTimer.TheVariants.{T200}
 use Rattle.model_line.specs.Event as line
-use Rattle.model_line.specs.Line.{terms, link_in, state_of}
-use Rattle.model_line.specs.Laws.{orders_in}
-use Rattle.model_line.specs.Sound.{IsInRange}
-use Rattle.model_line.specs.declared.config.Config.{Config}
 use Rattle.model_card.specs.Card as cards
-use Rattle.model_card.specs.Card.{state, line_at}
 use Rattle.model_card.specs.Event as frame_event
-use Rattle.model_card.specs.Event.{at}
 use Rattle.model_card.specs.Run as frame_runs
-use Rattle.model_card.specs.Run.{AreAtLines}
-use Rattle.model_card.specs.ports.Card.{OctetCard, fresh}
-use Rattle.model_card.specs.ports.Event.{at as octet_at}
 use Rattle.model_card.specs.ports.Port as port
-use Rattle.model_card.specs.ports.Port.{Port}
-unfoldable use Rattle.model_card.specs.ports.Run.{meant_all, after_all}
-use Rattle.model_card.proofs.OfPorts.Codec.{refined_card, meant_at_lines}
-use Rattle.model_timed.specs.Clock.{Clock, obeyed}
-use Rattle.model_timed.specs.Octets.{orders_in as octet_orders}
-use Rattle.laws_link.specs.States.{moves, as_heard}
-use Rattle.laws_link.specs.Waiting.{put, room, is_time}
-use Rattle.laws_trace.specs.Observer.{Observed, View, view_of, view_behind, moment_of as moment_at}
-use Rattle.laws_trace.specs.TimersAreTimely.{is_anew}
-use Rattle.laws_wire.specs.Timely.{is_final}
-use Rattle.laws_order.specs.circuit.Circuit.{Endpoint as OctetEndpoint, port_of, answered}
+unfoldable use Rattle.model_card.specs.ports.Run.{after_all}
 use Rattle.laws_order.specs.circuit.Circuit as circuit
-use Rattle.laws_time.specs.circuit.Clocked.{TimedEndpoint, happens}
-use Rattle.laws_time.specs.circuit.LongEnough.{is_of, is_waiting}
+use Rattle.laws_time.specs.circuit.LongEnough.{is_of}
 use Rattle.model_card.specs.Machine as machine
-use Rattle.model_card.proofs.Runs.{after_all-append}
-unfoldable use Rattle.model_card.specs.Run.{after_all as frames_after_all}
-use Rattle.std.proofs.lemmas.List.Elements.{All-append, All-cons, All-nil}
-use Rattle.std.proofs.lemmas.Bool.{lt-ltb}
 use Rattle.laws_time.proofs.Moments.{lengths-stay}
 use Rattle.laws_time.proofs.OctetsMean.{meant_at, orders-are, event-inside}
-use Rattle.model_timed.specs.Frames.{TimedCard}
-use Rattle.laws_time.specs.circuit.Ends.{card_of}
 use Rattle.laws_time.proofs.Links.{state-is, view-then}
 use Rattle.laws_time.proofs.OfCircuit.Ends.{Stands, stands-on}
 use Rattle.laws_time.proofs.OfCircuit.Kinds.{asks, is_asked, put-asks-not, put-ends-not, first-of, heard-asks, heard-time}
@@ -58,9 +23,6 @@ use Rattle.laws_time.proofs.OfCircuit.Open.{ring, half, waiting-then, puts-none,
 use Rattle.laws_time.proofs.OfCircuit.Orders.{AreOurs, RunsOurs, ours-obeyed}
 use Rattle.laws_time.proofs.OfCircuit.Sender.{Sends, sends-later}
 use Rattle.laws_time.proofs.OfCircuit.Standing.{Ends, Moved}
-
-number-of : (b : Bool) (m : ℕ) → b ≡ true → cond b (Some m) None ≡ Some m
-number-of b m is = ap (λ b. cond b (Some m) None) is
 
 module _ (c : Config) (service : Service) (tei place : ℕ) (ranged : IsInRange c) (lengths : Lengths) (rate : ℕ) where
   abbrev pub t200 : Timer
@@ -113,9 +75,6 @@ module _ (c : Config) (service : Service) (tei place : ℕ) (ranged : IsInRange 
     pub here-is : a.at.card.card ≡ frame_runs.after_all (cards.fresh c) (meant_all (fresh c) h.ends.ran.events)
     here-is = ap (λ (m : OctetCard). m.card) h.ends.ran.is ∙ refined_card (fresh c) h.ends.ran.events
 
-    abbrev meaning : Option line.Event
-    meaning = meant_at (octet_at a.at.line ev) a.at.card
-
     -- It means this.
     module _ (what : line.Event) (is : meant_at (octet_at a.at.line ev) a.at.card ≡ Some what) where
       abbrev pub o : Observed
@@ -160,9 +119,6 @@ module _ (c : Config) (service : Service) (tei place : ℕ) (ranged : IsInRange 
           (view_behind c service tei a.at.line (meant_all (fresh c) h.ends.ran.events) what).link what ≡ true)
           (old : is_anew c service tei T200 (view_of c service tei a.at.line (meant_all (fresh c) h.ends.ran.events)).link
           (view_behind c service tei a.at.line (meant_all (fresh c) h.ends.ran.events) what).link what ≡ false → IsLong S h.ends.its a.at.line a.clock) where
-        abbrev next : Ends c service tei place ranged (circuit.happens ev a.at)
-        next = mv.ends
-
         -- what is put
         abbrev putting : Option LinkEvent → List ControlFrame
         putting None = []
@@ -174,9 +130,6 @@ module _ (c : Config) (service : Service) (tei place : ℕ) (ranged : IsInRange 
         put-is (Some x) e =
             ap (λ (y : Link). y.waiting) (mv.link_is ∙ ap (λ v. option_map_or (λ e. links.after (terms c service tei) e h.ends.its) v h.ends.its) e)
             ∙ waiting-then c service tei place ranged x h.ends.its (ordinary x e)
-
-        its-puts : List ControlFrame
-        its-puts = putting mv.event
 
         more-is : mv.ends.its.waiting ≡ h.ends.its.waiting ++ putting mv.event
         more-is = put-is mv.event refl
@@ -251,14 +204,11 @@ module _ (c : Config) (service : Service) (tei place : ℕ) (ranged : IsInRange 
         spread : (now r : ℕ) → (now + lengths.t200 + 1) * r ≡ (now + 1) * r + lengths.t200 * r
         spread now r = grind arith
 
-        same-some : (m n : ℕ) → Some m ≡ Some n → m ≡ n
-        same-some m n e = cc e
-
         timer-anew : anew ≡ true → IsLong (length (port_of a.at).given) mv.ends.its a.at.line (happens ev a).clock
         timer-anew e m waits at_m =
             let starts = starts-anew c past a.at.line ranged all-past h.ends.ran.within service tei what a.clock (ap is_waiting (q-is mv.ends) ∙ waits) e in
             let now_is : m ≡ a.clock.now + a.clock.lengths.t200 =
-            same-some m (a.clock.now + a.clock.lengths.t200) (sym at_m ∙ ap (λ (k : Clock). moment_of a.at.line t200 k.running) (clock-is) ∙ starts) in
+            same_Some m (a.clock.now + a.clock.lengths.t200) (sym at_m ∙ ap (λ (k : Clock). moment_of a.at.line t200 k.running) (clock-is) ∙ starts) in
             let long_is : m ≡ a.clock.now + lengths.t200 = now_is ∙ ap (λ (ls : Lengths). a.clock.now + ls.t200) h.lengths_are in
             subst (λ n. length (port_of a.at).given + lengths.t200 * rate ≤ (n + 1) * rate) (sym long_is)
             (let wide = spread a.clock.now rate in omega (arith, wide, soon))

@@ -11,3 +11,4 @@ pub mod TimedServing
 pub mod TimedKinds
 pub mod TimedLaws
 pub mod CallsMean
+pub mod StartsMean

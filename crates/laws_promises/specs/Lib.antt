@@ -11,3 +11,4 @@ pub mod RequestsMean
 pub mod EventsMean
 pub mod RepliesMean
 pub mod RunsMean
+pub mod StartsMean

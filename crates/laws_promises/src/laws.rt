@@ -15,6 +15,7 @@ ghost use Rattle.laws_promises.specs.PromisesOfOctets.{PromisesOfOctets};
 ghost use Rattle.laws_promises.specs.RepliesMean.{RepliesMeanThis};
 ghost use Rattle.laws_promises.specs.RequestsMean.{RequestsMeanThis};
 ghost use Rattle.laws_promises.specs.RunsMean.{RunsMeanThis};
+ghost use Rattle.laws_promises.specs.StartsMean.{StartsMeanThis};
 
 /// Every machine of a card that is reached keeps all promises, of every list of events at its lines.
 pub fn promises_are_kept()
@@ -30,11 +31,14 @@ pub fn promises_of_octets_are_kept()
 /// the same contents (`requests`). An event of a list is that event of its line; a fault is heard as what is dropped for
 /// its cause (`events`). A reply has the notes, contents, cause, orders and number of lost frames of the answer, or the
 /// octet or the frame (`replies`). A run hands its sink the reply to each event, with its line, or with its moment if the
-/// card keeps its own timers. Each event may happen at each line of a card that takes it (`runs`).
-#[tactic(auto, using(crate::proofs::CallsMean::requests_mean_this, crate::proofs::CallsMean::events_mean_this, crate::proofs::CallsMean::replies_mean_this, crate::proofs::CallsMean::runs_mean_this))]
+/// card keeps its own timers. Each event may happen at each line of a card that takes it. A wrong moment leads such a card
+/// nowhere, and each other step where the timed machine goes (`runs`). The usual configuration has these values, and a shelf
+/// begins with as many slots as were asked for, all free. A card is told why it may not start, or may (`starts`).
+#[tactic(auto, using(crate::proofs::CallsMean::requests_mean_this, crate::proofs::CallsMean::events_mean_this, crate::proofs::CallsMean::replies_mean_this, crate::proofs::CallsMean::runs_mean_this, crate::proofs::StartsMean::starts_mean_this))]
 pub fn calls_mean_this()
     ensures requests { RequestsMeanThis }
     ensures events { EventsMeanThis }
     ensures replies { RepliesMeanThis }
     ensures runs { RunsMeanThis }
+    ensures starts { StartsMeanThis }
 {}

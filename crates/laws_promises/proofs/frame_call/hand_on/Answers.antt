@@ -14,11 +14,11 @@ on_err r P p = grind arith
 -- there is room for the longest frame of all
 pub returns-in-Err : goal.returns-in-Err
 returns-in-Err g c =
-    let small : 264 < room_for_frames c.args.card.now = c.in-Err.ensures.refused.0 refl in
+    let small : 264 < room_for_frames c.args.card.now = c.in-Err.ensures.refused.few in
     let none : (m : Card) → FrameStands g.S.Shelf.store c.args.card.now m → ⊥ =
     λ m s. let few = (ranges_of m.config s.reached.config).n201.most in omega (arith, small, few, ap (λ d. d.n201) s.config) in
     record {
-      leads = record { config = ap (λ (card : Held g.row.S.Denot). card.config) c.in-Err.ensures.unchanged; stands = λ m s. absurd (none m s); counted = λ m s. absurd (none m s) };
+      leads = record { config = ap (λ (card : Held g.row.S.Denot). card.config) c.in-Err.ensures.refused.unchanged; stands = λ m s. absurd (none m s); counted = λ m s. absurd (none m s) };
       hands = record {
         failed = c.take-in-Err.ensures.failed;
         not_failed = c.take-in-Err.ensures.none_failed;

@@ -29,7 +29,7 @@ returns-in-Ok-None g c =
 
 pub returns-in-Err : goal.returns-in-Err
 returns-in-Err g c =
-    let small : 264 < room_of c.args.card.now.card = c.in-Err.ensures.refused.0 refl in
+    let small : 264 < room_of c.args.card.now.card = c.in-Err.ensures.refused.few in
     serves of_frames frames-driven (happens (at c.args.line next)) c.args.card.now c.next_frame.new.self c.args.sink.now c.take-in-Err.new.self c.take-in-Err.result c.now-in-Err.result _
-    (led-by-nothing of_frames (happens (at c.args.line next)) c.args.card.now c.next_frame.new.self c.now-in-Err.result _ c.in-Err.ensures.unchanged (always-room c.args.card.now small) c.now-in-Err.ensures)
+    (led-by-nothing of_frames (happens (at c.args.line next)) c.args.card.now c.next_frame.new.self c.now-in-Err.result _ c.in-Err.ensures.refused.unchanged (always-room c.args.card.now small) c.now-in-Err.ensures)
     c.take-in-Err.ensures.taken c.take-in-Err.ensures.none_failed c.take-in-Err.ensures.missed c.take-in-Err.ensures.failed

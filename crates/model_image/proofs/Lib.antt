@@ -1,0 +1,24 @@
+-- Lemmas: what is read of a list of octets (Reading), of each part of an image, and of the whole (Whole).
+pub mod Reading
+pub mod Links
+pub mod Teis
+pub mod Lines
+pub mod Configs
+pub mod Clocks
+pub mod Whole
+pub mod Again
+pub mod Beginning
+pub mod GoOn
+pub mod GoOnTests
+pub mod GoOnRows
+pub mod GoOnEvents
+pub mod GoOnLines
+pub mod GoOnCards
+pub mod GoOnOctets
+pub mod GoOnTimed
+pub mod GoOnMarks
+pub mod SameClocks
+pub mod Restored
+pub mod Fits
+pub mod FitsParts
+pub mod FitsWhole

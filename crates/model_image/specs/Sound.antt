@@ -1,0 +1,81 @@
+-- Which cards are saved: sound ones, whose timers are those of their states, and whose numbers have the sizes that they have on
+-- a line and in the code.
+use Rattle.std.specs.List.{AllByRecursion, AllZip}
+use Rattle.std.specs.Prelude.{Bool, false, true, IsSome, get_or, ◌≡◌, ℕ, ◌≤◌, ◌<◌, ◌^◌, List, [], length, All, Option, None, Some, IfSome}
+use Rattle.lapd_clock.specs.InOrder.{IsInOrder}
+use Rattle.lapd_clock.specs.Sound.{IsOneEach}
+use Rattle.lapd_clock.specs.Timer.{AreInRange}
+use Rattle.lapd_clock.specs.Timers.{is_before}
+use Rattle.lapd_count.specs.Counters.{count, most}
+use Rattle.lapd_count.specs.declared.counters.Counters.{Counters}
+use Rattle.lapd_tei.specs.Messages.{information_of}
+use Rattle.lapd_terminal.specs.Messages as terminals
+use Rattle.model_bits.specs.StuffingLaws.{AreOctets}
+use Rattle.model_link.specs.Link.{Link, queue_of}
+use Rattle.model_line.specs.declared.config.Config.{Config}
+use Rattle.model_line.specs.Line.{Line, is_terminal, link_count, place_at, tei_at}
+use Rattle.model_card.specs.Card.{Card}
+use Rattle.model_card.specs.Reached.{AreTimed}
+use Rattle.model_card.specs.Sound.{IsSound}
+use Rattle.model_timed.specs.Clock.{Clock}
+use Rattle.model_timed.specs.RunTheSame.{RunAs, as_they_are}
+use Rattle.model_image.specs.Links.{counted_of}
+use Rattle.model_image.specs.Images.{Saved}
+
+-- Of a link: RC is at most N200, at most 255 contents go again, its counts have 16 bits, and contents are octets.
+pub record IsSavedLink (c : Config) (l : Link) : Type 0 where
+  pub repeats : l.repeats ≤ c.n200
+  pub again : l.again ≤ 255
+  pub counts : All (λ n. n ≤ 65535) (counted_of l.counts)
+  pub octets : All AreOctets (queue_of l)
+
+-- Of a line: Ri has 16 bits, and so have those in the messages that wait; only a terminal uses its reference number; contents
+-- are octets.
+pub record IsSavedLine (c : Config) (l : Line) : Type 0 where
+  pub remembered : All (λ r. r.ri < 65536) l.management.remembered
+  pub messages : All (λ message. AreOctets (information_of message)) l.management.waiting
+  pub own : All (λ message. AreOctets (terminals.information_of message)) l.own.waiting
+  pub unused : is_terminal c ≡ false → l.own.number ≡ 0
+  pub links : All (IsSavedLink c) l.links
+  pub units : All (λ u. AreOctets u.contents) l.units
+
+-- A line has 79 counters of 64 bits.
+pub record IsCounted (counters : Counters) : Type 0 where
+  pub whole : length counters.values ≡ count
+  pub few : All (λ value. value ≤ most) counters.values
+
+-- Links wait only where there is a TEI.
+pub record AreMarks (c : Config) (l : Line) (waits : List Bool) : Type 0 where
+  pub each : length waits ≡ link_count c
+  pub there : (number : ℕ) → get_or waits number false ≡ true → IsSome (tei_at (place_at number) l)
+
+-- A clock: the timers of the card run there, each once, and no others; they stand in the order in which they fall due. Moments
+-- have 64 bits.
+pub record IsClockOf (card : Card) (c : Clock) : Type 0 where
+  pub lengths : AreInRange c.lengths
+  pub now : c.now < 2 ^ 64
+  pub moments : All (λ e. e.moment < 2 ^ 64) c.running
+  pub in_order : IsInOrder is_before c.running
+  pub one_each : IsOneEach c.running
+  pub on_lines : AllByRecursion (λ e. e.line < card.config.lines) c.running
+  pub running : RunAs as_they_are card c
+
+-- A card that keeps its own timers has a moment for each link of each line, of 64 bits; another card has none.
+pub record AreMoments (c : Config) (moments : List ℕ) : Type 0 where
+  pub each : length moments ≡ link_count c
+  pub few : All (λ moment. moment < 2 ^ 64) moments
+
+abbrev pub AreChanges : Config → Option Clock → List (List ℕ) → Type 0
+AreChanges c None changed = changed ≡ []
+AreChanges c (Some clock) changed = (length changed ≡ c.lines) × All (AreMoments c) changed
+
+pub record IsSaved (s : Saved) : Type 0 where
+  pub card : IsSound s.card
+  pub timed : AreTimed s.card
+  pub seed : IfSome s.card.config.seed (λ n. n < 65536)
+  pub lines : All (IsSavedLine s.card.config) s.card.lines
+  pub each_counted : length s.counted ≡ s.card.config.lines
+  pub counted : All IsCounted s.counted
+  pub waits : AllZip (AreMarks s.card.config) s.card.lines s.waits
+  pub clock : IfSome s.clock (IsClockOf s.card)
+  pub changed : AreChanges s.card.config s.clock s.changed

@@ -1,8 +1,9 @@
 -- What is read of words that stand in references, and of lines with too many.
 use Rattle.lapd_script.proofs.Vocabulary.{◌≡◌, ℕ, Bool, true, false, cond, List, [], ◌∷◌, length, take, drop, get_or, Some, Ok, Err, Result, Option, refl, sym, ap, ◌∙◌, Bor, arith, IsErr, IsErrAnd, false≢true, FaultKind, BadNumberOfWords, Config, Word, Ask, texts, word_named, carries_octets, read_words, read_after, read_as, card_numbers, for_annex_b, nine_numbers, sapi_numbers, three_numbers}
 use Rattle.lapd_script.proofs.Vocabulary.{side_numbers, for_sapi, more_numbers, names_annex_b, names_sapi}
-use Rattle.std.specs.Prelude.{◌-◌, ◌&&◌, nat_le, bytes_eq, codes, zero, suc}
+use Rattle.std.specs.Prelude.{◌≤◌, ◌-◌, ◌&&◌, nat_le, bytes_eq, codes, zero, suc}
 use Rattle.lapd_script.specs.declared.word.Word.TheVariants.{Card}
+use Rattle.lapd_script.specs.declared.kind.FaultKind.TheVariants.{UnknownWord}
 use Rattle.lapd_script.specs.Meaning.{card}
 use Rattle.lapd_script.specs.Read.{numbered}
 use Rattle.lapd_script.proofs.Vocabulary.{◌>>=◌}
@@ -28,6 +29,9 @@ texts_front zero words = refl
 texts_front (suc n) [] = refl
 texts_front (suc n) (w ∷ words) = ap (λ rest. w.now ∷ rest) (texts_front n words)
 
+is_named : (n count : ℕ) (name : Bool) → n ≤ count → name ≡ true → (nat_le n count && name) ≡ true
+is_named n count name some is = grind (arith, some, is)
+
 -- the last word but one of a card line may be `sapi`, with a number behind it
 pub sapi_given : (words : List (Bor (List ℕ))) (count : ℕ) → count ≡ length words
     → sapi_numbers (texts words) ≡ cond (nat_le 2 count && bytes_eq (at words (count - 2)) (codes "sapi"))
@@ -42,6 +46,13 @@ sapi_given words count is =
     ∙ ap (λ last. cond (nat_le 2 count && bytes_eq (at words (count - 2)) (codes "sapi"))
     (for_sapi (side_numbers (texts (take (count - 2) words))) last) (side_numbers (texts words))) (texts_at words (count - 1))
 
+-- where it is so
+pub sapi_read : (words : List (Bor (List ℕ))) (count : ℕ) → count ≡ length words → 2 ≤ count → bytes_eq (at words (count - 2)) (codes "sapi") ≡ true
+    → for_sapi (side_numbers (texts (take (count - 2) words))) (at words (count - 1)) ≡ sapi_numbers (texts words)
+sapi_read words count is some named =
+    sym (sapi_given words count is
+    ∙ ap (λ test. cond test (for_sapi (side_numbers (texts (take (count - 2) words))) (at words (count - 1))) (side_numbers (texts words))) (is_named 2 count _ some named))
+
 -- and the last one `annex-b`
 pub annex_b_given : (words : List (Bor (List ℕ))) (count : ℕ) → count ≡ length words
     → card_numbers (texts words) ≡ cond (nat_le 1 count && bytes_eq (at words (count - 1)) (codes "annex-b"))
@@ -53,6 +64,13 @@ annex_b_given words count is =
     (for_annex_b (sapi_numbers (take (count - 1) (texts words)))) (sapi_numbers (texts words))) (texts_at words (count - 1))
     ∙ ap (λ front. cond (nat_le 1 count && bytes_eq (at words (count - 1)) (codes "annex-b"))
     (for_annex_b (sapi_numbers front)) (sapi_numbers (texts words))) (texts_front (count - 1) words)
+
+-- where it is so
+pub annex_b_read : (words : List (Bor (List ℕ))) (count : ℕ) → count ≡ length words → 1 ≤ count → bytes_eq (at words (count - 1)) (codes "annex-b") ≡ true
+    → for_annex_b (sapi_numbers (texts (take (count - 1) words))) ≡ card_numbers (texts words)
+annex_b_read words count is some named =
+    sym (annex_b_given words count is
+    ∙ ap (λ test. cond test (for_annex_b (sapi_numbers (texts (take (count - 1) words)))) (sapi_numbers (texts words))) (is_named 1 count _ some named))
 
 abbrev grouped : Result (ℕ × ℕ × ℕ) FaultKind → Result (ℕ × ℕ × ℕ) FaultKind → Result (ℕ × ℕ × ℕ) FaultKind → Result Config FaultKind
 grouped ra rb rc = do
@@ -144,6 +162,12 @@ first_word (name ∷ more) = name
 -- where the first seventeen words are these, they say what all the words say
 pub read_taken : (all : List (List ℕ)) (name : List ℕ) (words : List (List ℕ)) (word : Option Word) → name ∷ words ≡ take 17 all → word ≡ word_named name → read_after word words ≡ read_words all
 read_taken all name words word e w = grind (arith, taken_words)
+
+-- where there are no words, the first one is unknown
+pub read_nothing : (words : List (Bor (List ℕ))) (all : List (List ℕ)) → length words ≡ 0 → texts words ≡ take 17 all → Err UnknownWord ≡ read_words all
+read_nothing [] [] none e = refl
+read_nothing [] (name ∷ more) none e = absurd (omega (arith, ap length e))
+read_nothing (w ∷ words) all none e = absurd (omega (arith, none))
 
 -- the exit of a `?`
 pub err_is : {A : Type 0} (r : Result A FaultKind) (kind : FaultKind) → IsErr r × IsErrAnd r (λ why. why ≡ kind) → r ≡ Err kind

@@ -26,6 +26,10 @@ Err kind >>= f = Err kind
 abbrev pub line_number : List ℕ → Result ℕ FaultKind
 line_number word = number 0 65535 word
 
+-- LINE alone
+abbrev pub line_of : List (List ℕ) → Result ℕ FaultKind
+line_of words = one_word words >>= line_number
+
 abbrev pub tei_number : List ℕ → Result ℕ FaultKind
 tei_number word = number 0 255 word
 
@@ -166,16 +170,13 @@ read_as Failed words = do
   fault ← cause word.1
   Ok (failed line fault)
 read_as Next words = do
-  word ← one_word words
-  line ← line_number word
+  line ← line_of words
   Ok (next line)
 read_as Down words = do
-  word ← one_word words
-  line ← line_number word
+  line ← line_of words
   Ok (down line)
 read_as AskTei words = do
-  word ← one_word words
-  line ← line_number word
+  line ← line_of words
   Ok (ask_tei line)
 read_as Pull words = do
   word ← two_words words
@@ -196,8 +197,7 @@ read_as Losses words = do
   none ← no_words words
   Ok losses
 read_as (Counters group) words = do
-  word ← one_word words
-  line ← line_number word
+  line ← line_of words
   Ok (counters line group)
 read_as (Ask what) words = if carries_octets what
     then (do

@@ -1,12 +1,13 @@
 //! How the lines of a script are read: in pieces, into a buffer of fixed size.
 
-ghost use Rattle.std.specs.Prelude.{◌≡◌, ℕ, ◌+◌, ◌^◌, ◌<◌, ◌≤◌, false, List, Option, Some, length, take, vec_len, IfOk, IfErr, IfSome, IfNone, OnOk, OnErr, IsTrue, ◌≢◌, ◌==◌};
-ghost use Rattle.std.specs.List.{AllWithin, HoldsAt, position};
+ghost use Rattle.std.specs.Prelude.{◌≡◌, ℕ, ◌+◌, ◌^◌, ◌<◌, ◌≤◌, false, List, Option, Some, length, take, vec_len, IfOk, IfErr, IfSome, IfNone, OnOk, OnErr, IsTrue, ◌≢◌};
+ghost use Rattle.std.specs.List.{AllWithin, HoldsAt};
 ghost use Rattle.lapd_script.specs.Faults.{reads_failed, reads_failed_by, writes_failed};
 ghost use Rattle.lapd_script.specs.declared.faults.PlayFault.TheVariants as play;
 
 use crate::faults::PlayFault;
 use crate::kind::FaultKind;
+use crate::words::place_of;
 use lapd_transcript::Source;
 use std::alloc::{AllocError, Global};
 
@@ -147,7 +148,7 @@ impl ScriptLines {
         ensures first { IfSome result (λ place. AllWithin (λ octet. octet ≢ 10) self.now.buffer.items unsought place) }
         ensures none { IfNone result (AllWithin (λ octet. octet ≢ 10) self.now.buffer.items unsought self.now.filled) }
     {
-        match first_line_feed(&self.buffer[unsought..self.filled]) {
+        match place_of(&self.buffer[unsought..self.filled], b'\n') {
             None => None,
             Some(place) => Some(unsought + place),
         }
@@ -222,11 +223,4 @@ impl ScriptLines {
             kind: FaultKind::TooLong,
         }
     }
-}
-
-/// The place of the first line feed.
-fn first_line_feed(octets: &[u8]) -> Option<usize>
-    ensures { result ≡ position (λ octet. octet == 10) octets.now }
-{
-    octets.iter().position(|octet| *octet == b'\n')
 }

@@ -1,13 +1,13 @@
 //! Reads a line of a script.
 
 ghost use Rattle.std.specs.Prelude.{◌≡◌, ◌*◌, ◌/◌, ◌≤◌, ℕ, List, [], ◌∷◌, take, drop, length, codes, bytes_eq, All, Ok, Err, IfOk, MatchResult};
-ghost use Rattle.lapd_script.specs.{texts, rx, into, meant_by, IsCounted, read, read_words, read_as, duration, durations, four_durations, card_numbers, for_annex_b, for_sapi, for_terminal, for_user, is_user, more_numbers, nine_numbers, sapi_numbers, side_numbers, ten_numbers, three_numbers, Rx, In, Failed, Pull, Ask};
+ghost use Rattle.lapd_script.specs.{texts, rx, into, meant_by, IsCounted, read, read_words, read_as, duration, durations, four_durations, card_numbers, for_annex_b, for_sapi, for_terminal, for_user, is_user, line_of, more_numbers, nine_numbers, sapi_numbers, side_numbers, ten_numbers, three_numbers, Rx, In, Failed, Pull, Ask};
 
 use crate::command::{Asked, Command, Durations};
 use crate::kind::FaultKind;
 use crate::values::{cause, number, octet, octets, short};
 use crate::word::Word;
-use crate::words::{none, one, three, two, words_of};
+use crate::words::{is, none, one, three, two, words_of};
 use lapd_frame::{Reading, Side};
 use model_line::Config;
 
@@ -68,9 +68,9 @@ fn read_as(word: Word, words: &[&[u8]], room: &mut [u8]) -> Result<Command, Faul
             Ok(Command::In { line, octets })
         }
         Word::Failed => failed(words),
-        Word::Next => Ok(Command::Next(short(one(words)?)?)),
-        Word::Down => Ok(Command::Down(short(one(words)?)?)),
-        Word::AskTei => Ok(Command::AskTei(short(one(words)?)?)),
+        Word::Next => Ok(Command::Next(line_of(words)?)),
+        Word::Down => Ok(Command::Down(line_of(words)?)),
+        Word::AskTei => Ok(Command::AskTei(line_of(words)?)),
         Word::Pull => pull(words),
         Word::Wait => Ok(Command::Wait(number(0, 3_600_000, one(words)?)?)),
         Word::Timers => Ok(Command::Timers(durations(words)?)),
@@ -83,11 +83,18 @@ fn read_as(word: Word, words: &[&[u8]], room: &mut [u8]) -> Result<Command, Faul
             Ok(Command::Losses)
         }
         Word::Counters(group) => {
-            let line = short(one(words)?)?;
+            let line = line_of(words)?;
             Ok(Command::Counters { line, group })
         }
         Word::Ask(what) => ask(what, words, room),
     }
+}
+
+/// LINE alone.
+fn line_of(words: &[&[u8]]) -> Result<u16, FaultKind>
+    ensures { result ≡ line_of (texts words.now) }
+{
+    short(one(words)?)
 }
 
 /// LINE, and the octets that come from it, of `rx` and of `in`.
@@ -205,7 +212,7 @@ fn card_numbers(words: &[&[u8]]) -> Result<Config, FaultKind>
 fn is_annex_b(word: &[u8]) -> bool
     ensures { result ≡ bytes_eq word.now (codes "annex-b") }
 {
-    word == b"annex-b".as_slice()
+    is(word, b"annex-b")
 }
 
 /// The same by annex B.
@@ -232,7 +239,7 @@ fn sapi_numbers(words: &[&[u8]]) -> Result<Config, FaultKind>
 fn is_sapi(word: &[u8]) -> bool
     ensures { result ≡ bytes_eq word.now (codes "sapi") }
 {
-    word == b"sapi".as_slice()
+    is(word, b"sapi")
 }
 
 /// The same with another SAPI.
@@ -295,7 +302,7 @@ fn twelve_words(nine: &[&[u8]], k16: &[u8], word: &[u8], last: &[u8]) -> Result<
 fn is_user(word: &[u8]) -> bool
     ensures { result ≡ is_user word.now }
 {
-    word == b"user".as_slice()
+    is(word, b"user")
 }
 
 /// The same of a card that is the user's side.

@@ -6,6 +6,7 @@ ghost use Rattle.std.specs.Char.{is_ascii_digit};
 ghost use Rattle.lapd_script.specs.{cause, number, within, octets};
 
 use crate::kind::FaultKind;
+use crate::words::is;
 use model_line::Fault;
 use std::str;
 
@@ -67,7 +68,7 @@ pub fn octets(word: &[u8], room: &mut [u8]) -> Result<usize, FaultKind>
     // What stands behind them stays, also where the word is refused.
     ensures rest { drop (length word.now / 2) room.new ≡ drop (length word.now / 2) room.old }
 {
-    if word == b"-".as_slice() {
+    if is(word, b"-") {
         return Ok(0);
     }
     let count = word.len() / 2;
@@ -82,10 +83,10 @@ pub(crate) fn cause(word: &[u8]) -> Result<Fault, FaultKind>
     ensures { result ≡ cause word.now }
 {
     match word {
-        _ if word == b"fcs".as_slice() => Ok(Fault::Fcs),
-        _ if word == b"abort".as_slice() => Ok(Fault::Abort),
-        _ if word == b"ragged".as_slice() => Ok(Fault::Ragged),
-        _ if word == b"short".as_slice() => Ok(Fault::Short),
+        _ if is(word, b"fcs") => Ok(Fault::Fcs),
+        _ if is(word, b"abort") => Ok(Fault::Abort),
+        _ if is(word, b"ragged") => Ok(Fault::Ragged),
+        _ if is(word, b"short") => Ok(Fault::Short),
         _ => Err(FaultKind::BadCause),
     }
 }

@@ -1,6 +1,6 @@
 //! The words of a line, and how many of them a first word takes.
 
-ghost use Rattle.std.specs.Prelude.{◌≡◌, ◌+◌, ◌==◌, ◌<◌, ◌≤◌, [], ◌∷◌, position, take, length, All, IfSome, IfNone, IfOk, IfErr};
+ghost use Rattle.std.specs.Prelude.{◌≡◌, bytes_eq, ◌+◌, ◌==◌, ◌<◌, ◌≤◌, [], ◌∷◌, position, take, length, All, IfSome, IfNone, IfOk, IfErr};
 ghost use Rattle.lapd_script.specs.Words.{words_of, texts, no_words, one_word, two_words, three_words};
 
 use crate::kind::FaultKind;
@@ -36,16 +36,17 @@ fn split_word(rest: &[u8]) -> Option<(&[u8], &[u8])>
     ensures shorter { IfSome result (λ parts. length parts.0.now + length parts.1.now < length rest.now) }
     ensures last { IfNone result (words_of rest.now ≡ rest.now ∷ []) }
 {
-    let Some(end) = first_space(rest) else {
+    let Some(end) = place_of(rest, b' ') else {
         return None;
     };
     Some((&rest[..end], &rest[end + 1..]))
 }
 
-fn first_space(octets: &[u8]) -> Option<usize>
-    ensures { result ≡ position (λ octet. octet == 32) octets.now }
+/// The first place of an octet.
+pub(crate) fn place_of(octets: &[u8], octet: u8) -> Option<usize>
+    ensures { result ≡ position (λ one. one == octet) octets.now }
 {
-    octets.iter().position(|octet| *octet == b' ')
+    octets.iter().position(|one| *one == octet)
 }
 
 /// Tests that there is no word.
@@ -89,4 +90,11 @@ pub(crate) fn three<'a>(words: &[&'a [u8]]) -> Result<(&'a [u8], &'a [u8], &'a [
         [first, second, third] => Ok((*first, *second, *third)),
         _ => Err(FaultKind::BadNumberOfWords),
     }
+}
+
+/// Whether a word is this one.
+pub(crate) fn is(word: &[u8], name: &[u8]) -> bool
+    ensures { result ≡ bytes_eq word.now name.now }
+{
+    word == name
 }

@@ -1,6 +1,6 @@
--- Hand-written answers for `ShelvedLink::expire`.
+-- Hand-written answers for `Bench::expire`.
 use Rattle.std.proofs.Common.{[], ◌∙◌}
-use Rattle.tool_tables.proofs.shelved_link.ShelvedLink.expire.Goals as goal
+use Rattle.tool_tables.proofs.bench.Bench.expire.Goals as goal
 
 pub expire-requires : goal.expire-requires
 expire-requires c = record { clear = c.nothing-report.ensures; stands = ([], c.requires.0, c.requires.1) }

@@ -1,6 +1,6 @@
--- Hand-written answers for `ShelvedLink::clear`.
+-- Hand-written answers for `Bench::clear`.
 use Rattle.std.proofs.Common.{[], ◌∙◌}
-use Rattle.tool_tables.proofs.shelved_link.ShelvedLink.clear.Goals as goal
+use Rattle.tool_tables.proofs.bench.Bench.clear.Goals as goal
 
 pub clear-requires : goal.clear-requires
 clear-requires c = record { clear = c.nothing-report.ensures; stands = ([], c.requires.0, c.requires.1) }

@@ -1,6 +1,6 @@
--- Hand-written answers for `ShelvedLink::receive`.
+-- Hand-written answers for `Bench::receive`.
 use Rattle.std.proofs.Common.{[], ◌∙◌}
-use Rattle.tool_tables.proofs.shelved_link.ShelvedLink.receive.Goals as goal
+use Rattle.tool_tables.proofs.bench.Bench.receive.Goals as goal
 
 pub receive-requires : goal.receive-requires
 receive-requires c = record { clear = c.nothing-report.ensures; stands = ([], c.requires.0, c.requires.1) }

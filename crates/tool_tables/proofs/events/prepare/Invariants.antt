@@ -1,6 +1,0 @@
--- The link works.
-use Rattle.tool_tables.specs.Works.{Works}
-use Rattle.tool_tables.proofs.events.prepare.Given as goal
-
-abbrev pub invariant-loop-event : goal.invariant-loop-event
-invariant-loop-event l = Works l.shelved

@@ -57,4 +57,4 @@ returns-clause-due c = λ m h.
     has_expired c.args.self.now c.go_to.new.self _ c.args.end moment c.in_ok-line.line timer c.fall_due.new.report m (c.in_ok-moment.ensures.next m.board.card.card m.clock h.timers)
     (omega (arith, c.if-moment-end.false)) (subst (λ n. SetupStands c.go_to.new.self (record m { clock = at_moment n m.clock })) max_is stands)
     (subst (λ n. Some (c.in_ok-line.line, timer) ≡ option_map named_by (due (at_moment n m.clock))) max_is (c.in_ok-line.ensures.due m.board.card.card (at_moment c.max.result m.clock) stands.timers))
-    c.in_ok-line.ensures.called.answers c.in_ok-line.ensures.called.leads c.fall_due.ensures.after refl refl refl refl
+    c.in_ok-line.ensures.fell.called.answers c.in_ok-line.ensures.fell.called.leads c.fall_due.ensures.after refl refl refl refl

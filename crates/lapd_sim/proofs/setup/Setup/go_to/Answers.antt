@@ -15,12 +15,12 @@ unreachable-requires c =
 
 pub returns-clause-after : goal.returns-clause-after
 returns-clause-after c = λ m h.
-    let steps = if_ok c.go_to.result (λ e. false≢true (c.if-is_err.ensures.value ∙ e)) c.go_to.ensures.after in
+    let went = if_ok c.go_to.result (λ e. false≢true (c.if-is_err.ensures.value ∙ e)) c.go_to.ensures.went in
     record {
       config = h.config;
-      board = subst (λ k. OnBoard k m.board) (sym c.go_to.ensures.card) h.board;
-      counters = subst (λ k. counters_of k ≡ m.counters) (sym c.go_to.ensures.card) h.counters;
-      timers = timed_time c.args.self.now.timed c.go_to.new.self c.args.moment steps m.board h.board m.clock h.timers;
+      board = subst (λ k. OnBoard k m.board) (sym went.card) h.board;
+      counters = subst (λ k. counters_of k ≡ m.counters) (sym went.card) h.counters;
+      timers = timed_time c.args.self.now.timed c.go_to.new.self c.args.moment went.after m.board h.board m.clock h.timers;
       terminals = h.terminals;
       listeners = h.listeners;
       losses = h.losses;

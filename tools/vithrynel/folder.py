@@ -1,12 +1,12 @@
 """What a user takes besides the library and the simulator: examples, tests that a C compiler alone can run, EMBEDDING.md and
 LAYER3.md, and what CMake has there. Places that they name are those of the folder that is taken, and not the repository's."""
 import os
-import re
 import sys
-from typing import Dict, Set, Tuple
+from typing import Dict, Tuple
 
 from .crates import ROOT
 from .machine import content
+from .pages import taken
 from .pointers import part
 
 sys.path.insert(0, os.path.join(ROOT, "tests", "scripts"))
@@ -21,9 +21,6 @@ PAGES = "EMBEDDING.md", "LAYER3.md"
 IN_CODE = (("../../../examples/c/", "../examples/"), ("../../dist", ".."), ("docs/FORMAT.md", "lapdsim.5"))
 IN_PAGE = (("../dist/", ""), ("examples/c/", "examples/"), ("-I dist ", "-I . "), ("PYTHONPATH=dist ", "PYTHONPATH=. "),
            ("dist/", ""))
-BEGIN = """\
-Pages that are named without a link, as MACHINE.md, are in docs/ of the repository.
-"""
 
 
 def moved(text: str, places: Tuple[Tuple[str, str], ...]) -> str:
@@ -33,12 +30,9 @@ def moved(text: str, places: Tuple[Tuple[str, str], ...]) -> str:
     return text
 
 
-def page(name: str, there: Set[str]) -> str:
-    """A page of docs/: a link to what is not there is none."""
-    text = moved(content(f"docs/{name}"), IN_PAGE)
-    text = re.sub(r"\[([^]]+)\]\(([^)#]+)[^)]*\)", lambda it: it[0] if it[2] in there else it[1], text)
-    head, _, rest = text.partition("\n\n")
-    return f"{head}\n\n{BEGIN}\n{rest}"
+def page(name: str) -> str:
+    """A page of docs/, with links to those that are taken."""
+    return taken(moved(content(f"docs/{name}"), IN_PAGE), set(PAGES))
 
 
 def files() -> Dict[str, bytes]:
@@ -49,6 +43,5 @@ def files() -> Dict[str, bytes]:
     found = {name: moved(content(path), IN_CODE if name.endswith((".c", ".h")) else ()) for name, path in places.items()}
     found["tests/null.c"] = part()
     found["tests/scripts.txt"] = table_of(worked())
-    there = {*found, *PAGES, "README", "lapd.h"}
-    found.update((it, page(it, there)) for it in PAGES)
+    found.update((it, page(it)) for it in PAGES)
     return {name: text.encode() for name, text in found.items()}

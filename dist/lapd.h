@@ -557,6 +557,11 @@ LAPD_STATUS lapd_fall_due(lapd_card *card, uint64_t now, lapd_report *report);
  * is left, it has passed. LAPD_NO_TIMER: none runs. */
 LAPD_STATUS lapd_next_moment(lapd_card *card, uint64_t *moment);
 
+/* When the state of the link of a service with this TEI changed last: the moment, as lapd_fall_due was told it, of the call
+ * after which it was another than before (4 to 8, as lapd_state tells it). It changes, too, as the TEI comes to the line. 0 if
+ * nothing has changed since the start. It changes nothing. LAPD_REFUSED_NO_LINK: the TEI is not on the line. */
+LAPD_STATUS lapd_changed_at(lapd_card *card, uint32_t line, uint8_t service, uint8_t tei, uint64_t *moment);
+
 /* How long timers run that are started from now on. Those that run keep the lengths that they were started with.
  * LAPD_WRONG_TIME: a length is out of range, and nothing has changed. */
 LAPD_STATUS lapd_card_set_lengths(lapd_card *card, const lapd_lengths *lengths);
@@ -685,6 +690,22 @@ struct lapd_counters {
 /* What was counted of a line since the card began, on a card of either kind. A request that is refused is not counted. It
  * changes nothing. */
 LAPD_STATUS lapd_counters(lapd_card *card, uint32_t line, struct lapd_counters *counters);
+
+/* What is counted of a link. Each number stays at 65535 once it is there. All begin anew as the TEI comes to the line, and as
+ * lapd_deactivate or lapd_line_down gives the link up. As the call has the same name, it is `struct lapd_link_counters` also in
+ * C++. While the major version stays, it has these numbers and no others. */
+struct lapd_link_counters {
+    uint16_t sent_again;       /* I-frames begun whose number began before, in the same establishment (5.6.4, 5.6.7) */
+    uint16_t t200_expired;     /* how often T200 expired while it ran (clause 5.9.1) */
+    uint16_t rejects_sent;     /* REJ frames begun (clause 5.8.1) */
+    uint16_t rejects_received; /* REJ frames heard in states 7 and 8, well formed, whatever their N(R) (clause 5.6.4) */
+    uint16_t established;      /* how often it was established, by either side, also anew (clauses 5.5.1 and 5.7) */
+};
+
+/* What was counted of the link of a service with this TEI, on a card of either kind. It changes nothing.
+ * LAPD_REFUSED_NO_LINK: the TEI is not on the line. */
+LAPD_STATUS lapd_link_counters(lapd_card *card, uint32_t line, uint8_t service, uint8_t tei,
+                               struct lapd_link_counters *counters);
 
 /* How many octets the card stores now, of frames, messages and contents; at most lapd_limit's. A card of frames stores
  * none of frames that come and go. */

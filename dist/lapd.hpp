@@ -341,6 +341,10 @@ public:
     status fall_due(uint64_t now, report &to) { return of(lapd_fall_due(&card_, now, to.raw())); }
     /// When the first timer falls due; status::no_timer if none runs.
     status next_moment(uint64_t &moment) { return of(lapd_next_moment(&card_, &moment)); }
+    /// When the state of a link changed last; 0 if it has not since the start.
+    status changed_at(uint32_t line, service by, uint8_t tei, uint64_t &moment) {
+        return of(lapd_changed_at(&card_, line, number(by), tei, &moment));
+    }
     /// Timers that are started from now on run so long, and those that run as long as they were to.
     status set_lengths(const lapd_lengths &lengths) { return of(lapd_card_set_lengths(&card_, &lengths)); }
     /// A request (LAPD_ESTABLISH to LAPD_VERIFY_TEI) with its moment: while a timer is due, that falls due, and is_done is false;
@@ -407,6 +411,9 @@ public:
         return is;
     }
     status counters(uint32_t line, struct lapd_counters &to) { return of(lapd_counters(&card_, line, &to)); }
+    status link_counters(uint32_t line, service by, uint8_t tei, struct lapd_link_counters &to) {
+        return of(lapd_link_counters(&card_, line, number(by), tei, &to));
+    }
     status stored(uint32_t &to) { return of(lapd_stored(&card_, &to)); }
     status limit(uint32_t &to) { return of(lapd_limit(&card_, &to)); }
     status lines(uint32_t &to) { return of(lapd_lines(&card_, &to)); }

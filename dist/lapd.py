@@ -22,6 +22,29 @@ Words stand in the order of C. So `lapd_data(&card, line, LAPD_PACKET, 64, conte
 `card.data(line, tei=64, contents=contents)`. What is `note.note` in C is `note.kind`, and `note.note` too; so it is with a
 timer and an order.
 
+A report counts the contents that a link gave up, the newest ones. On a card that keeps its own timers this sends them again,
+and LAYER3.md says what may come twice:
+
+    LATER = (lapd.Status.REFUSED_WRONG_STATE, lapd.Status.REFUSED_QUEUE_FULL, lapd.Status.REFUSED_POOL_FULL)
+
+    class Outbox:
+        def __init__(self, card, *link):                        # line, service and TEI
+            self.card, self.link = card, link
+            self.granted, self.waiting = collections.deque(maxlen=127), collections.deque()
+
+        def gave_up(self, count):                               # of each report: given_up, or given_up_16
+            for _ in range(count):
+                self.waiting.appendleft(self.granted.pop())
+
+        def send_waiting(self):                                 # after each report, and as a message is put in `waiting`
+            try:
+                while self.waiting:
+                    self.card.data(*self.link, self.waiting[0])
+                    self.granted.append(self.waiting.popleft())
+            except lapd.Refused as why:
+                if why.status not in LATER:                     # otherwise until a later report
+                    raise
+
 The library is the file that LAPD_LIBRARY names in the environment; else ../../lib/liblapd.so.1 beside this file, as it is
 installed; else liblapd.so.1 in this file's folder; else liblapd.so.1 where the system looks.
 """
@@ -292,6 +315,13 @@ class _Counters(ctypes.Structure):
     # tools/names: end
 
 
+class _LinkCounters(ctypes.Structure):
+    # tools/names: lapd_link_counters
+    _fields_ = [("sent_again", ctypes.c_uint16), ("t200_expired", ctypes.c_uint16), ("rejects_sent", ctypes.c_uint16),
+                ("rejects_received", ctypes.c_uint16), ("established", ctypes.c_uint16)]
+    # tools/names: end
+
+
 class _Due(ctypes.Structure):
     # tools/names: lapd_due
     _fields_ = [("line", ctypes.c_uint32), ("timer", _Timer)]
@@ -308,6 +338,7 @@ _TAKES: Dict[str, List[Any]] = {
     "lapd_card_start": [_AT, _AT], "lapd_card_start_frames": [_AT, _AT], "lapd_card_free": [_AT],
     "lapd_card_start_timed": [_AT, _AT, _AT], "lapd_card_start_frames_timed": [_AT, _AT, _AT],
     "lapd_fall_due": [_AT, _U64, _AT], "lapd_next_moment": [_AT, _AT], "lapd_card_set_lengths": [_AT, _AT],
+    "lapd_changed_at": [_AT, _U32, _U8, _U8, _AT],
     "lapd_octet": [_AT, _U32, _U8, _AT], "lapd_pull": [_AT, _U32, _AT, _AT],
     "lapd_exchange": [_AT, _U32, _AT, _SIZE, _AT, _SIZE, _AT, _AT],
     "lapd_frame": [_AT, _U32, _AT, _SIZE, _AT], "lapd_frame_failed": [_AT, _U32, _U8, _AT],
@@ -318,6 +349,7 @@ _TAKES: Dict[str, List[Any]] = {
     "lapd_room": [_AT, _U32, _U8, _U8, _AT], "lapd_begun": [_AT, _U32, _AT], "lapd_heard": [_AT, _U32, _AT],
     "lapd_begun_frame": [_AT, _U32, _AT, _SIZE, _AT], "lapd_heard_frame": [_AT, _U32, _AT, _SIZE, _AT],
     "lapd_counters": [_AT, _U32, _AT], "lapd_stored": [_AT, _AT], "lapd_limit": [_AT, _AT], "lapd_lines": [_AT, _AT],
+    "lapd_link_counters": [_AT, _U32, _U8, _U8, _AT],
     "lapd_clock_start": [_AT, _AT], "lapd_clock_set_lengths": [_AT, _U32, _U32, _U32, _U32], "lapd_clock_free": [_AT],
     "lapd_clock_apply_report": [_AT, _U32, _AT, _U64], "lapd_clock_due": [_AT, _U64, _AT], "lapd_clock_next": [_AT, _AT],
     "lapd_status_text": [_U32], "lapd_note_text": [_AT], "lapd_note_text_of": [_AT, _AT, _AT, _SIZE],
@@ -336,10 +368,12 @@ def _path() -> str:
 
 @functools.lru_cache(None)
 def library() -> ctypes.PyDLL:
-    """The shared library, with each function as lapd.h declares it. OSError: it is not found."""
+    """The shared library, with each function as lapd.h declares it. OSError: it is not found, or older than this file."""
     found = ctypes.PyDLL(_path())  # one call at a time: none lasts
     for name, takes in _TAKES.items():
-        function = getattr(found, name)
+        function = getattr(found, name, None)
+        if function is None:
+            raise OSError(f"{_path()} has no {name}: it is older than lapd.py")
         function.argtypes, function.restype = takes, _ANSWERS.get(name, ctypes.c_uint32)
     return found
 
@@ -530,6 +564,16 @@ class Room(NamedTuple):
     va: int
 
 
+class LinkCounters(NamedTuple):
+    """What was counted of a link; each number stays at 65535."""
+
+    sent_again: int
+    t200_expired: int
+    rejects_sent: int
+    rejects_received: int
+    established: int
+
+
 class Head(NamedTuple):
     """How a frame begins, and how many octets it has."""
 
@@ -705,6 +749,12 @@ class AnyCard(_Owner):
         _call("lapd_counters", self._at, line, ctypes.byref(counters))
         return {_text(library().lapd_counter_text(place)): value for place, value in enumerate(counters.values)}
 
+    def link_counters(self, line: int, service: Service = Service.CALL, tei: Optional[int] = None) -> LinkCounters:
+        """What was counted of a link since its TEI came to the line, or it was given up by `deactivate` or `line_down`."""
+        of = _LinkCounters()
+        _call("lapd_link_counters", self._at, line, *_link(service, tei), ctypes.byref(of))
+        return LinkCounters(of.sent_again, of.t200_expired, of.rejects_sent, of.rejects_received, of.established)
+
     def _number(self, name: str) -> int:
         number = ctypes.c_uint32()
         _call(name, self._at, ctypes.byref(number))
@@ -835,6 +885,12 @@ class _Timed(AnyCard):
         moment = ctypes.c_uint64()
         is_there = _unless(Status.NO_TIMER, "lapd_next_moment", self._at, ctypes.byref(moment))
         return moment.value if is_there else None
+
+    def changed_at(self, line: int, service: Service = Service.CALL, tei: Optional[int] = None) -> int:
+        """The moment at which the state of a link changed last, where the coming of its TEI counts; 0 if it has not since the start."""
+        moment = ctypes.c_uint64()
+        _call("lapd_changed_at", self._at, line, *_link(service, tei), ctypes.byref(moment))
+        return moment.value
 
     def set_lengths(self, t200: int = 1000, t203: int = 10000, t201: int = 1000, t202: int = 2000) -> None:
         """Timers that are started from now on run so many milliseconds, and those that run as long as they were to."""

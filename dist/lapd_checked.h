@@ -133,6 +133,14 @@ LAPD_INLINE_STATUS lapd_checked_next_moment(lapd_card *card, uint64_t *moment) {
 }
 #define lapd_next_moment lapd_checked_next_moment
 
+LAPD_INLINE_STATUS lapd_checked_changed_at(lapd_card *card, uint32_t line, uint8_t service, uint8_t tei,
+                                           uint64_t *moment) {
+    if (card == LAPD_NULL || moment == LAPD_NULL)
+        return LAPD_WRONG_POINTER;
+    return lapd_changed_at(card, line, service, tei, moment);
+}
+#define lapd_changed_at lapd_checked_changed_at
+
 LAPD_INLINE_STATUS lapd_checked_card_set_lengths(lapd_card *card, const lapd_lengths *lengths) {
     if (card == LAPD_NULL || lengths == LAPD_NULL)
         return LAPD_WRONG_POINTER;
@@ -198,6 +206,14 @@ LAPD_INLINE_STATUS lapd_checked_counters(lapd_card *card, uint32_t line, struct 
     return lapd_counters(card, line, counters);
 }
 #define lapd_counters(card, line, counters) lapd_checked_counters(card, line, counters)
+
+LAPD_INLINE_STATUS lapd_checked_link_counters(lapd_card *card, uint32_t line, uint8_t service, uint8_t tei,
+                                              struct lapd_link_counters *counters) {
+    if (card == LAPD_NULL || counters == LAPD_NULL)
+        return LAPD_WRONG_POINTER;
+    return lapd_link_counters(card, line, service, tei, counters);
+}
+#define lapd_link_counters(card, line, service, tei, counters) lapd_checked_link_counters(card, line, service, tei, counters)
 
 LAPD_INLINE_STATUS lapd_checked_stored(lapd_card *card, uint32_t *octets) {
     if (card == LAPD_NULL || octets == LAPD_NULL)

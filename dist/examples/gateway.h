@@ -10,8 +10,8 @@
  *     ... wait for a frame, for room in a controller, or until the moment of lapd_next_moment at the latest; now = ..; then ...
  *     status = gateway_advance(&own, now);
  *     ... each frame that came: gateway_frame(&own, now, ..); then ...
- *     for (uint32_t line = 0; lapd_next_waiting(&own.card, line, &line) == LAPD_OK; line++)
- *         ... if the controller of this line has room for a frame: gateway_take(&own, now, ..) ...
+ *     for (uint32_t line = 0; lapd_next_waiting(&own.card, line, &line) == LAPD_OK;)
+ *         ... if the controller of this line has room for a frame: gateway_take(&own, now, ..); else line++ ...
  *     ... and so on ...
  *     gateway_end(&own);
  *
@@ -20,7 +20,9 @@
  * gateway_end. These happen at own->now, whatever moment it hands over.
  *
  * Layer management has an automatic TEI checked, or at a terminal verified, after each of the errors C, D, G and H (Q.921, appendix
- * II), if on_report did not ask for that: there may be a second terminal with it, or none any more.
+ * II), if on_report did not ask for that: there may be a second terminal with it, or none any more. Each TEI from 64 on counts
+ * as automatic, whoever put it on the line. So set one of 0 to 63 by hand (clause 3.3.4.1): a check that nobody answers takes
+ * its TEI off the line.
  *
  * Each call answers LAPD_OK: it did what it says. Else, as lapd.h says of it, what was wrong, and nothing has changed, except the
  * moment: LAPD_NO_CARD (the gateway was not started), LAPD_WRONG_LINE, LAPD_WRONG_TIME of a moment, and what stands at each call.

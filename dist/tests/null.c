@@ -24,6 +24,7 @@ static struct {
     lapd_timer at_lapd_timer;
     size_t at_size_t;
     struct lapd_counters at_lapd_counters;
+    struct lapd_link_counters at_lapd_link_counters;
     struct lapd_room at_lapd_room;
     uint32_t at_uint32_t;
     uint64_t at_uint64_t;
@@ -180,6 +181,12 @@ void check_null(void) {
     wants(lapd_next_moment(&card, NULL) == LAPD_WRONG_POINTER && memcmp(&own, &was, sizeof own) == 0,
           "lapd_next_moment with null for moment");
     fresh();
+    wants(lapd_changed_at(NULL, 0, 0, 64, &own.at_uint64_t) == LAPD_WRONG_POINTER && memcmp(&own, &was, sizeof own) == 0,
+          "lapd_changed_at with null for card");
+    fresh();
+    wants(lapd_changed_at(&card, 0, 0, 64, NULL) == LAPD_WRONG_POINTER && memcmp(&own, &was, sizeof own) == 0,
+          "lapd_changed_at with null for moment");
+    fresh();
     wants(lapd_card_set_lengths(NULL, &own.at_lapd_lengths) == LAPD_WRONG_POINTER && memcmp(&own, &was, sizeof own) == 0,
           "lapd_card_set_lengths with null for card");
     fresh();
@@ -242,6 +249,12 @@ void check_null(void) {
     fresh();
     wants(lapd_counters(&card, 0, NULL) == LAPD_WRONG_POINTER && memcmp(&own, &was, sizeof own) == 0,
           "lapd_counters with null for counters");
+    fresh();
+    wants(lapd_link_counters(NULL, 0, 0, 64, &own.at_lapd_link_counters) == LAPD_WRONG_POINTER && memcmp(&own, &was, sizeof own) == 0,
+          "lapd_link_counters with null for card");
+    fresh();
+    wants(lapd_link_counters(&card, 0, 0, 64, NULL) == LAPD_WRONG_POINTER && memcmp(&own, &was, sizeof own) == 0,
+          "lapd_link_counters with null for counters");
     fresh();
     wants(lapd_stored(NULL, &own.at_uint32_t) == LAPD_WRONG_POINTER && memcmp(&own, &was, sizeof own) == 0,
           "lapd_stored with null for card");

@@ -25,6 +25,7 @@ static struct {
     lapd_head head;
     struct lapd_room room;
     struct lapd_counters counters;
+    struct lapd_link_counters of_link;
     size_t length;
     uint64_t moment;
     uint32_t number;
@@ -90,6 +91,7 @@ static void no_card(void) {
     ANSWERS(LAPD_NO_CARD, lapd_line_down(&none, 0, &own.place, &own.report));
     ANSWERS(LAPD_NO_CARD, lapd_fall_due(&none, 0, &own.report));
     ANSWERS(LAPD_NO_CARD, lapd_next_moment(&none, &own.moment));
+    ANSWERS(LAPD_NO_CARD, lapd_changed_at(&none, 0, LAPD_CALL, 64, &own.moment));
     ANSWERS(LAPD_NO_CARD, lapd_card_set_lengths(&none, &lengths));
     ANSWERS(LAPD_NO_CARD, lapd_state(&none, 0, LAPD_CALL, 64, &own.octet));
     ANSWERS(LAPD_NO_CARD, lapd_next_link(&none, 0, &own.place, &own.link));
@@ -99,6 +101,7 @@ static void no_card(void) {
     ANSWERS(LAPD_NO_CARD, lapd_begun_frame(&none, 0, own.out, sizeof own.out, &own.length));
     ANSWERS(LAPD_NO_CARD, lapd_heard_frame(&none, 0, own.out, sizeof own.out, &own.length));
     ANSWERS(LAPD_NO_CARD, lapd_counters(&none, 0, &own.counters));
+    ANSWERS(LAPD_NO_CARD, lapd_link_counters(&none, 0, LAPD_CALL, 64, &own.of_link));
     ANSWERS(LAPD_NO_CARD, lapd_stored(&none, &own.number));
     ANSWERS(LAPD_NO_CARD, lapd_limit(&none, &own.number));
     ANSWERS(LAPD_NO_CARD, lapd_lines(&none, &own.number));
@@ -123,6 +126,7 @@ static void wrong_line(void) {
     ANSWERS(LAPD_WRONG_LINE, lapd_begun_frame(&card, 2, own.out, sizeof own.out, &own.length));
     ANSWERS(LAPD_WRONG_LINE, lapd_heard_frame(&card, 2, own.out, sizeof own.out, &own.length));
     ANSWERS(LAPD_WRONG_LINE, lapd_counters(&card, 2, &own.counters));
+    ANSWERS(LAPD_WRONG_LINE, lapd_link_counters(&card, 2, LAPD_CALL, 64, &own.of_link));
 }
 
 /* Calls of the other kind of card, and of cards that keep their timers or do not. */
@@ -141,6 +145,7 @@ static void wrong_card(void) {
     ANSWERS(LAPD_WRONG_CARD, lapd_next_waiting(&card, 0, &own.number));
     ANSWERS(LAPD_WRONG_CARD, lapd_fall_due(&card, 0, &own.report));
     ANSWERS(LAPD_WRONG_CARD, lapd_next_moment(&card, &own.moment));
+    ANSWERS(LAPD_WRONG_CARD, lapd_changed_at(&card, 0, LAPD_CALL, 64, &own.moment));
     ANSWERS(LAPD_WRONG_CARD, lapd_card_set_lengths(&card, &too_short));
 }
 
@@ -162,12 +167,15 @@ static void wrong_words(void) {
     ANSWERS(LAPD_WRONG_TEI, lapd_state(&card, 0, LAPD_CALL, 127, &own.octet));
     ANSWERS(LAPD_WRONG_SERVICE, lapd_room(&card, 0, 1, 64, &own.room));
     ANSWERS(LAPD_WRONG_TEI, lapd_room(&card, 0, LAPD_CALL, 127, &own.room));
+    ANSWERS(LAPD_WRONG_SERVICE, lapd_link_counters(&card, 0, 1, 64, &own.of_link));
+    ANSWERS(LAPD_WRONG_TEI, lapd_link_counters(&card, 0, LAPD_CALL, 127, &own.of_link));
     ANSWERS(LAPD_WRONG_TIME, lapd_fall_due(&timed, 4, &own.report));
     ANSWERS(LAPD_WRONG_TIME, lapd_fall_due(&timed, LAPD_LATEST, &own.report));
     ANSWERS(LAPD_WRONG_TIME, lapd_card_set_lengths(&timed, &too_short));
     ANSWERS(LAPD_NO_FRAME, lapd_next_frame(&timed, 0, own.out, sizeof own.out, &own.length, &own.report));
     ANSWERS(LAPD_NO_FRAME, lapd_next_waiting(&timed, 0, &own.number));
     ANSWERS(LAPD_NO_TIMER, lapd_next_moment(&timed, &own.moment));
+    ANSWERS(LAPD_REFUSED_NO_LINK, lapd_changed_at(&timed, 0, LAPD_CALL, 64, &own.moment));
     ANSWERS(LAPD_WRONG_LENGTH, lapd_frame_text(octets, 1029, LAPD_USER, own.text, sizeof own.text));
     ANSWERS(LAPD_WRONG_LENGTH, lapd_frame_text(octets, 3, LAPD_USER, own.text, 4));
     ANSWERS(LAPD_BAD_SIDE, lapd_frame_text(octets, 3, 3, own.text, sizeof own.text));
@@ -181,6 +189,7 @@ static void refused(void) {
     ANSWERS(LAPD_REFUSED_NO_LINK, lapd_establish(&card, 0, LAPD_CALL, 65, &own.report));
     ANSWERS(LAPD_REFUSED_NO_LINK, lapd_remove(&card, 0, 65, &own.report));
     ANSWERS(LAPD_REFUSED_NO_LINK, lapd_room(&card, 0, LAPD_CALL, 65, &own.room));
+    ANSWERS(LAPD_REFUSED_NO_LINK, lapd_link_counters(&card, 0, LAPD_CALL, 65, &own.of_link));
     ANSWERS(LAPD_REFUSED_WRONG_STATE, lapd_data(&card, 0, LAPD_CALL, 64, octets, 1, &own.report));
     ANSWERS(LAPD_REFUSED_TOO_LONG, lapd_unit(&card, 0, LAPD_CALL, 127, octets, 9, &own.report));
     ANSWERS(LAPD_REFUSED_TEI_TAKEN, lapd_assign(&card, 0, 64, &own.report));

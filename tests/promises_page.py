@@ -47,6 +47,7 @@ RUNS = {
     'teis_are_managed': 'laws_trace WorkedManaging', 'asking_ends': 'laws_trace WorkedAsking', 'timers_are_timely': 'laws_trace WorkedObserver',
     'links_move': 'laws_trace WorkedObserver', 'news_is_told': 'laws_trace WorkedNews',
     'rooms_are_told': 'laws_trace WorkedRooms', 'counters_count': 'laws_trace WorkedCounters',
+    'link_counters_count': 'laws_trace WorkedLinkCounters',
     'causes_are_told': 'laws_trace WorkedCauses', 'a_dead_line_is_told': 'laws_time WorkedSilence', 'answers_come_in_time': 'laws_time circuit/WorkedLongEnough',
     'commands_are_answered': 'laws_time circuit/WorkedAnswered',
     'calls_bear_noise': 'laws_time circuit/WorkedArriving', 'an_answer_tells_what_came': 'laws_time circuit/WorkedCaughtUp',
@@ -70,7 +71,7 @@ RUNS = {
 # The law that the pages print whole, and the most lines that it may need.
 HEADLINE, MOST_LINES = 'a_call_comes_through', 200
 # How many wrong machines the page names at a promise; tests/wrong-machines --page has all.
-MOST_ROWS = 2
+MOST_ROWS = 1
 # Premises that many laws of two cards have: what the page calls them.
 SHARED = {'a call': ['CanCall c line d other tei'], 'talk': ['All (IsTalk service tei) ds'],
           'rough talk': ['All (IsRoughTalk service tei) ds'], 'full talk': ['All (IsFullTalk service tei) ds'],

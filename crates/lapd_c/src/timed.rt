@@ -89,7 +89,7 @@ pub extern "C" fn lapd_next_moment(handle: &mut CardHandle, moment: &mut u64) ->
 }
 
 /// The moment at which the state of the link of a service with a TEI changed last. Beside states 4 to 8, that its TEI is not on
-/// the line counts as one, so its coming is a change. 0 if it has been so since the start.
+/// the line counts as one, so its coming is a change. 0 if that was before a moment was told.
 #[unsafe(no_mangle)]
 pub extern "C" fn lapd_changed_at(
     handle: &mut CardHandle,

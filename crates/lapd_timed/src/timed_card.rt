@@ -73,6 +73,7 @@ impl TimedCard {
     pub fn set_lengths(&mut self, lengths: Lengths)
         ensures card { self.new.card ≡ self.old.card }
         ensures after { (m : Card) (c : Clock) → TimersStand self.old.timers m c → TimersStand self.new.timers m (with_lengths (lengths_of lengths) c) }
+        ensures noted { (m : Card) (marks : Marks) → ChangesStand self.old.timers m marks → ChangesStand self.new.timers m marks }
     {
         self.timers.set_lengths(lengths);
     }
@@ -120,7 +121,7 @@ impl TimedCard {
         self.timers.next_moment()
     }
 
-    /// The moment, in milliseconds, at which the state of a link changed last; 0 if it has not since the start. There are states 4
+    /// The moment, in milliseconds, at which the state of a link changed last; 0 if before a moment was told. There are states 4
     /// to 8, and that its TEI is not on the line counts as one more. So its coming is a change. The answer is `None` where the TEI
     /// is not on the line.
     pub fn changed_at(&self, line: usize, service: Service, tei: u8) -> Option<u64>

@@ -559,7 +559,7 @@ LAPD_STATUS lapd_next_moment(lapd_card *card, uint64_t *moment);
 
 /* When the state of the link of a service with this TEI changed last: the moment, as lapd_fall_due was told it, of the call
  * after which it was another than before (4 to 8, as lapd_state tells it). It changes, too, as the TEI comes to the line. 0 if
- * nothing has changed since the start. It changes nothing. LAPD_REFUSED_NO_LINK: the TEI is not on the line. */
+ * that was before a moment was told. The call changes nothing. LAPD_REFUSED_NO_LINK: the TEI is not on the line. */
 LAPD_STATUS lapd_changed_at(lapd_card *card, uint32_t line, uint8_t service, uint8_t tei, uint64_t *moment);
 
 /* How long timers run that are started from now on. Those that run keep the lengths that they were started with.

@@ -341,7 +341,7 @@ public:
     status fall_due(uint64_t now, report &to) { return of(lapd_fall_due(&card_, now, to.raw())); }
     /// When the first timer falls due; status::no_timer if none runs.
     status next_moment(uint64_t &moment) { return of(lapd_next_moment(&card_, &moment)); }
-    /// When the state of a link changed last; 0 if it has not since the start.
+    /// When the state of a link changed last, where the coming of its TEI counts; 0 if that was before a moment was told.
     status changed_at(uint32_t line, service by, uint8_t tei, uint64_t &moment) {
         return of(lapd_changed_at(&card_, line, number(by), tei, &moment));
     }

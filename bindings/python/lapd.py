@@ -887,7 +887,7 @@ class _Timed(AnyCard):
         return moment.value if is_there else None
 
     def changed_at(self, line: int, service: Service = Service.CALL, tei: Optional[int] = None) -> int:
-        """The moment at which the state of a link changed last, where the coming of its TEI counts; 0 if it has not since the start."""
+        """When the state of a link changed last, where the coming of its TEI counts; 0 if that was before a moment was told."""
         moment = ctypes.c_uint64()
         _call("lapd_changed_at", self._at, line, *_link(service, tei), ctypes.byref(moment))
         return moment.value

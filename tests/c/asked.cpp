@@ -123,6 +123,7 @@ void asks_timers(lapd::any_card &card) {
     wants(card.set_lengths({500, 10000, 1000, 2000}) == status::ok && card.set_lengths({0, 1, 1, 1}) == status::wrong_time
               && card.next_moment(moment) == status::ok && moment == 7000, "T200 that runs keeps its length");
     wants(card.fall_due(7000, report) == status::ok && card.next_moment(moment) == status::ok && moment == 7500, "another length of T200");
+    wants(card.changed_at(1, service::call, 64, moment) == status::ok && moment == 5000, "SABME goes again, and the state is the same");
     wants(card.expire(1, lapd::timer({LAPD_T200, LAPD_CALL, 64}), report) == status::wrong_card, "an expiry that is not its own");
     wants(card.end() == status::ok && card.set_lengths({1, 1, 1, 1}) == status::no_card && card.fall_due(7000, report) == status::no_card && card.next_moment(moment) == status::no_card, "its end");
 }

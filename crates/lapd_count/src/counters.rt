@@ -15,12 +15,12 @@ use lapd_frame::{Note, Side, octet_at};
 use model_bits::{Cause, Head, Heard};
 
 /// How many counters there are.
-const COUNT: usize = 79;
+pub(crate) const COUNT: usize = 79;
 
 /// What was counted of a line: a number of 64 bits for each [`Counter`], which stays at its greatest value once it is there.
 #[derive(Clone, Copy, PartialEq, Eq, Debug)]
 pub struct Counters {
-    values: [u64; COUNT],
+    pub(crate) values: [u64; COUNT],
 }
 
 impl Counters {

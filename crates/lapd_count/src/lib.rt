@@ -6,12 +6,13 @@
 //! each counter is the number of what its name says, from the start of the line on (`counters_are_numbers`).
 //!
 //! - `kinds`: the kinds of frames, by their control fields; `messages`: the messages of TEI management, by their types;
-//!   `counter`: the names of the counters; `counters`: their values.
+//!   `counter`: the names of the counters; `counters`: their values; `image`: how an image has them.
 //! - `laws`: that a counter is a number, and that no two stand at one place.
 #![tactic(auto)]
 
 mod counter;
 mod counters;
+mod image;
 mod kinds;
 mod laws;
 mod messages;

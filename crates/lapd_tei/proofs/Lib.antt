@@ -1,9 +1,10 @@
--- Lemmas: tables of TEIs, messages that are remembered, and what is served.
+-- Lemmas: tables of TEIs, messages that are remembered, what is served, and what an image says.
 pub mod Vocabulary
 pub mod Lists
 pub mod Tables
 pub mod Among
 pub mod Dues
+pub mod DueBits
 pub mod Named
 pub mod Memories
 pub mod SoundWords
@@ -17,3 +18,8 @@ pub mod Brief
 pub mod Followed
 pub mod GivenUp
 pub mod Disowned
+pub mod ImageRead
+pub mod TableRead
+pub mod MemoryRead
+pub mod QueueRead
+pub mod Restored

@@ -1,5 +1,6 @@
 -- Lemmas on lists.
 use Rattle.lapd_tei.proofs.Vocabulary.{◌≡◌, ℕ, zero, suc, ◌<◌, Bool, true, false, cond, List, [], ◌∷◌, ◌++◌, drop, Some, None, ◌∙◌, refl, sym, ap, All, AllByRecursion, IsDistinct, filter, find, All-from_recursion, recursion_from_All, none-some, length, get_or, find_at, get_or_from_slice_get, slice_get_within, passes_at_first, fails_before_first, position_or_len}
+use Rattle.lapd_tei.proofs.Vocabulary.{◌+◌, ◌≤◌, arith, cases_eq, get_or_default, inl, inr, subst}
 
 -- what holds of all that pass a test holds of what a filter keeps
 kept_by : {X : Type 0} (p : X → Bool) (P Q : X → Type 0) → ((x : X) → p x ≡ true → P x → Q x) → (xs : List X) → AllByRecursion P xs → AllByRecursion Q (filter p xs)
@@ -62,3 +63,15 @@ found p xs x e =
     let at = get_or_from_slice_get xs (position_or_len p xs) x x there in
     let within = slice_get_within xs (position_or_len p xs) x there in
     record { place = position_or_len p xs; within = within; at = at; passes = ap p (sym at) ∙ passes_at_first p xs x within; before = λ k lt. fails_before_first p xs k x lt }
+
+-- What holds of the elements so far, and of the next one, holds of one more; and once these are all, it holds of all.
+pub each-more : {X : Type 0} (P : X → Type 0) (xs : List X) (i : ℕ) (e : X) → i < length xs → ((k : ℕ) (d : X) → k < i → P (get_or xs k d)) → P (get_or xs i e)
+    → (k : ℕ) (d : X) → k < i + 1 → P (get_or xs k d)
+each-more P xs i e within before one k d low =
+    elim (cases_eq k i) [
+      | inl same ↦ subst (λ n. P (get_or xs n d)) (sym same) (subst P (get_or_default xs i e d within) one)
+      | inr apart ↦ before k d (omega (arith, low, apart))
+    ]
+
+pub each-all : {X : Type 0} (P : X → Type 0) (xs : List X) (i : ℕ) → length xs ≤ i → ((k : ℕ) (d : X) → k < i → P (get_or xs k d)) → All P xs
+each-all P xs i past before k d within = before k d (omega (arith, past, within))

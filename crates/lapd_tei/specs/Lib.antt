@@ -8,6 +8,7 @@ pub mod Events
 pub mod Outcome
 pub mod Sound
 pub mod Laws
+pub mod Image
 pub mod Worked
 -- the words of the contracts, from where they are defined
 pub use Rattle.lapd_tei.specs.Events.{after, after_offer, assign, check, disown, down, expiry, message, offered, refusal, remove, told}

@@ -3,6 +3,8 @@
 ghost use Rattle.std.specs.Prelude.{◌≡◌, ◌≤◌};
 ghost use Rattle.lapd_tei.specs.{counted, responses, is_unanswered};
 
+mod saved;
+
 /// A check of a TEI that is under way (Q.921 clause 5.3.3.2).
 #[derive(Clone, Copy, PartialEq, Eq, Debug)]
 pub struct Check {

@@ -4,6 +4,8 @@ ghost use Rattle.std.specs.Prelude.{◌≡◌, ◌<◌, ◌≤◌, false, length
 ghost use Rattle.std.specs.List.{list_any, position};
 ghost use Rattle.lapd_tei.specs.{due_at, is_due};
 
+mod saved;
+
 use crate::table::MOST;
 use arrayvec::ArrayVec;
 use std::marker::Model;

@@ -9,6 +9,7 @@
 //! - `check`: the check of a TEI that runs; `due`: those that are due once it has ended.
 //! - `queue`: the messages that wait to be sent.
 //! - `messages`, `heard`: the messages of the network and of the terminals; what both kinds say, `ENTITY` and `NO_TEI`.
+//! - `saved` below these, and below `teis` for the whole: what each is in an image of its card.
 //! - `laws`: what holds of the table of events itself.
 //!
 //! The events and their effects stand in `specs/Rows.antt` and `specs/Events.antt`, one equation for each row, and in

@@ -4,6 +4,8 @@ ghost use Rattle.std.specs.Prelude.{◌≡◌, ◌<◌};
 ghost use Rattle.lapd_tei.specs.Messages.{action_of, information_of, frame_of, type_of};
 ghost use Rattle.lapd_tei.specs.Rows.{asks_for, assigns_for};
 
+mod saved;
+
 use lapd_frame::{Address, Control, Frame, GROUP, MANAGEMENT, Side, write};
 
 /// The entity identifier of TEI management (Q.921 clause 5.3.6).

@@ -5,6 +5,8 @@ ghost use Rattle.std.specs.List.{list_any};
 ghost use Rattle.lapd_tei.specs.Words.{no_room, with_message, lost_after};
 ghost use Rattle.lapd_tei.specs.Rows.{asks_for, assigns_for};
 
+mod saved;
+
 use crate::messages::Message;
 use circular_buffer::HeapCircularBuffer;
 use std::alloc::{AllocError, Global};

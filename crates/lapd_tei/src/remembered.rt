@@ -4,6 +4,8 @@ ghost use Rattle.std.specs.Prelude.{◌≡◌, ◌≤◌, List, [], ◌∷◌, �
 ghost use Rattle.lapd_frame.specs.Readings.{by_reading};
 ghost use Rattle.lapd_tei.specs.{remembered_in, latest, is_of_other};
 
+mod saved;
+
 use arrayvec::ArrayVec;
 use lapd_frame::Reading;
 use std::marker::Model;

@@ -3,6 +3,8 @@
 ghost use Rattle.std.specs.Prelude.{◌≡◌, ◌<◌, ◌≤◌, [], ◌∷◌, ◌++◌, Some, None, length, replicate, set, IfSome};
 ghost use Rattle.lapd_tei.specs.{Places, is_on, is_in_use, named, place_of, tei_at, free_place, free_tei, freed, teis_on};
 
+mod saved;
+
 use arrayvec::ArrayVec;
 use lapd_frame::GROUP;
 use std::marker::Model;
@@ -38,6 +40,14 @@ impl Table {
         Table { places: all }
     }
 
+    /// How many places it has: at most eight.
+    pub(crate) fn len(&self) -> usize
+        ensures len { result ≡ length self.now }
+        ensures few { result ≤ 8 }
+    {
+        self.places.len()
+    }
+
     /// Whether the TEI is on the line.
     pub fn is_on(&self, tei: u8) -> bool
         ensures { result ≡ is_on tei self.now }
@@ -67,7 +77,7 @@ impl Table {
     }
 
     /// The TEI at a place.
-    pub(crate) fn tei_at(&self, place: usize) -> Option<u8>
+    pub fn tei_at(&self, place: usize) -> Option<u8>
         ensures { result ≡ tei_at self.now (Some place) }
     {
         *self.places.as_slice().get(place)?

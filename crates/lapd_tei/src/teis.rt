@@ -1,12 +1,13 @@
 //! TEI management of one line.
 
-ghost use Rattle.std.specs.Prelude.{◌≡◌, ◌≤◌, ◌<◌, true, Some, None, length, option_map, slice_get, is_some, false, IfOk, IfErr, IfSome, OnOk, OnErr};
+ghost use Rattle.std.specs.Prelude.{◌≡◌, ◌≤◌, ◌<◌, true, Some, None, length, get_or, option_map, slice_get, is_some, false, IfOk, IfErr, IfSome, OnOk, OnErr};
 ghost use Rattle.lapd_tei.specs.{type_of, empty, place, held, is_on, begun, leave, left, take_off, is_checked, message, expiry, assign, remove, check, disown, down, refusal, after, told, offered, after_offer, told_of, led_to, IsShort};
 ghost use Rattle.lapd_frame.specs.declared.readings.Reading.TheVariants.{Profile};
 ghost use Rattle.lapd_frame.specs.declared.addresses.Side.{Side as Spelt};
 
 mod checks;
 mod requests;
+mod saved;
 
 use crate::check::Check;
 use crate::due::Due;
@@ -236,6 +237,20 @@ impl Teis {
         ensures within { IfSome result (λ place. place < length self.now.places) }
     {
         self.table.place_of(tei)
+    }
+
+    /// Whether a check runs.
+    pub fn is_checking(&self) -> bool
+        ensures { result ≡ is_some self.now.check }
+    {
+        self.check.is_some()
+    }
+
+    /// The TEI at a place.
+    pub fn tei_at(&self, place: usize) -> Option<u8>
+        ensures { result ≡ get_or self.now.places place None }
+    {
+        self.table.tei_at(place)
     }
 
     /// Takes the message that has waited longest: the octets of its frame, without the frame check, as `side` sends it.

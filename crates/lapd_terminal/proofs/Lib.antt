@@ -1,4 +1,4 @@
--- Lemmas: queues of messages, what each word keeps, what is served and told, and the period of the reference numbers.
+-- Lemmas: queues of messages, what each word keeps, what is served and told, the period of the reference numbers, and what an image says.
 pub mod Vocabulary
 pub mod Counted
 pub mod Queues
@@ -13,3 +13,4 @@ pub mod LawLemmas
 pub mod Given
 pub mod GivenUp
 pub mod Period
+pub mod ImageRead

@@ -138,7 +138,7 @@ pub few_messages : (m : Terminal) → IsSound m → length m.waiting ≤ 9
 few_messages m sound = omega (arith, room m sound, sound.few)
 
 -- What waits names a TEI or the group.
-due_action : (places : Places) (procedure : Option Procedure) (message : Message) → IsSoundTable places → IfSome procedure (IsSoundProcedure places) → IsDueAt places procedure message → action_of message < 128
+pub due_action : (places : Places) (procedure : Option Procedure) (message : Message) → IsSoundTable places → IfSome procedure (IsSoundProcedure places) → IsDueAt places procedure message → action_of message < 128
 due_action places procedure (IdentityRequest ri) table runs due = omega arith
 due_action places procedure (IdentityCheckResponse ri tei) table runs due = omega (arith, on-range places tei table due)
 due_action places None (IdentityVerify tei) table runs due = absurd (false≢true due)

@@ -8,4 +8,5 @@ pub mod Events
 pub mod Outcome
 pub mod Sound
 pub mod Laws
+pub mod Image
 pub mod Worked

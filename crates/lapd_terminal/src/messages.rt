@@ -4,6 +4,8 @@ ghost use Rattle.std.specs.Prelude.{◌≡◌, ◌<◌};
 ghost use Rattle.lapd_terminal.specs.Messages.{action_of, information_of, frame_of, type_of};
 ghost use Rattle.lapd_terminal.specs.Words.{is_request, is_verify, is_response, is_response_of};
 
+mod saved;
+
 use lapd_frame::{Address, Control, Frame, GROUP, MANAGEMENT, Side, write};
 use lapd_tei::{ENTITY, NO_TEI};
 

@@ -5,6 +5,8 @@ ghost use Rattle.std.specs.List.{list_any, position};
 ghost use Rattle.lapd_terminal.specs.declared.messages.Message.TheVariants.{IdentityCheckResponse};
 ghost use Rattle.lapd_terminal.specs.Words.{with_request, with_verify, is_request, is_verify, is_response, is_response_of, is_other};
 
+mod saved;
+
 use arrayvec::ArrayVec;
 use lapd_terminal::Message;
 use std::marker::Model;

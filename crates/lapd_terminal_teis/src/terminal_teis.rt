@@ -1,11 +1,12 @@
 //! TEI management of one line of a terminal.
 
-ghost use Rattle.std.specs.Prelude.{◌≡◌, ◌≤◌, ◌<◌, Some, None, length, option_map, slice_get, is_some, IfOk, IfErr, IfSome, OnOk, OnErr};
+ghost use Rattle.std.specs.Prelude.{◌≡◌, ◌≤◌, ◌<◌, Some, None, get_or, length, option_map, slice_get, is_some, IfOk, IfErr, IfSome, OnOk, OnErr};
 ghost use Rattle.lapd_terminal.specs.Events.{message, expiry, ask, verify, assign, remove, down, refusal, after, told, offered, after_offer};
 ghost use Rattle.lapd_terminal.specs.Machine.{fresh, place, held};
 ghost use Rattle.lapd_terminal.specs.Messages.{type_of};
 ghost use Rattle.lapd_terminal.specs.Outcome.{told_of};
 
+mod saved;
 mod served;
 mod words;
 
@@ -186,6 +187,20 @@ impl TerminalTeis {
         ensures within { IfSome result (λ place. place < length self.now.places) }
     {
         self.table.place_of(tei)
+    }
+
+    /// The TEI at a place.
+    pub fn tei_at(&self, place: usize) -> Option<u8>
+        ensures { result ≡ get_or self.now.places place None }
+    {
+        self.table.tei_at(place)
+    }
+
+    /// Whether a procedure runs, and so T202.
+    pub fn has_procedure(&self) -> bool
+        ensures { result ≡ is_some self.now.procedure }
+    {
+        self.procedure.is_some()
     }
 
     /// Takes the message that has waited longest: the octets of its frame, without the frame check.

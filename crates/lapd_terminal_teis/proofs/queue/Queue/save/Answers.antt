@@ -1,0 +1,17 @@
+-- Hand-written answers for `Queue::save`.
+use Rattle.std.proofs.Common.{[], add-one, subst, sym}
+use Rattle.std.specs.Prelude.{All}
+use Rattle.std.proofs.Math.Seq.{take-suc}
+use Rattle.std.proofs.lemmas.List.Elements.{All-append, All-cons, All-nil}
+use Rattle.lapd_image.proofs.Puts.{puts-next}
+use Rattle.lapd_terminal.specs.Image.{IsOfOctets}
+use Rattle.lapd_terminal.specs.Messages.{information_of}
+use Rattle.lapd_terminal_teis.proofs.queue.Queue.save.Goals as goal
+
+pub loop-message-preserved : goal.loop-message-preserved
+loop-message-preserved c = record {
+  puts = rw add-one (puts-next information_of _ c.loop-message.message-index _ c.loop-message-test.true c.loop-message.invariant.puts c.save-end.ensures.puts);
+  octets =
+      rw add-one (subst (All IsOfOctets) (sym (take-suc _ c.loop-message.message-index _ c.loop-message-test.true))
+      (All-append IsOfOctets _ _ c.loop-message.invariant.octets (All-cons IsOfOctets _ [] c.save-end.ensures.octets (All-nil IsOfOctets))));
+}

@@ -5,3 +5,6 @@ pub mod Ending
 pub mod Asking
 pub mod Offering
 pub mod Rooming
+pub mod Images
+pub mod ReadContents
+pub mod Restoring

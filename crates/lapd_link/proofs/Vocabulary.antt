@@ -29,7 +29,7 @@ unfoldable pub use Rattle.lapd_seq.specs.Numbers.{seq}
 pub use Rattle.lapd_seq.specs.Windows.{va_of}
 pub use Rattle.lapd_seq.specs.declared.numbers.Seq.{Seq}
 pub use Rattle.lapd_store.proofs.Queues.{Keeps-at, Keeps-put, Keeps-used}
-pub use Rattle.lapd_store.specs.Ownership.{Keeps, Owned}
+pub use Rattle.lapd_store.specs.Ownership.{Keeps, Owned, pairs_of}
 pub use Rattle.lapd_store.specs.SlotRing.{SlotRing}
 pub use Rattle.lapd_store.specs.Store.{IsUsed, SameLimits, Store, contents_of, used_slots}
 pub use Rattle.model_link.proofs.RiseEvents.{event-rises}

@@ -5,6 +5,7 @@
 pub mod Events
 pub mod Outcome
 pub mod Stands
+pub mod Image
 -- the words of the contracts, from where they are defined
 pub use Rattle.lapd_frame.specs.Grammar.{IsFrame}
 pub use Rattle.lapd_frame.specs.ShortLists.{listed}

@@ -8,7 +8,8 @@
 //! - [`Link::request`]: layer 3 asks for something;
 //! - [`Link::offer`]: the next frame to be sent;
 //! - [`Link::room`]: how many contents more it can take;
-//! - [`Link::open`], [`Link::clear`]: its TEI comes to the line, or leaves it.
+//! - [`Link::open`], [`Link::clear`]: its TEI comes to the line, or leaves it;
+//! - [`Link::save`], [`Link::restore`]: it is written into an image of its card, and read from one.
 //! - [`two_ends`]: a law of two links that face each other from an establishment on: while both stay in states 7 and 8,
 //!   what each has delivered are the first contents that the other accepted, in order.
 //!
@@ -29,7 +30,9 @@ mod orders;
 mod outcome;
 mod received;
 mod requests;
+mod restored;
 mod rooms;
+mod saved;
 
 pub use fault::StartFault;
 pub use lapd_link_steps::BareReport;

@@ -1,13 +1,16 @@
 //! A link.
 
 ghost use Rattle.std.specs.Prelude.{◌≡◌, List, ◌≤◌, IfOk};
+ghost use Rattle.std.specs.Option.{option_to_list};
 ghost use Rattle.lapd_link.specs.{Store, Owned, Holds, TeiAssigned, address_at, held, terms_of};
 ghost use Rattle.lapd_frame.specs.declared.readings.Reading.TheVariants.{Profile};
+ghost use Rattle.model_image.specs.Clocks.{timer_of};
 ghost use Rattle.model_link.specs.Link as machine;
 ghost use Rattle.model_link.specs.Sound.{IsInRange};
 
 use crate::fault::StartFault;
-use lapd_frame::{Address, Reading, Service};
+use crate::orders::line_timer;
+use lapd_frame::{Address, Reading, Service, Timer};
 use lapd_link_steps::Entity;
 use lapd_store::SlotQueue;
 use model_link::{LinkCounts, Terms};
@@ -110,6 +113,14 @@ impl Link {
         ensures { (store : Store) (others : List Owned) (m : machine.Link) → LinkStands self.now store others m → result ≡ machine.state_number m.state }
     {
         self.entity.state().number()
+    }
+
+    /// Its timer that runs, as one of the line's.
+    pub fn timer(&self) -> Option<Timer>
+        ensures { (store : Store) (others : List Owned) (m : machine.Link) → LinkStands self.now store others m →
+            option_to_list result ≡ timer_of (terms_of self.now).service (terms_of self.now).tei m.running }
+    {
+        Some(line_timer(&self.terms, self.entity.running()?))
     }
 
     /// What was counted of it.

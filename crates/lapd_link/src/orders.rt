@@ -92,7 +92,7 @@ fn put_stop(
 }
 
 // A link's timer, as one of the line's.
-fn line_timer(terms: &Terms, timer: LinkTimer) -> Timer
+pub(crate) fn line_timer(terms: &Terms, timer: LinkTimer) -> Timer
     ensures { result ≡ timer_at terms.now timer }
 {
     match timer {

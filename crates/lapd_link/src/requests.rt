@@ -131,7 +131,7 @@ impl Link {
     }
 
     // The contents go to the end of the queue.
-    fn keep<S: Shelf>(&mut self, octets: &[u8], shelf: &mut S)
+    pub(crate) fn keep<S: Shelf>(&mut self, octets: &[u8], shelf: &mut S)
         requires { HasPlace (event.Data octets.now) self.old (S.store shelf.old) }
         ensures kept { (messages : List (List ℕ)) (others : List Owned) → Keeps (S.store shelf.old) self.old.queue.slots messages others →
             Keeps (S.store shelf.new) self.new.queue.slots (messages ++ octets.now ∷ []) others }

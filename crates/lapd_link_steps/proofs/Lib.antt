@@ -7,4 +7,6 @@ pub mod Giving
 pub mod Queue
 pub mod Tests
 pub mod Resting
+pub mod ControlFrames
+pub mod Image
 pub mod Sizes

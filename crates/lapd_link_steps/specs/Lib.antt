@@ -5,6 +5,7 @@ pub mod Past
 pub mod Does
 pub mod Parts
 pub mod Done
+pub mod Image
 -- the words of the contracts, from where they are defined
 pub use Rattle.lapd_frame.specs.Grammar.{spelling}
 pub use Rattle.lapd_frame.specs.Reading.{start_of}

@@ -30,9 +30,9 @@ pub struct Entity {
     // RC
     pub(crate) repeats: u8,
     pub(crate) running: Option<LinkTimer>,
+    pub(crate) counts: LinkCounts,
     // control frames that wait to be sent, oldest first
     pub(crate) waiting: HeapCircularBuffer<ControlFrame>,
-    pub(crate) counts: LinkCounts,
 }
 
 impl Entity {
@@ -60,8 +60,8 @@ impl Entity {
             asked: false,
             repeats: 0,
             running: None,
-            waiting,
             counts: LinkCounts::none(),
+            waiting,
         })
     }
 

@@ -6,6 +6,7 @@
 //! - `words`: the words of the tables, a method each.
 //! - `states`: the rows, by state; `multiple_frame` has those that states 7 and 8 have in common.
 //! - `frames`, `timers`, `requests`, `offers`: the kinds of events, each of which goes to the rows of the state.
+//! - `heads`, `waiting`: what an image of a card has of a link, before its contents and after them.
 //!
 //! Each method is proved to do its word or row of the machine in `model_link`. The contents themselves stay with
 //! the queue's owner: rows say by `released` of the report how many of the oldest are to go, and by `delivered` that the
@@ -14,11 +15,13 @@
 
 mod entity;
 mod frames;
+mod heads;
 mod offers;
 mod report;
 mod requests;
 mod states;
 mod timers;
+mod waiting;
 mod words;
 
 pub use entity::Entity;

@@ -6,7 +6,7 @@ ghost use Rattle.lapd_seq.specs.Circle.{distance_of, IsValid, IsNamed};
 ghost use Rattle.lapd_seq.specs.Windows.{va_of, vs_of, outstanding_of, WindowStands};
 
 use crate::circle::distance;
-use crate::numbers::Seq;
+use crate::numbers::{MODULUS, Seq};
 
 /// The variables V(A) and V(S) of one link (Q.921 clauses 3.5.2.3 and 3.5.2.2).
 ///
@@ -28,6 +28,19 @@ impl Window {
         Window {
             va: Seq::zero(),
             vs: Seq::zero(),
+        }
+    }
+
+    /// The window with this V(A) in which so many I-frames are outstanding: 0 to 127.
+    pub fn at(va: Seq, outstanding: u8) -> Self
+        requires { outstanding < 128 }
+        ensures held { va_of result ≡ va }
+        ensures count { outstanding_of result ≡ outstanding }
+        ensures numbers { WindowStands result va.value (va.value + outstanding) }
+    {
+        Window {
+            va,
+            vs: Seq::new((va.value + outstanding) % MODULUS),
         }
     }
 

@@ -1,6 +1,6 @@
 -- A card as it begins.
 use Rattle.lapd_card.proofs.Vocabulary.{◌≡◌, ◌≤◌, List, [], ◌∷◌, map, ◌++◌, length, replicate, refl, sym, ap, subst, ◌∙◌, arith, None, Some, Option, Bool, true, false, if◌then◌else◌, none-some, nat_lt, ◌||◌, or_parts, ltb-false, length-replicate, append-nil, All-nil, All-cons, All, AllByRecursion, flat_map, zip, Config, first_fault, fresh_line, fresh, reached-fresh, Holds, Store, used_slots}
-use Rattle.lapd_card.proofs.Vocabulary.{Holds-unused, used_slots-held, none_counted, counters_of, FrameLine, pairs_of, held_of, IsFit, owned, IsFresh, AreFresh, FrameStands, is_too_small, start_fault, fault_by, Field, BadConfig, ShelfTooSmall}
+use Rattle.lapd_card.proofs.Vocabulary.{Holds-unused, used_slots-held, none_counted, counters_of, FrameLine, pairs_of, held_of, IsFit, owned, IsFresh, AreFresh, LinesStand, FrameStands, is_too_small, start_fault, fault_by, Field, BadConfig, ShelfTooSmall}
 use Rattle.lapd_line.specs.Marks.{AreMarked}
 use Rattle.lapd_line.specs.declared.marks.Marks.{Marks}
 use Rattle.lapd_card.proofs.Waiting.{none_marked_first}
@@ -33,7 +33,7 @@ no_fault c s none = go (first_fault c) (is_too_small c s) refl refl
     go None false is too = (is, too)
 
 -- a shelf that is not too small is wide, has the slots and holds nothing
-has_room_for : (c : Config) (s : Store) → is_too_small c s ≡ false → (c.n201 ≤ s.width) × (c.slots ≤ s.slots) × Holds s []
+pub has_room_for : (c : Config) (s : Store) → is_too_small c s ≡ false → (c.n201 ≤ s.width) × (c.slots ≤ s.slots) × Holds s []
 has_room_for c s room =
     let first = or_parts (nat_lt s.slots c.slots || nat_lt s.width c.n201) (nat_lt 0 (used_slots s)) room in
     let second = or_parts (nat_lt s.slots c.slots) (nat_lt s.width c.n201) first.0 in
@@ -54,23 +54,21 @@ module _ (c : Config) (ls : List FrameLine) (all : AreFresh c ls) where
       empty_list pairs (ap length (sym (append-nil pairs)) ∙ sym (used_slots-held (pairs ++ []) held) ∙ used_slots-held [] none)
 
   -- and they stand, on a shelf that is not too small
-  pub fresh_stands : {S : Type 0} (store : S → Store) (shelf : S) (marks : Marks) → AreMarked marks (λ number. false) → start_fault c (store shelf) ≡ None
-      → FrameStands store (record { config = c; lines = ls; shelf = shelf; waiting = marks }) (fresh c)
-  fresh_stands store shelf marks unmarked none =
-      let s = store shelf in
-      let (range, room) = no_fault c s none in
+  pub lines_begin : (s : Store) → is_too_small c s ≡ false → LinesStand c ls s (replicate c.lines (fresh_line c))
+  lines_begin s room =
       let (wide, slots, unused) = has_room_for c s room in
       let fits : (l : FrameLine) → IsFresh c l → IsFit c (l, fresh_line c) = λ l one. record { config = one.config; store = s; others = []; stands = one.stands s [] wide unused } in
       record {
-        config = refl;
-        lines = record {
-          width = wide;
-          count = all.count ∙ sym (length-replicate c.lines (fresh_line c));
-          fit = subst (λ n. All (IsFit c) (zip ls (replicate n (fresh_line c)))) all.count (each_fits (IsFresh c) (fresh_line c) (IsFit c) fits ls all.each);
-          held = subst (λ n. Holds s (flat_map owned (zip ls (replicate n (fresh_line c))) ++ [])) all.count
-              (subst (λ ps. Holds s (ps ++ [])) (sym (none_owned (IsFresh c) (fresh_line c) owned (owns_nothing s wide unused) ls all.each)) unused);
-        };
-        slots = slots;
-        waiting = none_marked_first c marks unmarked;
-        reached = reached-fresh c range;
+        width = wide;
+        count = all.count ∙ sym (length-replicate c.lines (fresh_line c));
+        fit = subst (λ n. All (IsFit c) (zip ls (replicate n (fresh_line c)))) all.count (each_fits (IsFresh c) (fresh_line c) (IsFit c) fits ls all.each);
+        held = subst (λ n. Holds s (flat_map owned (zip ls (replicate n (fresh_line c))) ++ [])) all.count
+            (subst (λ ps. Holds s (ps ++ [])) (sym (none_owned (IsFresh c) (fresh_line c) owned (owns_nothing s wide unused) ls all.each)) unused);
       }
+
+  pub fresh_stands : {S : Type 0} (store : S → Store) (shelf : S) (marks : Marks) → AreMarked marks (λ number. false) → start_fault c (store shelf) ≡ None
+      → FrameStands store (record { config = c; lines = ls; shelf = shelf; waiting = marks }) (fresh c)
+  fresh_stands store shelf marks unmarked none =
+      let (range, room) = no_fault c (store shelf) none in
+      let (wide, slots, unused) = has_room_for c (store shelf) room in
+      record { config = refl; lines = lines_begin (store shelf) room; slots = slots; waiting = none_marked_first c marks unmarked; reached = reached-fresh c range }

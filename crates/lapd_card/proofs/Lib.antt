@@ -1,4 +1,5 @@
--- Lemmas: one line of a card in a call; one port of a card of octets; what drive has done and counted; rooms; a card of either kind.
+-- Lemmas: one line of a card in a call; one port of a card of octets; what drive has done and counted; rooms; a card of either kind; saves
+-- (PutLines, SavedLines) and restores (Configs, ReadMembers, ReadLines, ReadCounters, Restored, KindsRestored).
 pub mod Vocabulary
 pub mod Served
 pub mod Waiting
@@ -16,3 +17,11 @@ pub mod OctetHeadline
 pub mod OctetAmounts
 pub mod OctetsTaken
 pub mod Kinded
+pub mod ReadLines
+pub mod ReadMembers
+pub mod ReadCounters
+pub mod Restored
+pub mod Configs
+pub mod PutLines
+pub mod SavedLines
+pub mod KindsRestored

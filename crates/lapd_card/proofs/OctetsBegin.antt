@@ -1,8 +1,10 @@
 -- A card of octets as it begins.
-use Rattle.lapd_card.proofs.Vocabulary.{◌≡◌, ℕ, zero, suc, ◌<◌, List, [], ◌∷◌, length, replicate, get_or, refl, sym, subst, ◌∙◌, arith, length-replicate, Option, None, Some, IfSome, AllByRecursion, Config, Store, Port, PortStands, PortsStand}
-use Rattle.model_card.specs.ports.Card.{fresh}
+use Rattle.lapd_card.proofs.Vocabulary.{◌≡◌, ℕ, zero, suc, ◌<◌, List, [], ◌∷◌, length, replicate, get_or, refl, sym, ap, subst, ◌∙◌, arith, length-replicate, Option, None, Some, IfSome, AllByRecursion, Config, Store, Port, PortStands, PortsStand}
+use Rattle.model_card.specs.ports.Card.{fresh, with_fresh_ports}
 use Rattle.model_card.specs.ports.Port.{fresh_port}
-use Rattle.model_card.proofs.OfPorts.Reaching.{reached_fresh}
+use Rattle.model_card.proofs.OfPorts.Reaching.{reached_first}
+use Rattle.model_card.proofs.Reaching.{fresh-begins}
+use Rattle.model_card.specs.Reached.{MayBegin}
 use Rattle.model_card.specs.Card as cards
 use Rattle.lapd_card.specs.FrameCard as frame_card
 use Rattle.lapd_card.specs.FrameStands.{FrameStands}
@@ -28,10 +30,15 @@ fresh_ports n201 count ports is all = record {
   each = subst (λ n. (number : ℕ) (other : Port) → number < length ports → PortStands n201 (get_or ports number other) (get_or (replicate n fresh_port) number fresh_port)) is (each_fresh n201 ports all);
 }
 
+-- ports that begin, beside a card of frames with which one may begin
+pub begun_stands : {S : Type 0} (store : S → Store) (c : Config) (m : cards.Card) {frames : frame_card.Held S} {ports : List Port} → frames.config ≡ c → m.config ≡ c → FrameStands store frames m → MayBegin m
+    → PortsStand c.n201 ports (replicate c.lines fresh_port) → OctetCardStands store (record { frames = frames; ports = ports }) (with_fresh_ports m)
+begun_stands store c m {frames} {ports} same is stands begins there = record {
+  frames = stands;
+  ports = subst (λ n. PortsStand frames.config.n201 ports (replicate n fresh_port)) (ap (λ d. d.lines) (sym is)) (subst (λ d. PortsStand d.n201 ports (replicate c.lines fresh_port)) (sym same) there);
+  reached = reached_first m begins;
+}
+
 pub fresh_stands : {S : Type 0} (store : S → Store) (c : Config) {frames : frame_card.Held S} {ports : List Port} → frames.config ≡ c → FrameStands store frames (cards.fresh c)
     → PortsStand c.n201 ports (replicate c.lines fresh_port) → OctetCardStands store (record { frames = frames; ports = ports }) (fresh c)
-fresh_stands store c {frames} {ports} same stands there = record {
-  frames = stands;
-  ports = subst (λ d. PortsStand d.n201 ports (replicate c.lines fresh_port)) (sym same) there;
-  reached = reached_fresh c stands.reached.config;
-}
+fresh_stands store c same stands there = begun_stands store c (cards.fresh c) same refl stands (fresh-begins c stands.reached.config) there

@@ -1,7 +1,8 @@
 -- An event at a card is one at one of its lines.
 use Rattle.lapd_card.proofs.Vocabulary.{arith, if◌then◌else◌, ◌≡◌, ℕ, ◌<◌, ◌-◌, false, List, [], ◌++◌, length, nat_lt, nat_le, refl, sym, ap, subst, ◌∙◌, Some, None, IsSome, Option, Ok, Err, Result, IfOk, IfErr, IfSome, OnOk, OnErr, lt-ltb, append-nil, set-get_or, set, map, flat_map, sum_by, zip, Refusal, Service, none_counted, BareReport, answer_of_request, told_beside, told_in, Config, refusal}
 use Rattle.lapd_card.proofs.Vocabulary.{Request}
-use Rattle.lapd_card.proofs.Vocabulary.{slots_of, octets_of, Card, line_at, used, is_full, Event, at, wants_room, after, refused_by_the_table, IfErr-weaker, moment_counted, Store, used_slots, stored_octets, used_slots-held, stored_octets-held, slots-machines, octets-machines, slots-pairs, octets-pairs, owned_octets, Owned, FrameLine, config_of, Held, counters_of, IsFit, owned, FrameStands}
+use Rattle.lapd_card.proofs.Vocabulary.{slots_of, octets_of, Card, line_at, used, is_full, Event, at, wants_room, after, refused_by_the_table, IfErr-weaker, moment_counted, Store, used_slots, stored_octets, used_slots-held, stored_octets-held, slots-machines, octets-machines, slots-pairs, octets-pairs, owned_octets, Owned, FrameLine, config_of, Held, counters_of, IsFit, owned, LinesStand}
+use Rattle.lapd_card.proofs.Vocabulary.{FrameStands}
 use Rattle.lapd_card.proofs.Vocabulary.{HasPast, Leads, Room, room_in, room, RefusesBy, refuses_by}
 use Rattle.lapd_line.specs.Reports.{octets_of as told_octets}
 use Rattle.lapd_line.specs.Stands as line
@@ -26,18 +27,21 @@ told_unrefused why is = cc
 pub gave_unrefused : {next : Option line_event.NextFrame} (why : Refusal) → line_event.gave next ≡ line_event.refused why → ⊥
 gave_unrefused why is = cc
 
+-- so many slots do lines use
+pub used_by : (c : Config) (lines : List FrameLine) (s : Store) (ms : List machine.Line) → LinesStand c lines s ms → used_slots s ≡ sum_by (slots_of c) ms
+used_by c lines s ms stand =
+    let pairs = flat_map owned (zip lines ms) in
+    used_slots-held (pairs ++ []) stand.held
+    ∙ ap length (append-nil pairs)
+    ∙ slots-machines owned (slots_of c) lines ms stand.count (λ p d within. fits _ (stand.fit p d within))
+  where
+    fits : (p : FrameLine × machine.Line) → IsFit c p → length (owned p) ≡ slots_of c p.1
+    fits p fit = slots-pairs p.0 fit.store fit.others p.1 fit.stands ∙ ap (λ d. slots_of d p.1) fit.config
+
 module _ {S : Type 0} (store : S → Store) where
   -- the slots in use are those of the machine, and so are the octets in them
   pub used_is : (card : Held S) (m : Card) → FrameStands store card m → used_slots (store card.shelf) ≡ used m
-  used_is card m s =
-      let pairs = flat_map owned (zip card.lines m.lines) in
-      used_slots-held (pairs ++ []) s.lines.held
-      ∙ ap length (append-nil pairs)
-      ∙ slots-machines owned (slots_of card.config) card.lines m.lines s.lines.count (λ p d within. fits card.config _ (s.lines.fit p d within))
-      ∙ ap (λ c. sum_by (slots_of c) m.lines) (sym s.config)
-    where
-      fits : (c : Config) (p : FrameLine × machine.Line) → IsFit c p → length (owned p) ≡ slots_of c p.1
-      fits c p fit = slots-pairs p.0 fit.store fit.others p.1 fit.stands ∙ ap (λ d. slots_of d p.1) fit.config
+  used_is card m s = used_by card.config card.lines (store card.shelf) m.lines s.lines ∙ ap (λ c. sum_by (slots_of c) m.lines) (sym s.config)
 
   pub octets_is : (card : Held S) (m : Card) → FrameStands store card m → stored_octets (store card.shelf) ≡ sum_by (octets_of m.config) m.lines
   octets_is card m s =

@@ -20,39 +20,39 @@ pub record Found {S : Type 0} (store : S → Store) (card self : Held S) (i : �
   pub within : i < line_count self
   pub is : x ≡ get_or card.lines i x
 
+-- A line stands for its part of the machine, beside what the other lines own; and whatever it and the shelf are
+-- afterwards, if it stands for another line of the machine, the lines stand with that in its place.
+pub record Focused (c : Config) (lines : List FrameLine) (s : Store) (ms : List machine.Line) (i : ℕ) (x : FrameLine) : Type 0 where
+  pub config : config_of x ≡ c
+  pub rest : List Owned
+  pub stands : line.LineStands x s rest (get_or ms i (machine.fresh_line c))
+  pub back : (t : Store) (y : FrameLine) (l : machine.Line) → SameLimits s t → config_of y ≡ config_of x → line.LineStands y t rest l → LinesStand c (set lines i y) t (set ms i l)
+
+pub focused : (c : Config) (lines : List FrameLine) (s : Store) (ms : List machine.Line) (i : ℕ) (x : FrameLine) → i < length lines → x ≡ get_or lines i x → LinesStand c lines s ms → Focused c lines s ms i x
+focused c lines s ms i x within is stand =
+    let l = get_or ms i (machine.fresh_line c) in
+    let within_ms : i < length ms = omega (arith, within, stand.count) in
+    let is_l : l ≡ get_or ms i l = get_or_default ms i (machine.fresh_line c) l within_ms in
+    let focus = focus_pair owned (IsFit c) s lines ms i x l [] within within_ms is is_l stand.fit stand.held in
+    let fit = focus.holds in
+    record {
+      config = fit.config;
+      rest = focus.rest;
+      stands = stands_on x fit.store fit.others l fit.stands s focus.rest (subst (λ d. d.n201 ≤ s.width) (sym fit.config) stand.width) focus.held;
+      back = put_back l within_ms focus;
+    }
+  where
+    put_back : (m : machine.Line) → i < length ms → (focus : FocusPair owned (IsFit c) s lines ms i x m []) → (t : Store) (y : FrameLine) (l : machine.Line) → SameLimits s t → config_of y ≡ config_of x → line.LineStands y t focus.rest l → LinesStand c (set lines i y) t (set ms i l)
+    put_back m within_ms focus t y l limits config stands =
+        let both = focus.back t y l (record { config = config ∙ focus.holds.config; store = t; others = focus.rest; stands = stands }) (held_of y t focus.rest l stands) in
+        record {
+          width = subst (λ n. c.n201 ≤ n) (sym limits.width) stand.width;
+          count = omega (arith, stand.count, length-set lines i y, length-set ms i l);
+          fit = both.0;
+          held = both.1;
+        }
+
 module _ {S : Type 0} (store : S → Store) where
-  -- A line stands for its part of the machine, beside what the other lines own; and whatever it and the shelf are
-  -- afterwards, if it stands for another line of the machine, the lines stand with that in its place.
-  pub record Focused (c : Config) (lines : List FrameLine) (s : Store) (ms : List machine.Line) (i : ℕ) (x : FrameLine) : Type 0 where
-    pub config : config_of x ≡ c
-    pub rest : List Owned
-    pub stands : line.LineStands x s rest (get_or ms i (machine.fresh_line c))
-    pub back : (t : Store) (y : FrameLine) (l : machine.Line) → SameLimits s t → config_of y ≡ config_of x → line.LineStands y t rest l → LinesStand c (set lines i y) t (set ms i l)
-
-  focused : (c : Config) (lines : List FrameLine) (s : Store) (ms : List machine.Line) (i : ℕ) (x : FrameLine) → i < length lines → x ≡ get_or lines i x → LinesStand c lines s ms → Focused c lines s ms i x
-  focused c lines s ms i x within is stand =
-      let l = get_or ms i (machine.fresh_line c) in
-      let within_ms : i < length ms = omega (arith, within, stand.count) in
-      let is_l : l ≡ get_or ms i l = get_or_default ms i (machine.fresh_line c) l within_ms in
-      let focus = focus_pair owned (IsFit c) s lines ms i x l [] within within_ms is is_l stand.fit stand.held in
-      let fit = focus.holds in
-      record {
-        config = fit.config;
-        rest = focus.rest;
-        stands = stands_on x fit.store fit.others l fit.stands s focus.rest (subst (λ d. d.n201 ≤ s.width) (sym fit.config) stand.width) focus.held;
-        back = put_back l within_ms focus;
-      }
-    where
-      put_back : (m : machine.Line) → i < length ms → (focus : FocusPair owned (IsFit c) s lines ms i x m []) → (t : Store) (y : FrameLine) (l : machine.Line) → SameLimits s t → config_of y ≡ config_of x → line.LineStands y t focus.rest l → LinesStand c (set lines i y) t (set ms i l)
-      put_back m within_ms focus t y l limits config stands =
-          let both = focus.back t y l (record { config = config ∙ focus.holds.config; store = t; others = focus.rest; stands = stands }) (held_of y t focus.rest l stands) in
-          record {
-            width = subst (λ n. c.n201 ≤ n) (sym limits.width) stand.width;
-            count = omega (arith, stand.count, length-set lines i y, length-set ms i l);
-            fit = both.0;
-            held = both.1;
-          }
-
   -- a card has as many lines as its configuration says, and few
   pub lines-all : (card : Held S) → HasPast store card → length card.lines ≡ line_count card
   lines-all card (m, s) = s.lines.count ∙ (reached-sound m s.reached).count ∙ ap (λ c. c.lines) s.config

@@ -53,7 +53,7 @@ line_waits i m = ap (λ b. nat_lt i m.config.lines && b) (answer_gives i m)
 as_lines : (marks : Marks) (m : Card) → AreMarked marks (waits_on m) → AreMarked marks (line_has m)
 as_lines marks m = subst (AreMarked marks) (λ i number. line_waits number m i)
 
-of_lines : (marks : Marks) (m : Card) → AreMarked marks (line_has m) → AreMarked marks (waits_on m)
+pub of_lines : (marks : Marks) (m : Card) → AreMarked marks (line_has m) → AreMarked marks (waits_on m)
 of_lines marks m = subst (AreMarked marks) (sym (λ i number. line_waits number m i))
 
 at_line_of_card : (i : ℕ) (m : Card) → i < m.config.lines → has_next i m ≡ lines.has_next m.config (line_at i m)

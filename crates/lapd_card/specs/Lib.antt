@@ -3,7 +3,7 @@
 -- Read after those of `model_card`, in this order: Waiting, which lines have a frame to give; Start; and for a
 -- card in the middle of its life FrameCard, Counted, Lines, FrameStands, Called and Given. Of a card of octets, after those of
 -- `model_card::ports`, Card, Ports and Stands say the same; Reply, Sink, Runs, Drive and Kept (the sink of this crate), what a
--- sink has taken. Kinds is of a card of either kind.
+-- sink has taken. Kinds is of a card of either kind. Image is what is saved and restored of a card, and Running which timers run.
 pub mod Waiting
 pub mod WorkedWaiting
 pub mod Sink
@@ -22,6 +22,8 @@ pub mod Start
 pub mod Runs
 pub mod Drive
 pub mod Kinds
+pub mod Image
+pub mod Running
 -- the words of the contracts, from where they are defined
 pub use Rattle.lapd_count.specs.Counters.{none_counted}
 pub use Rattle.lapd_frame.specs.ShortLists.{listed}

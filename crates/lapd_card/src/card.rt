@@ -21,8 +21,8 @@ use std::marker::Model;
 /// A line card of octets: a card of frames, with a port at each line. A port hears frames in the octets that come, and puts
 /// those that go on the line. What is not of octets it passes on to the card of frames.
 ///
-/// All memory is taken by [`Card::start`]; no other call takes any. Lines are counted from 0, and each call but `state`
-/// needs one that the card has.
+/// All memory is taken by [`Card::start`], or as it is restored; no other call takes any. Lines are counted from 0, and each call
+/// but `state` needs one that the card has.
 #[derive(Debug, Drop)]
 pub struct Card<S: Shelf> {
     pub(crate) frames: FrameCard<S>,

@@ -34,8 +34,8 @@ pub struct RoomTooSmall {
 /// A line card over a shelf for the contents that wait: it takes and gives whole frames, from the address to the information.
 ///
 /// Flags, stuffed 0s and checks are a controller's, or those of the ports of a [`Card`](crate::Card). All memory is taken by
-/// [`FrameCard::start`]; no other call takes any. Lines are counted from 0, and each call but `state` needs one that the card
-/// has.
+/// [`FrameCard::start`] or [`FrameCard::restore`]; no other call takes any. Lines are counted from 0, and each call but `state`
+/// needs one that the card has.
 #[derive(Debug, Drop)]
 pub struct FrameCard<S: Shelf> {
     pub(crate) config: Config,

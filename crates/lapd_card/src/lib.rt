@@ -31,6 +31,8 @@
 //!   either kind, over a shelf of raw memory.
 //! - `drive` with `sink` and `replies`: whole lists of events at a card of octets; `kept`: a sink that keeps the replies.
 //! - `start` with `fault`: how a card begins, and why it does not.
+//! - `saved`: the lines and counters of a card in an image, and its configuration; how long an image is at most. `saved_kinds`: a card
+//!   of either kind. `running` with `image_queries`: what the owner of a card asks before it saves it.
 //! - `stored`: how many octets a card of octets stores, and how many a card of either kind may.
 //!
 //! What the card does is defined below. A row of a link's tables (by state, in `specs/`) and its notes are in
@@ -49,9 +51,13 @@ mod card;
 mod drive;
 mod fault;
 mod frame_card;
+mod image_queries;
 mod kept;
 mod kinds;
 mod replies;
+mod running;
+mod saved;
+mod saved_kinds;
 mod sink;
 mod start;
 mod stored;
@@ -71,5 +77,6 @@ pub use model_card::CardKind;
 pub use model_card::ports::Event;
 pub use model_line::Fault;
 pub use replies::Reply;
+pub use saved::{RestoreFault, image_octets, restore_config, save_config};
 pub use sink::{Sink, SinkFailed, SinkFault};
 pub use stored::{frame_limit, limit};

@@ -67,7 +67,7 @@ impl<S: Shelf> Card<S> {
 }
 
 /// As many lines as the configuration says, each as it begins.
-fn lines(alloc: Global, config: &Config) -> Result<Vec<FrameLine>, StartFault>
+pub(crate) fn lines(alloc: Global, config: &Config) -> Result<Vec<FrameLine>, StartFault>
     requires { IsInRange config.now }
     ensures { IfOk result (λ lines. AreFresh config.now lines.items) }
 {
@@ -81,7 +81,7 @@ fn lines(alloc: Global, config: &Config) -> Result<Vec<FrameLine>, StartFault>
 }
 
 /// A port for each of them.
-fn ports(alloc: Global, config: &Config) -> Result<Vec<Port>, StartFault>
+pub(crate) fn ports(alloc: Global, config: &Config) -> Result<Vec<Port>, StartFault>
     requires { config.now.n201 ≤ 1024 }
     ensures { IfOk result (λ ports. PortsStand config.now.n201 ports.items (replicate config.now.lines fresh_port)) }
 {
@@ -106,7 +106,7 @@ fn fault_of<S: Shelf>(config: &Config, shelf: &S) -> Option<CardFault>
     None
 }
 
-fn is_too_small<S: Shelf>(config: &Config, shelf: &S) -> bool
+pub(crate) fn is_too_small<S: Shelf>(config: &Config, shelf: &S) -> bool
     ensures { result ≡ is_too_small config.now (S.store shelf.now) }
 {
     shelf.slots() < u32::from(config.slots) || shelf.width() < config.n201 || shelf.used() > 0

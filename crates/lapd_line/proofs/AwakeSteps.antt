@@ -37,7 +37,7 @@ pub awake_set : (a b : Marks) (old new : List Link) (ms : List machine.Link) (nu
 awake_set a b old new ms number l w t sets same has told h = grind (arith, marked_one, gives_has, gives_other, slice_get)
 
 -- one that has begun anew
-begins_at : (ms : List machine.Link) (number : ℕ) → machine_at (set ms number machine.fresh) number ≡ machine.fresh
+pub begins_at : (ms : List machine.Link) (number : ℕ) → machine_at (set ms number machine.fresh) number ≡ machine.fresh
 begins_at [] number = refl
 begins_at (m ∷ ms) zero = refl
 begins_at (m ∷ ms) (suc number) = begins_at ms number
@@ -53,7 +53,7 @@ pub awake_begun : (a : Marks) (old new : List Link) (ms : List machine.Link) (nu
 awake_begun a old new ms number same fresh h = grind (arith, marked_as, gives_fresh, begins_at, gives_other, cases_eq)
 
 -- all begin
-all_fresh : (n number : ℕ) → machine_at (replicate n machine.fresh) number ≡ machine.fresh
+pub all_fresh : (n number : ℕ) → machine_at (replicate n machine.fresh) number ≡ machine.fresh
 all_fresh zero number = refl
 all_fresh (suc n) zero = refl
 all_fresh (suc n) (suc number) = all_fresh n number

@@ -18,6 +18,15 @@ pub mod HeldSteps
 pub mod UnitSteps
 pub mod PullTakes
 pub mod PullTakesUnits
+pub mod SavedSteps
+pub mod RestoredTeis
+pub mod RestoredUnits
+pub mod RestoredLinks
+pub mod RestoredRounds
+pub mod RestoredLayer
+pub mod RestoredWhole
+pub mod SavedWhole
+pub mod RunningSteps
 pub mod GivingUp
 pub mod PullTakesLinks
 pub mod PullTakesRound

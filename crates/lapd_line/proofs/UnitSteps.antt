@@ -79,14 +79,14 @@ placed e s slots service tei contents (others, m, st) within none =
     }
 
 -- one more at the end, for the same terminals
-for_newest : (us : List QueuedUnit) (ds : List UnitData) (u : QueuedUnit) (d : UnitData) → AreFor us ds → u.service ≡ d.service → u.tei ≡ d.tei → AreFor (us ++ u ∷ []) (ds ++ d ∷ [])
+pub for_newest : (us : List QueuedUnit) (ds : List UnitData) (u : QueuedUnit) (d : UnitData) → AreFor us ds → u.service ≡ d.service → u.tei ≡ d.tei → AreFor (us ++ u ∷ []) (ds ++ d ∷ [])
 for_newest [] [] u d same service tei = (service, tei, tt)
 for_newest [] (x ∷ ds) u d same service tei = absurd same
 for_newest (x ∷ us) [] u d same service tei = absurd same
 for_newest (x ∷ us) (y ∷ ds) u d same service tei = (same.0, same.1, for_newest us ds u d same.2 service tei)
 
 -- its contents were put in a slot that was free
-newest_held : (s t : Store) (us : List QueuedUnit) (ds : List UnitData) (u : QueuedUnit) (d : UnitData) (rest : List Owned) → AreFor us ds → IsFree s u.slot → t ≡ with_contents s u.slot d.contents
+pub newest_held : (s t : Store) (us : List QueuedUnit) (ds : List UnitData) (u : QueuedUnit) (d : UnitData) (rest : List Owned) → AreFor us ds → IsFree s u.slot → t ≡ with_contents s u.slot d.contents
     → Holds s (unit_pairs us ds ++ rest) → Holds t (unit_pairs (us ++ u ∷ []) (ds ++ d ∷ []) ++ rest)
 newest_held s t us ds u d rest same free stored held =
     let kept = Keeps-put (slots_of us) (messages_of ds) rest u.slot d.contents free stored (record { lengths = as_many us ds same; held = held }) in

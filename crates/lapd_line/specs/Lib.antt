@@ -2,7 +2,7 @@
 --
 -- Read after those of `model_line` and `model_card::ports`, in this order: Waiting; Reports; Units and Links, what waits and in
 -- which slots; Marks and Awake, which links have something to give; Managing, TEI management of either kind; LinkLayer;
--- Counted; Stands, of a line; Ports, of its port; Octets, of a line with a port. The other files are named by private
+-- Counted; Stands, of a line, and Image; Ports, of its port; Octets, of a line with a port. The other files are named by private
 -- functions alone.
 pub mod Waiting
 pub mod Reports
@@ -18,6 +18,9 @@ pub mod Addressing
 pub mod TeiChanges
 pub mod Counted
 pub mod Stands
+pub mod Running
+pub mod ImageParts
+pub mod Image
 pub mod Requests
 pub mod Loading
 pub mod Pulls

@@ -5,6 +5,8 @@ ghost use Rattle.lapd_line.specs.{at_link, received_of, info_of, IsAt, Standing,
 ghost use Rattle.model_link.specs.Events as event;
 ghost use Rattle.model_line.specs.Line as machine;
 
+mod saved;
+
 use crate::links::Links;
 use crate::managing::Managing;
 use crate::marks::Marks;

@@ -1,12 +1,15 @@
 //! The links of a line.
 
-ghost use Rattle.std.specs.Prelude.{◌≡◌, ◌-◌, ◌<◌, ◌≤◌, List, [], length, set, nat_le, Some, None, IfOk, IfErr, OnOk, OnErr};
+ghost use Rattle.std.specs.Prelude.{◌≡◌, ◌-◌, ◌<◌, ◌≤◌, List, [], length, option_to_list, set, nat_le, Some, None, IfOk, IfErr, OnOk, OnErr};
 ghost use Rattle.lapd_line.specs.{Owned, Store, used_slots, held, room_of, address_at, Terms, Config, terms, IsInRange, received_of, info_of, TellsOf, IsClear, LinksStand, Offers, Refuses, HasTerms, machine_at, terms_in, AreBegun};
+ghost use Rattle.model_image.specs.Clocks.{timer_of};
 ghost use Rattle.model_link.specs.Events as event;
 ghost use Rattle.model_link.specs.Link as machine;
 
+mod saved;
+
 use crate::fault::StartFault;
-use lapd_frame::{Address, Refusal, Service};
+use lapd_frame::{Address, Refusal, Service, Timer};
 use lapd_link::{BareReport, Link, LinkCounts, LinkRequest, LinkTimer, Offer, Received, Room};
 use lapd_store::Shelf;
 use model_line::Config;
@@ -155,6 +158,15 @@ impl Links {
             → result ≡ Some (machine_at ms number).counts }
     {
         Some(self.all.get(number)?.counts())
+    }
+
+    /// The timer that a link runs, if it runs one.
+    pub(crate) fn timer(&self, number: usize) -> Option<Timer>
+        ensures { (c : Config) (terms : Terms) (store : Store) (others : List Owned) (ms : List machine.Link) → number < length self.now
+            → HasTerms self.now number terms → LinksStand c self.now store others ms
+            → option_to_list result ≡ timer_of terms.service terms.tei (machine_at ms number).running }
+    {
+        self.all.get(number)?.timer()
     }
 
     /// How much room a link has; none if there is no such link.

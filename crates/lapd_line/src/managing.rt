@@ -14,6 +14,8 @@ ghost use Rattle.model_line.specs.Effect.{at_management, at_terminal, note_of, o
 ghost use Rattle.model_line.specs.Event as line_event;
 ghost use Rattle.model_line.specs.Sound.{IsInRange};
 
+mod saved;
+
 use crate::fault::StartFault;
 use crate::requests::TeiRequest;
 use lapd_frame::{Note, Order, Refusal, ShortList, Side, Timer};

@@ -2,6 +2,8 @@
 
 ghost use Rattle.std.specs.Prelude.{◌≡◌, ◌<◌, ◌≤◌, length, IfOk, slice_get};
 
+mod saved;
+
 use circular_buffer::HeapCircularBuffer;
 use lapd_frame::Service;
 use lapd_store::Slot;
@@ -52,11 +54,25 @@ impl Units {
         self.ring.len()
     }
 
+    /// How many there may be.
+    fn capacity(&self) -> usize
+        ensures { result ≡ self.now.capacity }
+    {
+        self.ring.capacity()
+    }
+
     /// The oldest.
     pub(crate) fn oldest(&self) -> Option<QueuedUnit>
         ensures { result ≡ slice_get self.now.waiting 0 }
     {
-        self.ring.get(0).copied()
+        self.at(0)
+    }
+
+    /// The one at a place, from the oldest on.
+    fn at(&self, index: usize) -> Option<QueuedUnit>
+        ensures { result ≡ slice_get self.now.waiting index }
+    {
+        self.ring.get(index).copied()
     }
 
     /// Takes in the newest. There must be room.

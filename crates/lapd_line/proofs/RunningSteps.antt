@@ -1,0 +1,45 @@
+-- Which timers run.
+use Rattle.lapd_line.proofs.Vocabulary.{◌≡◌, ℕ, ◌<◌, List, [], ◌∷◌, ◌++◌, Option, Some, None, IfSome, is_some, length, refl, sym, ap, ◌∙◌, arith, option_to_list, Owned, Store, Config, Line, Own, Managing, Management, Terms, IsSound, LinkLayer, LayerStands, LinksStand, HasTerms, machine_at, management_of, own_of, link_at, link_count, place_at, service_at, tei_at, terms, cond}
+use Rattle.std.proofs.Common.{append-nil}
+use Rattle.lapd_frame.specs.declared.timers.Timer.{Timer}
+use Rattle.lapd_frame.specs.declared.timers.Timer.TheVariants.{T201, T202}
+use Rattle.lapd_line.specs.Running.{own_timers, timers_of}
+use Rattle.lapd_line.specs.declared.managing.Managing.TheVariants as kind
+use Rattle.model_image.specs.Clocks.{timer_at, timer_numbered, timer_of}
+use Rattle.model_link.specs.Link as machine
+use Rattle.lapd_line.proofs.LayerSteps.{beside_links, links_part}
+
+-- a TEI on the line is at most 126
+pub small_tei : (c : Config) (m : Line) (place : ℕ) → IsSound c m → IfSome (tei_at place m) (λ tei. tei < 127)
+small_tei c m place sound = go (tei_at place m) refl
+  where
+    go : (o : Option ℕ) → tei_at place m ≡ o → IfSome o (λ tei. tei < 127)
+    go None is = tt
+    go (Some tei) is = omega (arith, sound.management.table.range place tei is)
+
+-- the timer of a link of a TEI
+pub timer_there : (e : LinkLayer) (s : Store) (others : List Owned) (m : Line) (number : ℕ) (result : Option Timer) → LayerStands e s others m → number < link_count e.config → (tei : ℕ) → tei_at (place_at number) m ≡ Some tei
+    → ((c : Config) (ts : Terms) (store : Store) (others : List Owned) (ms : List machine.Link) → number < length e.links → HasTerms e.links number ts → LinksStand c e.links store others ms
+    → option_to_list result ≡ timer_of ts.service ts.tei (machine_at ms number).running)
+    → option_to_list result ≡ timer_numbered m number
+timer_there e s others m number result st few tei at h =
+    h e.config (terms e.config (service_at number) tei) s (beside_links e m others) m.links (omega (arith, few, st.count)) (st.terms number tei few at) (links_part e s others m st)
+    ∙ sym (ap (λ o. timer_at (service_at number) o (link_at number m).running) at)
+
+-- there is none
+pub no_timer : (m : Line) (number : ℕ) → tei_at (place_at number) m ≡ None → [] ≡ timer_numbered m number
+no_timer m number none = sym (ap (λ o. timer_at (service_at number) o (link_at number m).running) none)
+
+-- those of the line itself
+abbrev t201_of : Management → List Timer
+t201_of t = cond (is_some t.check) (T201 ∷ []) []
+
+abbrev t202_of : Own → List Timer
+t202_of o = cond (is_some o.procedure) (T202 ∷ []) []
+
+pub timers_are : (e : LinkLayer) (s : Store) (others : List Owned) (m : Line) → LayerStands e s others m → timers_of e.teis ≡ own_timers m
+timers_are e s others m st = go e.teis st.management st.own
+  where
+    go : (x : Managing) → m.management ≡ management_of e.config x → m.own ≡ own_of x → timers_of x ≡ own_timers m
+    go (kind.Network x) management own = sym (append-nil (t201_of x)) ∙ (λ i. t201_of (sym management i) ++ t202_of (sym own i))
+    go (kind.Terminal x) management own = λ i. t201_of (sym management i) ++ t202_of (sym own i)

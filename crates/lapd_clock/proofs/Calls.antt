@@ -1,10 +1,16 @@
 -- What the calls of a clock do to the set that its lines stand for.
 use Rattle.lapd_clock.proofs.Vocabulary.{recursion_from_All, ◌≡◌, ℕ, ◌+◌, ◌^◌, ◌<◌, ◌≤◌, Bool, true, false, cond, not, ◌==◌, nat_le, List, [], ◌∷◌, length, get_or, set, slice_index, Some, None, All, Contains, refl, sym, ap, ◌∙◌, subst, arith, cases_lt, eq-eqb, ne_eqb, none-some, same_Some, get_or-map, map-set, length-set, AllByRecursion, nat_tests, All-from_recursion, length-filter}
 use Rattle.lapd_clock.proofs.Vocabulary.{count_by-le-length, IsInOrder, Timer, Lengths, Start, Stop, duration, Expiry, Timers, is_before, finds_place, with_order, after_first_due, first_due, IsSound, IsLeastDue, Held, Line, held_before, all_but, from_line, in_order, timers_in, IsEachOnce, IsWith, IsStarted, IsLineKept, IsKept, Order, vec_len, vec_capacity, due_at, after_due, first_moment}
-use Rattle.lapd_clock.proofs.Vocabulary.{next_moment, expiry_on, never, earliest, earliest_of}
+use Rattle.lapd_clock.proofs.Vocabulary.{next_moment, expiry_on, never, earliest, earliest_of, IsOfCard}
 use Rattle.std.proofs.lemmas.List.Elements as lists
-use Rattle.lapd_clock.proofs.StandsFor.{in_order-stopped, in_order-restarted, count_on-stopped}
-use Rattle.lapd_clock.proofs.Running.{finds_place-without, without-no_place, with_order_sound, after_due_sound, stop_in_time, start_in_time}
+use Rattle.lapd_clock.proofs.StandsFor.{in_order-stopped, in_order-restarted, count_on-stopped, count_on-whole}
+use Rattle.std.proofs.Common.{length-append, ◌++◌}
+use Rattle.lapd_clock.proofs.Ordered.{All-put_in_order}
+use Rattle.lapd_clock.proofs.InPlace.{with_push}
+use Rattle.lapd_clock.specs.Restoring.{with_held}
+use Rattle.lapd_clock.specs.Timers.{count_on, is_held, is_of, without}
+use Rattle.lapd_clock.specs.InOrder.{put_in_order}
+use Rattle.lapd_clock.proofs.Running.{count_on-held, none_of-without, one_more_sound, finds_place-without, without-no_place, without-not_held, with_order_sound, after_due_sound, stop_in_time, start_in_time}
 use Rattle.lapd_clock.proofs.Once.{line-once}
 use Rattle.lapd_clock.proofs.First.{leads_set, length-firsts, from_line-none, before_itself}
 use Rattle.lapd_clock.proofs.Earliest.{earliest_few, earliest-of_set, all_from_earliest, none_earlier, first-in_order}
@@ -28,6 +34,10 @@ same_timers ls lines m places es fs e f i = record { lines = e i; places = place
 pub timers_in-none : (ls : Lengths) (places : ℕ) (lines : List Line) → AllByRecursion (λ v. v.items ≡ []) lines → timers_in ls places lines ≡ record { lines = length lines; places = places; lengths = ls; running = [] }
 unfolding in_order
 timers_in-none ls places lines h = same_timers ls _ _ places _ _ refl (ap in_order (from_line-none 0 lines h))
+
+-- A line that is another leaves it the clock of a card.
+pub of_card-set : (places k : ℕ) (lines : List Line) (v : Line) → IsOfCard places (length lines) → IsOfCard places (length (set lines k v))
+of_card-set places k lines v is = subst (IsOfCard places) (sym (length-set lines k v)) is
 
 -- ---- an order
 
@@ -54,11 +64,41 @@ module _ (ls : Lengths) (places k : ℕ) (firsts : List ℕ) (lines : List Line)
   pub finds_place_is : (timer : Timer) → finds_place t k (Start timer) ≡ not (length (all_but timer u.items) == places)
   finds_place_is timer = ap (λ c. finds_place c k (Start timer)) (sym view) ∙ found timer
 
+  -- whether a timer of line k runs: all others are as many, or fewer
+  module _ (timer : Timer) where
+    runs : length (all_but timer u.items) < length u.items → is_held k timer (in_order (from_line 0 lines)) ≡ true
+    runs fewer =
+        (elim (is_held k timer (in_order (from_line 0 lines))) as (λ b. is_held k timer (in_order (from_line 0 lines)) ≡ b → b ≡ true) [
+          | true ↦ λ _. refl
+          | false ↦ λ none.
+              let same : count_on k (without k timer (in_order (from_line 0 lines))) ≡ count_on k (in_order (from_line 0 lines)) = ap (count_on k) (without-not_held k timer (in_order (from_line 0 lines)) none) in
+              absurd (omega (arith, fewer, count_on-stopped k lines within u at timer, count_on-whole k lines within u at, same))
+        ]) refl
+
+    runs_not : all_but timer u.items ≡ u.items → is_held k timer (in_order (from_line 0 lines)) ≡ false
+    runs_not all =
+        (elim (is_held k timer (in_order (from_line 0 lines))) as (λ b. is_held k timer (in_order (from_line 0 lines)) ≡ b → b ≡ false) [
+          | true ↦ λ held.
+              let fewer : count_on k (without k timer (in_order (from_line 0 lines))) < count_on k (in_order (from_line 0 lines)) = count_on-held k timer (in_order (from_line 0 lines)) held in
+              let size : length (all_but timer u.items) ≡ length u.items = ap length all in
+              absurd (omega (arith, size, count_on-stopped k lines within u at timer, count_on-whole k lines within u at, fewer))
+          | false ↦ λ _. refl
+        ]) refl
+
+  pub is_running : (timer : Timer) → length (all_but timer u.items) < length u.items → is_held k timer t.running ≡ true
+  is_running timer fewer = ap (λ (c : Timers). is_held k timer c.running) (sym view) ∙ runs timer fewer
+
+  pub is_not_running : (timer : Timer) → all_but timer u.items ≡ u.items → is_held k timer t.running ≡ false
+  is_not_running timer all = ap (λ (c : Timers). is_held k timer c.running) (sym view) ∙ runs_not timer all
+
+  pub counted : count_on k t.running ≡ length u.items
+  counted = ap (λ (c : Timers). count_on k c.running) (sym view) ∙ count_on-whole k lines within u at
+
   module _ (v : Line) (after_firsts : List ℕ) (renewed : after_firsts ≡ set firsts k (earliest_of v.items)) where
     -- v after the order
     obeys : (order : Order) (now : ℕ) → timers_in ls places (set lines k v) ≡ with_order (timers_in ls places lines) k order now → IsLineKept places v
         → AllByRecursion (λ e. e.moment < never) (with_order (timers_in ls places lines) k order now).running → Obeys ls places k after_firsts lines v t order now
-    obeys order now is one soon = grind (arith, All-set, map-set, with_order_sound, within)
+    obeys order now is one soon = grind (arith, All-set, map-set, with_order_sound, within, of_card-set)
 
     pub stopped : (timer : Timer) (now : ℕ) → v.items ≡ all_but timer u.items → vec_capacity v ≡ vec_capacity u → Obeys ls places k after_firsts lines v t (Stop timer) now
     unfolding with_order
@@ -78,6 +118,28 @@ module _ (ls : Lengths) (places k : ℕ) (firsts : List ℕ) (lines : List Line)
         obeys (Start h.timer) now (restarted_set b h now moment placed new)
         (record { fits = fits; taken = omega (arith, own.taken, room) })
         (start_in_time (timers_in ls places lines) k h.timer now never (omega (arith, early, short)) kept.in_time)
+
+    -- v with one timer more, which does not run
+    pub held : (h : Held) → all_but h.timer u.items ≡ u.items → v.items ≡ u.items ++ h ∷ [] → h.moment < never → vec_len v ≤ places → vec_capacity u ≤ vec_capacity v
+        → IsKept ls places after_firsts (set lines k v) × (timers_in ls places (set lines k v) ≡ with_held t k h)
+    held h all new soon fits room =
+        let with_one : IsWith h (all_but h.timer u.items) v.items = subst (λ hs. IsWith h hs v.items) (sym all) (subst (IsWith h u.items) (sym new) (with_push h u.items)) in
+        let none = runs_not h.timer all in
+        let is : timers_in ls places (set lines k v) ≡ with_held (timers_in ls places lines) k h =
+        same_timers ls _ _ places _ _ (length-set lines k v)
+        (in_order-restarted k lines within u at v h with_one ∙ ap (put_in_order is_before (expiry_on k h)) (without-not_held k h.timer (in_order (from_line 0 lines)) none)) in
+        let others : AllByRecursion (λ other. is_of k h.timer other ≡ false) (in_order (from_line 0 lines)) =
+        subst (AllByRecursion (λ other. is_of k h.timer other ≡ false)) (without-not_held k h.timer (in_order (from_line 0 lines)) none) (none_of-without k h.timer (in_order (from_line 0 lines))) in
+        let sizes = ap length new ∙ length-append u.items (h ∷ []) in (
+          record {
+            each = All-set (IsLineKept places) lines k v (record { fits = fits; taken = omega (arith, own.taken, room) }) kept.each;
+            at_hand = renewed ∙ ap (λ ms. set ms k (earliest_of v.items)) kept.at_hand ∙ sym (map-set (λ (w : Line). earliest_of w.items) lines k v);
+            in_time = subst (λ (c : Timers). AllByRecursion (λ e. e.moment < never) c.running) (sym is) (All-put_in_order is_before (λ e. e.moment < never) (expiry_on k h) _ soon kept.in_time);
+            sound = subst IsSound (sym is) (one_more_sound (timers_in ls places lines) (expiry_on k h) within others (omega (arith, count_on-whole k lines within u at, sizes, fits, v.ok.0)) kept.sound);
+            of_card = of_card-set places k lines v kept.of_card;
+          },
+          is ∙ ap (λ (c : Timers). with_held c k h) view,
+        )
 
 -- ---- what is due
 
@@ -198,4 +260,5 @@ module _ (ls : Lengths) (places : ℕ) (firsts : List ℕ) (lines : List Line) (
             at_hand = renewed ∙ ap (λ ms. set ms line (earliest_of v.items)) kept.at_hand ∙ sym (map-set (λ (w : Line). earliest_of w.items) lines line v);
             in_time = (subst (AllByRecursion (λ e. e.moment < never)) set_is kept.in_time).1;
             sound = subst IsSound (sym left) (after_due_sound ls (length lines) places _ now kept.sound);
+            of_card = of_card-set places line lines v kept.of_card;
           }

@@ -39,7 +39,7 @@ All-from_line P i (v ∷ vs) each =
     (All-on_line P i v.items (subst (λ k. AllByRecursion (λ h. P (expiry_on k h)) v.items) (omega arith) (each 0 v (omega arith))))
     (All-from_line P (i + 1) vs (λ k d within. subst (λ j. AllByRecursion (λ h. P (expiry_on j h)) (get_or vs k d).items) (omega arith) (each (suc k) d (omega arith))))
 
-All-in_order : (P : Expiry → Type 0) (es : List Expiry) → AllByRecursion P es → AllByRecursion P (in_order es)
+pub All-in_order : (P : Expiry → Type 0) (es : List Expiry) → AllByRecursion P es → AllByRecursion P (in_order es)
 unfolding in_order
 All-in_order P [] h = tt
 All-in_order P (e ∷ es) h = All-put_in_order is_before P e (in_order es) h.0 (All-in_order P es h.1)

@@ -4,6 +4,7 @@ pub mod Ordered
 pub mod Knockout
 pub mod TimerOrder
 pub mod InPlace
+pub mod Images
 pub mod StandsFor
 pub mod Running
 pub mod Once
@@ -13,3 +14,6 @@ pub mod Calls
 pub mod TimeUntil
 pub mod Moments
 pub mod Ranges
+pub mod Restoring
+pub mod ImageRead
+pub mod Restored

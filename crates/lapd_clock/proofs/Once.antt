@@ -21,7 +21,7 @@ from_put e (x ∷ xs) =
     ))
     (λ _ h. h)
 
-from_in_order : (es : List Expiry) → IsOneEach (in_order es) → IsOneEach es
+pub from_in_order : (es : List Expiry) → IsOneEach (in_order es) → IsOneEach es
 unfolding in_order
 from_in_order [] h = tt
 from_in_order (e ∷ es) h =
@@ -29,15 +29,15 @@ from_in_order (e ∷ es) h =
     (All-from_in_order (λ other. is_of e.line e.timer other ≡ false) es rest.0, from_in_order es rest.1)
 
 -- and of its parts,
-front_all : (P : Expiry → Type 0) (xs ys : List Expiry) → AllByRecursion P (xs ++ ys) → AllByRecursion P xs
+pub front_all : (P : Expiry → Type 0) (xs ys : List Expiry) → AllByRecursion P (xs ++ ys) → AllByRecursion P xs
 front_all P [] ys h = tt
 front_all P (x ∷ xs) ys h = (h.0, front_all P xs ys h.1)
 
-front : (xs ys : List Expiry) → IsOneEach (xs ++ ys) → IsOneEach xs
+pub front : (xs ys : List Expiry) → IsOneEach (xs ++ ys) → IsOneEach xs
 front [] ys h = tt
 front (x ∷ xs) ys h = (front_all (λ other. is_of x.line x.timer other ≡ false) xs ys h.0, front xs ys h.1)
 
-back : (xs ys : List Expiry) → IsOneEach (xs ++ ys) → IsOneEach ys
+pub back : (xs ys : List Expiry) → IsOneEach (xs ++ ys) → IsOneEach ys
 back [] ys h = h
 back (x ∷ xs) ys h = back xs ys h.1
 

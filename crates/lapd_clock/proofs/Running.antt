@@ -9,7 +9,7 @@ count_on-without : (line : ℕ) (timer : Timer) (l : ℕ) (es : List Expiry) →
 count_on-without line timer l es =
     omega (arith, sum_by-filter_both (λ e. not (is_of line timer e)) (λ e. not (not (is_of line timer e))) (λ _. refl) (λ e. cond (e.line == l) 1 0) es)
 
-count_on-held : (line : ℕ) (timer : Timer) (es : List Expiry) → is_held line timer es ≡ true → count_on line (without line timer es) < count_on line es
+pub count_on-held : (line : ℕ) (timer : Timer) (es : List Expiry) → is_held line timer es ≡ true → count_on line (without line timer es) < count_on line es
 count_on-held line timer [] = λ h. absurd (false≢true h)
 count_on-held line timer (e ∷ es) =
     (elim (is_of line timer e) as (λ b. is_of line timer e ≡ b → (b || is_held line timer es) ≡ true → count_on line (cond (not b) (e ∷ without line timer es) (without line timer es)) < count_on line (e ∷ es)) [
@@ -75,6 +75,17 @@ one_more_fits line l f places less o = grind (arith, nat_tests)
 room : (n places : ℕ) → n ≤ places → not (n == places) ≡ true → n < places
 room n places fits h = grind (arith, nat_tests)
 
+-- one more, which is not held, and has a place
+pub one_more_sound : (c : Timers) (e : Expiry) → e.line < c.lines → AllByRecursion (λ other. is_of e.line e.timer other ≡ false) c.running → count_on e.line c.running < c.places
+    → IsSound c → IsSound (record c { running = put_in_order is_before e c.running })
+one_more_sound c e within others less h = record {
+  in_order = IsInOrder-put_in_order is_before before_order e _ h.in_order;
+  one_each = IsOneEach-put_in_order e _ others h.one_each;
+  on_lines = All-from_recursion (λ x. x.line < c.lines) _ (All-put_in_order is_before (λ x. x.line < c.lines) e _ within (recursion_from_All (λ x. x.line < c.lines) _ h.on_lines));
+  in_places = λ l. rw (count_by-put_in_order is_before (λ x. x.line == l) e c.running) (one_more_fits e.line l (λ k. count_on k c.running) c.places less (h.in_places l));
+  lengths = h.lengths;
+}
+
 pub with_order_sound : (c : Timers) (line : ℕ) (order : Order) (now : ℕ) → line < c.lines → IsSound c → IsSound (with_order c line order now)
 unfolding with_order
 with_order_sound c line (Stop timer) now within h = without_sound c line timer h
@@ -82,13 +93,9 @@ with_order_sound c line (Start timer) now within h =
     let rest = without_sound c line timer h in
     let e : Expiry = record { moment = now + duration c.lengths timer; line = line; timer = timer } in
     (elim (finds_place c line (Start timer)) as (λ b. finds_place c line (Start timer) ≡ b → IsSound (cond b (record c { running = put_in_order is_before e (without line timer c.running) }) c)) [
-      | true ↦ λ found. record {
-        in_order = IsInOrder-put_in_order is_before before_order e _ rest.in_order;
-        one_each = IsOneEach-put_in_order e _ (none_of-without line timer c.running) rest.one_each;
-        on_lines = All-from_recursion (λ x. x.line < c.lines) _ (All-put_in_order is_before (λ x. x.line < c.lines) e _ within (recursion_from_All (λ x. x.line < c.lines) _ rest.on_lines));
-        in_places = λ l. rw (count_by-put_in_order is_before (λ x. x.line == l) e (without line timer c.running)) (one_more_fits line l (λ k. count_on k (without line timer c.running)) c.places (room (count_on line (without line timer c.running)) c.places (rest.in_places line) (sym (finds_place-without c line timer (h.in_places line)) ∙ found)) (rest.in_places l));
-        lengths = h.lengths;
-      }
+      | true ↦ λ found.
+          one_more_sound (record c { running = without line timer c.running }) e within (none_of-without line timer c.running)
+          (room (count_on line (without line timer c.running)) c.places (rest.in_places line) (sym (finds_place-without c line timer (h.in_places line)) ∙ found)) rest
       | false ↦ λ _. h
     ]) refl
 

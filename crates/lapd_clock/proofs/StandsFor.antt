@@ -21,7 +21,7 @@ unfolding on_line
 on_line-append k [] ys = refl
 on_line-append k (x ∷ xs) ys = ap (λ l. expiry_on k x ∷ l) (on_line-append k xs ys)
 
-in_order-inserted : (e : Expiry) (xs ys zs : List Expiry) → in_order ((xs ++ e ∷ ys) ++ zs) ≡ put_in_order is_before e (in_order ((xs ++ ys) ++ zs))
+pub in_order-inserted : (e : Expiry) (xs ys zs : List Expiry) → in_order ((xs ++ e ∷ ys) ++ zs) ≡ put_in_order is_before e (in_order ((xs ++ ys) ++ zs))
 unfolding in_order
 in_order-inserted e [] ys zs = refl
 in_order-inserted e (x ∷ xs) ys zs = ap (put_in_order is_before x) (in_order-inserted e xs ys zs) ∙ swap x e (in_order ((xs ++ ys) ++ zs))
@@ -109,7 +109,7 @@ unfolding in_order
 filter-in_order p [] = refl
 filter-in_order p (e ∷ es) = grind (arith, filter-put_in_order, before_order, IsInOrder-in_order, (filter-in_order p es))
 
-count_by-in_order : (p : Expiry → Bool) (es : List Expiry) → count_by p (in_order es) ≡ count_by p es
+pub count_by-in_order : (p : Expiry → Bool) (es : List Expiry) → count_by p (in_order es) ≡ count_by p es
 unfolding in_order
 count_by-in_order p [] = refl
 count_by-in_order p (e ∷ es) = grind (arith, count_by-put_in_order, count_by-cons, (count_by-in_order p es))
@@ -150,3 +150,6 @@ module _ (k : ℕ) (lines : List Line) (within : k < length lines) where
     -- the timers of a line are those that it keeps
     pub count_on-stopped : (t : Timer) → count_on k (without k t (in_order (from_line 0 lines))) ≡ length (all_but t u.items)
     count_on-stopped t = grind (arith, without_one, count_by-in_order, here, count_on-apart, count_on-on_line, sum_by-append)
+
+    pub count_on-whole : count_on k (in_order (from_line 0 lines)) ≡ length u.items
+    count_on-whole = grind (arith, whole, count_by-in_order, here, count_on-apart, count_on-on_line, sum_by-append)

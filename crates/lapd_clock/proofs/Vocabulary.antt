@@ -21,7 +21,7 @@ pub use Rattle.lapd_clock.specs.Firsts.{AreEarlierBut, IsKnockout, earliest, nev
 pub use Rattle.lapd_clock.specs.Given.{lengths_of}
 pub use Rattle.lapd_clock.specs.InOrder.{IsInOrder, put_in_order}
 pub use Rattle.lapd_clock.specs.Moments.{MovesOne, moment_of}
-pub use Rattle.lapd_clock.specs.Places.{IsEachOnce, IsKept, IsLineKept, IsStarted, IsWith, Line, all_but, earliest_of, expiry_on, firsts_of, held_before, timers_in}
+pub use Rattle.lapd_clock.specs.Places.{IsEachOnce, IsKept, IsOfCard, IsLineKept, IsStarted, IsWith, Line, all_but, earliest_of, expiry_on, firsts_of, held_before, timers_in}
 unfoldable pub use Rattle.lapd_clock.specs.Places.{from_line, in_order, on_line}
 pub use Rattle.lapd_clock.specs.Sound.{IsLeastDue, IsOneEach, IsSound}
 pub use Rattle.lapd_clock.specs.Timer.{AreInRange, Lengths, Order, Start, Stop, Timer, duration, is_same, kind_rank, service_rank, tei_rank, timer_cmp}

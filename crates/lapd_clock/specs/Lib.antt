@@ -5,5 +5,7 @@ pub mod InOrder
 pub mod Sound
 pub mod Firsts
 pub mod Places
+pub mod Image
+pub mod Restoring
 pub mod Moments
 pub mod Given

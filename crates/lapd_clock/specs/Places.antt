@@ -1,5 +1,5 @@
 -- How the places of the lines stand for the set of running timers: each line keeps its own, in no order.
-use Rattle.std.specs.Prelude.{◌≡◌, ℕ, ◌+◌, ◌<◌, ◌≤◌, Bool, true, false, not, List, [], ◌∷◌, ◌++◌, length, map, filter, Vec, vec_len, vec_capacity}
+use Rattle.std.specs.Prelude.{◌≡◌, ℕ, ◌+◌, ◌*◌, ◌<◌, ◌≤◌, Bool, true, false, not, List, [], ◌∷◌, ◌++◌, length, map, filter, Vec, vec_len, vec_capacity}
 use Rattle.std.specs.declared.alloc.Global.{Global}
 use Rattle.std.specs.List.{AllByRecursion}
 use Rattle.std.specs.Ordering.{nat_cmp, ordering_then, is_lt}
@@ -69,9 +69,17 @@ pub record IsLineKept (places : ℕ) (v : Line) : Type 0 where
   pub fits : vec_len v ≤ places
   pub taken : places ≤ vec_capacity v
 
+-- The clock is that of a card: it has 1 to 64 lines, and of each the places for 1 to 8 terminals.
+pub record IsOfCard (places lines : ℕ) : Type 0 where
+  pub some_lines : (1 ≤ lines) × (lines ≤ 64)
+  pub terminals : ℕ
+  pub some : (1 ≤ terminals) × (terminals ≤ 8)
+  pub places_are : places ≡ 4 * terminals + 1
+
 pub record IsKept (lengths : Lengths) (places : ℕ) (firsts : List ℕ) (lines : List Line) : Type 0 where
   pub each : AllByRecursion (IsLineKept places) lines
   -- The firsts are those of the lines, and each timer falls due some time.
   pub at_hand : firsts ≡ firsts_of lines
   pub in_time : AllByRecursion (λ e. e.moment < never) (in_order (from_line 0 lines))
   pub sound : IsSound (timers_in lengths places lines)
+  pub of_card : IsOfCard places (length lines)

@@ -4,6 +4,9 @@ ghost use Rattle.std.specs.Prelude.{◌≡◌, false, ◌^◌, ◌<◌, ◌≤�
 ghost use Rattle.lapd_clock.specs.Timers.{idle, idle_with, with_lengths, finds_place, with_order, due_at, after_due, next_moment};
 ghost use Rattle.lapd_clock.specs.Sound.{IsSound, IsLeastDue};
 
+mod restored;
+mod saved;
+
 use crate::fault::StartFault;
 use crate::firsts::{Firsts, NEVER};
 use crate::lengths::Lengths;

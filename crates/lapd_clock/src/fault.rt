@@ -26,3 +26,14 @@ pub enum LengthFault {
     #[error("T202 is out of range")]
     T202,
 }
+
+/// Why no clock was restored.
+#[derive(Clone, Copy, PartialEq, Eq, Debug, Error)]
+pub enum ImageFault {
+    /// The octets are no image of a clock.
+    #[error("not an image")]
+    BadImage,
+    /// There is no memory for the places of the lines.
+    #[error("out of memory")]
+    OutOfMemory,
+}

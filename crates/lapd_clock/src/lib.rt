@@ -9,7 +9,8 @@
 //! - `clock`: `Clock`, the running timers of all lines.
 //! - `line`: the timers of one line. `firsts`: when the first of each line falls due, and which line's is the first of all.
 //! - `lengths`: `Lengths`, how long the timers run. `timers`: which of them goes first at one moment.
-//! - `fault`: `StartFault`, why there is no clock, and `LengthFault`, which timer cannot run so long.
+//! - `clock::saved`: a clock in an image, and restored from it.
+//! - `fault`: `StartFault` and `ImageFault`, why there is no clock, and `LengthFault`, which timer cannot run so long.
 //! - `laws`: what an order does to the moments of all timers.
 //!
 //! What each call answers and does is defined in `specs/Timers.antt` on the set of running timers.
@@ -36,6 +37,6 @@ mod line;
 mod timers;
 
 pub use clock::Clock;
-pub use fault::{LengthFault, StartFault};
+pub use fault::{ImageFault, LengthFault, StartFault};
 pub use laws::orders_move_one_timer;
 pub use lengths::Lengths;

@@ -1,6 +1,6 @@
 //! The running timers of one line, each in a place of its own. The places are in no order.
 
-ghost use Rattle.std.specs.Prelude.{◌≡◌, not, ◌==◌, ◌<◌, ◌≤◌, true, false, length, vec_len, vec_capacity, All, HoldsAt, IfSome, IfNone};
+ghost use Rattle.std.specs.Prelude.{◌≡◌, [], ◌∷◌, ◌++◌, ◌⊎◌, not, ◌==◌, ◌<◌, ◌≤◌, true, false, length, vec_len, vec_capacity, All, HoldsAt, IfSome, IfNone};
 ghost use Rattle.std.specs.List.{IsFirstBest};
 ghost use Rattle.lapd_clock.specs.Timer.{is_same};
 ghost use Rattle.lapd_clock.specs.Places.{held_before, all_but, IsEachOnce, IsWith, IsStarted, earliest_of};
@@ -52,6 +52,28 @@ pub(crate) fn start(running: &mut Vec<Held>, places: usize, held: Held) -> bool
     if let Some(place) = place_of(running, held.timer) {
         running[place] = held;
         return true;
+    }
+    if running.len() == places {
+        return false;
+    }
+    let _ = running.push(held);
+    true
+}
+
+/// Starts a timer if it does not run and the line has a place for it. Otherwise nothing changes.
+pub(crate) fn add(running: &mut Vec<Held>, places: usize, held: Held) -> bool
+    requires each_once { IsEachOnce running.old.items }
+    requires fits { vec_len running.old ≤ places }
+    requires taken { places ≤ vec_capacity running.old }
+    ensures free { result ≡ true → (all_but held.timer running.old.items ≡ running.old.items) × (length running.old.items < places) }
+    ensures added { result ≡ true → running.new.items ≡ running.old.items ++ held ∷ [] }
+    ensures unchanged { result ≡ false → running.new ≡ running.old }
+    ensures refused { result ≡ false → (length (all_but held.timer running.old.items) < length running.old.items) ⊎ (length running.old.items ≡ places) }
+    ensures fits { vec_len running.new ≤ places }
+    ensures capacity { vec_capacity running.old ≤ vec_capacity running.new }
+{
+    if let Some(_place) = place_of(running, held.timer) {
+        return false;
     }
     if running.len() == places {
         return false;

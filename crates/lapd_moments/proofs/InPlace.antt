@@ -11,13 +11,13 @@ use Rattle.lapd_moments.specs.declared.place.Place.{Place}
 use Rattle.lapd_moments.proofs.Standing.{there, parted, rests, All-in_order, All-map}
 
 -- what stands at a place that rests is nothing to the set
-resting : (es : List Expiry) (i : ℕ) (z w : Expiry) → never ≤ z.moment → never ≤ w.moment → filter is_running (set es i z) ≡ filter is_running (set es i w)
+pub resting : (es : List Expiry) (i : ℕ) (z w : Expiry) → never ≤ z.moment → never ≤ w.moment → filter is_running (set es i z) ≡ filter is_running (set es i w)
 resting [] i z w zr wr = refl
 resting (x ∷ xs) zero z w zr wr =
     ap (λ b. cond b (z ∷ filter is_running xs) (filter is_running xs)) (rests z zr) ∙ sym (ap (λ b. cond b (w ∷ filter is_running xs) (filter is_running xs)) (rests w wr))
 resting (x ∷ xs) (suc i) z w zr wr = ap (λ ys. cond (is_running x) (x ∷ ys) ys) (resting xs i z w zr wr)
 
-set_own : (es : List Expiry) (i : ℕ) → set es i (at i es) ≡ es
+pub set_own : (es : List Expiry) (i : ℕ) → set es i (at i es) ≡ es
 set_own [] i = refl
 set_own (x ∷ xs) zero = refl
 set_own (x ∷ xs) (suc i) = ap (λ ys. x ∷ ys) (set_own xs i)
@@ -109,7 +109,7 @@ not_there line timer (e ∷ es) h =
       | false ↦ λ own. not_there line timer es h.1
     ]) h.0
 
-held_none : (line : ℕ) (timer : Timer) (es : List Expiry) → AllByRecursion (λ e. is_of line timer e ≡ false) es → is_held line timer es ≡ false
+pub held_none : (line : ℕ) (timer : Timer) (es : List Expiry) → AllByRecursion (λ e. is_of line timer e ≡ false) es → is_held line timer es ≡ false
 held_none line timer [] h = refl
 held_none line timer (e ∷ es) h = ap (λ b. b || is_held line timer es) h.0 ∙ held_none line timer es h.1
 

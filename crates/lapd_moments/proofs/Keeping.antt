@@ -1,5 +1,5 @@
 -- What is kept of a card, when a timer is started or stopped.
-use Rattle.lapd_clock.proofs.Vocabulary.{◌≡◌, Bool, true, false, ℕ, zero, suc, ◌+◌, ◌-◌, ◌*◌, ◌/◌, ◌<◌, ◌≤◌, List, [], ◌∷◌, length, length-set, get_or, set, slice_index, refl, sym, ap, ◌∙◌, subst, arith, inl, inr, cases_lt, cases_eq, get_or_default, never, Timer}
+use Rattle.lapd_clock.proofs.Vocabulary.{◌≡◌, Bool, true, false, ℕ, zero, suc, ◌+◌, ◌*◌, ◌/◌, ◌<◌, ◌≤◌, List, [], ◌∷◌, length, length-set, get_or, set, slice_index, refl, sym, ap, ◌∙◌, subst, arith, inl, inr, cases_lt, cases_eq, get_or_default, never, Timer}
 use Rattle.std.proofs.lemmas.Bool.{false≢true}
 use Rattle.std.proofs.lemmas.List.{get_or-set_other}
 use Rattle.std.proofs.lemmas.Grind.{get_or-set_at}

@@ -2,6 +2,11 @@
 pub mod Standing
 pub mod InPlace
 pub mod OfCard
+pub mod Image
+pub mod InImage
+pub mod RunAs
+pub mod Passing
+pub mod Restoring
 pub mod Laid
 pub mod Bounds
 pub mod Leading

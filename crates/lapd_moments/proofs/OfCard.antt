@@ -8,10 +8,10 @@ use Rattle.lapd_moments.specs.Places.{is_running, at, with_timer, without_timer,
 use Rattle.lapd_moments.specs.OfCard.{timer_of, line_timer, OfLink, OfLine, IsLayout, HoldsOwn, HoldsLine, Holds, AreApart}
 use Rattle.lapd_moments.proofs.Standing.{runs, rests, All-in_order}
 
-abbrev Each : (Expiry → Type 0) → List Expiry → Type 0
+abbrev pub Each : (Expiry → Type 0) → List Expiry → Type 0
 Each P es = (j : ℕ) → j < length es → (at j es).moment < never → P (at j es)
 
-each-running : (P : Expiry → Type 0) (es : List Expiry) → Each P es → AllByRecursion P (filter is_running es)
+pub each-running : (P : Expiry → Type 0) (es : List Expiry) → Each P es → AllByRecursion P (filter is_running es)
 each-running P [] h = tt
 each-running P (x ∷ xs) h =
     let later : AllByRecursion P (filter is_running xs) = each-running P xs (λ j within. h (suc j) (omega (arith, within))) in
@@ -35,10 +35,10 @@ but_one P (x ∷ xs) (suc i) z rest h =
 
 -- ---- timers and numbers
 
-both : (a b : Bool) → (a && b) ≡ true → (a ≡ true) × (b ≡ true)
+pub both : (a b : Bool) → (a && b) ≡ true → (a ≡ true) × (b ≡ true)
 both a b e = grind arith
 
-same_number : (k l : ℕ) → (k == l) ≡ true → k ≡ l
+pub same_number : (k l : ℕ) → (k == l) ≡ true → k ≡ l
 same_number k l e = grind (arith, nat_tests)
 
 pub equal : (a b : Timer) → is_same a b ≡ true → a ≡ b
@@ -58,7 +58,7 @@ pub record Parts (k m : LinkTimer) (s r : Service) (t u : ℕ) : Type 0 where
 parts : (k m : LinkTimer) (s r : Service) (t u : ℕ) → timer_of k s t ≡ timer_of m r u → Parts k m s r t u
 parts k m s r t u e = grind arith
 
-number_is : (number : ℕ) → link_number (place_at number) (service_at number) ≡ number
+pub number_is : (number : ℕ) → link_number (place_at number) (service_at number) ≡ number
 number_is number = grind (arith, nat_tests)
 
 module _ (lines links : ℕ) (slot : ℕ → ℕ → LinkTimer → ℕ) (line_slot : Bool → ℕ → ℕ) (IsOn : ℕ → ℕ → ℕ → Type 0) (es : List Expiry) (h : Holds lines links slot line_slot IsOn es) (on : AreApart lines IsOn) where
@@ -153,14 +153,14 @@ module _ (lines links : ℕ) (slot : ℕ → ℕ → LinkTimer → ℕ) (line_sl
 
 -- ---- a stop, and a line that changes
 
-at_other : (es : List Expiry) (i j : ℕ) (z : Expiry) → j ≢ i → at j (set es i z) ≡ at j es
+pub at_other : (es : List Expiry) (i j : ℕ) (z : Expiry) → j ≢ i → at j (set es i z) ≡ at j es
 at_other [] i j z apart = refl
 at_other (x ∷ xs) zero zero z apart = absurd (apart refl)
 at_other (x ∷ xs) zero (suc j) z apart = refl
 at_other (x ∷ xs) (suc i) zero z apart = refl
 at_other (x ∷ xs) (suc i) (suc j) z apart = at_other xs i j z (λ e. apart (ap suc e))
 
-at_own : (es : List Expiry) (i : ℕ) (z : Expiry) → i < length es → at i (set es i z) ≡ z
+pub at_own : (es : List Expiry) (i : ℕ) (z : Expiry) → i < length es → at i (set es i z) ≡ z
 at_own [] i z within = absurd (omega (arith, within))
 at_own (x ∷ xs) zero z within = refl
 at_own (x ∷ xs) (suc i) z within = at_own xs i z (omega (arith, within))

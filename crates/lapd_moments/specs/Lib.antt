@@ -1,4 +1,6 @@
--- The moments of timers, each in its place. Read Places, then Bounds and OfCard.
+-- The moments of timers, each in its place. Read Places, then Bounds, OfCard, Image and Restored.
 pub mod Places
 pub mod Bounds
 pub mod OfCard
+pub mod Image
+pub mod Restored

@@ -4,13 +4,14 @@
 //! it there, and looks at no other.
 //!
 //! - `moments`: `Moments`, a place for each timer of each link of each line, and for each line's T201 and T202.
-//! - `lead`: which place of a line falls due first, when one changes. `look`: which of the card does. `place`: one place. `timers`: which timer goes first at one moment.
+//! - `saved`: the moment of a place in an image. `lead`: which place of a line falls due first, when one changes. `look`: which of the card does. `place`: one place. `timers`: which timer goes first at one moment.
 #![tactic(auto)]
 
 mod lead;
 mod look;
 mod moments;
 mod place;
+mod saved;
 mod timers;
 
 pub use moments::Moments;

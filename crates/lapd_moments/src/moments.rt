@@ -29,7 +29,7 @@ pub struct Moments {
     leads: Vec<Lead>,
     /// How many places a line has.
     each: usize,
-    places: Vec<Place>,
+    pub(crate) places: Vec<Place>,
 }
 
 impl Model for Moments {

@@ -1,5 +1,5 @@
 -- Lines without a timer stand for an idle clock.
-use Rattle.lapd_clock.proofs.Vocabulary.{◌≡◌, ◌+◌, ◌*◌, ◌<◌, [], length, replicate, sym, ap, ◌∙◌, subst, arith, AllByRecursion, lengths_of, IsSound, Timers, never}
+use Rattle.lapd_clock.proofs.Vocabulary.{◌≡◌, ◌≤◌, refl, ◌+◌, ◌*◌, ◌<◌, [], length, replicate, sym, ap, ◌∙◌, subst, arith, AllByRecursion, lengths_of, IsSound, Timers, never}
 use Rattle.lapd_clock.proofs.Ranges.{range_of}
 use Rattle.lapd_clock.proofs.Running.{none_sound}
 use Rattle.lapd_clock.proofs.First.{firsts_of-none}
@@ -15,6 +15,12 @@ invariant_of-result c =
       at_hand = c.in-Ok.ensures.idle ∙ ap (λ n. replicate n never) (sym count) ∙ sym (firsts_of-none c.loop.all.items c.loop.invariant.none);
       in_time = subst (λ (t : Timers). AllByRecursion (λ e. e.moment < never) t.running) (sym idle) tt;
       sound = subst IsSound (sym idle) (none_sound _ _ _ (range_of c.args.lengths));
+      of_card = record {
+        some_lines = subst (λ n. (1 ≤ n) × (n ≤ 64)) (sym count) c.requires.lines;
+        terminals = c.args.terminals;
+        some = c.requires.terminals;
+        places_are = refl;
+      };
     }
 
 pub returns-clause-idle : goal.returns-clause-idle

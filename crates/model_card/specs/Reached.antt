@@ -27,6 +27,7 @@ pub record CameAbout (card : Card) : Type 0 where
   pub at_lines : AreAtLines card events
   pub same : card ≡ after_all first events
 
+-- It has a name of its own, which a proof opens where it needs the events, so that a search does not look into every card.
 unfoldable pub IsMade : Card → Type 0
 IsMade card = CameAbout card
 

@@ -15,11 +15,13 @@ use Rattle.model_line.specs.Line.{Line, fresh_line, is_terminal, link_count, lin
 use Rattle.model_card.specs.Card.{Card, line_at}
 use Rattle.model_card.proofs.Steps.{has_lines, line_sound}
 use Rattle.model_timed.specs.Clock.{Clock}
-use Rattle.model_image.specs.Numbers.{number, list_of, contents}
+use Rattle.lapd_image.specs.Numbers.{number, list_of, contents}
 use Rattle.model_image.specs.Configs.{config}
 use Rattle.model_image.specs.Links.{control_frame, counts, link}
-use Rattle.model_image.specs.Teis.{place, own, management}
-use Rattle.model_image.specs.Lines.{unit, teis, link_if, link_numbered, line, counters}
+use Rattle.lapd_tei.specs.Image.{place, management}
+use Rattle.model_image.specs.Teis.{own}
+use Rattle.lapd_count.specs.Image.{counters}
+use Rattle.model_image.specs.Lines.{unit, teis, link_if, link_numbered, line}
 use Rattle.model_image.specs.Clocks.{timers, moment, moments_at, moments, lengths, clock}
 use Rattle.model_image.specs.Images.{marks, changes}
 use Rattle.model_image.specs.Laws.{ImagesTellNoMore}

@@ -21,7 +21,8 @@ use Rattle.model_timed.specs.Clock.{Clock, stopped}
 use Rattle.model_timed.proofs.Running.{run-fresh}
 use Rattle.model_image.specs.Images.{begun, none_changed}
 use Rattle.model_image.specs.Laws.{CardsBeginSaved}
-use Rattle.model_image.specs.Sound.{IsSavedLink, IsSavedLine, IsCounted, AreMarks, IsClockOf, AreMoments, AreChanges, IsSaved}
+use Rattle.lapd_count.specs.Image.{IsCounted}
+use Rattle.model_image.specs.Sound.{IsSavedLink, IsSavedLine, AreMarks, IsClockOf, AreMoments, AreChanges, IsSaved}
 
 -- the other sides use no reference number
 unused : (b : Bool) (n : ℕ) → b ≡ false → cond b n 0 ≡ 0

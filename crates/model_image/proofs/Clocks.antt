@@ -19,11 +19,11 @@ use Rattle.model_line.proofs.Numbers.{place_at-number, service_at-number}
 use Rattle.model_card.specs.Card.{Card, line_at}
 use Rattle.model_timed.specs.Clock.{Clock}
 use Rattle.model_timed.proofs.Orders.{held-is}
-use Rattle.model_image.specs.Numbers.{number}
+use Rattle.lapd_image.specs.Numbers.{number}
 use Rattle.model_image.specs.Clocks.{timer_at, timer_numbered, timers, moment, moments_at, moments, lengths, clock}
 use Rattle.model_image.specs.Same.{IsSameLine, IsSameClock}
 use Rattle.model_image.specs.Sound.{IsClockOf}
-use Rattle.model_image.proofs.Reading.{split, Reads, number-read}
+use Rattle.lapd_image.proofs.Reading.{split, Reads, number-read}
 use Rattle.model_image.proofs.Lines.{at, below, within-range}
 
 -- What is in a list.

@@ -7,9 +7,10 @@ use Rattle.lapd_frame.specs.declared.readings.Reading.{Reading}
 use Rattle.lapd_frame.specs.declared.readings.Reading.TheVariants.{Profile, AnnexB}
 use Rattle.model_line.specs.declared.config.Config.{Config}
 use Rattle.model_line.specs.Sides.{is_network}
-use Rattle.model_image.specs.Numbers.{number}
+use Rattle.lapd_image.specs.Numbers.{number}
 use Rattle.model_image.specs.Configs.{is_annex_b, config_flags, seed, config}
-use Rattle.model_image.proofs.Reading.{heads, tails, split, Reads, number-read, bits-read}
+use Rattle.lapd_image.proofs.Reading.{heads, tails, split, Reads, number-read}
+use Rattle.lapd_tei.proofs.ImageRead.{bits-read}
 
 -- a side, and a reading, by their bits
 abbrev side_from : Bool → Side

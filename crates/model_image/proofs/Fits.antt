@@ -10,7 +10,7 @@ use Rattle.lapd_frame.specs.declared.controls.Control.TheVariants.{Information, 
 use Rattle.lapd_frame.specs.Grammar.{row, one_of, second_octet}
 use Rattle.lapd_seq.specs.declared.numbers.Seq.{Seq}
 use Rattle.model_bits.specs.StuffingLaws.{AreOctets}
-use Rattle.model_image.specs.Numbers.{number, list_of, contents}
+use Rattle.lapd_image.specs.Numbers.{number, list_of, contents}
 
 pub record Fits (n : ℕ) (xs : List ℕ) : Type 0 where
   pub octets : AreOctets xs

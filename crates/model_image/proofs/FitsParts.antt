@@ -38,10 +38,12 @@ use Rattle.model_line.specs.Line.{Line, Own, UnitData, is_terminal, link_count, 
 use Rattle.model_line.specs.Sound.{IsInRange, IsSound, IsSoundAt, IsOfSide, IsUnitData}
 use Rattle.model_line.specs.Stored.{slots_by_link, slots_of}
 use Rattle.model_line.proofs.Ranges.{Ranges, ranges_of}
-use Rattle.model_image.specs.Numbers.{number, list_of, contents}
+use Rattle.lapd_image.specs.Numbers.{number, list_of, contents}
 use Rattle.model_image.specs.Configs.{config_flags, seed, config}
 use Rattle.model_image.specs.Links.{control_frame, link_flags, counted_of, counts, link}
-use Rattle.model_image.specs.Teis.{place, remembered, period_number, check, management, procedure, own}
+use Rattle.lapd_tei.specs.Image.{place, remembered, period_number, check, management}
+use Rattle.lapd_terminal.specs.Image.{procedure}
+use Rattle.model_image.specs.Teis.{own}
 use Rattle.model_image.specs.Lines.{unit, teis, link_if, link_numbered, line}
 use Rattle.model_image.specs.Most.{most_teis, most_link}
 use Rattle.model_image.specs.Sound.{IsSavedLink, IsSavedLine}

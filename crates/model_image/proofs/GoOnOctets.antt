@@ -21,7 +21,7 @@ use Rattle.model_card.proofs.OfPorts.Steps.{config_after}
 use Rattle.model_image.specs.Laws.{AreSameCards}
 use Rattle.model_image.specs.Restored.{AreSameOctetCards, OctetCardGoesOn}
 use Rattle.model_image.proofs.GoOnCards.{cards_go_on}
-use Rattle.model_image.proofs.Reading.{heads}
+use Rattle.lapd_image.proofs.Reading.{heads}
 
 -- ---- one event of frames
 

@@ -1,5 +1,4 @@
--- Lemmas: what is read of a list of octets (Reading), of each part of an image, and of the whole (Whole).
-pub mod Reading
+-- Lemmas: what is read of each part of an image, and of the whole (Whole).
 pub mod Links
 pub mod Teis
 pub mod Lines

@@ -15,17 +15,21 @@ use Rattle.model_link.specs.Link.{Link, fresh}
 use Rattle.model_line.specs.declared.config.Config.{Config}
 use Rattle.model_line.specs.Line.{Line, UnitData, is_terminal, link_count, link_at, place_at, tei_at}
 use Rattle.model_line.specs.Sound.{IsSound, IsSoundAt, IsOfSide, IsUnitData}
-use Rattle.model_image.specs.Numbers.{number, list_of}
-use Rattle.model_image.specs.Teis.{place}
-use Rattle.model_image.specs.Lines.{unit, teis, link_if, link_numbered, line, counters}
+use Rattle.lapd_image.specs.Numbers.{number, list_of}
+use Rattle.lapd_tei.specs.Image.{HasRi, place}
+use Rattle.lapd_count.specs.Image.{counters}
+use Rattle.model_image.specs.Lines.{unit, teis, link_if, link_numbered, line}
 use Rattle.model_image.specs.Same.{IsSameLink, IsSameLine}
-use Rattle.model_image.specs.Sound.{IsSavedLink, IsSavedLine, IsCounted}
-use Rattle.model_image.proofs.Reading.{heads, tails, split, Reads, number-read, front-read, contents-read, equal-read, list-read}
+use Rattle.lapd_count.specs.Image.{IsCounted}
+use Rattle.model_image.specs.Sound.{IsSavedLink, IsSavedLine}
+use Rattle.lapd_image.proofs.Reading.{heads, tails, split, Reads, number-read, front-read, contents-read, equal-read, list-read}
 use Rattle.model_image.proofs.Links.{small, link-read}
-use Rattle.model_image.proofs.Teis.{places-read, HasRi, HasNumber, management-read, AreOwnNumbers, own-read}
+use Rattle.lapd_tei.proofs.ImageRead.{places-read, management-read}
+use Rattle.lapd_terminal.proofs.ImageRead.{HasNumber}
+use Rattle.model_image.proofs.Teis.{AreOwnNumbers, own-read}
 
 -- a service by its bit
-service-read : (s t : Service) (n m : ℕ) → 2 * n + rank_of_service s ≡ 2 * m + rank_of_service t → (n ≡ m) × (s ≡ t)
+pub service-read : (s t : Service) (n m : ℕ) → 2 * n + rank_of_service s ≡ 2 * m + rank_of_service t → (n ≡ m) × (s ≡ t)
 service-read Call Call n m e = (omega (arith, e), refl)
 service-read Call Packet n m e = absurd (omega (arith, e))
 service-read Packet Call n m e = absurd (omega (arith, e))
@@ -35,25 +39,25 @@ service-read Packet Packet n m e = (omega (arith, e), refl)
 abbrev pub HasSmallUnit : UnitData → Type 0
 HasSmallUnit u = length u.contents < 65536
 
-unit-read : Reads HasSmallUnit (λ (u v : UnitData). u ≡ v) unit
+pub unit-read : Reads HasSmallUnit (λ (u v : UnitData). u ≡ v) unit
 unit-read u v r s few also e =
     let who : (u.tei ≡ v.tei) × (u.service ≡ v.service) = service-read u.service v.service u.tei v.tei (heads e) in
     let what : (u.contents ≡ v.contents) × (r ≡ s) = contents-read u.contents v.contents r s few also (tails e) in
     ((λ i. record { service = who.1 i; tei = who.0 i; contents = what.0 i }), what.1)
 
 -- the numbers of a terminal's procedure
-procedure-fits : (places : List (Option ℕ)) (o : Option Procedure) → IfSome o (terminals.IsSoundProcedure places) → IfSome o HasNumber
+pub procedure-fits : (places : List (Option ℕ)) (o : Option Procedure) → IfSome o (terminals.IsSoundProcedure places) → IfSome o HasNumber
 procedure-fits places None sound = tt
 procedure-fits places (Some (Asking ri attempts)) sound = sound.0
 procedure-fits places (Some (Verifying tei attempts)) sound = tt
 
 -- What a side has of TEI management.
-record AreSameTeis (terminal : Bool) (l m : Line) (r s : List ℕ) : Type 0 where
-  management : l.management ≡ m.management
-  own : l.own ≡ m.own
-  others : r ≡ s
+pub record AreSameTeis (terminal : Bool) (l m : Line) (r s : List ℕ) : Type 0 where
+  pub management : l.management ≡ m.management
+  pub own : l.own ≡ m.own
+  pub others : r ≡ s
 
-teis-read : (terminal : Bool) (l m : Line) (r s : List ℕ) → IsOfSide terminal l.management l.own → IsOfSide terminal m.management m.own
+pub teis-read : (terminal : Bool) (l m : Line) (r s : List ℕ) → IsOfSide terminal l.management l.own → IsOfSide terminal m.management m.own
     → l.management.reading ≡ m.management.reading → l.management.places ≡ m.management.places → length l.management.to_check ≡ length m.management.to_check
     → (terminal ≡ false → l.own.number ≡ 0) → (terminal ≡ false → m.own.number ≡ 0) → All HasRi l.management.remembered → All HasRi m.management.remembered → teis terminal l ++ r ≡ teis terminal m ++ s → AreSameTeis terminal l m r s
 teis-read true l m r s side same_side reading places count unused unused_too few also e =

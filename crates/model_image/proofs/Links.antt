@@ -17,10 +17,11 @@ use Rattle.model_link.specs.declared.timers.LinkTimer.{LinkTimer}
 use Rattle.model_link.specs.declared.timers.LinkTimer.TheVariants.{T200, T203}
 use Rattle.model_link.specs.Link.{Link, state_number, queue_of}
 use Rattle.model_link.specs.Told.{runs}
-use Rattle.model_image.specs.Numbers.{number, list_of, contents}
+use Rattle.lapd_image.specs.Numbers.{number, list_of, contents}
 use Rattle.model_image.specs.Links.{control_frame, link_flags, counted_of, counts, link}
 use Rattle.model_image.specs.Same.{IsSameLink}
-use Rattle.model_image.proofs.Reading.{heads, tails, split, Reads, number-read, equal-read, list-read, contents-read, bits-read, all-unit}
+use Rattle.lapd_image.proofs.Reading.{heads, tails, split, Reads, number-read, equal-read, list-read, contents-read, all-unit}
+use Rattle.lapd_tei.proofs.ImageRead.{bits-read}
 
 -- a bit
 bit-read : (a b : Bool) → bit_value a ≡ bit_value b → a ≡ b
@@ -30,7 +31,7 @@ bit-read false true e = absurd (omega (arith, e))
 bit-read false false e = refl
 
 -- a control frame, whose control field says how long it is
-frame-read : Reads (λ (f : ControlFrame). Unit {0}) (λ (f g : ControlFrame). f ≡ g) control_frame
+pub frame-read : Reads (λ (f : ControlFrame). Unit {0}) (λ (f g : ControlFrame). f ≡ g) control_frame
 frame-read f g r s small below e =
     let command : f.command ≡ g.command = bit-read f.command g.command (heads e) in
     let fields : (row f.control).field ++ r ≡ (row g.control).field ++ s = tails e in

@@ -10,7 +10,7 @@ use Rattle.model_line.specs.declared.config.Config.{Config}
 use Rattle.model_line.specs.Line.{Line, link_count, link_at, service_at, place_at, tei_at}
 use Rattle.model_card.specs.Card.{Card, line_at}
 use Rattle.model_timed.specs.Clock.{Clock}
-use Rattle.model_image.specs.Numbers.{number}
+use Rattle.lapd_image.specs.Numbers.{number}
 
 -- The timer that a link runs, if it runs one and there is a TEI at its place.
 abbrev pub timer_of : Service → ℕ → Option LinkTimer → List Timer

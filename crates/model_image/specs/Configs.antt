@@ -5,7 +5,7 @@ use Rattle.lapd_frame.specs.declared.readings.Reading.TheVariants.{Profile, Anne
 use Rattle.model_bits.specs.Bits.{number_of}
 use Rattle.model_line.specs.declared.config.Config.{Config}
 use Rattle.model_line.specs.Sides.{is_network}
-use Rattle.model_image.specs.Numbers.{number}
+use Rattle.lapd_image.specs.Numbers.{number}
 
 abbrev pub is_annex_b : Reading → Bool
 is_annex_b Profile = false

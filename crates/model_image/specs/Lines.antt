@@ -1,14 +1,14 @@
--- A line in an image, and what was counted of it.
+-- A line in an image.
 use Rattle.std.specs.Prelude.{ℕ, ◌+◌, ◌*◌, Bool, true, false, List, [], ◌∷◌, ◌++◌, map, flat_map, Option, None, Some}
 use Rattle.std.specs.List.{range_with_len}
 use Rattle.lapd_clock.specs.Timer.{rank_of_service}
-use Rattle.lapd_count.specs.declared.counters.Counters.{Counters}
+use Rattle.lapd_image.specs.Numbers.{list_of, contents}
+use Rattle.lapd_tei.specs.Image.{place, management}
 use Rattle.model_link.specs.Link.{Link}
 use Rattle.model_line.specs.declared.config.Config.{Config}
 use Rattle.model_line.specs.Line.{Line, UnitData, is_terminal, link_count, link_at, place_at, tei_at}
-use Rattle.model_image.specs.Numbers.{number, list_of, contents}
 use Rattle.model_image.specs.Links.{link}
-use Rattle.model_image.specs.Teis.{place, management, own}
+use Rattle.model_image.specs.Teis.{own}
 
 -- Unit data that waits: in one octet twice its TEI, and 1 more for packet mode; and its contents.
 abbrev pub unit : UnitData → List ℕ
@@ -33,7 +33,3 @@ abbrev pub line : Config → Line → List ℕ
 line c l =
     map place l.management.places ++ (teis (is_terminal c) l ++ (list_of unit l.units
     ++ (l.turn ∷ flat_map (link_numbered l) (range_with_len 0 (link_count c)))))
-
--- The 79 counters in the order of their places, each in eight octets.
-abbrev pub counters : Counters → List ℕ
-counters c = flat_map (number 8) c.values

@@ -7,7 +7,7 @@ use Rattle.model_link.specs.declared.frames.ControlFrame.{ControlFrame}
 use Rattle.model_link.specs.declared.timers.LinkTimer.TheVariants.{T200, T203}
 use Rattle.model_link.specs.Link.{Link, state_number, queue_of, outstanding}
 use Rattle.model_link.specs.Told.{runs}
-use Rattle.model_image.specs.Numbers.{number, list_of, contents}
+use Rattle.lapd_image.specs.Numbers.{number, list_of, contents}
 
 -- A control frame that waits: 1 for a command or 0 for a response, and its control field of one or two octets, of which
 -- the first says how many (Q.921 clause 3.4).

@@ -6,14 +6,15 @@ use Rattle.lapd_clock.specs.InOrder.{IsInOrder}
 use Rattle.lapd_clock.specs.Sound.{IsOneEach}
 use Rattle.lapd_clock.specs.Timer.{AreInRange}
 use Rattle.lapd_clock.specs.Timers.{is_before}
-use Rattle.lapd_count.specs.Counters.{count, most}
-use Rattle.lapd_count.specs.declared.counters.Counters.{Counters}
+use Rattle.lapd_count.specs.Image.{IsCounted}
 use Rattle.lapd_tei.specs.Messages.{information_of}
 use Rattle.lapd_terminal.specs.Messages as terminals
 use Rattle.model_bits.specs.StuffingLaws.{AreOctets}
 use Rattle.model_link.specs.Link.{Link, queue_of}
+use Rattle.model_link.specs.Timed.{IsTimed}
 use Rattle.model_line.specs.declared.config.Config.{Config}
-use Rattle.model_line.specs.Line.{Line, is_terminal, link_count, place_at, tei_at}
+use Rattle.model_line.specs.Line.{Line, is_terminal, link_at, link_count, place_at, tei_at}
+use Rattle.model_line.specs.Sound.{IsSound as IsSoundLine}
 use Rattle.model_card.specs.Card.{Card}
 use Rattle.model_card.specs.Reached.{AreTimed}
 use Rattle.model_card.specs.Sound.{IsSound}
@@ -39,10 +40,11 @@ pub record IsSavedLine (c : Config) (l : Line) : Type 0 where
   pub links : All (IsSavedLink c) l.links
   pub units : All (λ u. AreOctets u.contents) l.units
 
--- A line has 79 counters of 64 bits.
-pub record IsCounted (counters : Counters) : Type 0 where
-  pub whole : length counters.values ≡ count
-  pub few : All (λ value. value ≤ most) counters.values
+-- A line that may be saved, whatever the others: it is sound, and its timers are those of its states.
+pub record IsWhole (c : Config) (l : Line) : Type 0 where
+  pub sound : IsSoundLine c l
+  pub timed : (number : ℕ) → IsTimed (link_at number l)
+  pub saved : IsSavedLine c l
 
 -- Links wait only where there is a TEI.
 pub record AreMarks (c : Config) (l : Line) (waits : List Bool) : Type 0 where

@@ -8,7 +8,7 @@ use Rattle.model_link.specs.declared.timers.LinkTimer.TheVariants as running
 use Rattle.model_link.specs.Link as links
 use Rattle.model_line.specs.Line.{Line, fresh_line, with_link}
 use Rattle.model_line.specs.Usual.{usual, least}
-use Rattle.model_image.specs.Numbers.{number}
+use Rattle.lapd_image.specs.Numbers.{number}
 use Rattle.model_image.specs.Images.{Saved, begun, image_of}
 use Rattle.model_image.specs.Most.{most_octets}
 

@@ -1,8 +1,10 @@
 -- What the row of a frame does, said once: a claim that every word of the tables leads on is led on by every row.
-use Rattle.model_link.proofs.Vocabulary.{◌≡◌, ℕ, ◌≤◌, Bool, true, false, IsTrue, List, Option, Some, None, inr, refl, sym, true≢false, length-take, arith, Seq, seq, named, leb-true, Control, Information, ReceiveReady, ReceiveNotReady, Reject, Sabme, Disc, Ui, Ua, Dm, Frmr, Xid, ErrorCode, State, TeiAssigned, AwaitingEstablishment, AwaitingRelease, Established, TimerRecovery, LinkCounts, LinkTimer}
+use Rattle.model_link.proofs.Vocabulary.{◌≡◌, ℕ, ◌<◌, ◌≤◌, Bool, true, false, IsTrue, List, Option, Some, None, inr, refl, sym, subst, ltb-true, true≢false, length-take, arith, Seq, seq, named, leb-true, Control, Information, ReceiveReady, ReceiveNotReady, Reject, Sabme, Disc, Ui, Ua, Dm, Frmr, Xid, ErrorCode, State, TeiAssigned, AwaitingEstablishment, AwaitingRelease, Established, TimerRecovery}
+use Rattle.model_link.proofs.Vocabulary.{LinkCounts, LinkTimer}
 use Rattle.model_link.proofs.Vocabulary.{T200, T203}
 use Rattle.model_link.proofs.Vocabulary.{ControlFrame, Terms, has_outstanding, is_asked, is_peer_busy, is_own_busy, is_multiple_frame, Course, Step, ◌then◌, nothing, depending_on, establish_in_4, frame_in_4, frame_in_5, frame_in_6, acknowledged_in_8, particulars_in_8, frame_in, response}
 use Rattle.std.specs.Prelude.{◌&&◌}
+use Rattle.model_link.specs.Link.{may_repeat}
 use Rattle.model_link.specs.Words
 use Rattle.model_link.specs.MultipleFrame
 use Rattle.model_link.specs.Established
@@ -61,11 +63,17 @@ module _ {t : Terms} {Units Anew Taken Window Queued Offered : Type 0} {In : Sta
   pub flags : {X : Claim} {p q : Purse} → Leads (At X (P p q)) Words.clear_flags (At X (P p q))
   flags {p = p} {q = q} = record { leads = λ c h. record { known = h.known; holds = k.flags p q c h.holds } }
 
-  pub repeats : {X : Claim} {p q : Purse} (n : ℕ) → Leads (At X (P p q)) (Words.repeats_are n) (At X (P p q))
-  repeats {p = p} {q = q} n = record { leads = λ c h. record { known = h.known; holds = k.repeats p q n c h.holds } }
+  pub repeats : {X : Claim} {p q : Purse} (n : ℕ) → n ≤ t.n200 → Leads (At X (P p q)) (Words.repeats_are n) (At X (P p q))
+  repeats {p = p} {q = q} n few = record { leads = λ c h. record { known = h.known; holds = k.repeats p q n c few h.holds } }
 
-  pub repeated : {X : Claim} {p q : Purse} → Leads (At X (P p q)) Words.repeated (At X (P p q))
-  repeated {p = p} {q = q} = record { leads = λ c h. record { known = h.known; holds = k.repeated p q c h.holds } }
+  -- one repeat more, after what leaves RC, if there may be one
+  pub repeated : {X : Claim} {p q p' q' : Purse} {f : Step} → ((c : Course) → (f c).link.repeats ≡ c.link.repeats) → Leads (At X (P p' q')) f (At X (P p q))
+      → Leads (Passed (At X (P p' q')) (may_repeat t) true) (f then Words.repeated) (At X (P p q))
+  repeated {p = p} {q = q} {f = f} same x = record {
+    leads = λ c h.
+        let after = x.leads c h.holds in
+        record { known = after.known; holds = k.repeated p q (f c) (subst (λ n. n < t.n200) (sym (same c)) (ltb-true c.link.repeats t.n200 h.told)) after.holds };
+  }
 
   pub start : {X : Claim} {p q : Purse} (timer : LinkTimer) → Leads (At X (P p q)) (Words.start timer) (At X (P p q))
   start {p = p} {q = q} timer = record { leads = λ c h. record { known = h.known; holds = k.start p q timer c h.holds } }
@@ -154,7 +162,7 @@ module _ {t : Terms} {Units Anew Taken Window Queued Offered : Type 0} {In : Sta
 
   -- the link is established again, and an N(R) that is not valid leads to it
   pub failed : {X : Claim} {p q : Purse} (e : ErrorCode) → Leads (At X (P (another p) (another q))) (MultipleFrame.failed t e) E
-  failed e = error e ▹ flags ▹ send (sabme_waits t true) ▹ repeats 0 ▹ start T200 ▹ enter_5 false (λ a s n state x on. absurd (true≢false (sym on)))
+  failed e = error e ▹ flags ▹ send (sabme_waits t true) ▹ repeats 0 (omega arith) ▹ start T200 ▹ enter_5 false (λ a s n state x on. absurd (true≢false (sym on)))
 
   by-number : {X : Claim} {Y : ℕ → Claim} (nr : Seq) (f : ℕ → Step)
       → ((a s n i : ℕ) (state : State) → X a s n state → named a s nr ≡ Some i → Y i a s n state)
@@ -200,7 +208,7 @@ module _ {t : Terms} {Units Anew Taken Window Queued Offered : Type 0} {In : Sta
 
   -- layer 3 asks for an establishment, or by annex B the other side does
   pub establish : {p q : Purse} → Leads (At (idle In) (P (another p) q)) (establish_in_4 t) E
-  establish = flags ▹ send (sabme_waits t true) ▹ repeats 0 ▹ start T200 ▹ enter_5 {X = idle In} true (λ a s n state x on. x)
+  establish = flags ▹ send (sabme_waits t true) ▹ repeats 0 (omega arith) ▹ start T200 ▹ enter_5 {X = idle In} true (λ a s n state x on. x)
 
   -- state 4
   row_in_4 : (octets : List ℕ) (control : Control) → Fits Units Anew (Unit {0}) control → Leads (At (idle In) S) (frame_in_4 t octets control) E

@@ -6,6 +6,7 @@ pub mod Kept
 pub mod Careful
 pub mod FrameRows
 pub mod Rows
+pub mod Repeats
 pub mod Unserved
 pub mod SoundRows
 pub mod SoundEvents

@@ -1,7 +1,12 @@
 -- What a row does, said once: a claim that every word of the tables leads on is led on by every event.
-use Rattle.model_link.proofs.Vocabulary.{with_expiry, arith, ◌≡◌, ℕ, Bool, true, false, cond, List, [], ◌∷◌, Option, Some, None, inr, refl, Control, ErrorCode, Refusal, State, TeiAssigned, AwaitingEstablishment, AwaitingRelease, Established, TimerRecovery, LinkTimer, T200, T203, ControlFrame, Terms, is_own_busy, Course, ◌then◌, nothing, ClearBusy, Data, Establish, Event, Release, Request, SetBusy}
+use Rattle.model_link.proofs.Vocabulary.{with_expiry, arith, ◌≡◌, ℕ, ◌≤◌, Bool, true, false, cond, List, [], ◌∷◌, Option, Some, None, inr, refl, Control, ErrorCode, Refusal, State, TeiAssigned, AwaitingEstablishment, AwaitingRelease, Established, TimerRecovery, LinkTimer, T200, T203, ControlFrame, Terms, Link, is_own_busy, Course, Step, ◌then◌, nothing, ClearBusy, Data, Establish, Event, Release}
+use Rattle.model_link.proofs.Vocabulary.{Request, SetBusy}
 use Rattle.model_link.proofs.Vocabulary.{cleared}
 use Rattle.model_link.proofs.Vocabulary.{expired, frame, offer, overlong, received, requested, undefined, wrong_size, own_busy_is, report_receiver_status, clear_busy_in_7_8, set_busy_in_7_8, granted, refusal, release_in, is_awaiting_acknowledgement, is_pending, may_send_information, offer_among, send_acknowledgement, send_information, command, Disc}
+use Rattle.lapd_frame.specs.declared.readings.Reading.{Reading}
+use Rattle.lapd_frame.specs.declared.readings.Reading.TheVariants.{Profile, AnnexB}
+use Rattle.std.proofs.Math.Nat.{min-le_right}
+use Rattle.model_link.specs.Established.{first_repeats}
 use Rattle.model_link.specs.Link.{may_repeat}
 use Rattle.model_link.specs.Machine
 use Rattle.model_link.proofs.Leads.{Leads, depending_leads, tested_leads, Passed, from_more}
@@ -9,6 +14,16 @@ use Rattle.model_link.proofs.Waits.{sabme_waits, may_wait}
 use Rattle.model_link.proofs.Kept.{Purse, no_more, two, Fits, FitsEvent, Kept, any_event}
 use Rattle.model_link.proofs.Careful.{Claim, At, anything, paid, QueuesFor, Queues, Careful, plainly, any_contents}
 use Rattle.model_link.proofs.FrameRows.{one, ◌▹◌, error, release_indication, release_confirm, send, settled, repeats, repeated, start, no_timer, count, discard, ready, untold, ends, stays, enter_4, enter_6, enter_8, knowing, begun_by, malformed, establish, failed, frame_by}
+
+-- an enquiry begins with no more repeats than there may be
+few-first : (reading : Reading) (n200 : ℕ) (timer : LinkTimer) → first_repeats reading n200 timer ≤ n200
+few-first Profile n200 timer = omega arith
+few-first AnnexB n200 T200 = min-le_right 1 n200
+few-first AnnexB n200 T203 = omega arith
+
+-- what a test tells may not matter
+passed : {P Q : Course → Type 0} {f : Step} {test : Link → Bool} {b : Bool} → Leads P f Q → Leads (Passed P test b) f Q
+passed x = from_more (λ c h. h.holds) x
 
 -- what is not refused is served
 served : (b : Bool) (o : Option Refusal) (w : Refusal) → cond b o (Some w) ≡ None → b ≡ true
@@ -23,23 +38,23 @@ module _ {t : Terms} {Units Anew Taken Window Queued Offered : Type 0} {In : Sta
   pub expired_by : (here : State) (timer : LinkTimer) → Leads (At (paid In Window here) (P one two)) (Machine.expired_in here timer t) E
   expired_by TeiAssigned timer = stays k
   expired_by AwaitingEstablishment T200 =
-      depending_leads (may_repeat t) (ends k (send k (sabme_waits t true) ▹ repeated k ▹ start k T200))
-      (discard k ▹ error k ErrorCode.G ▹ release_indication k ▹ no_timer k ▹ enter_4 k)
+      tested_leads (may_repeat t) (ends k (repeated k (λ c. refl) (send k (sabme_waits t true)) ▹ start k T200))
+      (passed (discard k ▹ error k ErrorCode.G ▹ release_indication k ▹ no_timer k ▹ enter_4 k))
   expired_by AwaitingEstablishment T203 = stays k
   expired_by AwaitingRelease T200 =
-      depending_leads (may_repeat t) (ends k (send k (may_wait t (command (Disc true)) refl refl (omega arith) refl) ▹ repeated k ▹ start k T200))
-      (knowing k (λ a s n state x. inr (AwaitingRelease, x.0, refl)) (error k ErrorCode.H ▹ release_confirm k ▹ no_timer k ▹ enter_4 k))
+      tested_leads (may_repeat t) (ends k (repeated k (λ c. refl) (send k (may_wait t (command (Disc true)) refl refl (omega arith) refl)) ▹ start k T200))
+      (passed (knowing k (λ a s n state x. inr (AwaitingRelease, x.0, refl)) (error k ErrorCode.H ▹ release_confirm k ▹ no_timer k ▹ enter_4 k)))
   expired_by AwaitingRelease T203 = stays k
-  expired_by Established timer = repeats k _ ▹ ready k true ▹ start k T200 ▹ enter_8 k
-  expired_by TimerRecovery T200 = depending_leads (may_repeat t) (ends k (ready k true ▹ repeated k ▹ start k T200)) (failed k ErrorCode.I)
+  expired_by Established timer = repeats k _ (few-first t.reading t.n200 timer) ▹ ready k true ▹ start k T200 ▹ enter_8 k
+  expired_by TimerRecovery T200 = tested_leads (may_repeat t) (ends k (repeated k (λ c. refl) (ready k true) ▹ start k T200)) (passed (failed k ErrorCode.I))
   expired_by TimerRecovery T203 = stays k
 
   pub release_by : (here : State) → Leads (At anything (P one two)) (release_in here t) E
   release_by TeiAssigned = ends k (release_confirm k)
   release_by AwaitingEstablishment = stays k
   release_by AwaitingRelease = stays k
-  release_by Established = discard k ▹ settled k ▹ send k (may_wait t (command (Disc true)) refl refl (omega arith) refl) ▹ repeats k 0 ▹ start k T200 ▹ enter_6 k
-  release_by TimerRecovery = discard k ▹ settled k ▹ send k (may_wait t (command (Disc true)) refl refl (omega arith) refl) ▹ repeats k 0 ▹ start k T200 ▹ enter_6 k
+  release_by Established = discard k ▹ settled k ▹ send k (may_wait t (command (Disc true)) refl refl (omega arith) refl) ▹ repeats k 0 (omega arith) ▹ start k T200 ▹ enter_6 k
+  release_by TimerRecovery = discard k ▹ settled k ▹ send k (may_wait t (command (Disc true)) refl refl (omega arith) refl) ▹ repeats k 0 (omega arith) ▹ start k T200 ▹ enter_6 k
 
   still : Leads (P one two) nothing E
   still = record { leads = λ c h. k.ends one two c h }

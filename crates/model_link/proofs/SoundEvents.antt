@@ -3,23 +3,24 @@ use Rattle.model_link.proofs.Vocabulary.{◌≡◌, ℕ, ◌-◌, ◌≤◌, Lis
 use Rattle.model_link.proofs.Kept.{any_event}
 use Rattle.model_link.proofs.Careful.{Queues, any_contents}
 use Rattle.model_link.proofs.Rows.{event_by}
+use Rattle.model_link.proofs.Repeats.{few-after}
 use Rattle.model_link.proofs.SoundRows.{CourseStands, stand, begins}
 
 -- A sound link stands, with any number of contents that its queue has; and the other way round.
 pub sound-stands : (t : Terms) (q : ℕ) (l : Link) → length (queue_of l) ≤ q → IsSound t l → CourseStands t q (begun l)
 sound-stands t q l few h = grind (arith, length-drop)
 
-stands-sound : (t : Terms) (c : Course) → CourseStands t t.queue c → IsSound t c.link
-stands-sound t c h = grind (arith, length-drop)
+stands-sound : (t : Terms) (c : Course) → c.link.repeats ≤ t.n200 → CourseStands t t.queue c → IsSound t c.link
+stands-sound t c few h = grind (arith, length-drop)
 
 -- A sound link stays sound.
 pub sound-after : (t : Terms) → IsInRange t → (e : Event) (l : Link) → IsSound t l → IsSound t (after t e l)
 sound-after t r e l h =
-    stands-sound t (course t e l)
+    stands-sound t (course t e l) (few-after t e l h.repeats)
     ((event_by (stand t r.tei t.queue (Unit {0}) (λ x. refl)) tt tt e (any_event e) (grind (arith, any_contents))).leads (begun l) (sound-stands t t.queue l h.queue h))
 
 pub sound-fresh : (t : Terms) → IsInRange t → IsSound t fresh
-sound-fresh t r = stands-sound t (begun fresh) (begins t r.tei t.queue (Unit {0}) (λ x. refl) (begun fresh))
+sound-fresh t r = stands-sound t (begun fresh) (omega arith) (begins t r.tei t.queue (Unit {0}) (λ x. refl) (begun fresh))
 
 pub sound-all : (t : Terms) → IsInRange t → (es : List Event) (l : Link) → IsSound t l → IsSound t (after_all t es l)
 unfolding after_all

@@ -58,6 +58,8 @@ pub record IsSound (t : Terms) (l : Link) : Type 0 where
   pub sizes : All (λ octets. length octets ≤ t.n201) l.contents
   -- what waits are frames
   pub frames : All (IsWaitingFrame t) l.waiting
+  -- RC is at most N200 (clause 5.9.2)
+  pub repeats : l.repeats ≤ t.n200
 
 -- What an offer gives is a frame of the exchange, of at most four octets and contents that fit.
 pub record IsGiven (t : Terms) (f : ControlFrame) (contents : Option (List ℕ)) : Type 0 where

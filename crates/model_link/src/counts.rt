@@ -10,7 +10,7 @@ use lapd_frame::Control;
 /// away. Each number stays at 65535 once it is there.
 #[derive(Clone, Copy, PartialEq, Eq, Debug)]
 pub struct LinkCounts {
-    /// I-frames that were sent again, since they were not received (Q.921 clauses 5.6.4 and 5.6.7).
+    /// I-frames that were sent again, whose number was sent before (Q.921 clauses 5.6.4 and 5.6.7).
     pub sent_again: u16,
     /// How often T200 expired (clause 5.9.1).
     pub t200_expired: u16,

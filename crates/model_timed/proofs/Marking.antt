@@ -67,12 +67,16 @@ none-yet c line number = sym (ap (standing number) (all-same (fresh_line c) c.li
 
 pub changes_are_told : ChangesAreTold frames.frames itself frames.fresh
 changes_are_told = record {
-  state = λ c lengths steps line number. states-are frames.frames itself line number steps (frames.fresh c lengths) unmarked (none-yet c line number);
-  moment = λ c lengths steps line number. moments-are frames.frames itself line number steps (frames.fresh c lengths) unmarked (none-yet c line number);
+  fresh_is = λ c lengths line number. none-yet c line number;
+  state = λ t marks steps are line number. states-are frames.frames itself line number steps t marks (are line number);
+  moment = λ t marks steps line number are. moments-are frames.frames itself line number steps t marks (are line number);
+  lengths = λ t marks lengths are. are;
 }
 
 pub octet_changes_are_told : ChangesAreTold octets.octets inside octets.fresh
 octet_changes_are_told = record {
-  state = λ c lengths steps line number. states-are octets.octets inside line number steps (octets.fresh c lengths) unmarked (none-yet c line number);
-  moment = λ c lengths steps line number. moments-are octets.octets inside line number steps (octets.fresh c lengths) unmarked (none-yet c line number);
+  fresh_is = λ c lengths line number. none-yet c line number;
+  state = λ t marks steps are line number. states-are octets.octets inside line number steps t marks (are line number);
+  moment = λ t marks steps line number are. moments-are octets.octets inside line number steps t marks (are line number);
+  lengths = λ t marks lengths are. are;
 }

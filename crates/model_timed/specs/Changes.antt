@@ -8,6 +8,7 @@ use Rattle.model_line.specs.declared.config.Config.{Config}
 use Rattle.model_card.specs.Card as cards
 use Rattle.model_card.specs.Card.{line_at}
 use Rattle.model_card.specs.ports.Card.{OctetCard}
+use Rattle.model_timed.specs.Clock.{with_lengths}
 use Rattle.model_timed.specs.Timed.{Kind, Timed, Step, after, after_all}
 
 -- The state of a link, by the link's number: 4 to 8 (Q.921, annex B). Where the TEI of its place is not on the line, it is 0,
@@ -66,10 +67,16 @@ unfoldable pub last_change : {Card Event : Type 0} → Kind Card Event → Seen 
 last_change k of [] t line number = None
 last_change k of (s ∷ steps) t line number = option_or (last_change k of steps (after k s t) line number) (changed_by of t (after k s t) line number)
 
--- After any steps of a fresh card, what is noted of a link is its state, and the moment of the last step by which its state became
--- another; 0 if there is none.
+-- What is noted of a link is true: it is the link's state.
+abbrev pub AreTrue : {Card : Type 0} → Seen Card → Timed Card → Marks → Type 0
+AreTrue of t marks = (line number : ℕ) → (marks line number).state ≡ standing_in (of t.card) line number
+
+-- So it is at a fresh card. From any card of which it is, after any steps it is so again; and the moment noted of a link is that of
+-- the last step by which its state became another, or what it was before if there is none. Other lengths change neither a card nor
+-- what is noted: so this goes on over any list between whose steps lengths are set.
 pub record ChangesAreTold {Card Event : Type 0} (k : Kind Card Event) (of : Seen Card) (fresh : Config → Lengths → Timed Card) : Type 0 where
-  pub state : (c : Config) (lengths : Lengths) (steps : List (Step Event)) (line number : ℕ)
-      → (marks_after k of steps (fresh c lengths) unmarked line number).state ≡ standing_in (of (after_all k steps (fresh c lengths)).card) line number
-  pub moment : (c : Config) (lengths : Lengths) (steps : List (Step Event)) (line number : ℕ)
-      → (marks_after k of steps (fresh c lengths) unmarked line number).moment ≡ unwrap_or (last_change k of steps (fresh c lengths) line number) 0
+  pub fresh_is : (c : Config) (lengths : Lengths) → AreTrue of (fresh c lengths) unmarked
+  pub state : (t : Timed Card) (marks : Marks) (steps : List (Step Event)) → AreTrue of t marks → AreTrue of (after_all k steps t) (marks_after k of steps t marks)
+  pub moment : (t : Timed Card) (marks : Marks) (steps : List (Step Event)) (line number : ℕ) → AreTrue of t marks
+      → (marks_after k of steps t marks line number).moment ≡ unwrap_or (last_change k of steps t line number) (marks line number).moment
+  pub lengths : (t : Timed Card) (marks : Marks) (lengths : Lengths) → AreTrue of t marks → AreTrue of (record t { clock = with_lengths lengths t.clock }) marks

@@ -38,8 +38,8 @@ pub fn timers_run_on()
     ensures octets { OctetTimersRunOn }
 {}
 
-/// What a card notes of a link is its state, and the moment of the last step by which this became another, or 0 if there is
-/// none: after any steps of a fresh card, prompt or not.
+/// What a card notes of a link is its state, and the moment of the last step by which this became another; 0 if there was none
+/// since its start. So it is after any steps, prompt or not, and whatever lengths are set between them.
 #[tactic(auto, using(crate::proofs::Marking::changes_are_told, crate::proofs::Marking::octet_changes_are_told))]
 pub fn changes_are_told()
     ensures frames { ChangesAreTold frames itself fresh }

@@ -16,6 +16,7 @@ pub record CameAbout (m : OctetCard) : Type 0 where
   pub at_lines : AreAtLines m events
   pub same : m ≡ after_all (with_fresh_ports first) events
 
+-- A name of its own, as that of a card of frames.
 unfoldable pub IsMade : OctetCard → Type 0
 IsMade m = CameAbout m
 

@@ -5,11 +5,13 @@ use Rattle.std.proofs.lemmas.List.{append_assoc, append-nil}
 use Rattle.std.specs.Prelude.{option_to_list}
 use Rattle.std.specs.Option.{option_map_or}
 use Rattle.lapd_clock.specs.Timers.{Expiry}
+use Rattle.model_timed.specs.Changes.{Marks, Seen, marked}
+unfoldable use Rattle.model_timed.specs.Changes.{marks_after}
 use Rattle.model_timed.specs.Clock.{due}
 use Rattle.model_timed.specs.Timed.{Kind, Timed, Step, happens, time, falls_due, after, event_of, expiry_at, with_expiry}
 unfoldable use Rattle.model_timed.specs.Timed.{after_all, events_of}
 use Rattle.laws_promises.specs.TimedReply.{Answer}
-use Rattle.laws_promises.specs.TimedRun.{AreSteps, answer, is_wrong, served}
+use Rattle.laws_promises.specs.TimedRun.{AreSteps, answer, if_served, is_refused, is_wrong, served}
 unfoldable use Rattle.laws_promises.specs.TimedRun.{served_all, replies, events_in, steps_in}
 
 module _ {Card Event : Type 0} (k : Kind Card Event) where
@@ -33,6 +35,29 @@ module _ {Card Event : Type 0} (k : Kind Card Event) where
   events-more (x ∷ steps) s t =
       ap (λ es. option_to_list (event_of k x t) ++ es) (events-more steps s (served k x t))
       ∙ sym (append_assoc (option_to_list (event_of k x t)) (events_in k steps (served k x t)) (option_to_list (event_of k s (served_all k steps (served k x t)))))
+
+  -- what is noted after one step more
+  module _ (of : Seen Card) where
+    abbrev IsNotedMore : List (Step Event) → Step Event → Timed Card → Marks → Type 0
+    IsNotedMore steps s t marks =
+        marks_after k of (steps_in k (steps ++ s ∷ []) t) t marks
+        ≡ marks_after k of (if_served (served_all k steps t).clock.now s) (served_all k steps t) (marks_after k of (steps_in k steps t) t marks)
+
+    noted-after : (x : Step Event) (steps : List (Step Event)) (s : Step Event) (t : Timed Card) (marks : Marks)
+        → ((u : Timed Card) (m : Marks) → IsNotedMore steps s u m) → (b : Bool)
+        → let u = cond b t (after k x t) in
+        marks_after k of (cond b [] (x ∷ []) ++ steps_in k (steps ++ s ∷ []) u) t marks
+        ≡ marks_after k of (if_served (served_all k steps u).clock.now s) (served_all k steps u) (marks_after k of (cond b [] (x ∷ []) ++ steps_in k steps u) t marks)
+    unfolding marks_after
+    noted-after x steps s t marks all true = all t marks
+    noted-after x steps s t marks all false = all (after k x t) (marked of (after k x t) marks)
+
+    pub noted-more : (steps : List (Step Event)) (s : Step Event) (t : Timed Card) (marks : Marks)
+        → marks_after k of (steps_in k (steps ++ s ∷ []) t) t marks
+        ≡ marks_after k of (if_served (served_all k steps t).clock.now s) (served_all k steps t) (marks_after k of (steps_in k steps t) t marks)
+    unfolding served_all steps_in marks_after
+    noted-more [] s t marks = ap (λ ss. marks_after k of ss t marks) (append-nil (if_served t.clock.now s))
+    noted-more (x ∷ steps) s t marks = noted-after x steps s t marks (λ u m. noted-more steps s u m) (is_refused t.clock.now x)
 
   -- ---- where the events lead
 

@@ -11,16 +11,18 @@ use Rattle.lapd_clock.specs.Timer.{Timer}
 use Rattle.lapd_clock.specs.Timers.{Expiry}
 use Rattle.lapd_count.specs.declared.counters.Counters.{Counters}
 use Rattle.lapd_timed.specs.Places.{named_by}
-use Rattle.lapd_timed.specs.Stands.{TimersStand}
+use Rattle.lapd_timed.specs.Stands.{ChangesStand, TimersStand}
 use Rattle.lapd_timed.specs.declared.timed_card.TimedCard.{TimedCard}
 use Rattle.model_card.specs.Card as cards
 use Rattle.model_card.specs.Counted.{all_counted}
+use Rattle.model_timed.specs.Changes.{Marks, marked}
+unfoldable use Rattle.model_timed.specs.Changes.{marks_after}
 use Rattle.model_timed.specs.Clock.{Clock, due}
 use Rattle.model_timed.specs.Timed.{Timed, Step, happens, time, falls_due, after, event_of, expiry_at}
 use Rattle.laws_promises.specs.TimedReply.{Answer, went, wrong_time, none_due, fell_due}
-use Rattle.laws_promises.specs.TimedRun.{DrivenKind, HasRunAs, Serves, answer, answer_due, is_wrong, served}
-unfoldable use Rattle.laws_promises.specs.TimedRun.{served_all, replies, events_in}
-use Rattle.laws_promises.proofs.TimedRunning.{events-more, led, replies-more, served-more}
+use Rattle.laws_promises.specs.TimedRun.{DrivenKind, HasRunAs, IsKept, Serves, answer, answer_due, if_served, is_wrong, served}
+unfoldable use Rattle.laws_promises.specs.TimedRun.{served_all, replies, events_in, steps_in}
+use Rattle.laws_promises.proofs.TimedRunning.{events-more, led, noted-more, replies-more, served-more}
 
 -- What the proofs ask of a kind: the timers of a card stand for the clock; events lead its machine on one by one; and each is counted
 -- after the others.
@@ -45,12 +47,22 @@ pub record Happened {Card Event : Type 0} (d : DrivenKind Card Event) (e : Event
 abbrev pub IsNow : ℕ → TimedCard → Type 0
 IsNow moment c = (m : cards.Card) (k : Clock) → TimersStand c.timers m k → moment ≡ k.now
 
+-- What is noted of the links, if it was so of those of the card, is so after a step; and after one that is not refused.
+abbrev pub IsNoted : {Card Event : Type 0} → DrivenKind Card Event → Step Event → TimedCard → TimedCard → Type 0
+IsNoted d s old new = (t : Timed _) (marks : Marks) → d.Stand old t → ChangesStand old.timers (d.sees t.card) marks
+    → ChangesStand new.timers (d.sees (served d.kind s t).card) (marks_after d.kind d.sees (if_served t.clock.now s) t marks)
+
+abbrev pub IsMarked : {Card Event : Type 0} → DrivenKind Card Event → Step Event → TimedCard → TimedCard → Type 0
+IsMarked d s old new = (t : Timed _) (marks : Marks) → d.Stand old t → ChangesStand old.timers (d.sees t.card) marks
+    → ChangesStand new.timers (d.sees (after d.kind s t).card) (marked d.sees (after d.kind s t) marks)
+
 -- A step leads a card so, whose moment is this then, and is answered so.
 pub record Led {Card Event : Type 0} (d : DrivenKind Card Event) (s : Step Event) (old new : TimedCard) (moment : ℕ) (reply : Answer) : Type 0 where
   pub kind : kind_of new.card ≡ kind_of old.card
   pub config : config_of new.card ≡ config_of old.card
   pub stands : (t : Timed Card) → d.Stand old t → d.Stand new (served d.kind s t)
   pub counted : (t : Timed Card) → d.Stand old t → counters_of new.card ≡ all_counted (counters_of old.card) (d.counts t.card (option_to_list (event_of d.kind s t)))
+  pub noted : IsNoted d s old new
   pub now : IsNow moment new
   pub answers : (t : Timed Card) → d.Stand old t → reply ≡ answer d.kind d.says s t
 
@@ -82,9 +94,11 @@ always-err (Err x) P p = p
 
 module _ {Card Event : Type 0} (d : DrivenKind Card Event) where
   -- what happens
-  pub led-by-event : (e : Event) (reply : Answer) (old new : TimedCard) (moment : ℕ) → Happened d e reply old new → ((t : Timed Card) → d.Stand old t → d.Stand new (after d.kind (happens e) t)) → IsNow moment new
+  pub led-by-event : (e : Event) (reply : Answer) (old new : TimedCard) (moment : ℕ) → Happened d e reply old new → ((t : Timed Card) → d.Stand old t → d.Stand new (after d.kind (happens e) t)) → IsMarked d (happens e) old new → IsNow moment new
       → Led d (happens e) old new moment reply
-  led-by-event e reply old new moment happened stands now = record { kind = happened.kind; config = happened.config; stands = stands; counted = happened.counted; now = now; answers = happened.answers }
+  unfolding marks_after
+  led-by-event e reply old new moment happened stands marked now =
+      record { kind = happened.kind; config = happened.config; stands = stands; counted = happened.counted; noted = marked; now = now; answers = happened.answers }
 
   -- a timer that falls due
   event-due : (o : Option Expiry) (line : ℕ) (timer : Timer) → Some (line, timer) ≡ option_map named_by o → option_map (expiry_at d.kind) o ≡ Some (d.kind.expiry line timer)
@@ -109,11 +123,14 @@ module _ {Card Event : Type 0} (d : DrivenKind Card Event) where
     is-due old t s o is = is (is_driven.timers old t s).0 t.clock (is_driven.timers old t s).1
 
     pub led-by-due : (line : ℕ) (timer : Timer) (reply : Answer) (old new : TimedCard) (moment : ℕ) → ((m : cards.Card) (c : Clock) → TimersStand old.timers m c → Some (line, timer) ≡ option_map named_by (due c))
-        → Happened d (d.kind.expiry line timer) reply old new → ((t : Timed Card) → d.Stand old t → d.Stand new (after d.kind falls_due t)) → IsNow moment new → Led d falls_due old new moment (fell_due timer reply)
-    led-by-due line timer reply old new moment is happened stands now = record {
+        → Happened d (d.kind.expiry line timer) reply old new → ((t : Timed Card) → d.Stand old t → d.Stand new (after d.kind falls_due t)) → IsMarked d falls_due old new → IsNow moment new
+        → Led d falls_due old new moment (fell_due timer reply)
+    unfolding marks_after
+    led-by-due line timer reply old new moment is happened stands marked now = record {
       kind = happened.kind;
       config = happened.config;
       stands = stands;
+      noted = marked;
       counted = λ t s.
           subst (λ o. counters_of new.card ≡ all_counted (counters_of old.card) (d.counts t.card (option_to_list o))) (sym (event-due (due t.clock) line timer (is-due old t s (Some (line, timer)) is)))
           (happened.counted t s);
@@ -123,11 +140,13 @@ module _ {Card Event : Type 0} (d : DrivenKind Card Event) where
 
     -- and none
     pub led-by-none-due : (old new : TimedCard) (moment : ℕ) → ((m : cards.Card) (c : Clock) → TimersStand old.timers m c → None ≡ option_map named_by (due c)) → new ≡ old
-        → ((t : Timed Card) → d.Stand old t → d.Stand new (after d.kind falls_due t)) → IsNow moment new → Led d falls_due old new moment none_due
-    led-by-none-due old new moment is same stands now = record {
+        → ((t : Timed Card) → d.Stand old t → d.Stand new (after d.kind falls_due t)) → IsMarked d falls_due old new → IsNow moment new → Led d falls_due old new moment none_due
+    unfolding marks_after
+    led-by-none-due old new moment is same stands marked now = record {
       kind = ap (λ (c : TimedCard). kind_of c.card) same;
       config = ap (λ (c : TimedCard). config_of c.card) same;
       stands = stands;
+      noted = marked;
       counted = λ t s. counted-none (counters_of old.card) (counters_of new.card) t.card (option_map (expiry_at d.kind) (due t.clock))
           (ap (option_map (expiry_at d.kind)) (none-due (due t.clock) (is-due old t s None is))) (ap (λ (c : TimedCard). counters_of c.card) same);
       now = now;
@@ -138,13 +157,16 @@ module _ {Card Event : Type 0} (d : DrivenKind Card Event) where
     wrong-there : (old : TimedCard) (t : Timed Card) → d.Stand old t → (moment : ℕ) → (moment < t.clock.now) ⊎ (2 ^ 63 ≤ moment) → (moment < old.timers.moment) ⊎ (2 ^ 63 ≤ moment)
     wrong-there old t s moment wrong = subst (λ k. (moment < k) ⊎ (2 ^ 63 ≤ moment)) (is_driven.timers old t s).1.clock_is.now wrong
 
-    pub led-by-time : (moment : ℕ) (old new : TimedCard) (n : ℕ) → new.card ≡ old.card → ((t : Timed Card) → d.Stand old t → d.Stand new (after d.kind (time moment) t))
+    pub led-by-time : (moment : ℕ) (old new : TimedCard) (n : ℕ) → new.card ≡ old.card → ((t : Timed Card) → d.Stand old t → d.Stand new (after d.kind (time moment) t)) → IsMarked d (time moment) old new
         → ((moment < old.timers.moment) ⊎ (2 ^ 63 ≤ moment) → ⊥) → IsNow n new → Led d (time moment) old new n went
-    led-by-time moment old new n same stands right now = record {
+    unfolding marks_after
+    led-by-time moment old new n same stands marks_are right now = record {
       kind = ap kind_of same;
       config = ap config_of same;
       stands = λ t s. subst (λ b. d.Stand new (cond b t (after d.kind (time moment) t))) (sym (is t s)) (stands t s);
       counted = λ t s. counted-none (counters_of old.card) (counters_of new.card) t.card None refl (ap counters_of same);
+      noted = λ t marks s were. subst (λ b. ChangesStand new.timers (d.sees (cond b t (after d.kind (time moment) t)).card) (marks_after d.kind d.sees (cond b [] (time moment ∷ [])) t marks)) (sym (is t s))
+          (marks_are t marks s were);
       now = now;
       answers = λ t s. ap (λ b. cond b wrong_time went) (sym (is t s));
     }
@@ -153,11 +175,14 @@ module _ {Card Event : Type 0} (d : DrivenKind Card Event) where
         is t s = right-is (2 ^ 63) moment t.clock.now (λ wrong. right (wrong-there old t s moment wrong))
 
     pub led-by-no-time : (moment : ℕ) (old new : TimedCard) (n : ℕ) → new ≡ old → (moment < old.timers.moment) ⊎ (2 ^ 63 ≤ moment) → IsNow n new → Led d (time moment) old new n wrong_time
+    unfolding marks_after
     led-by-no-time moment old new n same wrong now = record {
       kind = ap (λ (c : TimedCard). kind_of c.card) same;
       config = ap (λ (c : TimedCard). config_of c.card) same;
       stands = λ t s. subst (λ b. d.Stand new (cond b t (after d.kind (time moment) t))) (sym (is t s)) (subst (λ c. d.Stand c t) (sym same) s);
       counted = λ t s. counted-none (counters_of old.card) (counters_of new.card) t.card None refl (ap (λ (c : TimedCard). counters_of c.card) same);
+      noted = λ t marks s were. subst (λ b. ChangesStand new.timers (d.sees (cond b t (after d.kind (time moment) t)).card) (marks_after d.kind d.sees (cond b [] (time moment ∷ [])) t marks)) (sym (is t s))
+          (subst (λ c. ChangesStand c.timers (d.sees t.card) marks) (sym same) were);
       now = now;
       answers = λ t s. ap (λ b. cond b wrong_time went) (sym (is t s));
     }
@@ -176,6 +201,7 @@ module _ {Card Event : Type 0} (d : DrivenKind Card Event) where
         config = led.config;
         stands = led.stands;
         counted = led.counted;
+        noted = led.noted;
         failed = failed;
         not_failed = none_failed;
         taken = on-ok result _ _ (handed takes) taken;
@@ -197,6 +223,7 @@ module _ {Card Event C F K E : Type 0} {takes misses : K → ℕ → Answer → 
     config = serves.config;
     stands = λ t stood. absurd (none t stood);
     counted = λ t stood. absurd (none t stood);
+    noted = λ t marks stood were. absurd (none t stood);
     failed = serves.failed;
     not_failed = serves.not_failed;
     taken = always-ok result _ (λ t stood. absurd (none t stood));
@@ -210,6 +237,7 @@ led-by-nothing d s old new n reply same none now = record {
   config = ap (λ (c : TimedCard). config_of c.card) same;
   stands = λ t stood. absurd (none t stood);
   counted = λ t stood. absurd (none t stood);
+  noted = λ t marks stood were. absurd (none t stood);
   now = now;
   answers = λ t stood. absurd (none t stood);
 }
@@ -222,7 +250,7 @@ pub record SoFar {Card Event K : Type 0} (d : DrivenKind Card Event) (takes : K 
   pub config : config_of new.card ≡ config_of old.card
   pub none_failed : failures then ≡ failures before
   pub ran : (t : Timed Card) → d.Stand old t → d.Stand new (served_all d.kind steps t)
-  pub counted : (t : Timed Card) → d.Stand old t → counters_of new.card ≡ all_counted (counters_of old.card) (d.counts t.card (events_in d.kind steps t))
+  pub kept : (t : Timed Card) → d.Stand old t → IsKept d old new t steps
   pub taken : (t : Timed Card) → d.Stand old t → Taken takes before (replies d.kind d.says steps t) then
 
 module _ {Card Event : Type 0} (d : DrivenKind Card Event) (is_driven : IsDriven d) where
@@ -237,8 +265,15 @@ module _ {Card Event : Type 0} (d : DrivenKind Card Event) (is_driven : IsDriven
   counted-then all card events u (Some e) is = is_driven.one_counted all card events e ∙ ap (λ c. all_counted (all_counted all (d.counts card events)) (d.counts c (e ∷ []))) (sym is)
 
   pub none-yet : {K : Type 0} {takes : K → ℕ → Answer → K → Type 0} {failures : K → ℕ} (old : TimedCard) (before : K) → SoFar d takes failures old old before before []
-  unfolding served_all replies events_in
-  none-yet old before = record { kind = refl; config = refl; none_failed = refl; ran = λ t s. s; counted = λ t s. sym (is_driven.none_counted (counters_of old.card) t.card); taken = λ t s. refl }
+  unfolding served_all replies events_in steps_in marks_after
+  none-yet old before = record {
+    kind = refl;
+    config = refl;
+    none_failed = refl;
+    ran = λ t s. s;
+    kept = λ t s. record { counted = sym (is_driven.none_counted (counters_of old.card) t.card); noted = λ marks were. were };
+    taken = λ t s. refl;
+  }
 
 module _ {Card Event K : Type 0} {takes misses : K → ℕ → Answer → K → Type 0} {failures : K → ℕ} (d : DrivenKind Card Event) (is_driven : IsDriven d) where
   module _ (old : TimedCard) (before : K) where
@@ -251,9 +286,20 @@ module _ {Card Event K : Type 0} {takes misses : K → ℕ → Answer → K → 
       more-counted t stood =
           let u = served_all d.kind steps t in
           serves.counted u (so_far.ran t stood)
-          ∙ ap (λ all. all_counted all (d.counts u.card (option_to_list (event_of d.kind s u)))) (so_far.counted t stood)
+          ∙ ap (λ all. all_counted all (d.counts u.card (option_to_list (event_of d.kind s u)))) (so_far.kept t stood).counted
           ∙ sym (counted-then d is_driven (counters_of old.card) t.card (events_in d.kind steps t) u.card (event_of d.kind s u) (events-led d is_driven t steps))
           ∙ ap (λ es. all_counted (counters_of old.card) (d.counts t.card es)) (sym (events-more d.kind steps s t))
+
+      more-noted : (t : Timed Card) → d.Stand old t → (marks : Marks) → ChangesStand old.timers (d.sees t.card) marks
+          → ChangesStand new.timers (d.sees (served_all d.kind (steps ++ s ∷ []) t).card) (marks_after d.kind d.sees (steps_in d.kind (steps ++ s ∷ []) t) t marks)
+      more-noted t stood marks were =
+          let u = served_all d.kind steps t in
+          subst (λ v. ChangesStand new.timers (d.sees (Timed.card v)) (marks_after d.kind d.sees (steps_in d.kind (steps ++ s ∷ []) t) t marks)) (sym (served-more d.kind steps s t))
+          (subst (λ all. ChangesStand new.timers (d.sees (served d.kind s u).card) all) (sym (noted-more d.kind d.sees steps s t marks))
+          (serves.noted u (marks_after d.kind d.sees (steps_in d.kind steps t) t marks) (so_far.ran t stood) ((so_far.kept t stood).noted marks were)))
+
+      more-kept : (t : Timed Card) → d.Stand old t → IsKept d old new t (steps ++ s ∷ [])
+      more-kept t stood = record { counted = more-counted t stood; noted = more-noted t stood }
 
       one-more-served : is_err result ≡ false → SoFar d takes failures old new before then (steps ++ s ∷ [])
       one-more-served took = record {
@@ -261,7 +307,7 @@ module _ {Card Event K : Type 0} {takes misses : K → ℕ → Answer → K → 
         config = serves.config ∙ so_far.config;
         none_failed = at_ok result _ took serves.not_failed ∙ so_far.none_failed;
         ran = more-ran;
-        counted = more-counted;
+        kept = more-kept;
         taken = λ t stood.
             subst (λ rs. Taken takes before rs then) (sym (replies-more d.kind d.says steps s t))
             (Taken-more takes before between then (replies d.kind d.says steps t) _ _ (so_far.taken t stood) (at_ok result _ took serves.taken (served_all d.kind steps t) (so_far.ran t stood)));
@@ -284,7 +330,7 @@ module _ {Card Event K : Type 0} {takes misses : K → ℕ → Answer → K → 
             taken = subst (λ es. Taken takes before (replies d.kind d.says es t) between) (sym front) (so_far.taken t stood);
             missed = at_err result _ missed serves.not_taken (served_all d.kind steps t) (so_far.ran t stood);
           })
-          (λ t stood. subst (λ es. counters_of new.card ≡ all_counted (counters_of old.card) (d.counts t.card (events_in d.kind es t))) (sym one_more) (more-counted t stood))
+          (λ t stood. subst (IsKept d old new t) (sym one_more) (more-kept t stood))
 
     -- A step of a list that are those of a list of events: it is served, and its reply taken or missed.
     module _ {X E : Type 0} (step : X → Step Event) (events : List X) (at : ℕ) (e : X) (is : slice_get events at ≡ Some e) (mid new : TimedCard) (between then : K) (result : Result Unit E)
@@ -307,7 +353,7 @@ module _ {Card Event K : Type 0} {takes misses : K → ℕ → Answer → K → 
       not_failed = so_far.none_failed;
       ran = so_far.ran;
       taken = so_far.taken;
-      counters = so_far.counted;
+      counters = so_far.kept;
       stopped = _;
       taken_before = _;
       counters_before = _;

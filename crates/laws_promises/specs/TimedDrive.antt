@@ -16,6 +16,7 @@ use Rattle.model_card.specs.ports.Event as octet
 use Rattle.model_card.specs.ports.Port as port
 use Rattle.model_card.specs.ports.Run as octets_run
 use Rattle.model_card.specs.ports.Run.{meant_all}
+use Rattle.model_timed.specs.Changes.{itself, inside}
 use Rattle.model_timed.specs.Frames as timed
 use Rattle.model_timed.specs.Frames.{frames}
 use Rattle.model_timed.specs.Octets.{octets, TimedOctetCard}
@@ -85,10 +86,10 @@ octets_count m events = moments m.card (meant_all m events)
 
 -- The two kinds.
 abbrev pub of_frames : DrivenKind Card Event
-of_frames = record { kind = frames; Stand = FramesStand; says = frames_say; leads = after_all; counts = moments }
+of_frames = record { kind = frames; sees = itself; Stand = FramesStand; says = frames_say; leads = after_all; counts = moments }
 
 abbrev pub of_octets : DrivenKind OctetCard octet.Event
-of_octets = record { kind = octets; Stand = OctetsStand; says = octets_say; leads = octets_run.after_all; counts = octets_count }
+of_octets = record { kind = octets; sees = inside; Stand = OctetsStand; says = octets_say; leads = octets_run.after_all; counts = octets_count }
 
 -- A list of events was run at a card, which stays of its kind and keeps its configuration. It stands for no machine of the other
 -- kind, so of that nothing is said.

@@ -2,6 +2,8 @@
 use Rattle.std.specs.Prelude.{◌≡◌, ℕ, ◌^◌, Bool, false, ◌||◌, nat_lt, nat_le, List, [], ◌∷◌, ◌++◌, Option, None, Some, option_to_list, if◌then◌else◌, Result, OnOk, OnErr}
 use Rattle.model_card.specs.Counted.{all_counted}
 use Rattle.model_card.specs.Run.{Moment}
+use Rattle.model_timed.specs.Changes.{Marks, Seen}
+unfoldable use Rattle.model_timed.specs.Changes.{marks_after}
 use Rattle.model_timed.specs.Clock.{due}
 use Rattle.model_timed.specs.Timed.{Kind, Timed, Step, happens, time, falls_due, after, after_all, event_of, events_of, expiry_at}
 use Rattle.model_timed.specs.TimersAreTrue.{TimersAreTrue}
@@ -10,6 +12,7 @@ use Rattle.lapd_card.specs.Runs.{Runs}
 use Rattle.lapd_card.specs.Sink.{one_failure_more}
 use Rattle.lapd_card.specs.declared.sink.SinkFault.{SinkFault}
 use Rattle.lapd_clock.specs.Timers.{Expiry}
+use Rattle.lapd_timed.specs.Stands.{ChangesStand}
 use Rattle.lapd_timed.specs.declared.timed_card.TimedCard.{TimedCard}
 use Rattle.laws_promises.specs.TimedReply.{Answer, went, wrong_time, none_due, fell_due}
 
@@ -60,22 +63,29 @@ pub record AreSteps {Card Event : Type 0} (k : Kind Card Event) : Type 0 where
   pub leads : (steps : List (Step Event)) (t : Timed Card) → served_all k steps t ≡ after_all k (steps_in k steps t) t
   pub means : (steps : List (Step Event)) (t : Timed Card) → events_in k steps t ≡ events_of k (steps_in k steps t) t
 
--- What there is to say of a kind beside its timed machine: for which machines a card stands, what it says to an event, where a list
--- of events leads, and which moments of the card of frames its counters count of it.
+-- What there is to say of a kind beside its timed machine: which card of frames is in it, for which machines a card stands, what it
+-- says to an event, where a list of events leads, and which moments of the card of frames its counters count of it.
 pub record DrivenKind (Card Event : Type 0) : Type 1 where
   pub kind : Kind Card Event
+  pub sees : Seen Card
   pub Stand : TimedCard → Timed Card → Type 0
   pub says : Event → Card → Answer
   pub leads : Card → List Event → Card
   pub counts : Card → List Event → List Moment
 
--- A list of steps was run at a card. In place of the line of an event, a reply has its moment. The events that the steps mean are
--- counted.
+-- The events that steps mean were counted. And what is noted of the links, if it was so of those of the card, has become what it is
+-- after the steps that are not refused.
+pub record IsKept {Card Event : Type 0} (d : DrivenKind Card Event) (old new : TimedCard) (t : Timed Card) (steps : List (Step Event)) : Type 0 where
+  pub counted : counters_of new.card ≡ all_counted (counters_of old.card) (d.counts t.card (events_in d.kind steps t))
+  pub noted : (marks : Marks) → ChangesStand old.timers (d.sees t.card) marks
+      → ChangesStand new.timers (d.sees (served_all d.kind steps t).card) (marks_after d.kind d.sees (steps_in d.kind steps t) t marks)
+
+-- A list of steps was run at a card. In place of the line of an event, a reply has its moment.
 abbrev pub HasRunAs : {Card Event K : Type 0} → DrivenKind Card Event → (K → ℕ → Answer → K → Type 0) → (K → ℕ → Answer → K → Type 0) → (K → ℕ) → TimedCard → TimedCard
     → List (Step Event) → K → K → Result ℕ SinkFault → Type 0
 HasRunAs d takes misses failures old new =
     Runs takes misses failures (d.Stand old) (d.Stand new) (λ t steps. served_all d.kind steps t) (λ t steps. replies d.kind d.says steps t)
-    (λ t steps. counters_of new.card ≡ all_counted (counters_of old.card) (d.counts t.card (events_in d.kind steps t)))
+    (λ t steps. IsKept d old new t steps)
 
 -- What holds of all steps of a kind.
 pub record KeepsTime {Card Event : Type 0} (d : DrivenKind Card Event) : Type 0 where
@@ -86,7 +96,7 @@ pub record KeepsTime {Card Event : Type 0} (d : DrivenKind Card Event) : Type 0 
   -- Its timers are true.
   pub timers_are_true : TimersAreTrue d.kind
 
--- One step: it leads a card from one value to another of its kind, and what it means is counted. A sink was handed its reply with
+-- One step: it leads a card from one value to another of its kind, and what it means is counted and noted. A sink was handed its reply with
 -- its moment, or missed it and counts one failure more.
 pub record Serves {Card Event K : Type 0} (d : DrivenKind Card Event) (takes misses : K → ℕ → Answer → K → Type 0) (failures : K → ℕ) (s : Step Event) (old new : TimedCard) (before later : K)
     {E : Type 0} (result : Result Unit E) : Type 0 where
@@ -94,6 +104,8 @@ pub record Serves {Card Event K : Type 0} (d : DrivenKind Card Event) (takes mis
   pub config : config_of new.card ≡ config_of old.card
   pub stands : (t : Timed Card) → d.Stand old t → d.Stand new (served d.kind s t)
   pub counted : (t : Timed Card) → d.Stand old t → counters_of new.card ≡ all_counted (counters_of old.card) (d.counts t.card (option_to_list (event_of d.kind s t)))
+  pub noted : (t : Timed Card) (marks : Marks) → d.Stand old t → ChangesStand old.timers (d.sees t.card) marks
+      → ChangesStand new.timers (d.sees (served d.kind s t).card) (marks_after d.kind d.sees (if_served t.clock.now s) t marks)
   pub failed : OnErr result (failures later ≡ one_failure_more (failures before))
   pub not_failed : OnOk result (failures later ≡ failures before)
   pub taken : OnOk result ((t : Timed Card) → d.Stand old t → takes before (served d.kind s t).clock.now (answer d.kind d.says s t) later)

@@ -13,7 +13,7 @@ pub use Rattle.laws_wire.proofs.Answered.{lost-none, takes-none}
 
 -- ---- the ends
 
-module _ (t u : Terms) (rt : IsInRange t) (ru : IsInRange u) (same : t.n201 ≡ u.n201) (k : Tries) where
+module _ (t u : Terms) (rt : IsInRange t) (ru : IsInRange u) (same : t.n201 ≡ u.n201) (k : Tries) (few : k.repeats ≤ t.n200) where
   abbrev pub near_end : LinkEndpoint
   near_end = end t (answered k []) []
 
@@ -21,10 +21,10 @@ module _ (t u : Terms) (rt : IsInRange t) (ru : IsInRange u) (same : t.n201 ≡ 
   far_end = end u called []
 
   pub firm-first : Firm near_end far_end
-  firm-first = grind (arith, joined-first, sound-called, answered, WaitsSo, IsFreeFrame)
+  firm-first = grind (arith, few, joined-first, sound-called, answered, WaitsSo, IsFreeFrame)
 
   pub near-ready : IsReady near_end
-  near-ready = record { ranges = rt; sound = grind arith; state = refl; peer_busy = refl; own_busy = refl; waiting = refl; way = refl }
+  near-ready = record { ranges = rt; sound = grind (arith, few); state = refl; peer_busy = refl; own_busy = refl; waiting = refl; way = refl }
 
   pub far-ready : IsReady far_end
   far-ready = record { ranges = ru; sound = sound-called u ru; state = refl; peer_busy = refl; own_busy = refl; waiting = refl; way = refl }

@@ -1,5 +1,6 @@
 -- The first phases of such a call: one end rings, and the other is down. They are those of a call in which UA may be lost, too.
 use Rattle.laws_wire.proofs.Vocabulary.{◌≡◌, ℕ, [], ◌∷◌, refl, sym, subst, inl, inr, Service, Terms, IsInRange, LinkEndpoint, Config, terms, Wire, EndStep, requests, expires, sends, receives, loses, acting, turned, IsRoughTalkOf, IsTimelyOf, IsAsked, IsFullTalkOf}
+use Rattle.laws_wire.proofs.Acting.{sound}
 use Rattle.laws_wire.proofs.Calling.{sabme, end, called}
 use Rattle.laws_wire.proofs.Held.{Held, held-lost}
 use Rattle.laws_wire.proofs.LossyPhases.{for-data, empty}
@@ -42,7 +43,7 @@ module _ (service : Service) (tei : ℕ) (c d : Config) (p q : ℕ) (face : Face
         way = refl;
         near = held-lost service tei p [] c w.near near h.near;
         far = hears-sabme service tei d c q p back ru (turned w) h.far near h.near t [] refl;
-        firm = firm-first t u rt ru face.n201 h.repeats;
+        firm = firm-first t u rt ru face.n201 h.repeats (sound service tei p [] c w.near near h.near).repeats;
       }
 
   takes : (w : Wire) → Ringing w → Goes (turned (acting receives (turned w)))

@@ -2,6 +2,7 @@
 use Rattle.laws_wire.proofs.Vocabulary.{◌≡◌, ℕ, suc, ◌+◌, Bool, true, false, ◌==◌, List, [], ◌∷◌, length, map, is_some, refl, sym, ap, ◌∙◌, inl, inr, eqb-true, arith, All, flat_map, list_any, and_parts, or_parts, All-nil, All-cons, All-head, All-tail, list_any-append, Note, Service, Timer, Parts, ControlFrame, fresh, IsInRange, Ends, Config, LineTold, terms, all-arrived, T200, Endpoint, Wire}
 use Rattle.laws_wire.proofs.Vocabulary.{EndStep, sends, receives, expires, StepAt, at_near, at_far, acting, turned, doing, doing_all, IsStill, calling, confirmed, indicated, data_told, for_layer_3, heard_in, is_error, HasNoError, IsRoughTalkOf, IsRoughTalk, is_poll, is_final, IsTimelyOf, IsSpared, IsTimely, StayTimely, both_expire, round, rounds, HasNoErrors, BothMayRepeat, HasMissing, HasArrived}
 use Rattle.laws_wire.proofs.Vocabulary.{with_t200_expired, WhatIsLostArrives, is_ua, frames_by, timer_T200, read_as, StayPatient, TwoLinksHasArrived, nothing-to_send, spelling, ◌++◌, LinkEndpoint, own_side}
+use Rattle.laws_wire.proofs.Acting.{sound}
 use Rattle.laws_wire.proofs.Awaited.{NoneOpen, may-there, open-here}
 use Rattle.laws_wire.proofs.Calling.{end, called, sabme}
 use Rattle.laws_wire.proofs.Held.{held-given, held-expired}
@@ -184,7 +185,8 @@ module _ (service : Service) (tei : ℕ) (c d : Config) (p q : ℕ) (face : Face
         let w' = doing_all round expired in
         let j = (u + 1) + 1 in
         let last = rounds-up service tei c d p q face back (confirmed service tei ∷ []) (indicated service tei ∷ []) j w' e first.up in
-        let all = all-arrived (u + 1) e (near-ready t v rt ru face.n201 k) (far-ready t v rt ru face.n201 k) (there-taken t v rt ru face.n201 k) (back-taken t v rt ru face.n201 k) (omega arith) (omega arith) in
+        let few = (sound service tei p (confirmed service tei ∷ []) c w'.near n first.up.near).repeats in
+        let all = all-arrived (u + 1) e (near-ready t v rt ru face.n201 k few) (far-ready t v rt ru face.n201 k few) (there-taken t v rt ru face.n201 k few) (back-taken t v rt ru face.n201 k few) (omega arith) (omega arith) in
         grind (arith, one-round, arrived)
 
     -- and that is timely at both ends

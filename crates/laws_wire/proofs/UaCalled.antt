@@ -140,7 +140,7 @@ behind-calm : (ks : List Kind) → Every Calm ks → Behind one_enquiry Calm ks
 behind-calm [] h = tt
 behind-calm (k ∷ ks) h = (λ some. h.1, behind-calm ks h.1)
 
-module _ (t u : Terms) (rt : IsInRange t) (ru : IsInRange u) (same : t.n201 ≡ u.n201) (k : Tries) (l : Link) (post : List ControlFrame) (waits : l.waiting ≡ post) (sound : IsSound u l)
+module _ (t u : Terms) (rt : IsInRange t) (ru : IsInRange u) (same : t.n201 ≡ u.n201) (k : Tries) (few : k.repeats ≤ t.n200) (l : Link) (post : List ControlFrame) (waits : l.waiting ≡ post) (sound : IsSound u l)
     (h : Poised u l post) where
   abbrev n : LinkEndpoint
   n = end t (answered k []) []
@@ -156,7 +156,7 @@ module _ (t u : Terms) (rt : IsInRange t) (ru : IsInRange u) (same : t.n201 ≡ 
         joined = record {
           near_ranges = rt;
           far_ranges = ru;
-          near_sound = (near-ready t u rt ru same k).sound;
+          near_sound = (near-ready t u rt ru same k few).sound;
           far_sound = subst (IsSound u) (sym (λ i. record l { a = sym h.a i; s = sym h.s i; r = sym h.r i; rejecting = sym h.rejecting i; waiting = sym waits i })) sound;
           near_up = refl;
           far_up = h.up;
@@ -166,7 +166,7 @@ module _ (t u : Terms) (rt : IsInRange t) (ru : IsInRange u) (same : t.n201 ≡ 
         same = same;
         there = grind (arith, answered);
         back = grind (arith, calm-rise, behind-calm);
-        near_sane = (firm-first t u rt ru same k).near_sane;
+        near_sane = (firm-first t u rt ru same k few).near_sane;
         far_sane = subst Sane (sym (λ i. record l { a = sym h.a i; s = sym h.s i; r = sym h.r i; rejecting = sym h.rejecting i; waiting = sym waits i })) h.sane;
       }
 

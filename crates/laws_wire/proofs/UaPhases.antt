@@ -218,7 +218,7 @@ module _ (service : Service) (tei : ℕ) (c d : Config) (p q : ℕ) (face : Face
             far = subst (λ s. Its s (behind (M'.way ++ ua u ∷ []) m)) (sym same) far;
             rising = subst (Rising 0 0) (ap (λ fs. M'.way ++ frames_of u fs) none ∙ append-nil M'.way) h.rising;
             loose =
-                loose-poised t u rt ru face.n201 repeats m.link h.post refl (sound service tei q past d (happens next v.near) (went its_ua h.post e) its)
+                loose-poised t u rt ru face.n201 repeats (sound service tei p [] c w.near (end t (ringing repeats []) []) near).repeats m.link h.post refl (sound service tei q past d (happens next v.near) (went its_ua h.post e) its)
                 (grind (arith, sane-after));
             rejecting = h.poised.rejecting;
             flag = (flagged-at service tei d q past v M' h.held b h.flag ∙ ap (λ (x : LinkEndpoint). has_outstanding (after x.terms link.offer x.link)) (is-laid (its_ua ∷ h.post) e));

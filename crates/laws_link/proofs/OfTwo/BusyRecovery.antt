@@ -1,5 +1,5 @@
 -- After the loss of all frames, what an end that is busy itself gives arrives, from the expiry of T200 on.
-use Rattle.laws_link.proofs.Vocabulary.{LinkCounts, ◌≡◌, ℕ, suc, ◌+◌, ◌≤◌, Bool, true, false, [], ◌∷◌, length, Some, refl, sym, ap, subst, ◌∙◌, ◌⊎◌, inl, inr, arith, T200, T203, Endpoint, Ends, sound-after, rounds, IsCutOff, IsCutOffWith, HasMissing, with_t200_expired, GetsThrough}
+use Rattle.laws_link.proofs.Vocabulary.{LinkCounts, ◌≡◌, ℕ, suc, ◌+◌, ◌≤◌, Bool, true, false, [], ◌∷◌, length, Some, refl, sym, ap, subst, ◌∙◌, ◌⊎◌, inl, inr, arith, T200, T203, Endpoint, Ends, expired, sound-after, rounds, IsCutOff, IsCutOffWith, HasMissing, with_t200_expired, GetsThrough}
 use Rattle.laws_link.proofs.OfTwo.Plain.{plain_end, plain_end_with}
 use Rattle.laws_link.proofs.OfTwo.Halves.{giver_of, taker_of}
 use Rattle.laws_link.proofs.OfTwo.Arriving.{near_moves, far_moves, no-more}
@@ -42,7 +42,12 @@ no-t200 : (n m : Endpoint) (busy : Bool) → n.link.running ≡ Some T203 → m.
 no-t200 n m busy rn rm o = grind arith
 
 sounds : (own own' : Bool) (e : Ends) → IsCutOffWith own e.near e.far → IsCutOffWith own' e.far e.near → Sounds (with_t200_expired e)
-sounds own own' e hn hm = grind (arith, sound-after)
+sounds own own' e hn hm = record {
+  near_ranges = hn.ranges;
+  far_ranges = hm.ranges;
+  near = sound-after e.near.terms hn.ranges (expired T200) e.near.link hn.sound;
+  far = sound-after e.far.terms hm.ranges (expired T200) e.far.link hm.sound;
+}
 
 -- the busy end n and the other, m, after T200
 module _ (u : ℕ) (n m : Endpoint) (hn : IsCutOffWith true n m) (hm : IsCutOff m n) (un : HasMissing u n m) where

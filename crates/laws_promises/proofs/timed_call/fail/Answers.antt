@@ -15,5 +15,5 @@ pub returns : goal.returns
 returns g c =
     let e = at c.args.line (hears (stream.dropped (cause_of c.args.fault))) in
     serves of_frames frames-driven (happens e) c.args.card.now c.failed.new.self c.args.sink.now c.take.new.self c.take.result c.now.result (answered c.args.line (told _))
-    (led-by-event of_frames e _ c.args.card.now c.failed.new.self c.now.result (frame-happened e _ _ c.args.card.now c.failed.new.self (ap told c.of.ensures) c.failed.ensures.called) c.failed.ensures.called.after c.now.ensures)
+    (led-by-event of_frames e _ c.args.card.now c.failed.new.self c.now.result (frame-happened e _ _ c.args.card.now c.failed.new.self (ap told c.of.ensures) c.failed.ensures.called) c.failed.ensures.called.after c.failed.ensures.called.marked c.now.ensures)
     c.take.ensures.taken c.take.ensures.none_failed c.take.ensures.missed c.take.ensures.failed

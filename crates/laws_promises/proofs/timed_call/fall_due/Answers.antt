@@ -18,20 +18,20 @@ returns-in-Some g c =
     record {
       frames = serves of_frames frames-driven falls_due c.args.card.now c.fall_due.new.self c.args.sink.now c.take.new.self c.take.result c.now.result (fell_due timer (answered line (told _)))
           (led-by-due of_frames frames-driven line timer _ c.args.card.now c.fall_due.new.self c.now.result c.in-Some.ensures.due
-          (frames-happened passes line _ _ c.args.card.now c.fall_due.new.self (ap told c.of.ensures) called.leads called.answers) c.in-Some.ensures.after.frames c.now.ensures)
+          (frames-happened passes line _ _ c.args.card.now c.fall_due.new.self (ap told c.of.ensures) called.leads called.answers) c.in-Some.ensures.after.frames c.in-Some.ensures.after.frames_marked c.now.ensures)
           c.take.ensures.taken c.take.ensures.none_failed c.take.ensures.missed c.take.ensures.failed;
       octets = serves of_octets octets-driven falls_due c.args.card.now c.fall_due.new.self c.args.sink.now c.take.new.self c.take.result c.now.result (fell_due timer (answered line (told _)))
           (led-by-due of_octets octets-driven line timer _ c.args.card.now c.fall_due.new.self c.now.result c.in-Some.ensures.due
-          (octets-happened passes line _ _ c.args.card.now c.fall_due.new.self (ap told c.of.ensures) called.leads called.answers refl) c.in-Some.ensures.after.octets c.now.ensures)
+          (octets-happened passes line _ _ c.args.card.now c.fall_due.new.self (ap told c.of.ensures) called.leads called.answers refl) c.in-Some.ensures.after.octets c.in-Some.ensures.after.octets_marked c.now.ensures)
           c.take.ensures.taken c.take.ensures.none_failed c.take.ensures.missed c.take.ensures.failed;
     }
 
 pub returns-in-None : goal.returns-in-None
 returns-in-None g c = record {
   frames = serves of_frames frames-driven falls_due c.args.card.now c.fall_due.new.self c.args.sink.now c.take-in-None.new.self c.take-in-None.result c.now-in-None.result none_due
-      (led-by-none-due of_frames frames-driven c.args.card.now c.fall_due.new.self c.now-in-None.result c.in-None.ensures.due c.in-None.ensures.none.0 c.in-None.ensures.after.frames c.now-in-None.ensures)
+      (led-by-none-due of_frames frames-driven c.args.card.now c.fall_due.new.self c.now-in-None.result c.in-None.ensures.due c.in-None.ensures.none.0 c.in-None.ensures.after.frames c.in-None.ensures.after.frames_marked c.now-in-None.ensures)
       c.take-in-None.ensures.taken c.take-in-None.ensures.none_failed c.take-in-None.ensures.missed c.take-in-None.ensures.failed;
   octets = serves of_octets octets-driven falls_due c.args.card.now c.fall_due.new.self c.args.sink.now c.take-in-None.new.self c.take-in-None.result c.now-in-None.result none_due
-      (led-by-none-due of_octets octets-driven c.args.card.now c.fall_due.new.self c.now-in-None.result c.in-None.ensures.due c.in-None.ensures.none.0 c.in-None.ensures.after.octets c.now-in-None.ensures)
+      (led-by-none-due of_octets octets-driven c.args.card.now c.fall_due.new.self c.now-in-None.result c.in-None.ensures.due c.in-None.ensures.none.0 c.in-None.ensures.after.octets c.in-None.ensures.after.octets_marked c.now-in-None.ensures)
       c.take-in-None.ensures.taken c.take-in-None.ensures.none_failed c.take-in-None.ensures.missed c.take-in-None.ensures.failed;
 }

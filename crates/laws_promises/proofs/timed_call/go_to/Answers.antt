@@ -11,10 +11,10 @@ use Rattle.laws_promises.proofs.timed_call.go_to.Goals as goal
 pub returns-in-Ok : goal.returns-in-Ok
 returns-in-Ok g c = record {
   frames = serves of_frames frames-driven (time c.args.moment) c.args.card.now c.go_to.new.self c.args.sink.now c.take.new.self c.take.result c.now.result went
-      (led-by-time of_frames frames-driven c.args.moment c.args.card.now c.go_to.new.self c.now.result c.in-Ok.ensures.went.card c.in-Ok.ensures.went.after.frames (λ wrong. false≢true (c.in-Ok.ensures.refused.1 wrong)) c.now.ensures)
+      (led-by-time of_frames frames-driven c.args.moment c.args.card.now c.go_to.new.self c.now.result c.in-Ok.ensures.went.card c.in-Ok.ensures.went.after.frames c.in-Ok.ensures.went.after.frames_marked (λ wrong. false≢true (c.in-Ok.ensures.refused.1 wrong)) c.now.ensures)
       c.take.ensures.taken c.take.ensures.none_failed c.take.ensures.missed c.take.ensures.failed;
   octets = serves of_octets octets-driven (time c.args.moment) c.args.card.now c.go_to.new.self c.args.sink.now c.take.new.self c.take.result c.now.result went
-      (led-by-time of_octets octets-driven c.args.moment c.args.card.now c.go_to.new.self c.now.result c.in-Ok.ensures.went.card c.in-Ok.ensures.went.after.octets (λ wrong. false≢true (c.in-Ok.ensures.refused.1 wrong)) c.now.ensures)
+      (led-by-time of_octets octets-driven c.args.moment c.args.card.now c.go_to.new.self c.now.result c.in-Ok.ensures.went.card c.in-Ok.ensures.went.after.octets c.in-Ok.ensures.went.after.octets_marked (λ wrong. false≢true (c.in-Ok.ensures.refused.1 wrong)) c.now.ensures)
       c.take.ensures.taken c.take.ensures.none_failed c.take.ensures.missed c.take.ensures.failed;
 }
 

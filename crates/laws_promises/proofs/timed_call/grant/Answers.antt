@@ -23,11 +23,11 @@ returns-in-Ok g c =
     record {
       frames = serves of_frames frames-driven (happens e) c.args.card.now c.request.new.self c.args.sink.now c.take.new.self c.take.result c.now.result (answered line (told _))
           (led-by-event of_frames e _ c.args.card.now c.request.new.self c.now.result
-          (frames-happened passes line _ _ c.args.card.now c.request.new.self (ap told c.of.ensures) called.leads called.answers) called.after.frames c.now.ensures)
+          (frames-happened passes line _ _ c.args.card.now c.request.new.self (ap told c.of.ensures) called.leads called.answers) called.after.frames called.after.frames_marked c.now.ensures)
           c.take.ensures.taken c.take.ensures.none_failed c.take.ensures.missed c.take.ensures.failed;
       octets = serves of_octets octets-driven (happens o) c.args.card.now c.request.new.self c.args.sink.now c.take.new.self c.take.result c.now.result (answered line (told _))
           (led-by-event of_octets o _ c.args.card.now c.request.new.self c.now.result
-          (octets-happened passes line _ _ c.args.card.now c.request.new.self (ap told c.of.ensures) called.leads called.answers refl) called.after.octets c.now.ensures)
+          (octets-happened passes line _ _ c.args.card.now c.request.new.self (ap told c.of.ensures) called.leads called.answers refl) called.after.octets called.after.octets_marked c.now.ensures)
           c.take.ensures.taken c.take.ensures.none_failed c.take.ensures.missed c.take.ensures.failed;
     }
 
@@ -41,10 +41,10 @@ returns-in-Err g c =
     record {
       frames = serves of_frames frames-driven (happens e) c.args.card.now c.request.new.self c.args.sink.now c.take-in-Err.new.self c.take-in-Err.result c.now-in-Err.result (answered line (refused c.in-Err.refusal))
           (led-by-event of_frames e _ c.args.card.now c.request.new.self c.now-in-Err.result
-          (frames-happened passes line _ _ c.args.card.now c.request.new.self refl called.leads called.answers) called.after.frames c.now-in-Err.ensures)
+          (frames-happened passes line _ _ c.args.card.now c.request.new.self refl called.leads called.answers) called.after.frames called.after.frames_marked c.now-in-Err.ensures)
           c.take-in-Err.ensures.taken c.take-in-Err.ensures.none_failed c.take-in-Err.ensures.missed c.take-in-Err.ensures.failed;
       octets = serves of_octets octets-driven (happens o) c.args.card.now c.request.new.self c.args.sink.now c.take-in-Err.new.self c.take-in-Err.result c.now-in-Err.result (answered line (refused c.in-Err.refusal))
           (led-by-event of_octets o _ c.args.card.now c.request.new.self c.now-in-Err.result
-          (octets-happened passes line _ _ c.args.card.now c.request.new.self refl called.leads called.answers refl) called.after.octets c.now-in-Err.ensures)
+          (octets-happened passes line _ _ c.args.card.now c.request.new.self refl called.leads called.answers refl) called.after.octets called.after.octets_marked c.now-in-Err.ensures)
           c.take-in-Err.ensures.taken c.take-in-Err.ensures.none_failed c.take-in-Err.ensures.missed c.take-in-Err.ensures.failed;
     }

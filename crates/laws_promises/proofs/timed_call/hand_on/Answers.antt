@@ -16,7 +16,7 @@ returns-in-Ok-Some g c =
     let e = at c.args.line next in
     serves of_frames frames-driven (happens e) c.args.card.now c.next_frame.new.self c.args.sink.now c.take.new.self c.take.result c.now.result (answered c.args.line (gave _))
     (led-by-event of_frames e _ c.args.card.now c.next_frame.new.self c.now.result
-    (frame-happened e _ _ c.args.card.now c.next_frame.new.self (ap (gave_in c.next_frame.new.out) (sym c.in-Ok-Some.field-0-is)) c.in-Ok-Some.ensures.called) c.in-Ok-Some.ensures.called.after c.now.ensures)
+    (frame-happened e _ _ c.args.card.now c.next_frame.new.self (ap (gave_in c.next_frame.new.out) (sym c.in-Ok-Some.field-0-is)) c.in-Ok-Some.ensures.called) c.in-Ok-Some.ensures.called.after c.in-Ok-Some.ensures.called.marked c.now.ensures)
     c.take.ensures.taken c.take.ensures.none_failed c.take.ensures.missed c.take.ensures.failed
 
 pub returns-in-Ok-None : goal.returns-in-Ok-None
@@ -24,7 +24,7 @@ returns-in-Ok-None g c =
     let e = at c.args.line next in
     serves of_frames frames-driven (happens e) c.args.card.now c.next_frame.new.self c.args.sink.now c.take-in-Ok-None.new.self c.take-in-Ok-None.result c.now-in-Ok-None.result (answered c.args.line (gave _))
     (led-by-event of_frames e _ c.args.card.now c.next_frame.new.self c.now-in-Ok-None.result
-    (frame-happened e _ _ c.args.card.now c.next_frame.new.self (ap (gave_in c.next_frame.new.out) (sym c.in-Ok-None.field-0-is)) c.in-Ok-None.ensures.called) c.in-Ok-None.ensures.called.after c.now-in-Ok-None.ensures)
+    (frame-happened e _ _ c.args.card.now c.next_frame.new.self (ap (gave_in c.next_frame.new.out) (sym c.in-Ok-None.field-0-is)) c.in-Ok-None.ensures.called) c.in-Ok-None.ensures.called.after c.in-Ok-None.ensures.called.marked c.now-in-Ok-None.ensures)
     c.take-in-Ok-None.ensures.taken c.take-in-Ok-None.ensures.none_failed c.take-in-Ok-None.ensures.missed c.take-in-Ok-None.ensures.failed
 
 pub returns-in-Err : goal.returns-in-Err

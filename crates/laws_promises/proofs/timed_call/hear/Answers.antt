@@ -21,5 +21,5 @@ returns g c =
     let lent = c.contents-contents.ensures ∙ ap (λ n. delivered_in (octets_of (Some (came n c.args.octets.now))) report) same in
     serves of_frames frames-driven (happens e) c.args.card.now c.frame.new.self c.args.sink.now c.take.new.self c.take.result c.now.result (answered c.args.line (told _))
     (led-by-event of_frames e _ c.args.card.now c.frame.new.self c.now.result
-    (frame-happened e _ _ c.args.card.now c.frame.new.self (ap told (c.of.ensures ∙ ap (λ k. told_beside k report) lent)) c.frame.ensures.called) c.frame.ensures.called.after c.now.ensures)
+    (frame-happened e _ _ c.args.card.now c.frame.new.self (ap told (c.of.ensures ∙ ap (λ k. told_beside k report) lent)) c.frame.ensures.called) c.frame.ensures.called.after c.frame.ensures.called.marked c.now.ensures)
     c.take.ensures.taken c.take.ensures.none_failed c.take.ensures.missed c.take.ensures.failed

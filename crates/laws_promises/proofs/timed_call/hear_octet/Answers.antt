@@ -16,5 +16,5 @@ returns g c =
     let e = at c.args.line (octet c.args.octet) in
     let same = c.told-report.ensures ∙ ap (λ k. told_if_at (ports_of k) c.args.line c.hear-heard.result) c.card.ensures in
     serves of_octets octets-driven (happens e) c.args.card.now c.hear-heard.new.self c.args.sink.now c.take.new.self c.take.result c.now.result (by_port c.args.line (told _))
-    (led-by-event of_octets e _ c.args.card.now c.hear-heard.new.self c.now.result (octet-happened e _ _ c.args.card.now c.hear-heard.new.self (ap told same) c.hear-heard.ensures.called) c.hear-heard.ensures.called.after c.now.ensures)
+    (led-by-event of_octets e _ c.args.card.now c.hear-heard.new.self c.now.result (octet-happened e _ _ c.args.card.now c.hear-heard.new.self (ap told same) c.hear-heard.ensures.called) c.hear-heard.ensures.called.after c.hear-heard.ensures.called.marked c.now.ensures)
     c.take.ensures.taken c.take.ensures.none_failed c.take.ensures.missed c.take.ensures.failed

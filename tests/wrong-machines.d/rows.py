@@ -37,6 +37,7 @@ SHARED = {
     "Terminal": "model_card",
     "Bus": "laws_teis",
     "Buses": "laws_teis",
+    "Images": "model_image",
     "Handles": "lapd_c",
 }
 

@@ -3,11 +3,7 @@ use Rattle.std.proofs.Common.{◌≡◌, ℕ, List, ◌++◌, sym, ap, ◌∙◌
 use Rattle.lapd_image.specs.Reads.{IsReadAs, HasNone}
 use Rattle.lapd_image.proofs.Reading.{Reads}
 
--- What is read as one that holds more, if this holds too,
-pub read-as : {A : Type 0} {image : A → List ℕ} {P Q : A → Type 0} {x : A} {old new : List ℕ} → Q x → IsReadAs image P x old new → IsReadAs image Q x old new
-read-as saved read = record { saved = saved; octets = read.octets }
-
--- and none that holds more is there if there is none, or if it is another.
+-- None that holds more is there if there is none, or if it is another.
 pub none-narrower : {A : Type 0} (image : A → List ℕ) {P Q : A → Type 0} {old : List ℕ} → ((x : A) → Q x → P x) → HasNone image P old → HasNone image Q old
 none-narrower image more none x rest saved e = none x rest (more x saved) e
 

@@ -46,7 +46,7 @@ links_saved c m whole = record {
   each = λ number few. go number (tei_in m.management.places number) (whole.sound.links number few) (at-number c m whole.sound.count whole.saved number few);
 }
   where
-    go : (number : ℕ) (o : Option ℕ) → IsSoundAt c number (link_at number m) o → IsSavedLink c (link_at number m) → IsSavedAt c number o (link_at number m)
+    go : (number : ℕ) (o : Option ℕ) → IsSoundAt c number (link_at number m) o → IsSavedLink (link_at number m) → IsSavedAt c number o (link_at number m)
     go number None sound saved = sound
     go number (Some tei) sound saved = record { sound = sound; timed = whole.timed number; again = saved.again; counts = saved.counts; octets = saved.octets }
 

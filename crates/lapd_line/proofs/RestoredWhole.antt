@@ -60,10 +60,10 @@ timed_at : (c : Config) (number : ℕ) (o : Option ℕ) (l : machine.Link) → I
 timed_at c number None l saved = subst IsTimed (sym saved) fresh_timed
 timed_at c number (Some tei) l saved = saved.timed
 
-pub saved_at : (c : Config) (number : ℕ) (o : Option ℕ) (l : machine.Link) → IsSavedAt c number o l → IsSavedLink c l
+pub saved_at : (c : Config) (number : ℕ) (o : Option ℕ) (l : machine.Link) → IsSavedAt c number o l → IsSavedLink l
 saved_at c number None l saved =
-    subst (IsSavedLink c) (sym saved) (record { repeats = omega arith; again = omega arith; counts = All-replicate (λ n. n ≤ 65535) 5 0 (omega arith); octets = All-nil AreOctets })
-saved_at c number (Some tei) l saved = record { repeats = saved.sound.repeats; again = saved.again; counts = saved.counts; octets = saved.octets }
+    subst IsSavedLink (sym saved) (record { again = omega arith; counts = All-replicate (λ n. n ≤ 65535) 5 0 (omega arith); octets = All-nil AreOctets })
+saved_at c number (Some tei) l saved = record { again = saved.again; counts = saved.counts; octets = saved.octets }
 
 -- A line of parts that may be saved.
 abbrev line_of : Config → Managing → List machine.Link → List UnitData → ℕ → Line
@@ -92,7 +92,7 @@ whole_line c x ms units turn teis kind waiting few links = record {
     messages = teis.sized.messages;
     own = teis.sized.own;
     unused = λ e. teis.sized.unused (kind ∙ e);
-    links = All-from_get_or (IsSavedLink c) ms machine.fresh (λ number h. saved_at c number (tei_in (places_of x) number) (machine_at ms number) (links.each number (omega (arith, h, links.count))));
+    links = All-from_get_or IsSavedLink ms machine.fresh (λ number h. saved_at c number (tei_in (places_of x) number) (machine_at ms number) (links.each number (omega (arith, h, links.count))));
     units = λ k d h. (waiting.each k d h).octets;
   };
 }

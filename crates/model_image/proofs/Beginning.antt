@@ -35,7 +35,7 @@ line-saved c = record {
   messages = All-nil (λ message. AreOctets (information_of message));
   own = All-nil (λ message. AreOctets (terminals.information_of message));
   unused = unused (is_terminal c) (unwrap_or c.seed 0 % 65536);
-  links = All-replicate (IsSavedLink c) (link_count c) fresh (record { repeats = omega arith; again = omega arith; counts = All-replicate (λ (n : ℕ). n ≤ 65535) 5 0 (omega arith); octets = All-nil AreOctets });
+  links = All-replicate IsSavedLink (link_count c) fresh (record { again = omega arith; counts = All-replicate (λ (n : ℕ). n ≤ 65535) 5 0 (omega arith); octets = All-nil AreOctets });
   units = All-nil (λ u. AreOctets u.contents);
 }
 

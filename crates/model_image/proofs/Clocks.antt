@@ -126,7 +126,7 @@ module _ (c : Config) (l m : Line) (places : length l.management.places ≡ c.te
       let where_same : place_in l tei ≡ place_in m tei = ap (λ (x : Management). place_in (record l { management = x }) tei) same.management in
       at-one timer service tei (place_in l tei) refl ∙ ap (λ (o : Option ℕ). runs_at service timer o m) where_same
 
-  running-same : (timer : Timer) → is_running timer l ≡ is_running timer m
+  pub running-same : (timer : Timer) → is_running timer l ≡ is_running timer m
   running-same (T200 service tei) = at-links running.T200 service tei
   running-same (T203 service tei) = at-links running.T203 service tei
   running-same T201 = ap (λ (x : Management). is_some x.check) same.management

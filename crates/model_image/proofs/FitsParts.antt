@@ -103,7 +103,7 @@ module _ (c : Config) (range : IsInRange c) where
   window-small Call = (ranges_of c range).k.most
   window-small Packet = (ranges_of c range).k16.most
 
-  link-fits : (service : Service) (tei : ℕ) (l : Link) → links.IsSound (terms c service tei) l → IsSavedLink c l → Fits (most_link c + length (queue_of l) * (2 + c.n201)) (link l)
+  link-fits : (service : Service) (tei : ℕ) (l : Link) → links.IsSound (terms c service tei) l → IsSavedLink l → Fits (most_link c + length (queue_of l) * (2 + c.n201)) (link l)
   link-fits service tei l sound saved =
       let r : Ranges c = ranges_of c range in
       let k : window c service ≤ 127 = window-small service in
@@ -118,7 +118,7 @@ module _ (c : Config) (range : IsInRange c) where
       let counted : Fits 10 (counts l.counts) = fits-all (λ (n : ℕ). n ≤ 65535) (number 2) 2 (λ n h. fits-number 2 n) (counted_of l.counts) saved.counts in
       let all = fits-cons (state_number l.state) _ _ (state-small l.state)
       (fits-cons (number_of (link_flags l)) _ _ (bits-small (link_flags l) (omega arith))
-      (fits-cons l.repeats _ _ (omega (arith, saved.repeats, r.n200.most))
+      (fits-cons l.repeats _ _ (omega (arith, sound.repeats, r.n200.most))
       (fits-cons (l.a % 128) _ _ (omega arith)
       (fits-cons (outstanding l) _ _ (omega (arith, within, k))
       (fits-cons (l.r % 128) _ _ (omega arith)
@@ -128,7 +128,7 @@ module _ (c : Config) (range : IsInRange c) where
       fits-less _ (most_link c + length (queue_of l) * (2 + c.n201)) (link l) (omega (arith, ring)) all
 
   -- a link by its number: none where there is no TEI
-  if-fits : (number : ℕ) (o : Option ℕ) (l : Link) → IsSoundAt c number l o → IsSavedLink c l → Fits (most_link c + length (queue_of l) * (2 + c.n201)) (link_if o l)
+  if-fits : (number : ℕ) (o : Option ℕ) (l : Link) → IsSoundAt c number l o → IsSavedLink l → Fits (most_link c + length (queue_of l) * (2 + c.n201)) (link_if o l)
   if-fits number None l sound saved = fits-nil _
   if-fits number (Some tei) l sound saved = link-fits (service_at number) tei l sound saved
 

@@ -122,11 +122,11 @@ pub within-range : (count number : ℕ) → number < count → number < length (
 within-range count number h = subst (λ (n : ℕ). number < n) (sym (length-range_with_len 0 count)) h
 
 -- a link of a line that is saved
-pub at-number : (c : Config) (l : Line) → length l.links ≡ link_count c → IsSavedLine c l → (n : ℕ) → n < link_count c → IsSavedLink c (link_at n l)
-at-number c l count saved n h = All-get_or (IsSavedLink c) l.links n fresh (subst (λ (k : ℕ). n < k) (sym count) h) saved.links
+pub at-number : (c : Config) (l : Line) → length l.links ≡ link_count c → IsSavedLine c l → (n : ℕ) → n < link_count c → IsSavedLink (link_at n l)
+at-number c l count saved n h = All-get_or IsSavedLink l.links n fresh (subst (λ (k : ℕ). n < k) (sym count) h) saved.links
 
 module _ (c : Config) (short : c.n201 ≤ 260) where
-  if-read : (number : ℕ) (o : Option ℕ) (l m : Link) (r s : List ℕ) → IsSoundAt c number l o → IsSoundAt c number m o → IsSavedLink c l → IsSavedLink c m
+  if-read : (number : ℕ) (o : Option ℕ) (l m : Link) (r s : List ℕ) → IsSoundAt c number l o → IsSoundAt c number m o → IsSavedLink l → IsSavedLink m
       → link_if o l ++ r ≡ link_if o m ++ s → IsSameLink l m × (r ≡ s)
   if-read number None l m r s sound also saved too e = (same-link l m (sound ∙ sym also), e)
   if-read number (Some tei) l m r s sound also saved too e =

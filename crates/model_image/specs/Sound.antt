@@ -23,9 +23,8 @@ use Rattle.model_timed.specs.RunTheSame.{RunAs, as_they_are}
 use Rattle.model_image.specs.Links.{counted_of}
 use Rattle.model_image.specs.Images.{Saved}
 
--- Of a link: RC is at most N200, at most 255 contents go again, its counts have 16 bits, and contents are octets.
-pub record IsSavedLink (c : Config) (l : Link) : Type 0 where
-  pub repeats : l.repeats ≤ c.n200
+-- Of a link: at most 255 contents go again, its counts have 16 bits, and contents are octets.
+pub record IsSavedLink (l : Link) : Type 0 where
   pub again : l.again ≤ 255
   pub counts : All (λ n. n ≤ 65535) (counted_of l.counts)
   pub octets : All AreOctets (queue_of l)
@@ -37,7 +36,7 @@ pub record IsSavedLine (c : Config) (l : Line) : Type 0 where
   pub messages : All (λ message. AreOctets (information_of message)) l.management.waiting
   pub own : All (λ message. AreOctets (terminals.information_of message)) l.own.waiting
   pub unused : is_terminal c ≡ false → l.own.number ≡ 0
-  pub links : All (IsSavedLink c) l.links
+  pub links : All IsSavedLink l.links
   pub units : All (λ u. AreOctets u.contents) l.units
 
 -- A line that may be saved, whatever the others: it is sound, and its timers are those of its states.

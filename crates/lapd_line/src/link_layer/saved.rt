@@ -52,7 +52,7 @@ impl LinkLayer {
         ensures puts { (others : List Owned) (m : machine.Line) → LayerStands self.now (S.store shelf.now) others m
             → Puts (flat_map (image.link_numbered m) (range_with_len 0 (link_count self.now.config))) at out.old result out.new }
         ensures saved { (others : List Owned) (m : machine.Line) → LayerStands self.now (S.store shelf.now) others m
-            → ((number : ℕ) → IsTimed (machine.link_at number m)) → All (IsSavedLink self.now.config) m.links }
+            → ((number : ℕ) → IsTimed (machine.link_at number m)) → All IsSavedLink m.links }
     {
         let mut end = at;
         for number in 0..2 * usize::from(self.config.terminals) {
@@ -69,7 +69,7 @@ impl LinkLayer {
         ensures puts { (others : List Owned) (m : machine.Line) → LayerStands self.now (S.store shelf.now) others m
             → Puts (image.link_numbered m number) at out.old result out.new }
         ensures saved { (others : List Owned) (m : machine.Line) → LayerStands self.now (S.store shelf.now) others m
-            → IsTimed (machine.link_at number m) → IsSavedLink self.now.config (machine.link_at number m) }
+            → IsTimed (machine.link_at number m) → IsSavedLink (machine.link_at number m) }
     {
         if self.teis.tei_at(number / 2).is_none() {
             return at;

@@ -13,5 +13,5 @@ invariant-loop-number g l = record {
   puts : (others : List Owned) (m : Line) → LayerStands l.fn.self (g.S.Shelf.store l.fn.shelf) others m
       → Puts (flat_map (link_numbered m) (range_with_len 0 l.number)) l.fn.at l.fn.out l.end l.out;
   saved : (others : List Owned) (m : Line) → LayerStands l.fn.self (g.S.Shelf.store l.fn.shelf) others m → ((number : ℕ) → IsTimed (link_at number m))
-      → (number : ℕ) → number < l.number → IsSavedLink l.fn.self.config (link_at number m);
+      → (number : ℕ) → number < l.number → IsSavedLink (link_at number m);
 }

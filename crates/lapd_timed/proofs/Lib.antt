@@ -1,10 +1,13 @@
 -- Lemmas: orders that are carried out in places (Carrying), what stands when all are (Finishing), what falls due (Falling), and what the
 -- calls come to (Calls, Carried), of the timers; of a card with them what an event comes to (Events), and a step (Steps).
+-- Of an image: what is written is that of a card (Spelled), and may be saved (MaySave); which links wait is read in WaitsRead, and timers
+-- in ChangesRead, LengthsRead, TimersRead and ClockRead; a card in ImageRead, and all of it in WholeRead.
 pub mod Carrying
 pub mod Finishing
 pub mod Falling
 pub mod Calls
 pub mod Carried
+pub mod WaitsRead
 pub mod Marked
 pub mod TeisMarked
 pub mod StatesSeen
@@ -16,3 +19,12 @@ pub mod HeardTouches
 pub mod MarkedSteps
 pub mod Events
 pub mod Steps
+pub mod Spelled
+pub mod Refilled
+pub mod ChangesRead
+pub mod LengthsRead
+pub mod TimersRead
+pub mod ClockRead
+pub mod MaySave
+pub mod ImageRead
+pub mod WholeRead

@@ -1,6 +1,6 @@
 -- A card that keeps its own timers.
 --
--- Read after those of `model_timed` and `lapd_moments`: Places, Marked, Touches, Named, Stands, Carried, Kinds, TimedStands.
+-- Read after those of `model_timed` and `lapd_moments`: Places, Marked, Touches, Named, Stands, Carried, Kinds, TimedStands, Called, Image.
 pub mod Places
 pub mod Marked
 pub mod Touches
@@ -10,3 +10,4 @@ pub mod Carried
 pub mod Kinds
 pub mod TimedStands
 pub mod Called
+pub mod Image

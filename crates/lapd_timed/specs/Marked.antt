@@ -21,6 +21,10 @@ abbrev pub marked_at : ℕ → ℕ → ℕ → HeldMarks → HeldMarks
 marked_at i state now h =
     if get_or h.states i 0 == state then h else record h { states = set h.states i state; moments = set h.moments i now }
 
+-- Of a link this is the moment.
+abbrev pub with_moment : ℕ → ℕ → HeldMarks → HeldMarks
+with_moment i moment h = record h { moments = set h.moments i moment }
+
 -- What is noted of a link.
 abbrev pub mark_in : HeldMarks → ℕ → ℕ → Mark
 mark_in h line number = record { state = get_or h.states (slot_in h line number) 0; moment = get_or h.moments (slot_in h line number) 0 }

@@ -19,7 +19,7 @@ use lapd_moments::Moments;
 use std::alloc::{AllocError, Global};
 
 /// The last moment, in milliseconds.
-const LAST_MOMENT: u64 = (1 << 63) - 1;
+pub(crate) const LAST_MOMENT: u64 = (1 << 63) - 1;
 
 /// The timers of a card: which run, each in a place of its own, and until when; how long those run that are started; and the
 /// moment. Moments and lengths are in milliseconds.

@@ -1,8 +1,11 @@
 //! When the state of each link of a card changed last.
 
-ghost use Rattle.std.specs.Prelude.{◌≡◌, ℕ, ◌+◌, ◌*◌, ◌<◌, ◌≤◌, length, get_or, IfOk};
-ghost use Rattle.lapd_timed.specs.Marked.{marked_at, slot_in, unchanged, AreAllNoted};
+ghost use Rattle.std.specs.Prelude.{◌≡◌, ℕ, ◌+◌, ◌*◌, ◌^◌, ◌<◌, ◌≤◌, ◌++◌, All, length, get_or, IfOk, OnOk, OnErr};
+ghost use Rattle.lapd_image.specs.Puts.{Puts};
+ghost use Rattle.lapd_timed.specs.Marked.{marked_at, slot_in, unchanged, with_moment, AreAllNoted};
+ghost use Rattle.model_image.specs.Images.{changes};
 
+use lapd_image::{BadImage, Reader, put_number};
 use std::alloc::{AllocError, Global};
 use std::marker::Model;
 
@@ -71,6 +74,55 @@ impl Changes {
         for number in 0..self.links {
             self.note(line, number, states[number], now);
         }
+    }
+
+    /// Writes the moments at which states changed last into a room, in eight octets each, from a place on. It answers the place
+    /// after.
+    pub(crate) fn save(&self, out: &mut [u8], at: usize) -> usize
+        requires { at ≤ length out.old }
+        ensures puts { Puts (changes self.now.moments) at out.old result out.new }
+        ensures saved { All (λ moment. moment < 2 ^ 64) self.now.moments }
+    {
+        let mut end = at;
+        for moment in &self.moments {
+            end = put_number(out, end, 8, *moment);
+        }
+        end
+    }
+
+    /// Reads as many moments, and puts them in place of these.
+    ///
+    /// # Errors
+    ///
+    /// [`BadImage`] if fewer are at the front.
+    pub(crate) fn restore(&mut self, reader: &mut Reader<'_>) -> Result<(), BadImage>
+        ensures read { OnOk result (reader.old ≡ changes self.new.moments ++ reader.new) }
+        ensures few { OnOk result (All (λ moment. moment < 2 ^ 64) self.new.moments) }
+        ensures count { OnOk result (length self.new.moments ≡ length self.old.moments) }
+        ensures links { OnOk result (self.new.links ≡ self.old.links) }
+        ensures states { OnOk result (self.new.states ≡ self.old.states) }
+        ensures short { OnErr result (length reader.old < 8 * length self.old.moments) }
+    {
+        for slot in 0..self.count() {
+            let moment = reader.number(8)?;
+            self.put(slot, moment);
+        }
+        Ok(())
+    }
+
+    /// How many links there are.
+    fn count(&self) -> usize
+        ensures { result ≡ length self.now.moments }
+    {
+        self.moments.len()
+    }
+
+    /// The state of a link changed last at this moment.
+    fn put(&mut self, slot: usize, moment: u64)
+        requires { slot < length self.old.moments }
+        ensures { self.new ≡ with_moment slot moment self.old }
+    {
+        self.moments[slot] = moment;
     }
 
     /// The moment at which the state of a link changed last.

@@ -27,7 +27,7 @@
 //!
 //! - `card_timers`: `CardTimers`; `obeying`: what it is ordered; `places`: where its timers are.
 //! - `changes`: when the states of links changed; `noting`: these are noted; `touches`: of which TEI.
-//! - `timed_card`: `TimedCard`. `wrong_time`: the time that is refused.
+//! - `timed_card`: `TimedCard`. `wrong_time`: the time that is refused. `saved`: a card in an image, and restored from it.
 #![tactic(auto)]
 
 mod card_timers;
@@ -35,11 +35,15 @@ mod changes;
 mod noting;
 mod obeying;
 mod places;
+mod restoring;
+mod saved;
+mod saving;
 mod timed_card;
 mod touches;
 mod wrong_time;
 
 pub use card_timers::CardTimers;
+pub use saved::{ImageFault, MOST_LINES, Restored, restore, save};
 pub use timed_card::TimedCard;
 pub use touches::{tei_of_frame, tei_of_heard, tei_of_request, tei_of_timer};
 pub use wrong_time::WrongTime;

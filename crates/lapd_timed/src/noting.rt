@@ -123,7 +123,7 @@ impl CardTimers {
 }
 
 /// The states of the links of a line, by their numbers: of no more than eight terminals.
-fn states_of<S: Shelf>(card: &FrameCard<S>, line: usize) -> [u8; MOST_LINKS]
+pub(crate) fn states_of<S: Shelf>(card: &FrameCard<S>, line: usize) -> [u8; MOST_LINKS]
     requires { line < line_count card.now }
     ensures { (m : Card) → FrameStands S.store card.now m → (number : ℕ) → number < 16 → get_or result number 0 ≡ standing number (line_at line m) }
 {

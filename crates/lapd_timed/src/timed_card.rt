@@ -1,6 +1,6 @@
 //! A card that keeps its own timers.
 
-ghost use Rattle.std.specs.Prelude.{◌≡◌, ◌⊎◌, ◌^◌, ◌<◌, ◌≤◌, ◌↔◌, true, None, Some, IfOk, IfErr, IfSome, IfNone, IsErr, OnErr, OnOk, option_map};
+ghost use Rattle.std.specs.Prelude.{◌≡◌, ◌⊎◌, ◌^◌, ◌<◌, ◌≤◌, ◌↔◌, true, None, Some, length, IfOk, IfErr, IfSome, IfNone, IsErr, OnErr, OnOk, option_map};
 ghost use Rattle.lapd_card.specs.{answer_of_request, came, cause_of, gave_in, octets_of, pulled_of, request_of, told_beside, told_if_at, told_in, IsClear, IsQuiet};
 ghost use Rattle.lapd_clock.specs.Given.{lengths_of};
 ghost use Rattle.lapd_card.specs.Kinds.{card_in, config_of, frames_of, kind_of, line_count, AnyStands, Machine};
@@ -15,12 +15,17 @@ ghost use Rattle.model_line.specs.Event.{told, hears, next};
 ghost use Rattle.model_timed.specs.Changes.{Marks};
 ghost use Rattle.model_timed.specs.Clock.{Clock, due, next_moment, with_lengths};
 ghost use Rattle.model_timed.specs.Timed.{falls_due};
+ghost use Rattle.lapd_image.specs.Puts.{Puts};
+ghost use Rattle.lapd_timed.specs.Image.{AreAllMarks, CanHold, StandsFor};
 ghost use Rattle.lapd_timed.specs.Marked.{moment_in};
+ghost use Rattle.model_image.specs.Images.{image_of, Saved};
+ghost use Rattle.model_image.specs.Sound.{IsSaved};
 ghost use Rattle.lapd_timed.specs.Places.{link_on, named_by};
 ghost use Rattle.lapd_timed.specs.Stands.{ChangesStand, TimersStand};
 ghost use Rattle.lapd_timed.specs.Kinds.{ports_of, room_of};
 
 use crate::card_timers::CardTimers;
+use crate::saved::{MOST_LINES, save_card};
 use crate::touches::{tei_of_frame, tei_of_heard, tei_of_request, tei_of_timer};
 use crate::wrong_time::WrongTime;
 use lapd_card::{AnyCard, BareReport, Fault, NextFrame, Pulled, Request, RoomTooSmall};
@@ -67,6 +72,17 @@ impl TimedCard {
         ensures { (m : Card) (c : Clock) → TimersStand self.now.timers m c → result ≡ c.now }
     {
         self.timers.now()
+    }
+
+    /// Writes its image into a room, from its front on, as [`save`](crate::save) does.
+    pub fn save(&self, waits: &[u16; MOST_LINES], out: &mut [u8]) -> usize
+        ensures within { result ≤ length out.new }
+        ensures puts { (s : Saved) → StandsFor self.now.card waits.now (Some self.now.timers) s → Puts (image_of s) 0 out.old result out.new }
+        // And what stands there may be saved, if links wait only where there is a TEI: so a restore takes it.
+        ensures saved { (s : Saved) → StandsFor self.now.card waits.now (Some self.now.timers) s → AreAllMarks s → IsSaved s × CanHold s.clock }
+    {
+        let at = save_card(&self.card, waits, true, out);
+        self.timers.save(out, at)
     }
 
     /// Has timers that are started from now on run so long. Those that run keep their moments.

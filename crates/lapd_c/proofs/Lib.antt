@@ -1,5 +1,5 @@
 -- Lemmas: where cards and clocks lie; what is served at them; two cards that exchange frames; which links wait for room; what becomes
--- of a card's own timers; what statuses tell.
+-- of a card's own timers; what statuses tell; how a card is saved, and what comes back.
 pub mod Vocabulary
 pub mod Machine
 pub mod Places
@@ -21,6 +21,14 @@ pub mod WrongStatuses
 pub mod Calling
 pub mod Said
 pub mod Halves
+pub mod Numbered
+pub mod Marking
+pub mod WaitsBack
+pub mod MostOctets
+pub mod Saving
+pub mod ClockSaving
+pub mod ClockAgain
+pub mod SavesServed
 pub mod Waits
 pub mod Blocks
 pub mod BlockMade

@@ -70,7 +70,8 @@ timers_there is m c s = subst (λ timers. TimersStandIn timers m c) (ap timers_h
 pub led_to : (line : ℕ) (e : line_event.Event) (m : Card) (c : frames.Held Store) → line < m.config.lines → FrameCardStands c (after (at line e) m) → LedTo (Frames c) line (at line e) m
 led_to line e m c within stands = record { line_is = refl; line_there = within; stands = stands }
 
-frames_stand : (card : AnyCard) (m : Machine) → AnyStands card m → FrameCardStands (frames_of card) (card_in m)
+-- of either kind, the card of frames
+pub frames_stand : (card : AnyCard) (m : Machine) → AnyStands card m → FrameCardStands (frames_of card) (card_in m)
 frames_stand (Octets c) (with_ports m) s = s.frames
 frames_stand (Octets c) (alone m) s = absurd s
 frames_stand (Frames c) (with_ports m) s = absurd s

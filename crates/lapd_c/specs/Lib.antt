@@ -36,6 +36,9 @@ pub mod CalledBy
 pub mod Asked
 pub mod QuestionWords
 pub mod Questions
+pub mod Waiting
+pub mod Saves
+pub mod ClockImages
 pub mod FallsDue
 pub mod Changed
 pub mod Texts
@@ -50,6 +53,7 @@ pub mod BothKinds
 pub mod Numbers
 pub mod CallsWrite
 pub mod HandlesLeft
+pub mod SavesServed
 pub mod CallsServed
 pub mod CallEvents
 pub mod QuestionsServed

@@ -71,6 +71,9 @@ bad_sapi = 44
 abbrev pub bad_reading : ℕ
 bad_reading = 45
 
+abbrev pub bad_image : ℕ
+bad_image = 46
+
 -- Why a request was refused.
 abbrev pub refusal_status : Refusal → ℕ
 refusal_status BadTei = 1

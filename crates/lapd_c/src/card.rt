@@ -35,6 +35,13 @@ pub struct CardHandle {
 impl CardHandle {
     ghost use Rattle.lapd_c.specs.CardLends.{LendsCardIf};
 
+    /// Whether a card is there.
+    pub(crate) fn is_started(&self) -> bool
+        ensures { result ≡ self.now.started }
+    {
+        self.started
+    }
+
     /// Takes the card out.
     pub(crate) fn take(&mut self, alloc: Global) -> Option<Box<KeptCard>>
         requires { IsHandle self.old }

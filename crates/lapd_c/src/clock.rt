@@ -31,6 +31,13 @@ pub struct ClockHandle {
 impl ClockHandle {
     ghost use Rattle.lapd_c.specs.ClockLends.{LendsClockIf};
 
+    /// Whether a clock is there.
+    pub(crate) fn is_started(&self) -> bool
+        ensures { result ≡ self.now.started }
+    {
+        self.started
+    }
+
     /// Takes the clock out.
     pub(crate) fn take(&mut self, alloc: Global) -> Option<Box<Clock>>
         requires { IsHandle self.old }

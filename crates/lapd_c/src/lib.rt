@@ -14,7 +14,9 @@
 //!   begin and end. `exchange`: octets taken and given in turn. `frames`: frames that come and go, and on which lines one waits.
 //! - `questions`: what a card answers about itself, what was counted of a line and of a link, and how many contents more a link
 //!   takes. `links`: which links it has.
-//! - `clock`: a clock in C, and its exports; `clock_reports`, the orders of a report; `clock_slot`, where it lies.
+//! - `saved`: a card that is saved, and one that is restored; `kept_image` and `waiting`, how what is kept comes into an image.
+//! - `clock`: a clock in C, and its exports; `clock_reports`, the orders of a report; `clock_saved`, its images; `clock_slot`,
+//!   where it lies.
 //! - `laws`: what holds of the machine's answers, so that a report has room for each.
 //! - `plain`: the structs and numbers of C, and what they mean.
 //! - `timed`: what falls due at a card that keeps its own timers, and when.
@@ -38,11 +40,13 @@ mod card;
 mod card_slot;
 mod clock;
 mod clock_reports;
+mod clock_saved;
 mod clock_slot;
 mod events;
 mod exchange;
 mod frames;
 mod kept;
+mod kept_image;
 mod laws;
 mod lend;
 mod link_marks;
@@ -52,6 +56,8 @@ mod octets;
 mod plain;
 mod questions;
 mod refused;
+mod saved;
 mod text;
 mod timed;
 mod version;
+mod waiting;

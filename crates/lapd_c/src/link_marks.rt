@@ -32,6 +32,13 @@ impl LinkMarks {
         self.words[usize::from(place / 64)].set(usize::from(place % 64), marked);
     }
 
+    /// Whether the link of a place is marked.
+    pub(crate) fn has(&self, place: u8) -> bool
+        ensures { result ≡ is_marked self.now place }
+    {
+        self.words[usize::from(place / 64)].has(usize::from(place % 64))
+    }
+
     /// The first place of a marked link, of those from one on.
     pub(crate) fn next(&self, from: u8) -> Option<u8>
         ensures marked { IfSome result (λ place. (from ≤ place) × (place < 254) × (is_marked self.now place ≡ true)) }

@@ -34,8 +34,8 @@ pub(crate) use reports::PlainReport;
 pub(crate) use requests::{DATA, request_in};
 pub(crate) use rooms::PlainRoom;
 pub(crate) use statuses::{
-    BAD_SIDE, NO_CARD, NO_CLOCK, NO_FRAME, NO_MEMORY, NO_MORE_LINKS, NO_PLACE, NO_TIMER, OK,
-    REFUSED_NO_LINK, REFUSED_QUEUE_FULL, SECOND_START, WRONG_CARD, WRONG_LENGTH, WRONG_LINE,
+    BAD_IMAGE, BAD_SIDE, NO_CARD, NO_CLOCK, NO_FRAME, NO_MEMORY, NO_MORE_LINKS, NO_PLACE, NO_TIMER,
+    OK, REFUSED_NO_LINK, REFUSED_QUEUE_FULL, SECOND_START, WRONG_CARD, WRONG_LENGTH, WRONG_LINE,
     WRONG_ORDER, WRONG_TIME, refusal_status,
 };
 pub(crate) use timers::{PlainDue, PlainLengths, PlainOrder, PlainTimer, link_in};

@@ -28,7 +28,7 @@ pub const WRONG_TEI: u32 = 16;
 pub const WRONG_TIMER: u32 = 17;
 /// Not the number of a request.
 pub const WRONG_REQUEST: u32 = 18;
-/// Contents of a request that has none; an exchange of two lengths, or beyond them; or too little room for a frame.
+/// Contents of a request that has none; an exchange of two lengths, or beyond them; or too little room for a frame or an image.
 pub const WRONG_LENGTH: u32 = 19;
 /// An order is none, or a report's number of orders is over 4.
 pub const WRONG_ORDER: u32 = 20;
@@ -55,6 +55,8 @@ pub const BAD_SIDE: u32 = 43;
 pub const BAD_SAPI: u32 = 44;
 /// A reading of the tables that is neither 0 nor 1: of a start whose configuration has all else in range.
 pub const BAD_READING: u32 = 45;
+/// Not an image, or of no state that a card or a clock can have.
+pub const BAD_IMAGE: u32 = 46;
 
 /// The status of a request that was refused: 1 to 10, or 29.
 pub fn refusal_status(why: Refusal) -> u32

@@ -1,0 +1,82 @@
+-- What a save and a restore come to, in words of their own: those of `lapd.h`.
+use Rattle.std.specs.Prelude.{◌≡◌, ◌≢◌, ◌⊎◌, ◌≤◌, ◌<◌, ℕ, ◌+◌, ◌*◌, Bool, List, length, take, Option, None, Some, Ok, is_some}
+use Rattle.lapd_card.specs.Image.{begun_as}
+use Rattle.lapd_card.specs.Kinds.{card_in, Machine}
+use Rattle.lapd_clock.specs.Image as clocks
+use Rattle.lapd_clock.specs.Timers.{Timers}
+use Rattle.lapd_frame.specs.declared.services.Service.{Service}
+use Rattle.lapd_timed.specs.Image.{kind_in}
+use Rattle.model_card.specs.Room.{room}
+use Rattle.model_image.specs.Images.{image_of, Saved}
+use Rattle.model_image.specs.Most.{most_octets}
+use Rattle.model_image.specs.Restored.{GoesOnAs, IsRestored}
+use Rattle.model_link.specs.declared.rooms.Room.{Room}
+use Rattle.lapd_c.specs.declared.card.CardHandle.{CardHandle}
+use Rattle.lapd_c.specs.declared.clock.ClockHandle.{ClockHandle}
+use Rattle.lapd_c.specs.declared.plain.config.PlainConfig.{PlainConfig}
+use Rattle.lapd_c.specs.Cards.{card_of, marks_at, HandleStands}
+use Rattle.lapd_c.specs.ClockImages.{IsClockRestore, IsClockSave}
+use Rattle.lapd_c.specs.Clocks.{clock_of}
+use Rattle.lapd_c.specs.Config.{config_fault, config_in}
+use Rattle.lapd_c.specs.Kept.{is_timed}
+use Rattle.lapd_c.specs.Saves.{image_octets, HandleHolds, IsCardRestore, IsCardSave}
+use Rattle.lapd_c.specs.Waits.{Waits}
+
+-- Whatever is saved, it stays as it is. If none is there, the status says so. Unless it is OK nothing is written.
+pub record SaveIsTold {H X : Type 0} (held : H → Option X) (none : ℕ) (old new : H) (result : ℕ) (before after : List ℕ × ℕ) : Type 0 where
+  pub unchanged : held new ≡ held old
+  pub not_there : held old ≡ None → (result ≡ none) × (new ≡ old)
+  pub unwritten : result ≢ 0 → after ≡ before
+
+-- A restore where none is begins one, or finds the image bad, or no memory. Where one is, it is a second start. Unless it is OK, nothing
+-- changes.
+pub record RestoreIsTold {H X : Type 0} (held : H → Option X) (old new : H) (result : ℕ) : Type 0 where
+  pub none_there : held old ≡ None → (result ≡ 0) ⊎ ((result ≡ 46) ⊎ (result ≡ 22))
+  pub second : (x : X) → held old ≡ Some x → (result ≡ 13) × (new ≡ old)
+  pub not_ok : result ≢ 0 → new ≡ old
+  pub there : result ≡ 0 → held new ≡ None → ⊥
+
+-- A card was restored from the image of another. It goes on as that one would.
+pub record GoesOnFrom (s : Saved) (new : CardHandle) : Type 0 where
+  pub restored : Saved
+  pub read : IsRestored (image_of s) restored
+  pub holds : HandleHolds (card_of new) restored
+  pub goes_on : GoesOnAs s restored
+  -- It stands for this card, whose ports begin anew, and keeps its own timers as that one does.
+  pub stands : HandleStands new (begun_as (kind_in restored) restored.card)
+  pub timed : is_timed new ≡ is_some s.clock
+  -- A link that waits is on its line.
+  pub waits : (line tei : ℕ) (service : Service) → line < restored.card.config.lines → Waits (marks_at new) line service tei
+      → (left : Room) × (room line service tei restored.card ≡ Ok left)
+
+pub record SavesAreServed : Type 0 where
+  pub save : (old new : CardHandle) (result : ℕ) (before after : List ℕ × ℕ) → IsCardSave old new result before after → SaveIsTold card_of 11 old new result before after
+  pub clock_save : (old new : ClockHandle) (result : ℕ) (before after : List ℕ × ℕ) → IsClockSave old new result before after → SaveIsTold clock_of 12 old new result before after
+  pub restore : (image : List ℕ) (old new : CardHandle) (result : ℕ) → IsCardRestore image old new result → RestoreIsTold card_of old new result
+  pub clock_restore : (image : List ℕ) (old new : ClockHandle) (result : ℕ) → IsClockRestore image old new result → RestoreIsTold clock_of old new result
+  -- As much room as an image may have is enough for a save, and less is not.
+  pub enough : (old new : CardHandle) (result : ℕ) (before after : List ℕ × ℕ) (m : Machine) → IsCardSave old new result before after → HandleStands old m
+      → most_octets (card_in m).config (is_timed old) ≤ length before.0 → result ≡ 0
+  pub too_little : (old new : CardHandle) (result : ℕ) (before after : List ℕ × ℕ) (m : Machine) → IsCardSave old new result before after → HandleStands old m
+      → length before.0 < most_octets (card_in m).config (is_timed old) → result ≡ 19
+  pub clock_enough : (old new : ClockHandle) (result : ℕ) (before after : List ℕ × ℕ) (c : Timers) → IsClockSave old new result before after → clock_of old ≡ Some c
+      → clocks.most_octets c ≤ length before.0 → result ≡ 0
+  pub clock_too_little : (old new : ClockHandle) (result : ℕ) (before after : List ℕ × ℕ) (c : Timers) → IsClockSave old new result before after → clock_of old ≡ Some c
+      → length before.0 < clocks.most_octets c → result ≡ 19
+  -- What is told of a configuration is enough for a card of each kind, and for a clock.
+  pub most : (config : PlainConfig) (m : Machine) (timed : Bool) → (card_in m).config ≡ config_in config → config_fault config ≡ None
+      → most_octets (card_in m).config timed ≤ image_octets config
+  pub most_of_clock : (config : PlainConfig) (c : Timers) → config_fault config ≡ None → c.lines ≡ config.lines → c.places ≡ 4 * config.terminals + 1
+      → clocks.most_octets c ≤ image_octets config
+  -- A card that is saved and then restored elsewhere goes on as it is; and a restore takes it, if there is memory.
+  pub again : (old same other new : CardHandle) (before after : List ℕ × ℕ) (s : Saved) → IsCardSave old same 0 before after → HandleHolds (card_of old) s
+      → most_octets s.card.config (is_timed old) ≤ length before.0 → IsCardRestore (take after.1 after.0) other new 0 → GoesOnFrom s new
+  pub taken : (old same other new : CardHandle) (result : ℕ) (before after : List ℕ × ℕ) (s : Saved) → IsCardSave old same 0 before after → HandleHolds (card_of old) s
+      → most_octets s.card.config (is_timed old) ≤ length before.0 → IsCardRestore (take after.1 after.0) other new result → card_of other ≡ None
+      → (result ≡ 0) ⊎ (result ≡ 22)
+  -- A clock then is as it was.
+  pub clock_again : (old same other new : ClockHandle) (before after : List ℕ × ℕ) (c : Timers) → IsClockSave old same 0 before after → clocks.IsSaved c → clock_of old ≡ Some c
+      → clocks.most_octets c ≤ length before.0 → IsClockRestore (take after.1 after.0) other new 0 → clock_of new ≡ Some c
+  pub clock_taken : (old same other new : ClockHandle) (result : ℕ) (before after : List ℕ × ℕ) (c : Timers) → IsClockSave old same 0 before after → clocks.IsSaved c
+      → clock_of old ≡ Some c → clocks.most_octets c ≤ length before.0 → IsClockRestore (take after.1 after.0) other new result → clock_of other ≡ None
+      → (result ≡ 0) ⊎ (result ≡ 22)

@@ -1,8 +1,9 @@
 /* ---- Cards and clocks: each has a machine of its own -------------------------------------------------------------- */
 
-/* A machine whose heap has so many octets, on which nothing was started; NULL where there is no memory. */
-static machine *new_machine(u64 heap) {
-    u64 octets = HEAP + heap;
+/* A machine whose heap has so many octets, and as many behind it as an image takes, on which nothing was started; NULL where
+ * there is no memory. */
+static machine *new_machine(u64 heap, u64 image) {
+    u64 octets = HEAP + heap + image;
     if (octets > (size_t)-1 - sizeof(own) - BEHIND || octets > 0xFFFFFFF0)
         return NULL;
     rattle_tried tried = rattle_alloc(sizeof(own) + (size_t)octets + BEHIND, 8);
@@ -11,9 +12,10 @@ static machine *new_machine(u64 heap) {
     machine *instance = (u8 *)tried.at + sizeof(own);
     memset(instance, 0, HEAP);
     OWN(instance)->octets = (u32)octets;
+    OWN(instance)->image = (u32)image;
     init_globals(instance);
     init_memories(instance);
-    w2c_module_heap(instance, HEAP, octets);
+    w2c_module_heap(instance, HEAP, HEAP + heap);
     return instance;
 }
 
@@ -35,6 +37,22 @@ static u32 fault_of(const lapd_config *config) {
         if (fields[i].value < fields[i].least || fields[i].value > fields[i].most)
             return fields[i].status;
     return LAPD_OK;
+}
+
+/* So many octets the image of a card of this configuration has at most, and that of a clock; it is in range. */
+static u32 most_of_card(const lapd_config *config) {
+    u32 links = 2u * config->terminals, moments = 24 + config->lines * 8u * (2 * links + 1);
+    u32 teis = config->side == LAPD_TERMINAL ? 7 + 5 * (config->terminals + 1u) : 39;
+    u32 line = config->terminals + teis + 1 + config->unit_queue + 1 + links * (19u + 3u * config->control) + 8 * LAPD_COUNTERS + 2;
+    return 22 + config->lines * line + config->slots * (2u + config->n201) + moments;
+}
+
+static u32 most_of_clock(const lapd_config *config) {
+    return 24 + config->lines * (1u + 11u * (4u * config->terminals + 1u));
+}
+
+uint32_t lapd_image_octets(const lapd_config *config) {
+    return fault_of(config) == LAPD_OK ? most_of_card(config) : 0;
 }
 
 /* What a null pointer to no octets is taken for. */
@@ -65,13 +83,13 @@ static bool is_out_of_range(const lapd_lengths *it) {
 }
 
 /* Starts a card or a clock in a machine of its own. */
-static uint32_t start(bool *started, void **at, const lapd_config *config, u64 heap, const start_call *call) {
+static uint32_t start(bool *started, void **at, const lapd_config *config, u64 heap, u64 image, const start_call *call) {
     if (*started)
         return LAPD_SECOND_START;
     u32 fault = fault_of(config);
     if (fault == LAPD_OK && is_out_of_range(call->lengths))
         fault = LAPD_WRONG_TIME;
-    machine *instance = new_machine(fault == LAPD_OK ? heap : 0);
+    machine *instance = fault == LAPD_OK ? new_machine(heap, IMAGE_ROOM(image)) : new_machine(0, 0);
     if (instance == NULL)
         return fault != LAPD_OK ? fault : LAPD_NO_MEMORY;
     put_lapd_config(instance, OTHER, config);
@@ -93,35 +111,35 @@ uint32_t lapd_card_start(lapd_card *card, const lapd_config *config) {
     if (card == NULL || config == NULL)
         return LAPD_WRONG_POINTER;
     const start_call call = {w2c_lapd_card_start, NULL, NULL};
-    return start(&card->started, &card->at, config, lapd_card_octets(config), &call);
+    return start(&card->started, &card->at, config, lapd_card_octets(config), most_of_card(config), &call);
 }
 
 uint32_t lapd_card_start_frames(lapd_card *card, const lapd_config *config) {
     if (card == NULL || config == NULL)
         return LAPD_WRONG_POINTER;
     const start_call call = {w2c_lapd_card_start_frames, NULL, NULL};
-    return start(&card->started, &card->at, config, lapd_card_octets_frames(config), &call);
+    return start(&card->started, &card->at, config, lapd_card_octets_frames(config), most_of_card(config), &call);
 }
 
 uint32_t lapd_card_start_timed(lapd_card *card, const lapd_config *config, const lapd_lengths *lengths) {
     if (card == NULL || config == NULL || lengths == NULL)
         return LAPD_WRONG_POINTER;
     const start_call call = {NULL, w2c_lapd_card_start_timed, lengths};
-    return start(&card->started, &card->at, config, lapd_card_octets_timed(config), &call);
+    return start(&card->started, &card->at, config, lapd_card_octets_timed(config), most_of_card(config), &call);
 }
 
 uint32_t lapd_card_start_frames_timed(lapd_card *card, const lapd_config *config, const lapd_lengths *lengths) {
     if (card == NULL || config == NULL || lengths == NULL)
         return LAPD_WRONG_POINTER;
     const start_call call = {NULL, w2c_lapd_card_start_frames_timed, lengths};
-    return start(&card->started, &card->at, config, lapd_card_octets_frames_timed(config), &call);
+    return start(&card->started, &card->at, config, lapd_card_octets_frames_timed(config), most_of_card(config), &call);
 }
 
 uint32_t lapd_clock_start(lapd_clock *clock, const lapd_config *config) {
     if (clock == NULL || config == NULL)
         return LAPD_WRONG_POINTER;
     const start_call call = {w2c_lapd_clock_start, NULL, NULL};
-    return start(&clock->started, &clock->at, config, lapd_clock_octets(config), &call);
+    return start(&clock->started, &clock->at, config, lapd_clock_octets(config), most_of_clock(config), &call);
 }
 
 typedef u32 ends(machine *instance, u64 handle);
@@ -148,6 +166,96 @@ uint32_t lapd_clock_free(lapd_clock *clock) {
         return LAPD_WRONG_POINTER;
     return finish(&clock->started, &clock->at, LAPD_NO_CLOCK, w2c_lapd_clock_free);
 }
+
+#ifndef LAPD_NO_IMAGES
+typedef u32 saves(machine *instance, u64 handle, u64 image, u64 room, u64 length);
+typedef u32 restores(machine *instance, u64 handle, u64 image, u64 length);
+
+/* Saves what a machine holds, by way of its room for an image, which is as much as an image has at most. */
+static uint32_t save(void *at, saves *call, uint8_t *image, size_t room, size_t *length) {
+    machine *instance = machine_of(at);
+    u32 most = OWN(instance)->image, from = OWN(instance)->octets - most;
+    u32 status = call(instance, HANDLE, from, at_most(room, most), OTHER);
+    if (status == LAPD_OK) {
+        get_size_t(instance, OTHER, length);
+        copy(image, instance + from, at_most(*length, most));
+    }
+    return status;
+}
+
+/* Restores a card or a clock from its image, in a machine of its own, which has so large a heap. */
+static uint32_t restore(bool *started, void **at, const uint8_t *image, size_t length, u64 heap, u32 most, restores *call) {
+    if (length > most)
+        return LAPD_BAD_IMAGE;
+    machine *instance = new_machine(heap, most);
+    if (instance == NULL)
+        return LAPD_NO_MEMORY;
+    u32 from = OWN(instance)->octets - most;
+    copy(instance + from, image, length);
+    u32 status = call(instance, HANDLE, from, length);
+    if (status == LAPD_OK) {
+        *started = true;
+        *at = instance;
+    } else {
+        rattle_dealloc(OWN(instance));
+    }
+    return status;
+}
+
+/* How large an image says that its card is: all by which a heap's size is told. The machine reads it once more, and all else.
+ * Whether these are the first octets of an image. */
+static bool sizes_of(const uint8_t *image, size_t length, lapd_config *config) {
+    enum { FLAGS = 6, SIZES = 7, SLOTS = 16, N201 = 18, BEHIND_SIZES = 20 };
+    if (length < BEHIND_SIZES)
+        return false;
+    const uint8_t *size = image + SIZES;
+    const lapd_config it = {.lines = size[0], .terminals = size[1], .k = size[2], .k16 = size[3], .queue = size[4], .unit_queue = size[5],
+                            .control = size[6], .n200 = size[7], .sapi = size[8], .slots = (uint16_t)(image[SLOTS] | image[SLOTS + 1] << 8),
+                            .n201 = (uint16_t)(image[N201] | image[N201 + 1] << 8),
+                            .side = (image[FLAGS] & 3) == 3 ? LAPD_TERMINAL : LAPD_NETWORK};
+    *config = it;
+    return fault_of(config) == LAPD_OK;
+}
+
+uint32_t lapd_card_save(lapd_card *card, uint8_t *image, size_t room, size_t *length) {
+    if (card == NULL || (image == NULL && room != 0) || length == NULL)
+        return LAPD_WRONG_POINTER;
+    return card->started ? save(card->at, w2c_lapd_card_save, image, room, length) : LAPD_NO_CARD;
+}
+
+uint32_t lapd_card_restore(lapd_card *card, const uint8_t *image, size_t length) {
+    enum { KIND = 5 };
+    static u64 (*const heaps[])(const lapd_config *config) = {lapd_card_octets_frames, lapd_card_octets, lapd_card_octets_frames_timed,
+                                                              lapd_card_octets_timed};
+    lapd_config config;
+    if (card == NULL || (image == NULL && length != 0))
+        return LAPD_WRONG_POINTER;
+    if (card->started)
+        return LAPD_SECOND_START;
+    if (!sizes_of(image, length, &config))
+        return LAPD_BAD_IMAGE;
+    u64 heap = heaps[image[KIND] & 3](&config);
+    return restore(&card->started, &card->at, image, length, heap, most_of_card(&config), w2c_lapd_card_restore);
+}
+
+uint32_t lapd_clock_save(lapd_clock *clock, uint8_t *image, size_t room, size_t *length) {
+    if (clock == NULL || (image == NULL && room != 0) || length == NULL)
+        return LAPD_WRONG_POINTER;
+    return clock->started ? save(clock->at, w2c_lapd_clock_save, image, room, length) : LAPD_NO_CLOCK;
+}
+
+uint32_t lapd_clock_restore(lapd_clock *clock, const uint8_t *image, size_t length) {
+    enum { LINES = 6, TERMINALS = 7, BEHIND_SIZES = 8 };
+    if (clock == NULL || (image == NULL && length != 0))
+        return LAPD_WRONG_POINTER;
+    if (clock->started)
+        return LAPD_SECOND_START;
+    if (length < BEHIND_SIZES || image[LINES] < 1 || image[LINES] > 64 || image[TERMINALS] < 1 || image[TERMINALS] > 8)
+        return LAPD_BAD_IMAGE;
+    const lapd_config config = {.lines = image[LINES], .terminals = image[TERMINALS]};
+    return restore(&clock->started, &clock->at, image, length, lapd_clock_octets(&config), most_of_clock(&config), w2c_lapd_clock_restore);
+}
+#endif
 
 /* Whether two lengths are one, and the steps not beyond it. */
 static bool is_exchange(size_t taken, size_t given, size_t steps) {

@@ -6,6 +6,8 @@
  * -DLAPD_HEAP_OCTETS=N         they lie in one static region of so many octets; starts and frees then run one at a time
  * -DLAPD_OWN_MEMORY            they lie in memory of the program's rattle_alloc and rattle_dealloc: lapd_memory.h declares them
  * -DLAPD_MALLOC                malloc also where the compiler says that there is no C library (-ffreestanding)
+ * -DLAPD_NO_IMAGES             cards and clocks are not saved: they take lapd_image_octets(&config) octets less, the room for an
+ *                              image, and the calls that save and restore are not there
  * -DLAPD_SYMBOLS               what lapd.h defines inline is exported, too, for languages that read no header of C
  * -DLAPD_CHECKED               where it would end the program by abort(), it says why before, on standard error
  * -DLAPD_BIG_END_FIRST=0|1     the order of octets, where the compiler does not tell it as GCC and Clang do
@@ -22,6 +24,14 @@
 #define LAPD_MALLOC
 #endif
 
+#ifdef LAPD_NO_IMAGES
+#define IMAGE_ROOM(octets) ((void)(octets), 0)
+#ifdef __GNUC__
+#pragma GCC diagnostic ignored "-Wunused-function" /* nothing calls then what saves and restores */
+#endif
+#else
+#define IMAGE_ROOM(octets) (octets)
+#endif
 #ifdef LAPD_SYMBOLS
 #define LAPD_INLINE
 #endif

@@ -1,4 +1,4 @@
-"""The checked form of lapd.h: before each call that takes pointers stands one that looks at them, and answers
+"""The checked form of lapd.h: before each call that answers a status stands one that looks at its pointers, and answers
 LAPD_WRONG_POINTER where one is null. A function a step:
 
     buffers   the pointers to octets with a length behind them, which may be null where that is 0
@@ -7,7 +7,7 @@ LAPD_WRONG_POINTER where one is null. A function a step:
 """
 from typing import List
 
-from .header import Function, Parameter, functions, structs
+from .header import Function, Parameter, functions, structs, with_statuses
 
 PATH = "include/lapd_checked.h"
 HEAD = """\
@@ -95,4 +95,4 @@ def alias(of: Function, name: str) -> str:
 
 
 def checked() -> str:
-    return HEAD + "\n".join(one(it) for it in functions() if pointers(it)) + "\n#endif\n"
+    return HEAD + "\n".join(one(it) for it in with_statuses()) + "\n#endif\n"

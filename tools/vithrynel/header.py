@@ -66,6 +66,14 @@ def functions() -> List[Function]:
             for result, name, words in rows]
 
 
+@functools.lru_cache(None)
+def with_statuses() -> List[Function]:
+    """Those that answer a status."""
+    with open(HEADER, encoding="utf-8") as file:
+        names = set(re.findall(r"^LAPD_STATUS (lapd_\w+)\(", file.read(), re.M))
+    return [it for it in functions() if it.name in names]
+
+
 def defined() -> List[str]:
     """The functions that the header defines."""
     return re.findall(r"^static inline .*?\b(lapd_\w+)\(", text(), re.M)

@@ -4,7 +4,7 @@ import re
 from typing import List
 
 from .checked import is_buffer, length_of, pointers, tag
-from .header import Function, functions, parameter, structs, text
+from .header import Function, parameter, structs, text, with_statuses
 
 PROGRAM = """\
 #include <stdio.h>
@@ -110,7 +110,7 @@ def part() -> str:
 
 def asked(begin: str, end: str) -> str:
     """Each call with each of its pointers as null; and with null for no octets, which is as an address there."""
-    calls = [it for it in [*functions(), *defined_statuses()] if pointers(it)]
+    calls = [it for it in [*with_statuses(), *defined_statuses()] if pointers(it)]
     kinds = {kind_of(it, at) for it in calls for at, one in enumerate(it.parameters) if one.is_pointer}
     fields = "".join(f"    {it} {field(it)};\n" for it in sorted(kinds))
     rows = [(it, one) for it in calls for one in pointers(it)]

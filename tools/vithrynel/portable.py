@@ -19,9 +19,10 @@ from .wasm import put
 # Each function of these has its own text in c/portable/card.c; the others are written here.
 BY_HAND = ("lapd_version", "lapd_card_start", "lapd_card_start_frames", "lapd_clock_start", "lapd_card_free", "lapd_clock_free",
            "lapd_exchange", "lapd_frame_text",
-           "lapd_card_start_timed", "lapd_card_start_frames_timed")
-# No function of the machine's is asked for it.
-NOT_EXPORTED = ("lapd_version",)
+           "lapd_card_start_timed", "lapd_card_start_frames_timed", "lapd_image_octets", "lapd_card_save", "lapd_card_restore",
+           "lapd_clock_save", "lapd_clock_restore")
+# No function of the machine's is asked for these.
+NOT_EXPORTED = ("lapd_version", "lapd_image_octets")
 # An array of a struct, by the field that says how much of it there is.
 COUNTED = {("lapd_report", "notes"): "note_count", ("lapd_report", "orders"): "order_count", ("lapd_report", "contents"): "length"}
 # What is read of a struct that is handed over, where that is not all.
@@ -242,10 +243,11 @@ def machines(made: United) -> str:
     return f"""\
 #ifndef LAPD_SIMULATOR
 {memory()}
-/* A card or a clock: its memory. Before it lie WebAssembly's globals, and how many octets it has. */
+/* A card or a clock: its memory. Before it lie WebAssembly's globals, and how many octets it has; and the last how many are for an
+ * image. */
 typedef u8 machine;
 typedef struct {{
-{made.fields}u32 octets;
+{made.fields}u32 octets, image;
 }} own;
 enum {{ STACK = {STACK} }};
 {content("c/portable/fixed.c")}
@@ -298,7 +300,8 @@ end. A program without malloc says -DLAPD_HEAP_OCTETS=N: they lie in one static 
 run one at a time. Or it says -DLAPD_OWN_MEMORY: they lie in memory of its own rattle_alloc and rattle_dealloc, which
 lapd_memory.h declares. A card takes lapd_card_octets(&config) octets and {own} more (one of frames, or with its own
 timers, as many and what lapd_card_octets_frames, lapd_card_octets_timed or lapd_card_octets_frames_timed tells), and a
-clock lapd_clock_octets(&config) and {own} more.
+clock lapd_clock_octets(&config) and {own} more. Besides, each takes room for its image, lapd_image_octets(&config) octets
+at most; with -DLAPD_NO_IMAGES it does not, and is not saved.
 
 No access leaves a card's block: one that would ends the program by abort(), which no run has shown; -DLAPD_UNTESTED
 leaves that test out. A compiler that does not tell the order of octets as GCC does wants -DLAPD_BIG_END_FIRST=0 or 1."""

@@ -13,6 +13,7 @@ export const OUT = "out";
 export const UP = "up"; // between the card and layer 3
 export const DOWN = "down";
 export const BESIDE = "beside";
+const OF_CARD = ["stored", "image"]; // what lines of a transcript begin with that are about the whole card
 export const COMMENT = "comment";
 export const PAUSE = "pause";
 export const FAULT = "fault";
@@ -114,7 +115,7 @@ function ofStep(step, about, sapi) {
   }
   for (const said of step.answer) {
     const [line] = said.split(" ", 1);
-    if (line === "stored") rows.push(rowOf(step.line.number, step.at, BESIDE, said));
+    if (OF_CARD.includes(line)) rows.push(rowOf(step.line.number, step.at, BESIDE, said));
     else if (line === String(about)) rows.push(...ofAnswer(step, said.slice(line.length + 1), sapi));
   }
   return rows;
@@ -178,7 +179,10 @@ export function stories(steps) {
   const sapi = told.find((it) => it.step.line.isCard())?.step.line.sapi() ?? USUAL_SAPI;
   const lines = new Set(told.map((it) => it.about).filter((it) => it !== null));
   for (const { step } of told) {
-    for (const it of step.answer) if (!it.startsWith("stored")) lines.add(Number(it.split(" ", 1)[0]));
+    for (const it of step.answer) {
+      const [line] = it.split(" ", 1);
+      if (!OF_CARD.includes(line)) lines.add(Number(line));
+    }
   }
   const waits = steps.filter((it) => it.line.word() === "wait").map((it) => it.line.number);
   const numbers = lines.size ? [...lines].sort((a, b) => a - b) : [0];

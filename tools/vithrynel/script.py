@@ -34,7 +34,7 @@ class Line(NamedTuple):
     def about(self) -> Optional[int]:
         """The line of the card that it is about, if it is about one."""
         words = self.words()
-        is_card_wide = self.is_skipped() or words[0] in ("card", "frames", "wait", "timers", "stored", "losses")
+        is_card_wide = self.is_skipped() or words[0] in ("card", "frames", "wait", "timers", "stored", "losses", "save", "restore")
         return None if is_card_wide or len(words) < 2 or not words[1].isdigit() else int(words[1])
 
     def brings(self) -> Optional[Tuple[str, int, bytes]]:

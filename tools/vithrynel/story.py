@@ -11,6 +11,7 @@ FLAGS, ONES = b"\x7e", b"\xff"
 # how a row is drawn: the arrow between two of the three, or words beside the card
 IN, CUT, REST, OUT = "in", "cut", "rest", "out"  # between the other side and the card
 UP, DOWN, BESIDE = "up", "down", "beside"  # between the card and layer 3
+OF_CARD = "stored", "image"  # what lines of a transcript begin with that are about the whole card
 COMMENT, PAUSE, FAULT = "comment", "pause", "fault"
 NO_SIGN = re.compile("[^\t\x20-\x7e\xa0-\ud7ff\ue000-\ufffd\U00010000-\U0010ffff]")  # what no text should have
 FROM_THE_LEFT = IN, CUT, REST, UP
@@ -121,7 +122,7 @@ def of_step(step: Step, about: int, sapi: str) -> Iterator[Row]:
             yield of_request(step.at, step.line, sapi)
     for said in step.answer:
         line, _, told = said.partition(" ")
-        row = Row(step.at, BESIDE, said) if line == "stored" else of_answer(step.at, told, sapi) if line == str(about) else None
+        row = Row(step.at, BESIDE, said) if line in OF_CARD else of_answer(step.at, told, sapi) if line == str(about) else None
         yield from [row] if row else []
 
 
@@ -149,7 +150,7 @@ def stories(steps: Iterable[Step], with_comments: bool = True) -> Dict[int, List
     told = list(followed(steps))
     sapi = next((it.line.sapi() for _, it in told if it.line.is_card()), USUAL_SAPI)
     lines = {about for about, _ in told if about is not None}
-    lines |= {int(it.split(" ")[0]) for _, step in told for it in step.answer if not it.startswith("stored")}
+    lines |= {int(it.split(" ")[0]) for _, step in told for it in step.answer if not it.startswith(OF_CARD)}
     found: Dict[int, List[Row]] = {it: [] for it in sorted(lines) or [0]}
     for about, step in told:
         for line, rows in found.items():

@@ -8,7 +8,7 @@ use Rattle.lapd_script.specs.declared.command.Durations.{Durations}
 use Rattle.model_line.specs.declared.faults.Fault.{Fault}
 use Rattle.model_line.specs.declared.config.Config.{Config}
 use Rattle.lapd_script.specs.declared.command.Command.{Command}
-use Rattle.lapd_script.specs.declared.command.Command.TheVariants.{Skip, Card, Rx, In, Failed, Next, Down, AskTei, Pull, Wait, Timers, Stored, Losses, Counters, Ask}
+use Rattle.lapd_script.specs.declared.command.Command.TheVariants.{Skip, Card, Rx, In, Failed, Next, Down, AskTei, Pull, Wait, Timers, Stored, Losses, Save, Restore, Counters, Ask}
 
 pub data Meaning : Type 0 where
   -- nothing: the line is skipped
@@ -37,6 +37,10 @@ pub data Meaning : Type 0 where
   stored : Meaning
   -- from now on it is shown how many contents are given up
   losses : Meaning
+  -- the length of the image of the card is shown, and its check
+  save : Meaning
+  -- the card is started anew, from its own image
+  restore : Meaning
   -- what was counted of the line is shown, of these counters
   counters : ℕ → CounterGroup → Meaning
   -- for a line and a TEI this is asked, with the octets that it carries
@@ -57,6 +61,8 @@ meant buffer (Wait milliseconds) = wait milliseconds
 meant buffer (Timers durations) = timers durations
 meant buffer Stored = stored
 meant buffer Losses = losses
+meant buffer Save = save
+meant buffer Restore = restore
 meant buffer (Counters line group) = counters line group
 meant buffer (Ask line tei what count) = ask line tei what (take count buffer)
 

@@ -8,13 +8,13 @@ use Rattle.model_line.specs.declared.config.Config.{Config}
 use Rattle.model_line.specs.Usual.{usual}
 use Rattle.lapd_script.specs.declared.command.Durations.{Durations}
 use Rattle.lapd_script.specs.declared.word.Word.{Word}
-use Rattle.lapd_script.specs.declared.word.Word.TheVariants.{Card, Rx, In, Failed, Next, Down, AskTei, Pull, Wait, Timers, Stored, Losses, Counters, Ask}
+use Rattle.lapd_script.specs.declared.word.Word.TheVariants.{Card, Rx, In, Failed, Next, Down, AskTei, Pull, Wait, Timers, Stored, Losses, Save, Restore, Counters, Ask}
 use Rattle.lapd_script.specs.Words.{words_of, no_words, one_word, two_words, three_words}
 use Rattle.lapd_script.specs.Number.{number}
 use Rattle.lapd_script.specs.Octets.{octets}
 use Rattle.lapd_script.specs.Cause.{cause}
 use Rattle.lapd_script.specs.Word.{word_named, carries_octets}
-use Rattle.lapd_script.specs.Meaning.{Meaning, skip, card, rx, into, failed, next, down, ask_tei, pull, wait, timers, stored, losses, counters, ask}
+use Rattle.lapd_script.specs.Meaning.{Meaning, skip, card, rx, into, failed, next, down, ask_tei, pull, wait, timers, stored, losses, save, restore, counters, ask}
 
 -- the second step, where the first one found no fault
 infixl 10 ◌>>=◌
@@ -196,6 +196,12 @@ read_as Stored words = do
 read_as Losses words = do
   none ← no_words words
   Ok losses
+read_as Save words = do
+  none ← no_words words
+  Ok save
+read_as Restore words = do
+  none ← no_words words
+  Ok restore
 read_as (Counters group) words = do
   line ← line_of words
   Ok (counters line group)

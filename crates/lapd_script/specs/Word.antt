@@ -6,7 +6,7 @@ use Rattle.lapd_script.specs.declared.command.Asked.TheVariants.{Assign, Remove,
 use Rattle.model_card.specs.declared.kinds.CardKind.TheVariants.{Octets, Frames}
 use Rattle.lapd_transcript.specs.declared.counters.CounterGroup.TheVariants.{Line, Messages}
 use Rattle.lapd_script.specs.declared.word.Word.{Word}
-use Rattle.lapd_script.specs.declared.word.Word.TheVariants.{Card, Rx, In, Failed, Next, Down, AskTei, Pull, Wait, Timers, Stored, Losses, Counters, Ask}
+use Rattle.lapd_script.specs.declared.word.Word.TheVariants.{Card, Rx, In, Failed, Next, Down, AskTei, Pull, Wait, Timers, Stored, Losses, Save, Restore, Counters, Ask}
 
 -- what is asked for, of a line and a TEI: for the TEI,
 abbrev pub tei_asked : List ℕ → Option Asked → Option Asked
@@ -66,6 +66,8 @@ time_word name other =
     else if bytes_eq name (codes "timers") then Some Timers
     else if bytes_eq name (codes "stored") then Some Stored
     else if bytes_eq name (codes "losses") then Some Losses
+    else if bytes_eq name (codes "save") then Some Save
+    else if bytes_eq name (codes "restore") then Some Restore
     else if bytes_eq name (codes "counters") then Some (Counters Line)
     else if bytes_eq name (codes "messages") then Some (Counters Messages)
     else other

@@ -12,7 +12,7 @@ use Rattle.model_card.specs.declared.kinds.CardKind.TheVariants.{Octets, Frames}
 use Rattle.model_line.specs.declared.faults.Fault.TheVariants.{Ragged}
 use Rattle.model_line.specs.Usual.{usual}
 use Rattle.lapd_transcript.specs.declared.counters.CounterGroup.TheVariants as group
-use Rattle.lapd_script.specs.Meaning.{skip, card, rx, into, failed, next, down, ask_tei, pull, wait, timers, stored, losses, counters, ask}
+use Rattle.lapd_script.specs.Meaning.{skip, card, rx, into, failed, next, down, ask_tei, pull, wait, timers, stored, losses, save, restore, counters, ask}
 use Rattle.lapd_script.specs.Read.{read}
 use Rattle.lapd_script.specs.Job.{job, run, frame, limits}
 use Rattle.lapd_script.specs.Bound.{bound}
@@ -154,6 +154,12 @@ shown = refl
 
 losses_shown : read (codes "losses") ≡ Ok losses
 losses_shown = refl
+
+saved : read (codes "save") ≡ Ok save
+saved = refl
+
+restored : read (codes "restore") ≡ Ok restore
+restored = refl
 
 counted : read (codes "counters 63") ≡ Ok (counters 63 group.Line)
 counted = refl

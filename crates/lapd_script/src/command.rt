@@ -92,6 +92,10 @@ pub enum Command {
     Stored,
     /// `losses`: from now on it is shown how many contents are given up.
     Losses,
+    /// `save`: shows how long the image of the card is, and its check.
+    Save,
+    /// `restore`: the card is started anew, from its own image.
+    Restore,
     /// `counters LINE`, `messages LINE`: shows what was counted of the line.
     Counters {
         line: u16,

@@ -82,6 +82,14 @@ fn read_as(word: Word, words: &[&[u8]], room: &mut [u8]) -> Result<Command, Faul
             none(words)?;
             Ok(Command::Losses)
         }
+        Word::Save => {
+            none(words)?;
+            Ok(Command::Save)
+        }
+        Word::Restore => {
+            none(words)?;
+            Ok(Command::Restore)
+        }
         Word::Counters(group) => {
             let line = line_of(words)?;
             Ok(Command::Counters { line, group })

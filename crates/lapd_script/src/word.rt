@@ -24,6 +24,8 @@ pub(crate) enum Word {
     Timers,
     Stored,
     Losses,
+    Save,
+    Restore,
     Counters(CounterGroup),
     Ask(Asked),
 }
@@ -126,6 +128,8 @@ fn time_word(name: &[u8], other: Option<Word>) -> Option<Word>
         _ if is(name, b"timers") => Some(Word::Timers),
         _ if is(name, b"stored") => Some(Word::Stored),
         _ if is(name, b"losses") => Some(Word::Losses),
+        _ if is(name, b"save") => Some(Word::Save),
+        _ if is(name, b"restore") => Some(Word::Restore),
         _ if is(name, b"counters") => Some(Word::Counters(CounterGroup::Line)),
         _ if is(name, b"messages") => Some(Word::Counters(CounterGroup::Messages)),
         _ => other,

@@ -1,5 +1,7 @@
 -- What happens on a card of either kind.
-use Rattle.lapd_sim.proofs.Vocabulary.{◌≡◌, ◌<◌, ◌≤◌, ℕ, None, Some, CardKind, refl, sym, ap, ◌∙◌, subst, arith, Store, Config, ranges_of, Reply, Event, What, at, of_octets, of_frames, reply, after, card_after, meant_by, reply_in, reply_of_octets, reply_of_frames, told, Setup, Scene, happened, orders_in, reply_text, with_event, Output, IsPut, IsStuck, Puts, Octets, Frames, shelf_of, kind_of}
+use Rattle.std.proofs.Common.{◌*◌, cond, eq-eqb}
+use Rattle.model_card.specs.Card.{line_at}
+use Rattle.lapd_sim.proofs.Vocabulary.{◌≡◌, ◌<◌, ◌≤◌, ℕ, None, Some, CardKind, refl, sym, ap, ◌∙◌, subst, arith, Store, Config, ranges_of, Reply, Event, What, at, of_octets, of_frames, reply, after, card_after, meant_by, reply_in, reply_of_octets, reply_of_frames, told, Setup, happened, orders_in, reply_text, with_event, Output, IsPut, IsStuck, Puts, Octets, Frames, shelf_of, kind_of}
 use Rattle.lapd_sim.proofs.Vocabulary.{config_of, counters_of, OnBoard, Leads, [], scene, Tells, SetupStands, Each, Sends, Hears, AnyCard, AnyLeads, AnyStands, CardStands, FrameCardStands, Machine, alone, with_ports, card_in, frames_of, expiry, request, List, Result, Ok, Err, Card, Request, Counters, frame_moment, option_map_or, option_map, option_to_list}
 use Rattle.lapd_sim.specs.declared.setup.Setup as rust
 use Rattle.lapd_card.specs.Card as octets_card
@@ -21,12 +23,15 @@ use Rattle.lapd_sim.specs.machine.Board as machine
 unfoldable use Rattle.lapd_sim.specs.machine.Board.{counted}
 use Rattle.lapd_sim.specs.machine.Steps.{held, held_in}
 use Rattle.lapd_clock.specs.Timers.{Expiry}
-use Rattle.lapd_timed.specs.Stands.{TimersStand}
+use Rattle.lapd_timed.specs.Stands.{ChangesStand}
+use Rattle.lapd_sim.specs.Stands.{ClockStands}
 use Rattle.lapd_timed.specs.Kinds.{LedByFrames, LedByOctets, room_of}
-use Rattle.lapd_timed.specs.TimedStands.{FramesStand, OctetsStand, Steps}
+use Rattle.lapd_timed.specs.TimedStands.{FramesMarked, FramesStand, OctetsMarked, OctetsStand, Steps}
 use Rattle.lapd_timed.specs.declared.card_timers.CardTimers.{CardTimers}
 use Rattle.lapd_timed.specs.declared.timed_card.TimedCard.{TimedCard}
 use Rattle.model_line.specs.Laws as lines
+use Rattle.model_timed.specs.Changes.{Marks, marked, noted, seen, standing}
+use Rattle.model_timed.specs.Changes as changes
 use Rattle.model_timed.specs.Clock.{Clock, at_moment, due, obeyed, without_first}
 use Rattle.model_timed.specs.Frames as frames_timed
 use Rattle.model_timed.specs.Octets as octets_timed
@@ -165,6 +170,31 @@ pub held_on : (card : AnyCard) (b : machine.Board) → OnBoard card b → (n : �
 held_on (Octets card) b on n is = is (with_ports b.card) on.stands ∙ ap (λ k. held_in k b.card) (sym on.kind)
 held_on (Frames card) b on n is = is (alone b.card.card) on.stands ∙ ap (λ k. held_in k b.card) (sym on.kind)
 
+-- What is noted after an event: its timers stand then, and the states of the links are seen.
+abbrev pub Noted : TimedCard → Marks → Card → Clock → Type 0
+Noted new marks card c = ClockStands new.timers card c (noted c.now card marks)
+
+abbrev pub GoneOn : TimedCard → Event → machine.Board → Clock → Marks → Type 0
+GoneOn new event b c marks = Noted new marks (after event b).card.card (obeyed event.line (orders_in (reply event b)) c)
+
+-- Links that are seen again in the same states keep their marks.
+seen_state : (now state : ℕ) (mark : changes.Mark) → mark.state ≡ state → seen now state mark ≡ mark
+seen_state now state mark is = ap (λ b. cond b mark (record { state = state; moment = now })) (eq-eqb mark.state state is)
+
+seen_again : (now : ℕ) (card : Card) (marks : Marks) (old new : CardTimers) → ChangesStand old card marks → ChangesStand new card (noted now card marks) → ChangesStand new card marks
+seen_again now card marks old new before h =
+    let state : (line number : ℕ) → line < new.lines → number < 2 * new.terminals → (marks line number).state ≡ standing number (line_at line card) = λ line number in_line in_links.
+    before.up_to_date line number (subst (λ n. line < n) (sym h.lines_are ∙ before.lines_are) in_line) (subst (λ n. number < n) (sym h.terminals_are ∙ before.terminals_are) in_links) in
+    record {
+      lines_are = h.lines_are;
+      terminals_are = h.terminals_are;
+      links_are = h.links_are;
+      count = h.count;
+      as_many = h.as_many;
+      up_to_date = state;
+      held = λ line number in_line in_links. h.held line number in_line in_links ∙ seen_state now (standing number (line_at line card)) (marks line number) (state line number in_line in_links);
+    }
+
 -- ---- what a card of one kind says, and where it is led
 
 module _ (line : ℕ) (w : What) (e : port.Event) (means : of_octets w ≡ Some e) where
@@ -184,16 +214,18 @@ module _ (line : ℕ) (w : What) (e : port.Event) (means : of_octets w ≡ Some 
   orders_said (port.refused why) = refl
   orders_said (port.pulled value begun orders) = refl
 
-  pub on_octets : (b : machine.Board) → b.kind ≡ kind.Octets → (timers : CardTimers) (c : Clock) → TimersStand timers (ports.after (octet_event.at line e) b.card).card (obeyed line (octets_timed.orders_at (octet_event.at line e) b.card) c)
-      → TimersStand timers (after (at line w) b).card.card (obeyed line (orders_in (reply (at line w) b)) c)
-  on_octets b is timers c k =
-      subst (λ os. TimersStand timers (after (at line w) b).card.card (obeyed line os c)) (sym (orders_said (ports.answer (octet_event.at line e) b.card)) ∙ ap orders_in (sym (octets_say b is line w e means)))
-      (subst (λ (m : ports.OctetCard). TimersStand timers m.card (obeyed line (octets_timed.orders_at (octet_event.at line e) b.card) c)) (octets_after line w e means b is) k)
+  pub on_octets : (b : machine.Board) → b.kind ≡ kind.Octets → (P : Card → Clock → Type 0) (c : Clock) → P (ports.after (octet_event.at line e) b.card).card (obeyed line (octets_timed.orders_at (octet_event.at line e) b.card) c)
+      → P (after (at line w) b).card.card (obeyed line (orders_in (reply (at line w) b)) c)
+  on_octets b is P c k =
+      subst (λ os. P (after (at line w) b).card.card (obeyed line os c)) (sym (orders_said (ports.answer (octet_event.at line e) b.card)) ∙ ap orders_in (sym (octets_say b is line w e means)))
+      (subst (λ (m : ports.OctetCard). P m.card (obeyed line (octets_timed.orders_at (octet_event.at line e) b.card) c)) (octets_after line w e means b is) k)
 
-  pub timed_octets : (old new : TimedCard) → ((t : octets_timed.TimedOctetCard) → OctetsStand old t → OctetsStand new (octets_timed.after (happens (octet_event.at line e)) t)) → kind_of old.card ≡ kind.Octets
-      → (b : machine.Board) → OnBoard old.card b → (c : Clock) → TimersStand old.timers b.card.card c → TimersStand new.timers (after (at line w) b).card.card (obeyed line (orders_in (reply (at line w) b)) c)
-  timed_octets old new steps is b on c k =
-      on_octets b (on.kind ∙ is) new.timers c (steps (record { card = b.card; clock = c }) (record { card_stands = octets_on old.card b on is; timers_stand = k })).timers_stand
+  pub timed_octets : (old new : TimedCard) → ((t : octets_timed.TimedOctetCard) → OctetsStand old t → OctetsStand new (octets_timed.after (happens (octet_event.at line e)) t)) → OctetsMarked (happens (octet_event.at line e)) old new
+      → kind_of old.card ≡ kind.Octets → (b : machine.Board) → OnBoard old.card b → (c : Clock) (marks : Marks) → ClockStands old.timers b.card.card c marks → GoneOn new (at line w) b c marks
+  timed_octets old new steps marks_go is b on c marks k =
+      let t : octets_timed.TimedOctetCard = record { card = b.card; clock = c } in
+      let stands : OctetsStand old t = record { card_stands = octets_on old.card b on is; timers_stand = k.timed } in
+      on_octets b (on.kind ∙ is) (Noted new marks) c (record { timed = (steps t stands).timers_stand; noted = marks_go t marks stands k.noted })
 
 module _ (line : ℕ) (w : What) (e : line_event.Event) (means : of_frames w ≡ Some e) where
   pub led_frames : (old new : AnyCard) → LedByFrames (frame_event.at line e) old new → Leads (at line w) old new
@@ -212,50 +244,62 @@ module _ (line : ℕ) (w : What) (e : line_event.Event) (means : of_frames w ≡
   frame_orders_said (line_event.gave None) = refl
   frame_orders_said (line_event.gave (Some given)) = refl
 
-  pub on_frames : (b : machine.Board) → b.kind ≡ kind.Frames → (timers : CardTimers) (c : Clock) → TimersStand timers (frame_machine.after (frame_event.at line e) b.card.card) (obeyed line (frames_timed.orders_at (frame_event.at line e) b.card.card) c)
-      → TimersStand timers (after (at line w) b).card.card (obeyed line (orders_in (reply (at line w) b)) c)
-  on_frames b is timers c k =
-      subst (λ os. TimersStand timers (after (at line w) b).card.card (obeyed line os c)) (sym (frame_orders_said (frame_machine.answer (frame_event.at line e) b.card.card)) ∙ ap orders_in (sym (frames_say b is line w e means)))
-      (subst (λ (m : ports.OctetCard). TimersStand timers m.card (obeyed line (frames_timed.orders_at (frame_event.at line e) b.card.card) c)) (frames_after line w e means b is) k)
+  pub on_frames : (b : machine.Board) → b.kind ≡ kind.Frames → (P : Card → Clock → Type 0) (c : Clock) → P (frame_machine.after (frame_event.at line e) b.card.card) (obeyed line (frames_timed.orders_at (frame_event.at line e) b.card.card) c)
+      → P (after (at line w) b).card.card (obeyed line (orders_in (reply (at line w) b)) c)
+  on_frames b is P c k =
+      subst (λ os. P (after (at line w) b).card.card (obeyed line os c)) (sym (frame_orders_said (frame_machine.answer (frame_event.at line e) b.card.card)) ∙ ap orders_in (sym (frames_say b is line w e means)))
+      (subst (λ (m : ports.OctetCard). P m.card (obeyed line (frames_timed.orders_at (frame_event.at line e) b.card.card) c)) (frames_after line w e means b is) k)
 
-  pub timed_frames : (old new : TimedCard) → ((t : frames_timed.TimedCard) → FramesStand old t → FramesStand new (frames_timed.after (happens (frame_event.at line e)) t)) → kind_of old.card ≡ kind.Frames
-      → (b : machine.Board) → OnBoard old.card b → (c : Clock) → TimersStand old.timers b.card.card c → TimersStand new.timers (after (at line w) b).card.card (obeyed line (orders_in (reply (at line w) b)) c)
-  timed_frames old new steps is b on c k =
-      on_frames b (on.kind ∙ is) new.timers c (steps (record { card = b.card.card; clock = c }) (record { card_stands = frames_on old.card b on is; timers_stand = k })).timers_stand
+  pub timed_frames : (old new : TimedCard) → ((t : frames_timed.TimedCard) → FramesStand old t → FramesStand new (frames_timed.after (happens (frame_event.at line e)) t)) → FramesMarked (happens (frame_event.at line e)) old new
+      → kind_of old.card ≡ kind.Frames → (b : machine.Board) → OnBoard old.card b → (c : Clock) (marks : Marks) → ClockStands old.timers b.card.card c marks → GoneOn new (at line w) b c marks
+  timed_frames old new steps marks_go is b on c marks k =
+      let t : frames_timed.TimedCard = record { card = b.card.card; clock = c } in
+      let stands : FramesStand old t = record { card_stands = frames_on old.card b on is; timers_stand = k.timed } in
+      on_frames b (on.kind ∙ is) (Noted new marks) c (record { timed = (steps t stands).timers_stand; noted = marks_go t marks stands k.noted })
 
 -- an event of both kinds
 module _ {w : What} {e : port.Event} {f : line_event.Event} (both : IsOfBoth w e f) (line : ℕ) where
-  pub timed_both : (old new : TimedCard) → Steps (happens (octet_event.at line e)) (happens (frame_event.at line f)) old new → (b : machine.Board) → OnBoard old.card b → (c : Clock) → TimersStand old.timers b.card.card c
-      → TimersStand new.timers (after (at line w) b).card.card (obeyed line (orders_in (reply (at line w) b)) c)
-  timed_both old new steps b on c k = go (kind_of old.card) refl
+  pub timed_both : (old new : TimedCard) → Steps (happens (octet_event.at line e)) (happens (frame_event.at line f)) old new → (b : machine.Board) → OnBoard old.card b → (c : Clock) (marks : Marks) → ClockStands old.timers b.card.card c marks
+      → GoneOn new (at line w) b c marks
+  timed_both old new steps b on c marks k = go (kind_of old.card) refl
     where
-      go : (k : CardKind) → kind_of old.card ≡ k → TimersStand new.timers (after (at line w) b).card.card (obeyed line (orders_in (reply (at line w) b)) c)
-      go kind.Octets is = timed_octets line w e both.octets old new steps.octets is b on c k
-      go kind.Frames is = timed_frames line w f both.frames old new steps.frames is b on c k
+      go : (k : CardKind) → kind_of old.card ≡ k → GoneOn new (at line w) b c marks
+      go kind.Octets is = timed_octets line w e both.octets old new steps.octets steps.octets_marked is b on c marks k
+      go kind.Frames is = timed_frames line w f both.frames old new steps.frames steps.frames_marked is b on c marks k
 
 -- and what is due
-pub timed_due : (old new : TimedCard) → Steps falls_due falls_due old new → (b : machine.Board) → OnBoard old.card b → (c : Clock) → TimersStand old.timers b.card.card c → (x : Expiry) → due c ≡ Some x
-    → TimersStand new.timers (after (at x.line (expiry x.timer)) b).card.card (obeyed x.line (orders_in (reply (at x.line (expiry x.timer)) b)) (without_first c))
-timed_due old new steps b on c k x is = go (kind_of old.card) refl
+pub timed_due : (old new : TimedCard) → Steps falls_due falls_due old new → (b : machine.Board) → OnBoard old.card b → (c : Clock) (marks : Marks) → ClockStands old.timers b.card.card c marks → (x : Expiry) → due c ≡ Some x
+    → GoneOn new (at x.line (expiry x.timer)) b (without_first c) marks
+timed_due old new steps b on c marks k x is = go (kind_of old.card) refl
   where
-    go : (k : CardKind) → kind_of old.card ≡ k → TimersStand new.timers (after (at x.line (expiry x.timer)) b).card.card (obeyed x.line (orders_in (reply (at x.line (expiry x.timer)) b)) (without_first c))
+    go : (k : CardKind) → kind_of old.card ≡ k → GoneOn new (at x.line (expiry x.timer)) b (without_first c) marks
     go kind.Octets o =
         let t : octets_timed.TimedOctetCard = record { card = b.card; clock = c } in
-        let after_it = subst (λ d. OctetsStand new (option_map_or (with_expiry octets_timed.octets t) d t)) is (steps.octets t (record { card_stands = octets_on old.card b on o; timers_stand = k })) in
-        on_octets x.line (expiry x.timer) (port.expiry x.timer) refl b (on.kind ∙ o) new.timers (without_first c) after_it.timers_stand
+        let stands : OctetsStand old t = record { card_stands = octets_on old.card b on o; timers_stand = k.timed } in
+        let after_it = subst (λ d. OctetsStand new (option_map_or (with_expiry octets_timed.octets t) d t)) is (steps.octets t stands) in
+        let noted_then = subst (λ d. let u = option_map_or (with_expiry octets_timed.octets t) d t in ChangesStand new.timers u.card.card (marked changes.inside u marks)) is (steps.octets_marked t marks stands k.noted) in
+        on_octets x.line (expiry x.timer) (port.expiry x.timer) refl b (on.kind ∙ o) (Noted new marks) (without_first c) (record { timed = after_it.timers_stand; noted = noted_then })
     go kind.Frames o =
         let t : frames_timed.TimedCard = record { card = b.card.card; clock = c } in
-        let after_it = subst (λ d. FramesStand new (option_map_or (with_expiry frames_timed.frames t) d t)) is (steps.frames t (record { card_stands = frames_on old.card b on o; timers_stand = k })) in
-        on_frames x.line (expiry x.timer) (line_event.expiry x.timer) refl b (on.kind ∙ o) new.timers (without_first c) after_it.timers_stand
+        let stands : FramesStand old t = record { card_stands = frames_on old.card b on o; timers_stand = k.timed } in
+        let after_it = subst (λ d. FramesStand new (option_map_or (with_expiry frames_timed.frames t) d t)) is (steps.frames t stands) in
+        let noted_then = subst (λ d. let u = option_map_or (with_expiry frames_timed.frames t) d t in ChangesStand new.timers u.card (marked changes.itself u marks)) is (steps.frames_marked t marks stands k.noted) in
+        on_frames x.line (expiry x.timer) (line_event.expiry x.timer) refl b (on.kind ∙ o) (Noted new marks) (without_first c) (record { timed = after_it.timers_stand; noted = noted_then })
 
 -- the time
-pub timed_time : (old new : TimedCard) (moment : ℕ) → Steps (time moment) (time moment) old new → (b : machine.Board) → OnBoard old.card b → (c : Clock) → TimersStand old.timers b.card.card c
-    → TimersStand new.timers b.card.card (at_moment moment c)
-timed_time old new moment steps b on c k = go (kind_of old.card) refl
+pub timed_time : (old new : TimedCard) (moment : ℕ) → Steps (time moment) (time moment) old new → (b : machine.Board) → OnBoard old.card b → (c : Clock) (marks : Marks) → ClockStands old.timers b.card.card c marks
+    → ClockStands new.timers b.card.card (at_moment moment c) marks
+timed_time old new moment steps b on c marks k = go (kind_of old.card) refl
   where
-    go : (k : CardKind) → kind_of old.card ≡ k → TimersStand new.timers b.card.card (at_moment moment c)
-    go kind.Octets o = (steps.octets (record { card = b.card; clock = c }) (record { card_stands = octets_on old.card b on o; timers_stand = k })).timers_stand
-    go kind.Frames o = (steps.frames (record { card = b.card.card; clock = c }) (record { card_stands = frames_on old.card b on o; timers_stand = k })).timers_stand
+    go : (k : CardKind) → kind_of old.card ≡ k → ClockStands new.timers b.card.card (at_moment moment c) marks
+    go kind.Octets o =
+        let t : octets_timed.TimedOctetCard = record { card = b.card; clock = c } in
+        let stands : OctetsStand old t = record { card_stands = octets_on old.card b on o; timers_stand = k.timed } in
+        record { timed = (steps.octets t stands).timers_stand; noted = seen_again moment b.card.card marks old.timers new.timers k.noted (steps.octets_marked t marks stands k.noted) }
+    go kind.Frames o =
+        let t : frames_timed.TimedCard = record { card = b.card.card; clock = c } in
+        let stands : FramesStand old t = record { card_stands = frames_on old.card b on o; timers_stand = k.timed } in
+        record { timed = (steps.frames t stands).timers_stand; noted = seen_again moment b.card.card marks old.timers new.timers k.noted (steps.frames_marked t marks stands k.noted) }
 
 -- ---- a setup goes on
 
@@ -285,7 +329,7 @@ else_of s m h = record { config = h.config; board = h.board; counters = h.counte
 -- All but the card, its counters and its timers stays.
 module _ (event : Event) (old new : rust.Setup) (leads : Leads event old.timed.card new.timed.card) (config : new.config ≡ old.config)
     (terminals : new.terminals ≡ old.terminals) (listeners : new.listeners ≡ old.listeners) (losses : new.losses ≡ old.losses) (m : Setup) (stands : Else old m) where
-  pub goes_on : TimersStand new.timed.timers (after event m.board).card.card (obeyed event.line (orders_in (reply event m.board)) m.clock) → SetupStands new (happened m event)
+  pub goes_on : GoneOn new.timed event m.board m.clock m.marks → SetupStands new (happened m event)
   goes_on timers = record {
     config = stands.config ∙ sym config;
     board = leads.stands m.board stands.board;
@@ -298,7 +342,7 @@ module _ (event : Event) (old new : rust.Setup) (leads : Leads event old.timed.c
 
   -- and it has been told
   pub told_on : {E : Type 0} (result : Result Unit E) (a b : Output) (r : Reply) → r ≡ reply event m.board
-      → TimersStand new.timed.timers (after event m.board).card.card (obeyed event.line (orders_in (reply event m.board)) m.clock)
+      → GoneOn new.timed event m.board m.clock m.marks
       → Puts result a b (reply_text old.losses event r) → Tells result a b (SetupStands new) (with_event (scene m) event)
   told_on (Ok x) a b r is timers put = (subst (λ z. IsPut a b (reply_text m.losses event z)) is (subst (λ b'. IsPut a b (reply_text b' event r)) (sym stands.losses) put), goes_on timers)
   told_on (Err x) a b r is timers put = subst (λ z. IsStuck a b (reply_text m.losses event z)) is (subst (λ b'. IsStuck a b (reply_text b' event r)) (sym stands.losses) put)
@@ -309,7 +353,7 @@ as_before s new config timed terminals listeners losses m h = record {
   config = h.config ∙ sym config;
   board = subst (λ (t : TimedCard). OnBoard t.card m.board) (sym timed) h.board;
   counters = subst (λ (t : TimedCard). counters_of t.card ≡ m.counters) (sym timed) h.counters;
-  timers = subst (λ (t : TimedCard). TimersStand t.timers m.board.card.card m.clock) (sym timed) h.timers;
+  timers = subst (λ (t : TimedCard). ClockStands t.timers m.board.card.card m.clock m.marks) (sym timed) h.timers;
   terminals = subst (λ ts. Each Sends ts.items m.terminals) (sym terminals) h.terminals;
   listeners = subst (λ ls. Each Hears ls.items m.taken) (sym listeners) h.listeners;
   losses = h.losses ∙ sym losses;

@@ -2,6 +2,9 @@
 use Rattle.lapd_sim.proofs.Vocabulary.{◌≡◌, ℕ, ◌++◌, List, [], Bool, true, false, Option, Result, Ok, Err, refl, sym, subst, arith, true≢false, IfOk, IfErr, IsTrue, Taken, IsWritten, IsBroken, Writes, Output, IsPut, IsSent, IsStuck, one_failure_more, WriteFailed, appends_nothing, writes_then, broken_more, puts_nothing, puts_written, puts_unwritten, transcript, PlayFault, Read, Write, Script}
 use Rattle.lapd_sim.proofs.Vocabulary.{OutOfMemory, ScriptLines, reads_failed, writes_failed, writes_failed_by, PutsSome, PutsNone, Reaches, is_cut, Plays, PlaysOn, Advances}
 use Rattle.std.specs.Prelude.{◌<◌}
+use Rattle.lapd_sim.proofs.Vocabulary.{◌∷◌, ◌∙◌, ap, inr, fold-append, Played, not_begun, one_more, pieces_of, played}
+use Rattle.std.proofs.Common.{inl}
+use Rattle.lapd_sim.proofs.Playing.{grows as writes_on}
 
 -- ---- the end
 
@@ -44,7 +47,21 @@ pub sent_ends : (r : Result Unit PlayFault) (a b : Output) (c : Taken) (text : L
     → PlaysOn r text remaining a b → Plays r text remaining a.taken c
 sent_ends (Ok u) a b c text remaining none open_is sent h = (h.0, goes (Ok tt) a b c _ none h.1 sent, h.2)
 sent_ends (Err (Script number kind)) a b c text remaining none open_is sent h = (h.0, goes (Ok tt) a b c _ none h.1 sent)
-sent_ends (Err OutOfMemory) a b c text remaining none open_is sent h = (goes (Ok tt) a b c _ none h.0 sent, h.1)
+sent_ends (Err OutOfMemory) a b c text remaining none open_is sent (inl h) = inl (goes (Ok tt) a b c _ none h.0 sent, h.1)
+sent_ends (Err OutOfMemory) a b c text remaining none open_is sent (inr h) = inr (record {
+  before = h.before;
+  piece = h.piece;
+  after = h.after;
+  pieces = h.pieces;
+  card = h.card;
+  was = h.was;
+  starts = h.starts;
+  answered = record { sound = h.answered.sound; written = goes (Ok tt) a b c _ none h.answered.written sent };
+  read = h.read;
+  unread = h.unread;
+  is = h.is;
+  tells = h.tells;
+})
 sent_ends _ a b c text remaining none open_is sent h = absurd (true≢false open_is)
 
 -- or a write of it fails
@@ -58,7 +75,11 @@ pub unsent_ends : (r : Result Unit PlayFault) (e : WriteFailed) (a b : Output) (
     → PlaysOn r text remaining a b → IsBroken a.taken c (transcript text)
 unsent_ends (Ok u) e a b c text remaining none open_is sent h = goes (Err e) a b c _ none h.1 sent
 unsent_ends (Err (Script number kind)) e a b c text remaining none open_is sent h = goes (Err e) a b c _ none h.1 sent
-unsent_ends (Err OutOfMemory) e a b c text remaining none open_is sent h = broken_more a.taken c [] (transcript text) (goes (Err e) a b c _ none h.0 sent)
+unsent_ends (Err OutOfMemory) e a b c text remaining none open_is sent (inl h) = broken_more a.taken c [] (transcript text) (goes (Err e) a b c _ none h.0 sent)
+unsent_ends (Err OutOfMemory) e a b c text remaining none open_is sent (inr h) =
+    let more = writes_on (h.piece ∷ pieces_of h.after) (played h.before) in
+    subst (λ t. IsBroken a.taken c t) (sym (ap (λ pieces. (played pieces).written) h.pieces ∙ ap (λ p. Played.written p) (fold-append one_more not_begun h.before (h.piece ∷ pieces_of h.after)) ∙ more.0.1))
+    (broken_more a.taken c (played h.before).written more.0.0 (goes (Err e) a b c _ none h.answered.written sent))
 unsent_ends _ e a b c text remaining none open_is sent h = absurd (true≢false open_is)
 
 -- Whatever was put, it was put on its way to the same target.

@@ -1,11 +1,10 @@
 -- What falls due first.
-use Rattle.lapd_sim.proofs.Vocabulary.{◌≡◌, ℕ, ◌<◌, ◌≤◌, [], ◌∷◌, List, Option, Some, None, option_map, refl, sym, ap, ◌∙◌, subst, arith, none-some, at, expiry, told, told_beside, Timer, Expiry, due_by, Setup, happened, at_expiry, SetupStands, HasExpired, AnyLeads, AnyStands, Machine}
+use Rattle.lapd_sim.proofs.Vocabulary.{◌≡◌, ℕ, ◌<◌, ◌≤◌, [], ◌∷◌, List, Option, Some, None, option_map, refl, sym, ap, ◌∙◌, subst, arith, none-some, at, expiry, told_beside, Timer, Expiry, due_by, Setup, happened, at_expiry, SetupStands, HasExpired, AnyLeads, AnyStands, Machine}
 use Rattle.std.specs.Prelude.{max, nat_le, cond, false, IfNone}
 use Rattle.std.proofs.lemmas.Bool.{le-leb}
 use Rattle.std.proofs.lemmas.Bool.Decides.{nat_tests}
 use Rattle.std.proofs.lemmas.Option.{same_Some}
 use Rattle.lapd_card.specs.Kinds as kinds
-use Rattle.lapd_clock.specs.Timer.{Lengths}
 use Rattle.lapd_link_steps.specs.declared.report.BareReport.{BareReport}
 use Rattle.lapd_timed.specs.Places.{named_by}
 use Rattle.lapd_timed.specs.TimedStands.{Steps}
@@ -92,6 +91,6 @@ module _ (s then new : rust.Setup) (end moment line : ℕ) (timer : Timer) (repo
         (goes_on (at line (expiry timer)) then new (lead_on (expiry_of_both timer) line then.timed.card new.timed.card leads) config terminals listeners losses
         (record m { clock = without_first at_it.clock })
         (record { config = h.config; board = h.board; counters = h.counters; terminals = h.terminals; listeners = h.listeners; losses = h.losses })
-        (timed_due then.timed new.timed steps m.board h.board at_it.clock h.timers (record x.0 { line = line; timer = timer })
+        (timed_due then.timed new.timed steps m.board h.board at_it.clock m.marks h.timers (record x.0 { line = line; timer = timer })
         (x.1.due_then ∙ ap (λ (p : ℕ × Timer). Some (record x.0 { line = p.0; timer = p.1 })) named)));
   }

@@ -14,3 +14,4 @@ pub mod Falling
 pub mod Octets
 pub mod Pulls
 pub mod OfMachine
+pub mod Restoring

@@ -1,7 +1,7 @@
 -- How far a script has been played.
 use Rattle.lapd_sim.proofs.Vocabulary.{arith, ◌≡◌, ℕ, ◌+◌, ◌^◌, ◌<◌, ◌≤◌, ◌++◌, List, [], ◌∷◌, length, fold, true, false, cond, Bool, Option, None, Some, Result, Ok, Err, refl, sym, ap, ◌∙◌, subst, append_assoc, nat_lt, inr, ◌||◌, lt-ltb, le-ltb, ltb-false, true≢false, none-some, append-nil, fold-append, FaultKind, TooLong, Meaning, read, Output, IsPut, IsStuck, puts_then, stuck_more}
 use Rattle.lapd_sim.proofs.Vocabulary.{puts_nothing, pieces_of, line_in, Played, Fault, played, one_more, not_begun, counted, faulty, is_too_long, after_reading, after_meaning, after_bench, after_scene, after_piece, unless_faulty, transcript, first_fault, Scene, with_card, without_card, LineFault, Faulty, PlayFault, Read, Write, Script, OutOfMemory, ScriptLines, fault_at, PutsSome, AreLeft}
-use Rattle.lapd_sim.proofs.Vocabulary.{IsTooLong, Advances, held, Said, Does, Obeys, StartsBy, said, said_by, said_of, said_with, said_without, scene, PlaysOn, AreAnswered, Has, SetupStands, IsNext}
+use Rattle.lapd_sim.proofs.Vocabulary.{IsTooLong, Advances, held, Said, Does, Obeys, ObeysLine, StartsBy, said, said_by, said_of, said_with, said_without, scene, PlaysOn, AreAnswered, Has, SetupStands, IsNext}
 use Rattle.lapd_sim.specs.machine.Setup as machine
 use Rattle.lapd_sim.specs.declared.setup.Setup.{Setup}
 use Rattle.lapd_script.specs.declared.faults.LineFault.TheVariants as line
@@ -217,21 +217,21 @@ goes_on lines new setup later remaining left text a b c p n put s fine written h
     )
 
 -- what a line put, where it stopped the script and where it did not; and that there is a setup after it
-pub does_fail : (fault : LineFault) (number : ℕ) (a b c : Output) (m : Option machine.Setup) (has : Option machine.Setup → Type 0) (x : Result Said FaultKind) (text : List ℕ) → IsPut a b text
-    → Does (Err fault) b c m has x → PutsSome {A = Unit} (Err (fault_at fault number)) a c
-does_fail line.Write number a b c m has (Ok s) text p h = (text ++ s.text, puts_then (Err (record {})) a b c text s.text p h)
-does_fail line.Write number a b c m has (Err kind) text p h = absurd h
-does_fail _ number a b c m has x text p h = (text, subst (λ d. IsPut a d text) (sym h.0) p)
+pub does_fail : (fault : LineFault) (number : ℕ) (a b c : Output) (l : List ℕ) (m : Option machine.Setup) (has : Option machine.Setup → Type 0) (x : Result Said FaultKind) (text : List ℕ) → IsPut a b text
+    → Does (Err fault) b c l m has x → PutsSome {A = Unit} (Err (fault_at fault number)) a c
+does_fail line.Write number a b c l m has (Ok s) text p h = (text ++ s.text, puts_then (Err (record {})) a b c text s.text p h)
+does_fail line.Write number a b c l m has (Err kind) text p h = absurd h
+does_fail _ number a b c l m has x text p h = (text, subst (λ d. IsPut a d text) (sym h.0) p)
 
-pub does_ok : (u : Unit {0}) (a b : Output) (m : Option machine.Setup) (has : Option machine.Setup → Type 0) (x : Result Said FaultKind) → Does (Ok u) a b m has x
+pub does_ok : (u : Unit {0}) (a b : Output) (l : List ℕ) (m : Option machine.Setup) (has : Option machine.Setup → Type 0) (x : Result Said FaultKind) → Does (Ok u) a b l m has x
     → (s : Said) × (x ≡ Ok s) × IsPut a b s.text × has s.setup
-does_ok u a b m has (Ok s) h = (s, refl, h.0, h.1)
-does_ok u a b m has (Err kind) h = absurd h
+does_ok u a b l m has (Ok s) h = (s, refl, h.0, h.1)
+does_ok u a b l m has (Err kind) h = absurd h
 
 -- the next line stops the script
 pub stops : (fault : LineFault) (lines new : ScriptLines) (setup : Option Setup) (remaining left : Option (List ℕ)) (text : List ℕ) (a b c : Output) (has : Option machine.Setup → Type 0)
     (p : IsPlayed lines setup remaining text) (n : IsNext lines new left p.left) → IsPut a b (played p.done).written
-    → Does (Err fault) b c (played p.done).setup has (said (line_in n.piece) (played p.done).setup)
+    → Does (Err fault) b c (line_in n.piece) (played p.done).setup has (said (line_in n.piece) (played p.done).setup)
     → PlaysOn (Err (fault_at fault new.number)) text left a c
 stops (Faulty kind) lines new setup remaining left text a b c has p n put h =
     let next = next_is lines new setup remaining left text p n ∙ ap (λ x. after_said n.piece x (played p.done)) h.1 in
@@ -239,28 +239,26 @@ stops (Faulty kind) lines new setup remaining left text a b c has p n put h =
     (found.0, subst (λ t. IsPut a t (transcript text)) (sym h.0) found.1)
 stops line.Write lines new setup remaining left text a b c has p n put h =
     stops_write (said (line_in n.piece) (played p.done).setup) refl h where
-      stops_write : (x : Result Said FaultKind) → said (line_in n.piece) (played p.done).setup ≡ x → Does (Err line.Write) b c (played p.done).setup has x → IsStuck a c (transcript text)
+      stops_write : (x : Result Said FaultKind) → said (line_in n.piece) (played p.done).setup ≡ x → Does (Err line.Write) b c (line_in n.piece) (played p.done).setup has x → IsStuck a c (transcript text)
       stops_write (Ok s) e k = stops_broken lines new setup remaining left text a b c p n put s e k
       stops_write (Err kind) e k = absurd k
 stops line.OutOfMemory lines new setup remaining left text a b c has p n put h =
     let is : played (p.done ++ n.piece ∷ []) ≡ after_said n.piece (Ok (record { setup = Some h.1.card; text = [] })) (played p.done) =
     played_more p.done n.piece p.sound ∙ next_is lines new setup remaining left text p n ∙ ap (λ x. after_said n.piece x (played p.done)) h.1.begins in
-    let silent = (grows p.done not_begun).1 (λ e. refl) h.1.none in (
-      subst (λ t. IsPut a t []) (sym h.0) (subst (λ t. IsPut a b t) silent put),
-      inr (record {
-        before = p.done;
-        piece = n.piece;
-        after = n.more;
-        pieces = p.is ∙ ap (λ pieces. p.done ++ pieces) n.pieces;
-        no_card = h.1.none;
-        card = h.1.card;
-        starts = ap (λ q. Played.setup q) is;
-        read = held new;
-        unread = n.left.rest;
-        is = n.left.is;
-        tells = n.left.tells;
-      }),
-    )
+    inr (record {
+      before = p.done;
+      piece = n.piece;
+      after = n.more;
+      pieces = p.is ∙ ap (λ pieces. p.done ++ pieces) n.pieces;
+      card = h.1.card;
+      was = h.1.was;
+      starts = ap (λ q. Played.setup q) is;
+      answered = record { sound = p.sound; written = subst (λ t. IsPut a t (played p.done).written) (sym h.0) put };
+      read = held new;
+      unread = n.left.rest;
+      is = n.left.is;
+      tells = n.left.tells;
+    })
 
 -- what the next line is, or that there is none
 pub over : (more : Bool) (old new : ScriptLines) (remaining : Option (List ℕ)) (text : List ℕ) → more ≡ false → Advances (Ok more) old new remaining text → (text ≡ []) × (remaining ≡ Some [])
@@ -291,19 +289,32 @@ stops_reading OutOfMemory lines new setup remaining left text a b p put h = absu
 has_none : (b : Option Setup) (m : Option machine.Setup) → b ≡ None → Has b m → m ≡ None
 has_none b m e h = grind (arith, none-some)
 
-starts_as : (setup : Option Setup) (a : Output) (x : Result (Option machine.Setup) FaultKind) → StartsBy (Ok setup) x → Does (Ok tt) a a None (Has setup) (said_without x)
-starts_as setup a (Ok b) h = (puts_nothing a, h)
-starts_as setup a (Err kind) h = absurd h
+starts_as : (setup : Option Setup) (a : Output) (l : List ℕ) (x : Result (Option machine.Setup) FaultKind) → StartsBy (Ok setup) x → Does (Ok tt) a a l None (Has setup) (said_without x)
+starts_as setup a l (Ok b) h = (puts_nothing a, h)
+starts_as setup a l (Err kind) h = absurd h
 
 pub starts : (before setup : Option Setup) (a : Output) (meaning : Meaning) (line : List ℕ) (m : Option machine.Setup) → before ≡ None → Has before m → Ok meaning ≡ read line
-    → StartsBy (Ok setup) (without_card meaning) → Does (Ok tt) a a m (Has setup) (said line m)
+    → StartsBy (Ok setup) (without_card meaning) → Does (Ok tt) a a line m (Has setup) (said line m)
 starts before setup a meaning line m e h is k = grind (arith, has_none, starts_as)
 
 -- a line that the card obeys
-goes_as : (r : Result Unit LineFault) (setup : Setup) (a b : Output) (m : machine.Setup) (x : Result Scene FaultKind) → Obeys r a b (SetupStands setup) x
-    → Does r a b (Some m) (Has (Some setup)) (said_with x)
-goes_as r setup a b m x h = grind arith
+goes_as : (r : Result Unit LineFault) (setup : Setup) (a b : Output) (meaning : Meaning) (l : List ℕ) (m : machine.Setup) (x : Result Scene FaultKind) → Ok meaning ≡ read l → ObeysLine meaning m r a b (SetupStands setup) x
+    → Does r a b l (Some m) (Has (Some setup)) (said_with x)
+goes_as (Ok u) setup a b meaning l m (Ok s) is h = h
+goes_as (Ok u) setup a b meaning l m (Err kind) is h = absurd h
+goes_as (Err (Faulty kind)) setup a b meaning l m x is h = (h.0, ap said_with h.1)
+goes_as (Err line.Write) setup a b meaning l m (Ok s) is h = h
+goes_as (Err line.Write) setup a b meaning l m (Err kind) is h = absurd h
+goes_as (Err line.OutOfMemory) setup a b meaning l m x is h =
+    (h.0, record { card = m; was = (sym is ∙ ap Ok h.1, refl); begins = ap said_with h.2 })
 
 pub goes : (before : Option Setup) (old new : Setup) (r : Result Unit LineFault) (a b : Output) (meaning : Meaning) (line : List ℕ) (m : Option machine.Setup) → before ≡ Some old → Has before m → Ok meaning ≡ read line
-    → ((n : machine.Setup) → SetupStands old n → Obeys r a b (SetupStands new) (with_card meaning (scene n))) → Does r a b m (Has (Some new)) (said line m)
+    → ((n : machine.Setup) → SetupStands old n → ObeysLine meaning n r a b (SetupStands new) (with_card meaning (scene n))) → Does r a b line m (Has (Some new)) (said line m)
 goes before old new r a b meaning line m e h is k = grind (arith, goes_as)
+
+-- at a line that takes no memory
+pub takes_none : (r : Result Unit LineFault) (a b : Output) (meaning : Meaning) (m : machine.Setup) (stands : machine.Setup → Type 0) (x : Result Scene FaultKind) → Obeys r a b stands x → ObeysLine meaning m r a b stands x
+takes_none (Ok u) a b meaning m stands x h = h
+takes_none (Err (Faulty kind)) a b meaning m stands x h = h
+takes_none (Err line.Write) a b meaning m stands x h = h
+takes_none (Err line.OutOfMemory) a b meaning m stands x h = absurd h

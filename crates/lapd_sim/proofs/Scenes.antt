@@ -1,5 +1,5 @@
 -- What a line of a script says at a setup.
-use Rattle.lapd_sim.proofs.Vocabulary.{◌≡◌, ℕ, ◌<◌, ◌≤◌, nat_lt, List, [], length, cond, true, Result, Ok, Err, OnOk, refl, sym, ap, ◌∙◌, subst, lt-ltb, le-leb, CardKind, kind_of, BadLine, BadFrame, Config, Output, Puts, WriteFailed, Setup, FaultKind, Scene, at_line, after_coming, can_come, for_octets, for_frames, with_card, LineFault, Obeys, Tells, scene, written, SetupStands}
+use Rattle.lapd_sim.proofs.Vocabulary.{◌≡◌, ℕ, ◌<◌, ◌≤◌, nat_lt, List, length, cond, true, Result, Ok, Err, OnOk, refl, sym, ap, ◌∙◌, subst, lt-ltb, le-leb, CardKind, kind_of, BadLine, BadFrame, Config, Output, Puts, WriteFailed, Setup, FaultKind, Scene, at_line, after_coming, can_come, for_octets, for_frames, with_card, LineFault, Obeys, Tells, scene, written, SetupStands}
 use Rattle.lapd_script.specs.Meaning as meaning
 use Rattle.model_card.specs.declared.kinds.CardKind.TheVariants.{Octets, Frames}
 use Rattle.lapd_sim.specs.declared.setup.Setup as rust

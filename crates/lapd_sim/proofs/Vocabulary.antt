@@ -31,7 +31,7 @@ pub use Rattle.lapd_card.specs.Kinds.{AnyLeads, AnyStands, CardStands, FrameCard
 pub use Rattle.lapd_card.specs.declared.kinds.AnyCard.{AnyCard}
 pub use Rattle.lapd_card.specs.declared.kinds.AnyCard.TheVariants.{Frames, Octets}
 pub use Rattle.lapd_sim.specs.Boards.{Leads, OnBoard}
-pub use Rattle.lapd_sim.specs.Obeyed.{Does, HasExpired, Obeys, Said, SetupSays, StartsBy, Tells, said, said_by, said_of, said_with, said_without, scene, written}
+pub use Rattle.lapd_sim.specs.Obeyed.{Does, HasExpired, Obeys, ObeysLine, Said, SetupSays, StartsBy, Tells, said, said_by, said_of, said_with, said_without, scene, written}
 pub use Rattle.lapd_sim.specs.Pages.{PutsNone, PutsSome, Reaches, is_cut}
 pub use Rattle.lapd_sim.specs.Plays.{AreAnswered, Plays, PlaysOctets, PlaysOn, is_whole, whole_lines}
 pub use Rattle.lapd_sim.specs.Stands.{Each, Has, SetupStands}

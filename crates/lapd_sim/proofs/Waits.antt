@@ -1,5 +1,5 @@
 -- What has been written, and what a setup stands for, while it waits.
-use Rattle.lapd_sim.proofs.Vocabulary.{◌≡◌, ℕ, ◌+◌, ◌-◌, ◌<◌, ◌≤◌, arith, none-some, orders_in, List, [], ◌∷◌, ◌++◌, Option, Some, None, Ok, Err, refl, sym, ap, ◌∙◌, subst, at, expiry, reply, told_beside, told_text, AreInRange, Timer, Expiry, due_by, time_until, Setup, Scene, reply_text, at_expiry, happened, expired, until, scene, Tells, SetupStands, HasExpired, puts_nothing, puts_then}
+use Rattle.lapd_sim.proofs.Vocabulary.{◌≡◌, ℕ, ◌+◌, ◌-◌, ◌<◌, ◌≤◌, arith, none-some, orders_in, List, [], ◌∷◌, ◌++◌, Some, None, Ok, Err, refl, sym, ap, ◌∙◌, subst, at, expiry, reply, told_beside, told_text, AreInRange, Expiry, due_by, time_until, Setup, Scene, reply_text, at_expiry, happened, expired, until, scene, Tells, SetupStands, HasExpired, puts_nothing, puts_then}
 use Rattle.lapd_sim.proofs.Vocabulary.{stuck_more}
 use Rattle.lapd_sim.proofs.Vocabulary.{Output, IsPut}
 use Rattle.lapd_sim.proofs.Vocabulary.{IsStuck, Puts, WriteFailed, expiry_lowers, until-expired, until-over, text_grows}
@@ -33,7 +33,7 @@ sound : (l : rust_lengths.Lengths) → AreInRange (lengths_of l)
 sound l = record { t200 = l.least.0; t203 = l.least.1; t201 = l.least.2; t202 = l.least.3; t200_most = l.most.0; t203_most = l.most.1; t201_most = l.most.2; t202_most = l.most.3 }
 
 in_range : (s : rust.Setup) (m : Setup) → SetupStands s m → AreInRange m.clock.lengths
-in_range s m h = subst AreInRange (sym h.timers.clock_is.lengths) (sound s.timed.timers.lengths)
+in_range s m h = subst AreInRange (sym h.timers.timed.clock_is.lengths) (sound s.timed.timers.lengths)
 
 module _ (s new : rust.Setup) (before after last : Output) (end line : ℕ) (report : BareReport) (m : Setup) (w : Waits s before after end m) (x : HasExpired end line report new w.by_now.setup) where
   abbrev said_then : List ℕ
@@ -76,8 +76,8 @@ time_left end moments = sum_by (λ e. end + 1 - e.moment) (timers_in moments)
 
 pub falls : (s new : rust.Setup) (end line : ℕ) (report : BareReport) (m : Setup) → SetupStands s m → HasExpired end line report new m → time_left end new.timed.timers.moments < time_left end s.timed.timers.moments
 falls s new end line report m h x =
-    subst (λ es. sum_by (λ (e : Expiry). end + 1 - e.moment) es < time_left end s.timed.timers.moments) x.stands.timers.clock_is.running
-    (subst (λ es. time_until end (happened (at_expiry m) (at line (expiry x.timer))).clock < sum_by (λ (e : Expiry). end + 1 - e.moment) es) h.timers.clock_is.running
+    subst (λ es. sum_by (λ (e : Expiry). end + 1 - e.moment) es < time_left end s.timed.timers.moments) x.stands.timers.timed.clock_is.running
+    (subst (λ es. time_until end (happened (at_expiry m) (at line (expiry x.timer))).clock < sum_by (λ (e : Expiry). end + 1 - e.moment) es) h.timers.timed.clock_is.running
     (expiry_lowers end line x.timer (line, x.timer) m (in_range s m h) x.due))
 
 -- and the moment is no later than the end

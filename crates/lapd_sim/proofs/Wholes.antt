@@ -1,5 +1,5 @@
 -- The lines of a text whose line feed has come.
-use Rattle.lapd_sim.proofs.Vocabulary.{◌≡◌, ◌≢◌, ℕ, ◌++◌, List, [], ◌∷◌, Bool, true, false, cond, refl, sym, ap, ◌∙◌, subst, append_assoc, arith, ◌||◌, drop, filter, flat_map, flat_map-append, true≢false, ne_eqb, All-weaker, list_any_none, pieces_of, with_octet, is_whole, whole_lines, ◌==◌, All, piece_last}
+use Rattle.lapd_sim.proofs.Vocabulary.{◌≡◌, ◌≢◌, ℕ, ◌++◌, List, [], ◌∷◌, Bool, true, false, cond, refl, sym, ap, ◌∙◌, subst, append_assoc, arith, ◌||◌, drop, filter, flat_map, flat_map-append, ne_eqb, All-weaker, list_any_none, pieces_of, with_octet, is_whole, whole_lines, ◌==◌, All, piece_last}
 
 -- The pieces of a text, joined, are the text.
 abbrev pub join : List (List ℕ) → List ℕ

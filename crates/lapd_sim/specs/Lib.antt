@@ -33,7 +33,7 @@ pub use Rattle.model_line.specs.Came.{came, cause_of}
 pub use Rattle.model_line.specs.Request.{request_of}
 pub use Rattle.model_timed.specs.Clock.{at_moment}
 pub use Rattle.lapd_sim.specs.Boards.{OnBoard}
-pub use Rattle.lapd_sim.specs.Obeyed.{Answers, Begins, Does, HasExpired, said, SetupSays, StartsBy, written}
+pub use Rattle.lapd_sim.specs.Obeyed.{Answers, AnswersLine, Begins, Does, HasExpired, IsImageOf, said, SetupSays, StartsBy, written}
 pub use Rattle.lapd_sim.specs.Pages.{is_cut, PutsNone, PutsSome, Reaches}
 pub use Rattle.lapd_sim.specs.Plays.{Shows}
 pub use Rattle.lapd_sim.specs.Serves.{Frames, Runs}

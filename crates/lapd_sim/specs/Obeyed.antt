@@ -2,13 +2,16 @@
 use Rattle.std.specs.Prelude.{◌≡◌, ℕ, List, [], Option, None, Some, Result, Ok, Err}
 use Rattle.model_card.specs.declared.kinds.CardKind.{CardKind}
 use Rattle.lapd_script.specs.declared.kind.FaultKind.{FaultKind}
-use Rattle.lapd_script.specs.Meaning.{Meaning}
+use Rattle.lapd_script.specs.Meaning.{Meaning, restore}
 use Rattle.lapd_script.specs.Read.{read}
 use Rattle.model_line.specs.declared.config.Config.{Config}
 use Rattle.model_line.specs.Config.{first_fault}
 use Rattle.lapd_transcript.specs.declared.streams.WriteFailed.{WriteFailed}
 use Rattle.lapd_transcript.specs.Streams.{Output, IsPut, IsStuck}
+use Rattle.lapd_sim.specs.machine.Images.{image, saved}
 use Rattle.lapd_sim.specs.machine.Setup.{Setup, begun, happened}
+use Rattle.lapd_timed.specs.Image.{CanHold}
+use Rattle.model_image.specs.Sound.{IsSaved}
 use Rattle.lapd_sim.specs.machine.Steps.{Scene, at_expiry, begun_with, due_by, with_card, without_card}
 use Rattle.lapd_sim.specs.machine.Board.{at, expiry, reply, told}
 use Rattle.lapd_clock.specs.Timer.{Timer}
@@ -40,12 +43,22 @@ Obeys (Err (Faulty kind)) old new stands said = (new ≡ old) × (said ≡ Err k
 Obeys (Err Write) old new stands said = Breaks old new said
 Obeys (Err OutOfMemory) old new stands said = ⊥
 
+-- Of the lines at which there is a card, `restore` alone takes memory. If it is refused, nothing has changed.
+abbrev pub ObeysLine : Meaning → Setup → Result Unit LineFault → Output → Output → (Setup → Type 0) → Result Scene FaultKind → Type 0
+ObeysLine meaning m (Ok u) old new stands said = Obeys (Ok u) old new stands said
+ObeysLine meaning m (Err (Faulty kind)) old new stands said = Obeys (Err (Faulty kind)) old new stands said
+ObeysLine meaning m (Err Write) old new stands said = Obeys (Err Write) old new stands said
+ObeysLine meaning m (Err OutOfMemory) old new stands said = (new ≡ old) × (meaning ≡ restore) × (said ≡ Ok (scene m))
+
 -- So it is from each setup that one stands for: of what happens, and of a line.
 abbrev pub SetupSays : {E : Type 0} → Result Unit E → (old new : rust.Setup) → (before after : Output) → (Scene → Scene) → Type 0
 SetupSays result old new before after happens = (m : Setup) → SetupStands old m → Tells result before after (SetupStands new) (happens (scene m))
 
 abbrev pub Answers : Result Unit LineFault → (old new : rust.Setup) → (before after : Output) → Meaning → Type 0
 Answers result old new before after meaning = (m : Setup) → SetupStands old m → Obeys result before after (SetupStands new) (with_card meaning (scene m))
+
+abbrev pub AnswersLine : Result Unit LineFault → (old new : rust.Setup) → (before after : Output) → Meaning → Type 0
+AnswersLine result old new before after meaning = (m : Setup) → SetupStands old m → ObeysLine meaning m result before after (SetupStands new) (with_card meaning (scene m))
 
 -- What fell due first, by a moment, has expired at a line: the time is its moment, and the report tells what this led to.
 pub record HasExpired (end line : ℕ) (report : BareReport) (new : rust.Setup) (m : Setup) : Type 0 where
@@ -98,17 +111,27 @@ said_by (Ok meaning) setup = said_of meaning setup
 abbrev pub said : List ℕ → Option Setup → Result Said FaultKind
 said line setup = said_by (read line) setup
 
--- A line that starts the card, where there was none.
-pub record IsCardLine (before : Option Setup) (said : Result Said FaultKind) : Type 0 where
-  pub none : before ≡ None
+-- A line that starts the card: where there was none, or anew from its image, and then it is the same.
+abbrev pub WasBefore : List ℕ → Setup → Option Setup → Type 0
+WasBefore line card None = Unit {0}
+WasBefore line card (Some before) = (read line ≡ Ok restore) × (before ≡ card)
+
+pub record IsStart (line : List ℕ) (before : Option Setup) (said : Result Said FaultKind) : Type 0 where
   pub card : Setup
+  pub was : WasBefore line card before
   pub begins : said ≡ Ok (record { setup = Some card; text = [] })
 
 -- A line can start the card: memory can be refused then, and nothing has been written.
-abbrev pub Does : Result Unit LineFault → Output → Output → Option Setup → (Option Setup → Type 0) → Result Said FaultKind → Type 0
-Does (Ok _) old new before has (Ok s) = IsPut old new s.text × has s.setup
-Does (Ok _) old new before has (Err kind) = ⊥
-Does (Err (Faulty kind)) old new before has said = (new ≡ old) × (said ≡ Err kind)
-Does (Err Write) old new before has (Ok s) = IsStuck old new s.text
-Does (Err Write) old new before has (Err kind) = ⊥
-Does (Err OutOfMemory) old new before has said = (new ≡ old) × IsCardLine before said
+abbrev pub Does : Result Unit LineFault → Output → Output → List ℕ → Option Setup → (Option Setup → Type 0) → Result Said FaultKind → Type 0
+Does (Ok _) old new line before has (Ok s) = IsPut old new s.text × has s.setup
+Does (Ok _) old new line before has (Err kind) = ⊥
+Does (Err (Faulty kind)) old new line before has said = (new ≡ old) × (said ≡ Err kind)
+Does (Err Write) old new line before has (Ok s) = IsStuck old new s.text
+Does (Err Write) old new line before has (Err kind) = ⊥
+Does (Err OutOfMemory) old new line before has said = (new ≡ old) × IsStart line before said
+
+-- These octets are the image of the card of a setup; and it may be restored.
+pub record IsImageOf (m : Setup) (octets : List ℕ) : Type 0 where
+  pub octets_are : octets ≡ image m
+  pub is_saved : IsSaved (saved m)
+  pub holds : CanHold (Some m.clock)

@@ -2,7 +2,7 @@
 --
 -- What is said goes onto a page of 4,096 octets on its way to the target. The page goes out once it is full, before
 -- more is read, and at the end; so nothing stands on it where a read fails.
-use Rattle.std.specs.Prelude.{◌≡◌, ℕ, List, [], Bool, true, false, Option, Result, Ok, Err}
+use Rattle.std.specs.Prelude.{◌≡◌, ℕ, List, [], Bool, true, false, Option, Result, Err}
 use Rattle.lapd_transcript.specs.Streams.{Output, IsPut, IsStuck}
 use Rattle.lapd_script.specs.declared.faults.PlayFault.{PlayFault}
 use Rattle.lapd_script.specs.declared.faults.PlayFault.TheVariants.{Read, Write}

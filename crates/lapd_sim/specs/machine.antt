@@ -1,6 +1,7 @@
 -- A script as a run of a card. Read in this order: Pieces of `lapd_script`, Board, Setup, Steps, Script; the others are what its laws say.
 pub mod Board
 pub mod Setup
+pub mod Images
 pub mod Steps
 pub mod Script
 pub mod Events

@@ -3,6 +3,7 @@
 //!
 //! - `setup`: what a script is played on: a card with its timers, and the terminals and listeners of its lines. It obeys the
 //!   lines of a script. `parts`: what it begins with. `exchange`: what happens at the card.
+//!   `images`: the card is saved and restored.
 //! - `player`: plays a script; `memory`, one that lies in memory.
 //! - `program`: the program's words and exit status.
 //! - `machine`: what a script means, and what holds of whole scripts.
@@ -18,6 +19,7 @@
 #![tactic(auto)]
 
 mod exchange;
+mod images;
 mod machine;
 mod memory;
 mod parts;

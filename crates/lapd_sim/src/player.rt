@@ -18,8 +18,8 @@ const ROOM: usize = 4096;
 /// line before more is read than that line needs (no clause says when; it is tested). It ends with the script, or with the
 /// first fault; what the lines before the fault brought has been written by then.
 ///
-/// All memory is taken at the start and at the card line: if it is refused nothing has been read, or the line that
-/// starts the card is the one that is answered.
+/// All memory is taken at the start, at the card line and at `restore`: if it is refused nothing has been read, or the line
+/// that starts the card is the one that is answered.
 #[tactic(auto, using(crate::proofs::Ending::same_target))]
 pub fn play<S: Source, T: Target>(
     alloc: Global,
@@ -143,7 +143,7 @@ impl Player {
         requires short { length line.now ≤ 4096 }
         requires stands { (m : Option machine.Setup) × Has self.old.setup m }
         ensures { (m : Option machine.Setup) → Has self.old.setup m
-            → Does result (on T.taken page.old) (on T.taken page.new)
+            → Does result (on T.taken page.old) (on T.taken page.new) line.now
             m (Has self.new.setup) (said line.now m) }
     {
         let command = match read_line(line, self.octets.as_mut_slice()) {

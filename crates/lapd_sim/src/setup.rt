@@ -1,13 +1,15 @@
 //! What a script is played on, and how it obeys the lines of the script.
 
-ghost use Rattle.std.specs.Prelude.{◌≡◌, ◌≢◌, ◌<◌, ◌≤◌, ◌^◌, length, vec_len, MatchResult};
+ghost use Rattle.std.specs.Prelude.{◌≡◌, ◌≢◌, ◌<◌, ◌≤◌, ◌^◌, length, true, vec_len, MatchResult};
 ghost use Rattle.lapd_card.specs.Kinds.{config_of, kind_of};
 ghost use Rattle.lapd_script.specs.Meaning as meaning;
 ghost use Rattle.model_card.specs.declared.kinds.CardKind.TheVariants.{Frames, Octets};
 ghost use Rattle.lapd_sim.specs.machine.Setup as machine;
+ghost use Rattle.model_image.specs.Most.{most_octets};
 ghost use Rattle.model_line.specs.Sound.{IsInRange};
 
 use crate::exchange::{tell, written};
+use crate::images::room_for_images;
 use crate::parts::{Plan, begin, lengths_of, listeners, request_for, terminals};
 use lapd_bits::Deframer;
 use lapd_card::{AnyCard, BareReport, Config, Fault, Request, limit};
@@ -30,14 +32,19 @@ pub(crate) struct Setup {
     listeners: Vec<Deframer>,
     /// Whether it is shown how many contents are given up.
     pub(crate) losses: bool,
+    pub(crate) alloc: Global,
+    /// Where images of the card are written.
+    pub(crate) image: Vec<u8>,
     ghost in_range: { IsInRange config },
     ghost same_config: { config_of timed.card ≡ config },
     ghost each_sends: { vec_len terminals ≡ config.lines },
     ghost each_listens: { vec_len listeners ≡ config.lines },
+    ghost image_room: { most_octets config true < vec_len image },
+    ghost image_few: { vec_len image < 2 ^ 32 },
 }
 
 impl Setup {
-    ghost use Rattle.lapd_sim.specs.{Answers, BadLine, Begins, Output, WrongCard, on};
+    ghost use Rattle.lapd_sim.specs.{Answers, AnswersLine, BadLine, Begins, Output, WrongCard, on};
     ghost use Rattle.lapd_sim.specs.Stands.{SetupStands};
 
     /// A card as a card line has it begin, at which nothing has happened.
@@ -54,16 +61,20 @@ impl Setup {
         )?;
         let terminals = terminals(alloc, lines)?;
         let listeners = listeners(alloc, lines)?;
+        let image = room_for_images(alloc, &plan.config)?;
         Ok(Setup {
             config: plan.config,
             timed: TimedCard::new(board, timers),
             terminals,
             listeners,
             losses: false,
+            alloc,
+            image,
         })
     }
 
     /// Obeys a line of a script. The octets that it brings stand at the beginning of `room`.
+    #[tactic(auto, using(crate::proofs::Playing::takes_none))]
     pub(crate) fn obey<T: Target>(
         &mut self,
         command: Command,
@@ -73,7 +84,7 @@ impl Setup {
         requires counted { meaning.IsCounted (length room.old) command }
         requires room { 4096 ≤ length room.old }
         requires stands { (m : machine.Setup) × SetupStands self.old m }
-        ensures { Answers result self.old self.new (on T.taken page.old) (on T.taken page.new) (meaning.meant room.old command) }
+        ensures { AnswersLine result self.old self.new (on T.taken page.old) (on T.taken page.new) (meaning.meant room.old command) }
     {
         match command {
             Command::Skip => Ok(()),
@@ -91,6 +102,8 @@ impl Setup {
                 written(page.put_stored(self.timed.card().stored(), limit(&self.config)))
             }
             Command::Losses => self.show_losses(),
+            Command::Save => self.show_image(page),
+            Command::Restore => self.restore(),
             Command::Counters { line, group } => self.show_counters(line, group, page),
             Command::Ask {
                 line,
@@ -113,7 +126,7 @@ impl Setup {
     }
 
     /// Tests that the card is one for frames.
-    fn for_frames(&self) -> Result<(), FaultKind>
+    pub(crate) fn for_frames(&self) -> Result<(), FaultKind>
         ensures { MatchResult result (λ _. kind_of self.now.timed.card ≡ Frames)
             (λ fault. (fault ≡ WrongCard) × (kind_of self.now.timed.card ≢ Frames)) }
     {

@@ -23,4 +23,4 @@ pub use Rattle.lapd_transcript.specs.Pages.{on}
 pub use Rattle.lapd_text.specs.Shown.{joined, octets_text, shown_text}
 pub use Rattle.lapd_transcript.specs.Shown.{on_line_text}
 pub use Rattle.lapd_transcript.specs.Streams.{IsSent, Output, Puts, Writes}
-pub use Rattle.lapd_transcript.specs.Text.{cause_name, dropped_text, faulty_text, frame_text, given_up_text, line_text, link_words, losses_text, lost_text, note_text, nothing_text, refusal_name, refused_text, report_text, sent_text, stored_text, suffix, tei_noted, tei_of, tei_words}
+pub use Rattle.lapd_transcript.specs.Text.{cause_name, dropped_text, faulty_text, frame_text, given_up_text, image_text, line_text, link_words, losses_text, lost_text, note_text, nothing_text, refusal_name, refused_text, report_text, sent_text, stored_text, suffix, tei_noted, tei_of, tei_words}

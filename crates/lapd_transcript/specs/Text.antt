@@ -1,5 +1,5 @@
 -- The lines of a transcript (profile): each begins with the number of the card's line that it is about.
-use Rattle.std.specs.Prelude.{ℕ, ◌==◌, if◌then◌else◌, List, [], ◌∷◌, ◌++◌, flat_map, codes, decimal, Option, Some, None, unwrap_or}
+use Rattle.std.specs.Prelude.{ℕ, ◌/◌, ◌%◌, ◌==◌, if◌then◌else◌, List, [], ◌∷◌, ◌++◌, flat_map, codes, decimal, Option, Some, None, unwrap_or}
 use Rattle.model_bits.specs.declared.heard.Cause.{Cause}
 use Rattle.model_bits.specs.declared.heard.Cause.TheVariants.{Abort, Ragged, Short, Fcs, Extension, Sapi, Tei, Unserved}
 use Rattle.lapd_frame.specs.declared.notes.Note.{Note}
@@ -134,3 +134,7 @@ faulty_text line words = codes "line " ++ decimal line ++ codes ": " ++ words ++
 -- What the card holds, and its bound.
 abbrev pub stored_text : ℕ → ℕ → List ℕ
 stored_text stored limit = codes "stored " ++ decimal stored ++ codes " limit " ++ decimal limit ++ codes "\n"
+
+-- How many octets the image of the card has, and their check, its high octet first.
+abbrev pub image_text : ℕ → ℕ → List ℕ
+image_text length sum = codes "image " ++ decimal length ++ codes " sum " ++ octets_text (sum / 256 ∷ sum % 256 ∷ []) ++ codes "\n"

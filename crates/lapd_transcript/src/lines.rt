@@ -1,7 +1,7 @@
 //! Puts the lines of a transcript onto a page, and writes what tells of a faulty line.
 
 ghost use Rattle.std.specs.Prelude.{◌≡◌, ◌++◌};
-ghost use Rattle.lapd_transcript.specs.{Puts, Writes, on, line_text, octets_text, refusal_name, refused_text, sent_text, frame_text, nothing_text, faulty_text, stored_text};
+ghost use Rattle.lapd_transcript.specs.{Puts, Writes, on, line_text, octets_text, refusal_name, refused_text, sent_text, frame_text, nothing_text, faulty_text, image_text, stored_text};
 
 use crate::output::Page;
 use crate::streams::{Put, Target};
@@ -58,6 +58,16 @@ impl<T: Target> Page<'_, T> {
             b"\n",
         ];
         self.put_all(&pieces)
+    }
+
+    /// How many octets the image of the card has, and their check.
+    pub fn put_image(&mut self, length: u32, sum: u16) -> Put
+        ensures { Puts result (on T.taken self.old) (on T.taken self.new) (image_text length sum) }
+    {
+        let length = decimal(u64::from(length));
+        let [high, low] = sum.to_be_bytes();
+        let head = [b"image ".as_slice(), length.as_slice(), b" sum "];
+        self.put_octets_line(&head, &[high, low])
     }
 }
 

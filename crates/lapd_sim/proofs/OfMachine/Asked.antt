@@ -1,6 +1,6 @@
 -- The ranges of the numbers of `limits` are those of a card's configuration.
-use Rattle.lapd_sim.proofs.OfMachine.Vocabulary.{◌≡◌, ℕ, ◌<◌, ◌≤◌, ◌^◌, Bool, true, false, not, cond, ◌&&◌, ◌⊎◌, inl, inr, nat_lt, nat_le, List, [], ◌∷◌, length, Option, None, Some, Result, Ok, Err, refl, sym, ap, ◌∙◌, subst, arith, codes, decimal, bytes_eq, list_all, is_ascii_digit, all_ascii_digits, digits_value, leb-true, le-leb, lt-ltb, none-some, digits_decimal, digits_value-decimal}
-use Rattle.lapd_sim.proofs.OfMachine.Vocabulary.{decimal_nonempty, IsNumeralModel, numerals_by_value, tells_all_ascii_digits, Config, Lines, Terminals, Control, Slots, N201, is_within, IsInRange, Within, ranges_of, Network, User, FaultKind, BadNumber, Job, job, job_or_none, limits, limits_of, run, frame, number, ◌>>=◌, limits_words, limits_of_card, LimitsAreOfCards}
+use Rattle.lapd_sim.proofs.OfMachine.Vocabulary.{◌≡◌, ℕ, ◌<◌, ◌^◌, Bool, true, false, not, cond, ◌&&◌, ◌⊎◌, inl, inr, nat_lt, nat_le, List, [], ◌∷◌, length, Option, None, Some, Result, Ok, Err, refl, sym, ap, ◌∙◌, subst, arith, codes, decimal, bytes_eq, list_all, is_ascii_digit, all_ascii_digits, digits_value, le-leb, lt-ltb, none-some, digits_decimal, digits_value-decimal}
+use Rattle.lapd_sim.proofs.OfMachine.Vocabulary.{decimal_nonempty, IsNumeralModel, numerals_by_value, tells_all_ascii_digits, Config, Lines, Terminals, Control, Slots, N201, is_within, IsInRange, Within, ranges_of, FaultKind, Job, job, job_or_none, limits, limits_of, run, frame, number, ◌>>=◌, limits_words, limits_of_card, LimitsAreOfCards}
 use Rattle.model_line.specs.Config.{sapi_fault}
 use Rattle.model_line.specs.Usual.{least}
 

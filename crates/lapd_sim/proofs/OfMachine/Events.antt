@@ -1,5 +1,5 @@
 -- A script is a run of the card: each line's events lead the card as the line does.
-use Rattle.lapd_sim.proofs.OfMachine.Vocabulary.{[], ◌≡◌, ℕ, ◌+◌, ◌<◌, Bool, true, false, cond, List, ◌∷◌, ◌++◌, Option, Some, None, Result, Ok, Err, refl, sym, ap, ◌∙◌, subst, arith, fold, All, All-append, none-some, standard, Config, Field, next, IsInRange, Event, Board, fresh, after_all, IsAtLine, AreAtLines, CardKind, FaultKind, TooLong, BadCard, read, pieces_of, line_in, Setup, begun, Scene}
+use Rattle.lapd_sim.proofs.OfMachine.Vocabulary.{[], ◌≡◌, ℕ, ◌<◌, Bool, true, false, cond, List, ◌∷◌, ◌++◌, Option, Some, None, Result, Ok, Err, refl, sym, ap, ◌∙◌, subst, arith, fold, All, All-append, none-some, standard, Config, Field, IsInRange, Event, Board, fresh, after_all, IsAtLine, AreAtLines, CardKind, FaultKind, TooLong, BadCard, read, pieces_of, line_in, Setup, begun, Scene}
 use Rattle.lapd_sim.proofs.OfMachine.Vocabulary.{with_card, without_card, Fault, Played, not_begun, played, faulty, is_too_long, after_scene, after_bench, after_reading, unless_faulty, one_more, meant_events, read_events, unless_fault, line_events, events_from, board_meant, first_board, script_events, ScriptsAreRuns}
 use Rattle.model_line.specs.Config as configs
 use Rattle.lapd_script.specs.Meaning as line

@@ -1,7 +1,6 @@
 -- To wait ends: with each expiry, the time that is left until the end falls, and it is tried often enough.
 use Rattle.lapd_sim.proofs.OfMachine.Vocabulary.{◌≡◌, ℕ, zero, suc, ◌+◌, ◌-◌, ◌<◌, ◌≤◌, nat_le, List, [], ◌∷◌, ◌++◌, Option, Some, None, refl, sym, ap, ◌∙◌, subst, arith, append_assoc, append-nil, nat_tests, Event, at, reply, expiry, time_until-stop, sum_by-put_in_order, Lengths, AreInRange, T200, T203, T201, Order, Start, Stop, duration, Expiry, Timers}
 use Rattle.lapd_sim.proofs.OfMachine.Vocabulary.{Clock, obey, obeyed, at_moment, next_moment, without_first, lengths-stay, is_before, without, with_order, first_due, due_by, time_until, orders_in, starts, Setup, happened, Scene, reply_text, at_expiry, expired, expiries, until, moment_from}
-use Rattle.std.specs.List.{sum_by}
 use Rattle.std.proofs.lemmas.List.Sums.{sum_by-cons}
 use Rattle.lapd_clock.specs.Timer.{Timer}
 use Rattle.lapd_sim.proofs.OfMachine.Orders.{expiry_starts}

@@ -1,5 +1,5 @@
 -- What each line of a script keeps: the timers that run are in order, of lines of the card, and later than the moment.
-use Rattle.lapd_sim.proofs.OfMachine.Vocabulary.{◌≡◌, ℕ, zero, suc, ◌+◌, ◌<◌, Bool, true, false, cond, drop, nat_le, List, [], ◌∷◌, replicate, Option, Some, None, refl, sym, ◌∙◌, subst, arith, All, AllByRecursion, leb-false, none-some, All-nil, All-cons, All-head, All-tail, All-map, All-replicate, IsInOrder, AreInRange, Expiry, Clock, obeyed}
+use Rattle.lapd_sim.proofs.OfMachine.Vocabulary.{◌≡◌, ℕ, zero, suc, ◌<◌, Bool, true, false, cond, drop, nat_le, List, [], ◌∷◌, replicate, Option, Some, None, refl, sym, subst, arith, All, AllByRecursion, leb-false, none-some, All-nil, All-cons, All-head, All-tail, All-map, All-replicate, IsInOrder, AreInRange, Expiry, Clock, obeyed}
 use Rattle.lapd_sim.proofs.OfMachine.Vocabulary.{is_before, first_due, due_by, all_later, all-run, in-order, octet, pull, expiry, request, orders_in, Board, Event, at, reply, IsAtLine, AreAtLines, Setup, happened, Scene, with_event, with_events, octets_at, downs, Pulls}
 use Rattle.lapd_sim.proofs.OfMachine.Vocabulary.{one_pull, pulls, at_expiry, expired, expiries, expiry_events, Call, Packet, Deactivate, Down}
 use Rattle.lapd_clock.specs.Timer.{Timer}

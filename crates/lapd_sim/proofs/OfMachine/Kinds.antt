@@ -1,6 +1,5 @@
 -- The events that each line of a script brings are of the kind of its card.
-use Rattle.lapd_sim.proofs.OfMachine.Vocabulary.{◌≡◌, ℕ, List, [], ◌∷◌, replicate, refl, sym, ap, ◌∙◌, subst, All, All-nil, All-cons, All-head, All-tail, All-replicate, CardKind, Octets, Frames, Event, at, octet, pull, expiry, request, hears, next, Scene, octets_at, downs, expiries, expiry_events, Call, Packet, Request, Deactivate, Down, octet_event, frame_event, AreEventsOf}
-use Rattle.std.specs.Prelude.{map}
+use Rattle.lapd_sim.proofs.OfMachine.Vocabulary.{◌≡◌, ℕ, List, [], ◌∷◌, replicate, refl, sym, ap, ◌∙◌, subst, All, All-nil, All-cons, All-head, All-tail, All-replicate, CardKind, Octets, Frames, Event, at, octet, pull, expiry, request, hears, next, Scene, octets_at, downs, expiry_events, Call, Packet, Request, Deactivate, Down, octet_event, frame_event, AreEventsOf}
 use Rattle.lapd_frame.specs.declared.timers.Timer.{Timer}
 use Rattle.model_bits.specs.Stream as stream
 use Rattle.model_line.specs.Event as line

@@ -1,10 +1,9 @@
 -- What each line of a script brings: its events lead the card as the line does, and what it says is what the answers to them say.
 use Rattle.lapd_sim.proofs.OfMachine.Vocabulary.{[], ◌≡◌, ℕ, zero, suc, ◌+◌, ◌<◌, Bool, true, false, cond, List, ◌∷◌, ◌++◌, replicate, Option, Some, None, Result, Ok, Err, refl, sym, ap, ◌∙◌, nat_lt, nat_le, arith, ltb-true, nat_tests, All-nil, All-cons, recursion_from_All, none-some, LengthFault, Lengths, AreInRange, is_length, first_out_of_range, pull, expiry, request, hears, next, Event, at}
 use Rattle.lapd_sim.proofs.OfMachine.Vocabulary.{Board, after_all, IsAtLine, AreAtLines, CardKind, Octets, Frames, FaultKind, BadNumber, BadLine, BadFrame, TimeOver, Setup, terminal_at, octets_sent, after_sending, with_terminal, Scene, with_event, with_events, octets_at, Pulls, one_pull, pulls, is_heard_as, expiries, after_rx, after_in, after_pull, after_coming, can_come, for_octets, for_frames}
-use Rattle.lapd_sim.proofs.OfMachine.Vocabulary.{due_by, time_until, after_wait, after_timers, with_timers, with_card, last_moment, request_for, faulty, expiry_events, events_until, coming_events, meant_events, downs, teis_on, get_or, append_assoc, append-nil, after, reply, moments, reply_text, octet_in, pulled_text, replies_text, octet_given, meant_moments, at_line, taken_at, dropped, came}
+use Rattle.lapd_sim.proofs.OfMachine.Vocabulary.{due_by, time_until, after_wait, after_timers, with_timers, with_card, last_moment, request_for, expiry_events, events_until, coming_events, meant_events, downs, teis_on, get_or, append_assoc, append-nil, after, reply, moments, reply_text, octet_in, pulled_text, replies_text, octet_given, meant_moments, at_line, taken_at, dropped, came}
 use Rattle.lapd_sim.proofs.OfMachine.Vocabulary.{cause_of, said, AskTei, lengths_of}
 use Rattle.std.specs.Prelude.{map}
-use Rattle.lapd_clock.specs.declared.fault.LengthFault.TheVariants as fault
 use Rattle.lapd_script.specs.Meaning as line
 use Rattle.lapd_sim.proofs.OfMachine.Expiries.{drained}
 use Rattle.lapd_sim.proofs.OfMachine.Kinds.{IsEventOf, EachIsOf, none_of_kind, one_of_kind, request_is, downs_are, expiries_are, octets_are, pulls_are, heard_is, next_is}
@@ -222,6 +221,8 @@ meaning_brings line.losses b = record {
   led = record { board = no_event b.board; of_kind = none_of_kind b.board.kind; kept = λ k. (k, All-nil (IsAtLine b.board)) };
   says = refl;
 }
+meaning_brings line.save b = record { led = nothing_led b; says = refl }
+meaning_brings line.restore b = frames_only _ _ _ b.board.kind _ (λ is. record { led = nothing_led b; says = refl })
 meaning_brings line.stored b = record { led = nothing_led b; says = refl }
 meaning_brings (line.counters number group) b = at_it number b _ (λ within. record { led = nothing_led b; says = refl })
 meaning_brings (line.ask number tei what octets) b =

@@ -1,5 +1,5 @@
 -- A board leads where the card of its kind leads, and answers as it does.
-use Rattle.lapd_sim.proofs.OfMachine.Vocabulary.{arith, ◌≡◌, ℕ, List, [], ◌∷◌, map, refl, ap, ◌∙◌, Octets, Frames, Config, after, after_all, moments, reply, RunsOnBoards, OctetCard, Moment, octet_event, frame_event, reply_of_octets, reply_of_frames, board_of_octets, board_of_frames, moment_of_octets, moment_of_frames}
+use Rattle.lapd_sim.proofs.OfMachine.Vocabulary.{arith, ◌≡◌, ℕ, List, [], ◌∷◌, map, refl, ap, ◌∙◌, Octets, Frames, Config, after, after_all, moments, reply, RunsOnBoards, OctetCard, octet_event, frame_event, reply_of_octets, reply_of_frames, board_of_octets, board_of_frames, moment_of_octets, moment_of_frames}
 use Rattle.model_card.specs.Event as frames
 use Rattle.model_card.specs.Machine as machine
 use Rattle.model_card.specs.Run as runs

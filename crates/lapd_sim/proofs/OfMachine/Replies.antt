@@ -1,5 +1,5 @@
 -- The text of a script is what the answers to its events say.
-use Rattle.lapd_sim.proofs.OfMachine.Vocabulary.{[], arith, ◌≡◌, ℕ, ◌+◌, Bool, true, false, cond, List, ◌∷◌, ◌++◌, Option, Some, None, Result, Ok, Err, refl, sym, ap, ◌∙◌, subst, append_assoc, append-nil, fold, none-some, Event, Board, fresh, after, moments, after_all, next, FaultKind, TooLong, read, pieces_of, line_in, Setup, begun, Scene, with_card, without_card, Fault, Played, not_begun}
+use Rattle.lapd_sim.proofs.OfMachine.Vocabulary.{[], arith, ◌≡◌, ℕ, Bool, true, false, cond, List, ◌∷◌, ◌++◌, Option, Some, None, Result, Ok, Err, refl, sym, ap, ◌∙◌, subst, append_assoc, append-nil, fold, none-some, Event, Board, fresh, moments, after_all, FaultKind, TooLong, read, pieces_of, line_in, Setup, begun, Scene, with_card, without_card, Fault, Played, not_begun}
 use Rattle.lapd_sim.proofs.OfMachine.Vocabulary.{faulty, is_too_long, after_scene, after_bench, after_reading, one_more, read_events, unless_fault, line_events, events_from, first_board, meant_moments, read_moments, read_text, line_moments, moments_from, text_from, TranscriptsAreReplies}
 use Rattle.lapd_script.specs.Meaning as line
 use Rattle.lapd_sim.specs.machine.Replies.{said, line_text}

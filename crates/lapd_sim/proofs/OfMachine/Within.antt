@@ -1,7 +1,7 @@
 -- What a script's card stores is within its bound, as it is after every list of events.
 use Rattle.lapd_sim.proofs.OfMachine.Vocabulary.{◌≡◌, ℕ, ◌+◌, ◌*◌, ◌≤◌, ◌<◌, List, [], ◌∷◌, take, Option, Some, None, refl, sym, ap, ◌∙◌, subst, arith, All-nil, All-cons, All-head, All-tail, All-take, Config, IsInRange, CardKind, Octets, Frames, Setup, Board, Event, after, fresh, after_all, IsAtLine, AreAtLines, held, script_events, HasRun, bound_of, ScriptsStayWithin, option_map_or, Bool, true}
 use Rattle.lapd_sim.proofs.OfMachine.Vocabulary.{false, cond, is_terminal, terminal_bound}
-use Rattle.lapd_sim.proofs.OfMachine.Vocabulary.{after_is_sound, Card, config_after, OctetCard, IsSoundOctetCard, What, of_octets, of_frames, octets_after, frames_after}
+use Rattle.lapd_sim.proofs.OfMachine.Vocabulary.{after_is_sound, config_after, OctetCard, IsSoundOctetCard, What, of_octets, of_frames, octets_after, frames_after}
 use Rattle.lapd_script.specs.Bound.{bound}
 use Rattle.model_card.proofs.Stored as cards_stored
 use Rattle.model_card.specs.Event as frames

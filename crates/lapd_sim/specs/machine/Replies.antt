@@ -9,7 +9,7 @@ use Rattle.lapd_transcript.specs.Counted.{counters_text}
 use Rattle.lapd_transcript.specs.Text.{stored_text}
 use Rattle.lapd_script.specs.Pieces.{pieces_of, line_in}
 use Rattle.lapd_sim.specs.machine.Setup.{Setup, counters_at, taken_at}
-use Rattle.lapd_sim.specs.machine.Steps.{reply_text, octet_in, held}
+use Rattle.lapd_sim.specs.machine.Steps.{reply_text, octet_in, held, saved_text}
 use Rattle.lapd_transcript.specs.Listened.{pulled_text}
 use Rattle.lapd_sim.specs.machine.Script.{Played, not_begun, one_more, played, transcript}
 use Rattle.lapd_sim.specs.machine.Events.{meant_events, unless_fault, script_events, first_board}
@@ -24,14 +24,16 @@ replies_text losses ms = flat_map (text_of losses) ms
 abbrev pub octet_given : Moment → ℕ
 octet_given m = octet_in m.reply
 
--- What a line says, where its events have these replies: of the octets that it pulls, all together; `stored` shows the card,
--- and `counters` and `messages` what was counted.
+-- What a line says, where its events have these replies: of the octets that it pulls, all together; `stored` shows the card, `save`
+-- its image, and `counters` and `messages` what was counted.
 abbrev pub said : line.Meaning → Setup → List Moment → List ℕ
 said line.skip b ms = []
 said (line.card kind config) b ms = []
 said (line.pull number count) b ms = pulled_text number (taken_at number b) (map octet_given ms)
 said (line.timers durations) b ms = []
 said line.losses b ms = []
+said line.save b ms = saved_text b
+said line.restore b ms = []
 said line.stored b ms = stored_text (held b.board) (limit b.board.config)
 said (line.counters number group) b ms = counters_text number group (counters_at number b)
 said _ b ms = replies_text b.losses ms

@@ -1,5 +1,5 @@
--- What a script is played on: a board, the counters of its lines, the clock of its timers, and for octets, at each line, a
--- terminal and a listener; and whether it is shown what is given up.
+-- What a script is played on: a board, the counters of its lines, the clock of its timers, since when its links are in their
+-- states, and for octets, at each line, a terminal and a listener; and whether it is shown what is given up.
 use Rattle.std.specs.Prelude.{ℕ, Bool, false, List, [], ◌++◌, set, get_or, replicate}
 use Rattle.lapd_clock.specs.Timer.{standard}
 use Rattle.lapd_count.specs.declared.counters.Counters.{Counters}
@@ -7,6 +7,7 @@ use Rattle.lapd_count.specs.Counters.{none_counted}
 use Rattle.model_card.specs.declared.kinds.CardKind.{CardKind}
 use Rattle.lapd_transcript.specs.Terminal.{Terminal}
 use Rattle.model_line.specs.declared.config.Config.{Config}
+use Rattle.model_timed.specs.Changes.{Marks, Seen, marked, unmarked}
 use Rattle.model_timed.specs.Clock.{Clock, stopped}
 use Rattle.model_timed.specs.Timed.{Timed, Step, happens, after}
 use Rattle.lapd_sim.specs.machine.Board.{Board, Event, boards, fresh, counted}
@@ -16,6 +17,7 @@ pub record Setup : Type 0 where
   pub board : Board
   pub counters : List Counters
   pub clock : Clock
+  pub marks : Marks
   pub terminals : List Terminal
   pub taken : List (List ℕ)
   pub losses : Bool
@@ -26,6 +28,7 @@ begun kind c = record {
   board = fresh kind c;
   counters = replicate c.lines none_counted;
   clock = stopped standard;
+  marks = unmarked;
   terminals = replicate c.lines (record { items = []; given = 0 });
   taken = replicate c.lines [];
   losses = false;
@@ -40,14 +43,17 @@ counters_at line b = get_or b.counters line none_counted
 abbrev pub taken_at : ℕ → Setup → List ℕ
 taken_at line b = get_or b.taken line []
 
--- The board and the clock are a timed card; a step of it.
+-- The board and the clock are a timed card, whose links are those of the card inside; a step of it.
+abbrev pub inside : Seen Board
+inside b = b.card.card
+
 abbrev pub timed : Setup → Timed Board
 timed b = record { card = b.board; clock = b.clock }
 
 abbrev pub stepped : Step Event → Setup → Setup
 stepped step b =
     let t = after boards step (timed b) in
-    record b { board = t.card; clock = t.clock }
+    record b { board = t.card; clock = t.clock; marks = marked inside t b.marks }
 
 -- An event: it happens at the board that keeps its own timers, and is counted.
 abbrev pub happened : Setup → Event → Setup

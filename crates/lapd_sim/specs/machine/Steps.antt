@@ -27,10 +27,11 @@ use Rattle.model_card.specs.declared.kinds.CardKind.{CardKind}
 use Rattle.lapd_script.specs.declared.command.Durations.{Durations}
 use Rattle.model_card.specs.declared.kinds.CardKind.TheVariants.{Octets, Frames}
 use Rattle.lapd_script.specs.Meaning as line
-use Rattle.lapd_transcript.specs.Text.{report_text, losses_text, tei_noted, refused_text, frame_text, nothing_text, stored_text}
+use Rattle.lapd_transcript.specs.Text.{report_text, losses_text, tei_noted, refused_text, frame_text, nothing_text, image_text, stored_text}
 use Rattle.lapd_transcript.specs.declared.counters.CounterGroup.{CounterGroup}
 use Rattle.lapd_transcript.specs.Counted.{counters_text}
 use Rattle.lapd_sim.specs.machine.Setup.{Setup, begun, happened, terminal_at, counters_at, taken_at, with_terminal, with_taken}
+use Rattle.lapd_sim.specs.machine.Images.{image, sum_of}
 use Rattle.lapd_transcript.specs.Terminal.{octets_sent, after_sending}
 use Rattle.lapd_transcript.specs.Listened.{pulled_text}
 
@@ -226,6 +227,13 @@ after_stored s = record s { text = s.text ++ stored_text (held s.setup.board) (l
 abbrev pub after_losses : Scene → Scene
 after_losses s = record s { setup = record s.setup { losses = true } }
 
+-- `save`: how long the image of the card is, and its sum.
+abbrev pub saved_text : Setup → List ℕ
+saved_text b = image_text (length (image b)) (sum_of (image b))
+
+abbrev pub after_save : Scene → Scene
+after_save s = record s { text = s.text ++ saved_text s.setup }
+
 -- `counters`, `messages`: what was counted of the line.
 abbrev pub after_counters : CounterGroup → ℕ → Scene → Scene
 after_counters group line s = record s { text = s.text ++ counters_text line group (counters_at line s.setup) }
@@ -263,7 +271,8 @@ in_time milliseconds s = if nat_le (s.setup.clock.now + milliseconds) last_momen
 abbrev pub with_timers : Lengths → Scene → Result Scene FaultKind
 with_timers lengths s = elim (first_out_of_range lengths) [ None ↦ Ok (after_timers lengths s) | Some timer ↦ Err BadNumber ]
 
--- What a line does where there is a card,
+-- What a line does where there is a card. The card that `restore` starts from the image goes on as this one: it is the same, as far
+-- as a card of frames can tell (`a_restored_card_goes_on` of `model_image`).
 abbrev pub with_card : line.Meaning → Scene → Result Scene FaultKind
 with_card line.skip s = Ok s
 with_card (line.card kind config) s = Err SecondCard
@@ -278,6 +287,8 @@ with_card (line.wait milliseconds) s = in_time milliseconds s
 with_card (line.timers durations) s = with_timers (lengths_of durations) s
 with_card line.stored s = Ok (after_stored s)
 with_card line.losses s = Ok (after_losses s)
+with_card line.save s = Ok (after_save s)
+with_card line.restore s = for_frames s.setup.board.kind (Ok s)
 with_card (line.counters number group) s = at_line number s (after_counters group number s)
 with_card (line.ask number tei what octets) s = at_line number s (after_request number tei what octets s)
 

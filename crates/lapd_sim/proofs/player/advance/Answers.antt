@@ -1,5 +1,5 @@
 -- Hand-written answers for `advance`.
-use Rattle.lapd_sim.proofs.Vocabulary.{Ok, [], sym, subst, on, IsReady, AreLeft, ScriptLines}
+use Rattle.lapd_sim.proofs.Vocabulary.{Ok, sym, subst, on, IsReady, AreLeft, ScriptLines}
 use Rattle.lapd_sim.proofs.Ending.{ready_puts, ready_reaches, read_puts, read_grows, read_reaches, send_stuck}
 use Rattle.lapd_sim.proofs.player.advance.Goals as goal
 

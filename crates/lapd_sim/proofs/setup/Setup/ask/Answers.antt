@@ -11,7 +11,7 @@ returns-in-Ok-clause-told g c = λ m h.
     told_on (at c.args.line (request r)) s _ (lead_on (request_of_both r) c.args.line s.timed.card c.request.new.self.card c.request.ensures.called.leads) refl refl refl refl m (else_of s m h)
     c.tell.result _ _ (told (told_beside None c.request.new.report))
     (says_on (request_of_both r) c.args.line s.timed.card m.board h.board (line_event.told (told_beside None c.request.new.report)) refl c.in-Ok.ensures.called.answers)
-    (timed_both (request_of_both r) c.args.line s.timed c.request.new.self c.request.ensures.called.after m.board h.board m.clock h.timers)
+    (timed_both (request_of_both r) c.args.line s.timed c.request.new.self c.request.ensures.called.after m.board h.board m.clock m.marks h.timers)
     (subst (λ tei. Puts c.tell.result (on g.T.Target.taken c.args.page.now) (on g.T.Target.taken c.tell.new.page) (told_text s.losses c.args.line tei (told_beside None c.request.new.report))) c.tei_asked-tei.ensures c.tell.ensures)
 
 pub returns-in-Err-clause-told : goal.returns-in-Err-clause-told
@@ -21,4 +21,4 @@ returns-in-Err-clause-told g c = λ m h.
     told_on (at c.args.line (request r)) s _ (lead_on (request_of_both r) c.args.line s.timed.card c.request.new.self.card c.request.ensures.called.leads) refl refl refl refl m (else_of s m h)
     c.put_refused.result _ _ (refused c.in-Err.refusal)
     (says_on (request_of_both r) c.args.line s.timed.card m.board h.board (line_event.refused c.in-Err.refusal) refl c.in-Err.ensures.called.answers)
-    (timed_both (request_of_both r) c.args.line s.timed c.request.new.self c.request.ensures.called.after m.board h.board m.clock h.timers) c.put_refused.ensures
+    (timed_both (request_of_both r) c.args.line s.timed c.request.new.self c.request.ensures.called.after m.board h.board m.clock m.marks h.timers) c.put_refused.ensures

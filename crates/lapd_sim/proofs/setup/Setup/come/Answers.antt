@@ -1,5 +1,5 @@
 -- Hand-written answers for `Setup::come`.
-use Rattle.lapd_sim.proofs.Vocabulary.{[], ◌≡◌, ◌<◌, ◌∙◌, Some, ap, length, refl, sym, subst, arith, option_copied, Config, config_of, frames_of, came, at, hears, told, told_beside, terminal_at, octets_sent, after_sending, with_event, with_terminal, after_rx, scene, kind_of, on, Tells, SetupStands, Sends, delivered_in, octets_of, told_in}
+use Rattle.lapd_sim.proofs.Vocabulary.{[], ◌≡◌, ◌<◌, ◌∙◌, Some, ap, length, refl, sym, subst, arith, option_copied, Config, config_of, frames_of, came, at, hears, told, told_beside, terminal_at, after_sending, with_event, with_terminal, after_rx, scene, kind_of, on, Tells, SetupStands, Sends, delivered_in, octets_of}
 use Rattle.model_card.specs.declared.kinds.CardKind.TheVariants as kind
 use Rattle.lapd_sim.proofs.Boards.{else_of, frames_config, led_frames, timed_frames, told_frames, told_on}
 use Rattle.lapd_sim.proofs.Eachs.{each_at, each_set}
@@ -25,7 +25,7 @@ returns-in-Frames g c = λ m h.
     c.tell.result _ _ (told (told_beside (option_copied c.contents-contents.result) report))
     (told_frames line (hears e) (line_event.hears e) refl s.timed.card m.board h.board of_frames (line_event.told (told_beside (option_copied c.contents-contents.result) report))
     (λ n k. ap (λ x. line_event.told (told_beside x report)) lent ∙ c.frame.ensures.called.answers n k))
-    (timed_frames line (hears e) (line_event.hears e) refl s.timed c.frame.new.self c.frame.ensures.called.after of_frames m.board h.board m.clock h.timers) c.tell.ensures)
+    (timed_frames line (hears e) (line_event.hears e) refl s.timed c.frame.new.self c.frame.ensures.called.after c.frame.ensures.called.marked of_frames m.board h.board m.clock m.marks h.timers) c.tell.ensures)
 
 pub returns-else-frame-gt-LONGEST_FRAME : goal.returns-else-frame-gt-LONGEST_FRAME
 returns-else-frame-gt-LONGEST_FRAME g c = λ m h.

@@ -16,4 +16,4 @@ returns g c = λ m h.
     (told_on (at line (hears e)) s _ (led_frames line (hears e) (line_event.hears e) refl s.timed.card c.failed.new.self.card c.failed.ensures.called.leads) refl refl refl refl m (else_of s m h)
     c.tell.result _ _ (told (told_beside None c.failed.new.report))
     (told_frames line (hears e) (line_event.hears e) refl s.timed.card m.board h.board kind (line_event.told (told_beside None c.failed.new.report)) c.failed.ensures.called.answers)
-    (timed_frames line (hears e) (line_event.hears e) refl s.timed c.failed.new.self c.failed.ensures.called.after kind m.board h.board m.clock h.timers) c.tell.ensures)
+    (timed_frames line (hears e) (line_event.hears e) refl s.timed c.failed.new.self c.failed.ensures.called.after c.failed.ensures.called.marked kind m.board h.board m.clock m.marks h.timers) c.tell.ensures)

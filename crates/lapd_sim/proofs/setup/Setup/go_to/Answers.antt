@@ -9,7 +9,7 @@ pub unreachable-requires : goal.unreachable-requires
 unreachable-requires c =
     let m = c.requires.stands in
     elim (c.go_to.ensures.refused.0 (sym c.if-is_err.ensures.value)) [
-      | inl early ↦ omega (arith, early, m.1.timers.clock_is.now, m.2)
+      | inl early ↦ omega (arith, early, m.1.timers.timed.clock_is.now, m.2)
       | inr late ↦ omega (arith, late, c.requires.end)
     ]
 
@@ -20,7 +20,7 @@ returns-clause-after c = λ m h.
       config = h.config;
       board = subst (λ k. OnBoard k m.board) (sym went.card) h.board;
       counters = subst (λ k. counters_of k ≡ m.counters) (sym went.card) h.counters;
-      timers = timed_time c.args.self.now.timed c.go_to.new.self c.args.moment went.after m.board h.board m.clock h.timers;
+      timers = timed_time c.args.self.now.timed c.go_to.new.self c.args.moment went.after m.board h.board m.clock m.marks h.timers;
       terminals = h.terminals;
       listeners = h.listeners;
       losses = h.losses;

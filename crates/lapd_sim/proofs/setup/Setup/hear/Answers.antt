@@ -1,5 +1,5 @@
 -- Hand-written answers for `Setup::hear`.
-use Rattle.lapd_sim.proofs.Vocabulary.{Ok, subst, take_all, map-append, ◌∙◌, at, octet, octets_at, after_rx, on, scene, SetupSays, SetupStands, WriteFailed}
+use Rattle.lapd_sim.proofs.Vocabulary.{Ok, subst, take_all, map-append, ◌∙◌, at, octet, octets_at, after_rx, on, SetupSays, SetupStands, WriteFailed}
 use Rattle.lapd_sim.proofs.OneByOne.{breaks_off, leaves_told, tells_more}
 use Rattle.lapd_sim.proofs.setup.Setup.hear.Goals as goal
 

@@ -12,4 +12,4 @@ pub returns-clause-after : goal.returns-clause-after
 returns-clause-after c = λ m h.
     let s = c.args.self.now in
     goes_on (at c.args.line pull) s _ (led_octets c.args.line pull port.pull refl s.timed.card c.pull.new.self.card c.pull.ensures.called.leads) refl refl refl refl m (else_of s m h)
-    (timed_octets c.args.line pull port.pull refl s.timed c.pull.new.self c.pull.ensures.called.after c.requires.kind m.board h.board m.clock h.timers)
+    (timed_octets c.args.line pull port.pull refl s.timed c.pull.new.self c.pull.ensures.called.after c.pull.ensures.called.marked c.requires.kind m.board h.board m.clock m.marks h.timers)

@@ -15,7 +15,7 @@ returns-in_default-clause-told g c = λ m h.
     told_on (at line (octet v)) s _ (led_octets line (octet v) (port.octet v) refl s.timed.card c.hear.new.self.card c.hear.ensures.called.leads) refl refl refl refl m (else_of s m h)
     {E = WriteFailed} (Ok tt) _ _ (told nothing)
     (told_octets line (octet v) (port.octet v) refl s.timed.card m.board h.board c.requires.kind (port.told nothing) c.in_default.ensures.called.answers)
-    (timed_octets line (octet v) (port.octet v) refl s.timed c.hear.new.self c.hear.ensures.called.after c.requires.kind m.board h.board m.clock h.timers) (nothing_told s.losses line _)
+    (timed_octets line (octet v) (port.octet v) refl s.timed c.hear.new.self c.hear.ensures.called.after c.hear.ensures.called.marked c.requires.kind m.board h.board m.clock m.marks h.timers) (nothing_told s.losses line _)
 
 pub returns-clause-told : goal.returns-clause-told
 returns-clause-told g c = λ m h.
@@ -26,4 +26,4 @@ returns-clause-told g c = λ m h.
     c.tell.result _ _ (told (told_beside (option_copied c.contents.result) c.in-Some.report))
     (told_octets line (octet v) (port.octet v) refl s.timed.card m.board h.board c.requires.kind (port.told (told_beside (option_copied c.contents.result) c.in-Some.report))
     (λ n k. ap port.told (c.contents.ensures ∙ ap (λ d. told_at (ports_of d) line c.in-Some.report) (sym c.in-Octets.is ∙ c.card.ensures)) ∙ c.in-Some.ensures.called.answers n k))
-    (timed_octets line (octet v) (port.octet v) refl s.timed c.hear.new.self c.hear.ensures.called.after c.requires.kind m.board h.board m.clock h.timers) c.tell.ensures
+    (timed_octets line (octet v) (port.octet v) refl s.timed c.hear.new.self c.hear.ensures.called.after c.hear.ensures.called.marked c.requires.kind m.board h.board m.clock m.marks h.timers) c.tell.ensures

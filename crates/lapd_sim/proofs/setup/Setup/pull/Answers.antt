@@ -1,5 +1,5 @@
 -- Hand-written answers for `Setup::pull`.
-use Rattle.lapd_sim.proofs.Vocabulary.{scene, ◌≡◌, ◌<◌, ◌++◌, [], length, take, sym, refl, subst, arith, length-take, Puts, OnOk, on, taken_at, after_pull, pulls, pulled_text, SetupStands, Hears, Config}
+use Rattle.lapd_sim.proofs.Vocabulary.{scene, ◌≡◌, ◌<◌, ◌++◌, [], length, take, sym, refl, subst, arith, length-take, Puts, on, taken_at, after_pull, pulls, pulled_text, SetupStands, Hears, Config}
 use Rattle.lapd_sim.proofs.Eachs.{each_at, each_set}
 use Rattle.lapd_sim.proofs.Scenes.{there_octets, obeyed, tells, when_ok}
 use Rattle.lapd_sim.proofs.setup.Setup.pull.Goals as goal

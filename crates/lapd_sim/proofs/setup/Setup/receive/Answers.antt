@@ -1,5 +1,5 @@
 -- Hand-written answers for `Setup::receive`.
-use Rattle.lapd_sim.proofs.Vocabulary.{sym, ◌∙◌, after_rx, SetupStands}
+use Rattle.lapd_sim.proofs.Vocabulary.{after_rx, SetupStands}
 use Rattle.lapd_sim.proofs.Scenes.{there_octets, obeyed}
 use Rattle.lapd_sim.proofs.setup.Setup.receive.Goals as goal
 

@@ -15,7 +15,10 @@ returns c = λ before m h.
         config = h.config;
         board = subst (λ k. OnBoard k m.board) (sym c.set_lengths.ensures.card) h.board;
         counters = subst (λ k. counters_of k ≡ m.counters) (sym c.set_lengths.ensures.card) h.counters;
-        timers = subst (λ l. TimersStand c.set_lengths.new.self.timers m.board.card.card (with_lengths l m.clock)) c.in-Ok.ensures.given (c.set_lengths.ensures.after m.board.card.card m.clock h.timers);
+        timers = record {
+          timed = subst (λ l. TimersStand c.set_lengths.new.self.timers m.board.card.card (with_lengths l m.clock)) c.in-Ok.ensures.given (c.set_lengths.ensures.after m.board.card.card m.clock h.timers.timed);
+          noted = c.set_lengths.ensures.noted m.board.card.card m.marks h.timers.noted;
+        };
         terminals = h.terminals;
         listeners = h.listeners;
         losses = h.losses;

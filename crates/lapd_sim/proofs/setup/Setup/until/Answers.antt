@@ -1,5 +1,5 @@
 -- Hand-written answers for `Setup::until`.
-use Rattle.lapd_sim.proofs.Vocabulary.{sym, subst, on, SetupStands}
+use Rattle.lapd_sim.proofs.Vocabulary.{on}
 use Rattle.lapd_sim.proofs.OneByOne.{leaves_told}
 use Rattle.lapd_sim.proofs.Waits.{falls, still_before, waits_begins, waits_on, waits_in_vain, waits_over}
 use Rattle.lapd_sim.proofs.setup.Setup.until.Goals as goal

@@ -1,5 +1,6 @@
 -- Two ends in state 7: layer 3 of one asks to send more contents, and the request is granted.
-use Rattle.laws_wire.proofs.Vocabulary.{◌≡◌, ℕ, zero, suc, ◌+◌, ◌<◌, ◌≤◌, Bool, false, List, [], ◌∷◌, ◌++◌, length, take, None, refl, sym, ap, subst, ◌∙◌, inl, inr, append-nil, arith, length-append, slice_get, All-nil, All-cons, All-append, Parts, Terms, Link, requested, LinkEndpoint, with_link, sound-after, weight_at, Informs, Lane, lane-order, Steady, unwrap_or, refusal, IsSound, Direction}
+use Rattle.laws_wire.proofs.Vocabulary.{◌≡◌, ℕ, zero, suc, ◌+◌, ◌<◌, ◌≤◌, Bool, false, List, [], ◌∷◌, ◌++◌, length, take, Option, Some, None, Refusal, refl, sym, ap, subst, ◌∙◌, inl, inr, append-nil, arith, length-append, slice_get, All-nil, All-cons, All-append, Parts, Terms, Link, requested, LinkEndpoint, with_link, sound-after, weight_at, Informs, Lane, lane-order, Steady, unwrap_or, refusal}
+use Rattle.laws_wire.proofs.Vocabulary.{IsSound, Direction}
 use Rattle.model_link.specs.Events.{Data}
 
 -- contents at a place below what was there stay
@@ -33,6 +34,17 @@ with_more octets n = record n { link = record n.link { contents = n.link.content
 
 pub asked-form : (octets : List ℕ) (n : LinkEndpoint) → refusal n.terms n.link false (Data octets) ≡ None → with_link (requested (Data octets) false) n ≡ with_more octets n
 asked-form octets n e = grind (arith, append-nil)
+
+refused-form : (octets : List ℕ) (n : LinkEndpoint) (why : Refusal) → refusal n.terms n.link false (Data octets) ≡ Some why → with_link (requested (Data octets) false) n ≡ n
+refused-form octets n why e = grind (arith, append-nil)
+
+-- so it has more to send, or stays
+pub asked-or : (octets : List ℕ) (n : LinkEndpoint) (P : LinkEndpoint → Type 0) → P n → P (with_more octets n) → P (with_link (requested (Data octets) false) n)
+asked-or octets n P same more = go (refusal n.terms n.link false (Data octets)) refl
+  where
+    go : (o : Option Refusal) → refusal n.terms n.link false (Data octets) ≡ o → P (with_link (requested (Data octets) false) n)
+    go None e = subst P (sym (asked-form octets n e)) more
+    go (Some why) e = subst P (sym (refused-form octets n why e)) same
 
 pub record Asked (octets : List ℕ) (n m n' : LinkEndpoint) : Type 0 where
   pub steady : Steady n'

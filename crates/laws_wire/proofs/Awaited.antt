@@ -1,10 +1,10 @@
 -- What is awaited at a station is awaited at the end for which it stands: there a T200 that is long enough is timely, N200 is used up as
 -- its expiry tells, and it runs as its expiry is answered.
-use Rattle.laws_wire.proofs.Vocabulary.{◌≡◌, ℕ, zero, suc, ◌<◌, Bool, true, false, cond, not, ◌||◌, IsTrue, List, [], ◌∷◌, ◌++◌, length, map, Option, None, Some, option_map, refl, sym, ap, subst, ◌∙◌, true≢false, All, flat_map, list_any, option_map_or, nat_lt, ltb-true, All-nil, All-cons, All-append, All-head, All-tail, Seq, Control, Information, ReceiveReady, Service, Parts, spelling}
-use Rattle.laws_wire.proofs.Vocabulary.{TeiAssigned, Established, ControlFrame, LinkTimer, Terms, Link, fresh, frame_of, state_number, is_multiple_frame, may_repeat, course, begun, given_of, is_running, Course, T200, LinkEndpoint, frame_given, with_sent, Config, next, link_in, state_in, state_of, terms, awaits_answer, HasNo, Endpoint, answered, happens, told_by, expiry, is_error, TellNoError}
-use Rattle.laws_wire.proofs.Vocabulary.{is_poll}
-use Rattle.laws_wire.proofs.Vocabulary.{is_final, giving, NoneGoes, IsNoneOpen, awaits_in, awaits_reply, IsLongEnough, MayRepeat, is_any_order, runs_t200, Answer, BadTei, NoLink, Refusal, Rests, arith, frames_by, gives_one, is_on-at, le-ltb, link_of, list_any_none, place_of-is, queue_of, told, told_of_link, of_aim, at_timer, place_in, ◌-◌, ◌≤◌, expired, timer_T200, line_answer, line_takes_slot}
-use Rattle.laws_wire.proofs.Vocabulary.{all-right, room_of, orders_for, orders_in, unless, free, own_side}
+use Rattle.laws_wire.proofs.Vocabulary.{◌≡◌, ℕ, zero, suc, Bool, true, false, cond, not, IsTrue, List, [], ◌∷◌, ◌++◌, length, map, Option, None, Some, option_map, refl, sym, ap, subst, ◌∙◌, true≢false, All, flat_map, list_any, option_map_or, nat_lt, All-nil, All-cons, All-append, All-head, All-tail, Seq, Control, Information, ReceiveReady, Service, Parts, spelling, TeiAssigned, Established}
+use Rattle.laws_wire.proofs.Vocabulary.{ControlFrame, LinkTimer}
+use Rattle.laws_wire.proofs.Vocabulary.{Terms, Link, fresh, frame_of, state_number, is_multiple_frame, may_repeat, course, begun, given_of, is_running, Course, T200, LinkEndpoint, frame_given, with_sent, Config, next, link_in, state_in, state_of, terms, awaits_answer, HasNo, Endpoint, answered, happens, told_by, expiry, is_error, TellNoError, is_poll, is_final, giving, NoneGoes, IsNoneOpen}
+use Rattle.laws_wire.proofs.Vocabulary.{awaits_in, awaits_reply}
+use Rattle.laws_wire.proofs.Vocabulary.{IsLongEnough, MayRepeat, is_any_order, runs_t200, Answer, BadTei, NoLink, Refusal, Rests, arith, frames_by, is_on-at, le-ltb, link_of, list_any_none, place_of-is, queue_of, told, told_of_link, of_aim, at_timer, place_in, ◌-◌, ◌≤◌, expired, timer_T200, line_answer, line_takes_slot, all-right, room_of, orders_for, orders_in, unless, free, own_side}
 use Rattle.model_link.specs.Machine as links
 use Rattle.model_link.specs.Offers as offers
 use Rattle.laws_link.specs.two.Timely as two_links
@@ -156,9 +156,6 @@ module _ (service : Service) (tei : ℕ) (c : Config) (place : ℕ) (s : Endpoin
       let given = frame_given n.terms (links.given n.terms n.link) in
       ap (flat_map (read_as s.card.config)) (gives-frames service tei place s n own)
       ∙ read-again service tei s.card.config given (all-right (IsCarried s.card.config service tei) n.way given (gives-stands service tei place s n own).carried)
-
-  pub gives-first : (of : Control → Bool) (f : ControlFrame) (fs : List ControlFrame) → n.link.waiting ≡ f ∷ fs → gives_one of s ≡ (of f.control || false)
-  gives-first of f fs e = grind (arith, gives-reads)
 
   -- it rests where it is in state 7 and keeps nothing
   pub rests-here : n.link.state ≡ Established → queue_of n.link ≡ [] → Rests service tei s

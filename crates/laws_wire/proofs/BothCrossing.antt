@@ -1,15 +1,14 @@
 -- Both ends call, and SABMEs cross: how far each call has come, and what each step does.
-use Rattle.laws_wire.proofs.Vocabulary.{◌≡◌, ℕ, ◌+◌, ◌*◌, ◌<◌, ◌≤◌, false, List, [], ◌∷◌, ◌++◌, length, None, refl, sym, ap, subst, ◌∙◌, ◌⊎◌, inl, inr, append-nil, arith, if◌then◌else◌, lt-ltb, Service, Parts, spelling, ControlFrame, Terms, received, course, given, IsInRange, LinkEndpoint, with_link, with_sent, Config, terms, Request, next, Pair, frame, after, refusal, Endpoint, Wire, frames_by}
-use Rattle.laws_wire.proofs.Vocabulary.{with_first_of, without_first, EndStep, requests, sends, receives, acting, turned, is_turn_of, answered, frame_comes, IsTalkOf, confirmed, LinkData, two_ends_without_first, own_side}
-use Rattle.laws_wire.proofs.Answered.{takes-granted, gives-granted}
+use Rattle.laws_wire.proofs.Vocabulary.{◌≡◌, ℕ, ◌+◌, ◌*◌, ◌<◌, ◌≤◌, false, List, [], ◌∷◌, ◌++◌, length, None, refl, ap, subst, ◌∙◌, ◌⊎◌, inl, inr, arith, if◌then◌else◌, lt-ltb, Service, Parts, ControlFrame, Terms, received, course, given, IsInRange, LinkEndpoint, with_link, with_sent, Config, terms, Request, next, Pair, frame, after, refusal, Endpoint, Wire, frames_by}
+use Rattle.laws_wire.proofs.Vocabulary.{with_first_of, without_first, EndStep, requests, sends, receives, acting, turned, is_turn_of, answered, IsTalkOf, confirmed, LinkData, two_ends_without_first}
+use Rattle.laws_wire.proofs.Answered.{gives-granted}
 use Rattle.laws_wire.proofs.BothHalf as half
 use Rattle.laws_wire.proofs.BothHalf.{lower}
 use Rattle.laws_wire.proofs.Calling.{sabme, ua, its_ua, awaiting, caller, end, sound-caller, with_ua_waiting, with_ua_first}
 use Rattle.laws_wire.proofs.Ringing.{ringing, its_sabme, none_tried}
 use Rattle.laws_wire.proofs.Speaking.{said_by}
-use Rattle.laws_wire.proofs.Standing.{StationStands}
-use Rattle.laws_wire.proofs.Talking.{Face, Past, unheard, after_note, Holds, none-told, holds-given, holds-lost, takes as takes_frame, Took}
-use Rattle.laws_wire.proofs.Quiet.{one-at-most, Both, first-way, quiet-gives, quiet-takes, quiet-requests}
+use Rattle.laws_wire.proofs.Talking.{Face, Past, unheard, after_note, Holds, holds-given, holds-lost}
+use Rattle.laws_wire.proofs.Quiet.{one-at-most, Both, quiet-gives, quiet-takes, quiet-requests, hears-first, hears-granted}
 use Rattle.laws_wire.proofs.Up.{pair_of, turn_of, granted_of}
 
 -- How far the call of an end has come: its SABME waits, is on its way, is answered by a UA that waits, and by one that is on its way.
@@ -138,34 +137,6 @@ module _ (service : Service) (tei : ℕ) (c d : Config) (p q : ℕ) (face : Face
     takes-none : (crossing u other own).way ≡ [] → Crossed w (acting receives w) weight (turn_of w.far.way)
     takes-none none = grind (arith, quiet-takes, unheard, stayed)
 
-    -- the first frame on the other's way
-    module _ (f : Parts) (fs : List Parts) (first : (crossing u other own).way ≡ f ∷ fs) where
-      abbrev s : Endpoint
-      s = w.near
-
-      pub same : with_first_of w.far.way s ≡ frame_comes (spelling (own_side d) f) s
-      same = ap (λ way. with_first_of way s) (first-way service tei d q unheard w.far (crossing u other own) f fs first both.far).0
-
-      pub took : Took service tei p unheard c s (crossing t own other) (spelling (own_side d) f) f
-      took = takes_frame service tei p unheard c d face s (crossing t own other) f both.near.stands (first-way service tei d q unheard w.far (crossing u other own) f fs first both.far).1
-
-      pub taken-count : granted_of (acting receives w) ≡ granted_of w
-      taken-count = ap (λ (s' : Endpoint). length s'.granted + length w.far.granted) same ∙ ap (λ xs. length xs + length w.far.granted) (takes-granted (spelling (own_side d) f) s)
-
-      -- it is told this, and stands for this end
-      pub holds-then : (past : Past) (n' : LinkEndpoint) → with_link (received (frame f)) (crossing t own other) ≡ n' → n'.link.contents ≡ [] → past.had ≡ [] → n'.delivered ≡ []
-          → said_by (course t (received (frame f)) (crossing t own other).link) ≡ past.told → Holds c service tei p past (with_first_of w.far.way s) n'
-      holds-then past n' is empty had none said =
-          subst (λ s'. Holds c service tei p past s' n') (sym same) (record {
-            stands = subst (StationStands c service tei p (frame_comes (spelling (own_side d) f) s)) is took.stands;
-            granted = takes-granted (spelling (own_side d) f) s ∙ both.near.granted ∙ sym empty;
-            since = [];
-            told =
-                took.told ∙ ap (λ ts. ts ++ said_by (course t (received (frame f)) (crossing t own other).link)) (none-told c service tei p [] s (crossing t own other) both.near refl)
-                ∙ said ∙ sym (append-nil past.told);
-            delivered = none ∙ sym (append-nil past.had ∙ had);
-          })
-
     -- SABME comes
     takes-sabme : (own' other' : Place) → InOrder own' other' → (fs : List Parts) → (crossing u other own).way ≡ sabme u ∷ fs → with_link (received (frame (sabme u))) (crossing t own other) ≡ crossing t own' other'
         → said_by (course t (received (frame (sabme u))) (crossing t own other).link) ≡ [] → two_ends_without_first (crossing u other own) ≡ crossing u other' own'
@@ -177,12 +148,12 @@ module _ (service : Service) (tei : ℕ) (c d : Config) (p q : ℕ) (face : Face
         other = other';
         order = order';
         both = record {
-          near = holds-then (sabme u) fs first unheard (crossing t own' other') near refl refl refl said;
+          near = hears-first service tei c d p q unheard w (crossing t own other) (crossing u other own) both (sabme u) fs first face unheard (crossing t own' other') near refl refl refl refl said;
           far = subst (Holds d service tei q unheard (without_first w.far)) far (holds-lost service tei q unheard d w.far (crossing u other own) both.far);
         };
         is = refl;
       });
-      price = lower _ weight (turns_left own' + turns_left other') (granted_of w) _ (one-at-most w.far.way) (is ∙ less) (taken-count (sabme u) fs first);
+      price = lower _ weight (turns_left own' + turns_left other') (granted_of w) _ (one-at-most w.far.way) (is ∙ less) (hears-granted service tei c d p q unheard w (crossing t own other) (crossing u other own) both (sabme u) fs first face);
     }
 
     -- UA comes: the far end still waits for its own
@@ -203,8 +174,8 @@ module _ (service : Service) (tei : ℕ) (c d : Config) (p q : ℕ) (face : Face
           weight = k + 0;
           goes =
               inr (so (subst (Holds d service tei q unheard far_then) far (holds-lost service tei q unheard d w.far (crossing u other own) both.far))
-              (holds-then (ua u) [] first up_note n' near empty refl none said));
-          price = omega (arith, one-at-most w.far.way, is ∙ less, taken-count (ua u) [] first);
+              (hears-first service tei c d p q unheard w (crossing t own other) (crossing u other own) both (ua u) [] first face up_note n' near empty refl refl none said));
+          price = omega (arith, one-at-most w.far.way, is ∙ less, (hears-granted service tei c d p q unheard w (crossing t own other) (crossing u other own) both (ua u) [] first face));
         }
 
   -- ---- every place

@@ -1,13 +1,12 @@
 -- A call of which one end is up, and its UA waits or is on its way; and then both are up.
-use Rattle.laws_wire.proofs.Vocabulary.{◌≡◌, ℕ, ◌+◌, ◌*◌, ◌≤◌, false, List, [], ◌++◌, length, None, refl, sym, ap, subst, ◌∙◌, ◌⊎◌, inl, inr, arith, if◌then◌else◌, Service, spelling, Terms, course, is_down, IsInRange, LinkEndpoint, with_sent, Config, terms, LineTold, request, next, weight_at, Pair, refusal, Data, Endpoint, Wire, happens, frames_by, with_first_of, EndStep, requests, sends}
-use Rattle.laws_wire.proofs.Vocabulary.{receives, StepAt, at_near, at_far, acting, turned, doing, is_turn_of, is_turn, answered, frame_comes, IsTalkOf, IsTalk, confirmed, received, LinkData, frame, own_side}
-use Rattle.laws_wire.proofs.Answered.{gives-granted, takes-granted}
+use Rattle.laws_wire.proofs.Vocabulary.{◌≡◌, ℕ, ◌+◌, ◌*◌, ◌≤◌, false, List, [], length, None, refl, sym, ap, subst, ◌∙◌, ◌⊎◌, inl, inr, arith, if◌then◌else◌, Service, spelling, Terms, is_down, IsInRange, LinkEndpoint, with_sent, Config, terms, LineTold, request, next, weight_at, Pair, refusal, Data, Endpoint, Wire, happens, frames_by, EndStep, requests, sends}
+use Rattle.laws_wire.proofs.Vocabulary.{receives, StepAt, at_near, at_far, acting, turned, doing, is_turn_of, is_turn, answered, IsTalkOf, IsTalk, confirmed, LinkData, own_side}
+use Rattle.laws_wire.proofs.Answered.{gives-granted}
 use Rattle.laws_wire.proofs.Asking.{with_more}
 use Rattle.laws_wire.proofs.BothAsking.{Refuses, refuses}
 use Rattle.laws_wire.proofs.Calling.{ua, awaiting, caller, end, none-granted-awaiting, with_ua_waiting, with_ua_first, sends-ua}
-use Rattle.laws_wire.proofs.Speaking.{said_by}
-use Rattle.laws_wire.proofs.Talking.{Face, Past, unheard, after_note, Holds, none-told, holds-given, holds-lost, takes as takes_frame, Took, fits, More, holds-asked}
-use Rattle.laws_wire.proofs.Quiet.{one-at-most, Both, turned-both, first-way, frames-are, quiet-gives, quiet-takes, for-data, quiet-requests}
+use Rattle.laws_wire.proofs.Talking.{Face, Past, unheard, after_note, Holds, holds-given, holds-lost, fits, More, holds-asked}
+use Rattle.laws_wire.proofs.Quiet.{one-at-most, Both, turned-both, frames-are, quiet-takes, for-data, quiet-acts, hears-first, hears-granted}
 use Rattle.laws_wire.proofs.Up.{pair_of, turned-pair, turn_of, end-gives, more-pair, granted_of, one-longer, Talk, does}
 
 pub lower : (b before weight g g' : ℕ) → b ≤ 1 → before ≡ 1 + weight → g' ≡ g → b + weight + 4 * g ≤ before + 4 * g'
@@ -58,16 +57,9 @@ module _ (service : Service) (tei : ℕ) where
 
     -- UA waits
     from-answered-near : (act : EndStep) → IsTalkOf service tei act → (w : Wire) (weight : ℕ) → IsAnswered w weight → Stepped w (acting act w) weight (if is_turn_of act w then 1 else 0)
-    from-answered-near (requests r) is w weight h =
-        let x = quiet-requests service tei c d p q unheard second w (end t awaiting []) (with_ua_waiting h.m) h.both (none-granted-awaiting t) r is in
-        stayed w (acting (requests r) w) weight 0 refl x.granted (inl (record { m = h.m; none = h.none; both = x.both; pair = h.pair; is = h.is }))
-    from-answered-near sends is w weight h =
-        let x = quiet-gives service tei c d p q unheard second w (end t awaiting []) (with_ua_waiting h.m) h.both refl in
-        stayed w (acting sends w) weight _ x.none x.granted (inl (record { m = h.m; none = h.none; both = x.both; pair = h.pair; is = h.is }))
-    from-answered-near receives is w weight h =
-        let x = quiet-takes service tei c d p q unheard second w (end t awaiting []) (with_ua_waiting h.m) h.both h.none in
-        stayed w (acting receives w) weight _ x.none x.granted (inl (record { m = h.m; none = h.none; both = x.both; pair = h.pair; is = h.is }))
-    from-answered-near other is w weight h = absurd is
+    from-answered-near act is w weight h =
+        let x = quiet-acts service tei c d p q unheard second w (end t awaiting []) (with_ua_waiting h.m) h.both (none-granted-awaiting t) refl act (λ e. h.none) is in
+        stayed w (acting act w) weight _ x.none x.granted (inl (record { m = h.m; none = h.none; both = x.both; pair = h.pair; is = h.is }))
 
     -- contents that are granted at one of a pair
     abbrev made : Wire → Endpoint → Wire
@@ -94,22 +86,28 @@ module _ (service : Service) (tei : ℕ) where
                 inr (record { more = x; pair = turned-pair (with_more octets m) (end t caller []) y.pair; heavier = omega (arith, y.heavier) })
           ]
 
-    answered-asks : (w : Wire) (weight : ℕ) → IsAnswered w weight → (octets : List ℕ) → Stepped w (made w (happens (request (Data service tei octets)) w.far)) weight 0
-    answered-asks w weight h octets = go (far-asks w h.m h.pair with_ua_waiting refl (λ octets. refl) h.both.far octets)
-      where
-        s' : Endpoint
-        s' = happens (request (Data service tei octets)) w.far
+      abbrev asked : List ℕ → Endpoint
+      asked octets = happens (request (Data service tei octets)) w.far
 
-        go : (s' ≡ w.far) ⊎ Asks w h.m h.pair with_ua_waiting refl (λ octets. refl) h.both.far octets s' → Stepped w (made w s') weight 0
-        go (inl same) =
-            stayed w (made w s') weight 0 refl (ap (λ (s : Endpoint). length w.near.granted + length s.granted) same)
-            (subst (λ s. Half (made w s) weight) (sym same) (inl h))
-        go (inr x) = record {
-          weight = 2 + one_up (with_more octets h.m);
-          goes = inl (record { m = with_more octets h.m; none = h.none; both = record { near = h.both.near; far = x.more.holds }; pair = x.pair; is = refl });
-          price =
-              (omega (arith, h.is, x.heavier, (ap length x.more.granted ∙ one-longer w.far.granted octets)));
-        }
+      -- so it is asked in either phase
+      asks-step : (k weight : ℕ) → weight ≡ k + one_up m → Half w weight
+          → ((octets : List ℕ) → Holds d service tei q second (asked octets) (with_more octets (waits m)) → Pair (pair_of (end t caller []) (with_more octets m)) → Half (made w (asked octets)) (k + one_up (with_more octets m)))
+          → (octets : List ℕ) → Stepped w (made w (asked octets)) weight 0
+      asks-step k weight is h of octets =
+          elim (far-asks octets) [
+            | inl same ↦
+                stayed w (made w (asked octets)) weight 0 refl (ap (λ (s : Endpoint). length w.near.granted + length s.granted) same) (subst (λ s. Half (made w s) weight) (sym same) h)
+            | inr x ↦ record {
+              weight = k + one_up (with_more octets m);
+              goes = of octets x.more.holds x.pair;
+              price = (omega (arith, is, x.heavier, (ap length x.more.granted ∙ one-longer w.far.granted octets)));
+            }
+          ]
+
+    answered-asks : (w : Wire) (weight : ℕ) → IsAnswered w weight → (octets : List ℕ) → Stepped w (made w (happens (request (Data service tei octets)) w.far)) weight 0
+    answered-asks w weight h =
+        asks-step w h.m h.pair with_ua_waiting refl (λ octets. refl) h.both.far 2 weight h.is (inl h)
+        (λ octets far pair. inl (record { m = with_more octets h.m; none = h.none; both = record { near = h.both.near; far = far }; pair = pair; is = refl }))
 
     answered-gives : (w : Wire) (weight : ℕ) → IsAnswered w weight → Stepped w (made w (happens next w.far)) weight (turn_of (frames_by (answered next w.far)))
     answered-gives w weight h =
@@ -139,61 +137,39 @@ module _ (service : Service) (tei : ℕ) where
     -- UA is on its way, and I-frames may be behind it
     confirms : (w : Wire) (weight : ℕ) → IsAwaited w weight → Stepped w (acting receives w) weight (turn_of w.far.way)
     confirms w weight h =
+        let first = after_note (confirmed service tei) in
+        let far = with_ua_first h.m in
         let f = ua h.m.terms in
-        let way = first-way service tei d q second w.far (with_ua_first h.m) f h.m.way refl h.both.far in
-        let s = w.near in
-        let same : with_first_of w.far.way s ≡ frame_comes (spelling (own_side d) f) s = ap (λ way. with_first_of way s) way.0 in
-        let x : Took service tei p unheard c s (end t awaiting []) (spelling (own_side d) f) f = takes_frame service tei p unheard c d face s (end t awaiting []) f h.both.near.stands way.1 in
-        let near : Holds c service tei p (after_note (confirmed service tei)) (frame_comes (spelling (own_side d) f) s) (end t caller []) =
-        record {
-          stands = x.stands;
-          granted = takes-granted (spelling (own_side d) f) s ∙ h.both.near.granted;
-          since = [];
-          told = x.told ∙ ap (λ ts. ts ++ said_by (course t (received (frame f)) awaiting)) (none-told c service tei p [] s (end t awaiting []) h.both.near refl) ∙ refl;
-          delivered = refl;
-        } in
         record {
           weight = one_up h.m;
           goes = inr (inr (record {
             n = end t caller [];
             m = h.m;
             talk = record {
-              near = subst (λ s'. Holds c service tei p (after_note (confirmed service tei)) s' (end t caller [])) (sym same) near;
-              far = holds-lost service tei q second d w.far (with_ua_first h.m) h.both.far;
+              near = hears-first service tei c d p q second w (end t awaiting []) far h.both f h.m.way refl face first (end t caller []) refl refl refl refl refl refl;
+              far = holds-lost service tei q second d w.far far h.both.far;
               pair = h.pair;
             };
             is = refl;
           }));
-          price =
-              lower _ weight (one_up h.m) (granted_of w) _ (one-at-most w.far.way) h.is
-              (ap (λ (s' : Endpoint). length s'.granted + length w.far.granted) same ∙ ap (λ xs. length xs + length w.far.granted) (takes-granted (spelling (own_side d) f) s));
+          price = lower _ weight (one_up h.m) (granted_of w) _ (one-at-most w.far.way) h.is (hears-granted service tei c d p q second w (end t awaiting []) far h.both f h.m.way refl face);
         }
+
+    awaited-idle : (act : EndStep) → (act ≡ receives → ⊥) → IsTalkOf service tei act → (w : Wire) (weight : ℕ) → IsAwaited w weight → Stepped w (acting act w) weight (if is_turn_of act w then 1 else 0)
+    awaited-idle act not is w weight h =
+        let x = quiet-acts service tei c d p q unheard second w (end t awaiting []) (with_ua_first h.m) h.both (none-granted-awaiting t) refl act (λ e. absurd (not e)) is in
+        stayed w (acting act w) weight _ x.none x.granted (inr (inl (record { m = h.m; both = x.both; pair = h.pair; is = h.is })))
 
     from-awaited-near : (act : EndStep) → IsTalkOf service tei act → (w : Wire) (weight : ℕ) → IsAwaited w weight → Stepped w (acting act w) weight (if is_turn_of act w then 1 else 0)
-    from-awaited-near (requests r) is w weight h =
-        let x = quiet-requests service tei c d p q unheard second w (end t awaiting []) (with_ua_first h.m) h.both (none-granted-awaiting t) r is in
-        stayed w (acting (requests r) w) weight 0 refl x.granted (inr (inl (record { m = h.m; both = x.both; pair = h.pair; is = h.is })))
-    from-awaited-near sends is w weight h =
-        let x = quiet-gives service tei c d p q unheard second w (end t awaiting []) (with_ua_first h.m) h.both refl in
-        stayed w (acting sends w) weight _ x.none x.granted (inr (inl (record { m = h.m; both = x.both; pair = h.pair; is = h.is })))
-    from-awaited-near act is w weight h = grind (arith, confirms)
+    from-awaited-near receives is w weight h = confirms w weight h
+    from-awaited-near (requests r) is w weight h = awaited-idle (requests r) (λ e. cc e) is w weight h
+    from-awaited-near sends is w weight h = awaited-idle sends (λ e. cc e) is w weight h
+    from-awaited-near other is w weight h = absurd is
 
     awaited-asks : (w : Wire) (weight : ℕ) → IsAwaited w weight → (octets : List ℕ) → Stepped w (made w (happens (request (Data service tei octets)) w.far)) weight 0
-    awaited-asks w weight h octets = go (far-asks w h.m h.pair with_ua_first refl (λ octets. refl) h.both.far octets)
-      where
-        s' : Endpoint
-        s' = happens (request (Data service tei octets)) w.far
-
-        go : (s' ≡ w.far) ⊎ Asks w h.m h.pair with_ua_first refl (λ octets. refl) h.both.far octets s' → Stepped w (made w s') weight 0
-        go (inl same) =
-            stayed w (made w s') weight 0 refl (ap (λ (s : Endpoint). length w.near.granted + length s.granted) same)
-            (subst (λ s. Half (made w s) weight) (sym same) (inr (inl h)))
-        go (inr x) = record {
-          weight = 1 + one_up (with_more octets h.m);
-          goes = inr (inl (record { m = with_more octets h.m; both = record { near = h.both.near; far = x.more.holds }; pair = x.pair; is = refl }));
-          price =
-              (omega (arith, h.is, x.heavier, (ap length x.more.granted ∙ one-longer w.far.granted octets)));
-        }
+    awaited-asks w weight h =
+        asks-step w h.m h.pair with_ua_first refl (λ octets. refl) h.both.far 1 weight h.is (inr (inl h))
+        (λ octets far pair. inr (inl (record { m = with_more octets h.m; both = record { near = h.both.near; far = far }; pair = pair; is = refl })))
 
     awaited-gives : (w : Wire) (weight : ℕ) → IsAwaited w weight → Stepped w (made w (happens next w.far)) weight (turn_of (frames_by (answered next w.far)))
     awaited-gives w weight h =

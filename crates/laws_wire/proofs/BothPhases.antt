@@ -1,15 +1,15 @@
 -- A call from its beginning: the near end calls, and the far one may call back before SABME comes; each step of it.
-use Rattle.laws_wire.proofs.Vocabulary.{◌≡◌, ℕ, ◌+◌, ◌*◌, ◌≤◌, Bool, true, false, cond, ◌||◌, [], ◌∷◌, length, refl, sym, ap, subst, ◌∙◌, ◌⊎◌, inl, inr, arith, if◌then◌else◌, Service, spelling, Terms, fresh, IsInRange, with_link, Config, terms, next, Establish, Endpoint, Wire, frames_by, with_first_of, EndStep, requests, sends, receives, StepAt, at_near, at_far, acting, turned, doing, is_turn_of}
-use Rattle.laws_wire.proofs.Vocabulary.{is_turn, answered, frame_comes, IsTalkOf, IsTalk, IsCall, calls_back, confirmed, indicated, told_first, received, frame, own_side}
-use Rattle.laws_wire.proofs.Answered.{takes-granted, gives-granted}
+use Rattle.laws_wire.proofs.Vocabulary.{◌≡◌, ℕ, ◌+◌, ◌*◌, ◌≤◌, Bool, true, false, cond, ◌||◌, [], ◌∷◌, length, refl, sym, ap, subst, ◌⊎◌, inl, inr, arith, if◌then◌else◌, Service, Terms, fresh, IsInRange, Config, terms, next, Establish, Wire, frames_by, EndStep, requests, sends, receives, StepAt, at_near, at_far, acting, turned, doing, is_turn_of}
+use Rattle.laws_wire.proofs.Vocabulary.{is_turn, answered, IsTalkOf, IsTalk, IsCall, calls_back, confirmed, indicated, told_first}
+use Rattle.laws_wire.proofs.Answered.{gives-granted}
 use Rattle.laws_wire.proofs.BothAsking.{Kind, talks, near_calls, far_calls, kind, Refuses, refuses, calls}
 use Rattle.laws_wire.proofs.BothHalf as half
 use Rattle.laws_wire.proofs.BothHalf.{lower}
 use Rattle.laws_wire.proofs.BothCrossing as crossed
 use Rattle.laws_wire.proofs.BothCrossing.{waits, under_way, turned-order}
-use Rattle.laws_wire.proofs.Calling.{sabme, asked, awaiting, called, takes-sabme, end, none-granted-asked, none-granted-awaiting, none-granted-fresh, first-pair, with_ua_waiting}
-use Rattle.laws_wire.proofs.Talking.{Face, unheard, after_note, Holds, holds-given, holds-lost, takes as takes_frame, Took}
-use Rattle.laws_wire.proofs.Quiet.{one-at-most, Both, turned-both, first-way, quiet-gives, quiet-takes, quiet-requests}
+use Rattle.laws_wire.proofs.Calling.{sabme, asked, awaiting, called, takes-sabme, end, none-granted-asked, none-granted-awaiting, none-granted-fresh, first-pair, with_ua_waiting, told-of-sabme}
+use Rattle.laws_wire.proofs.Talking.{Face, unheard, after_note, Holds, holds-given, holds-lost}
+use Rattle.laws_wire.proofs.Quiet.{one-at-most, Both, turned-both, quiet-takes, quiet-requests, quiet-acts, hears-first, hears-granted}
 use Rattle.laws_wire.proofs.Up.{turn_of, granted_of}
 
 abbrev pub cost : Bool → ℕ
@@ -53,9 +53,6 @@ module _ (service : Service) (tei : ℕ) where
     -- ---- SABME waits
 
     from-waiting-near : (act : EndStep) → IsTalkOf service tei act → (w : Wire) (weight : ℕ) → IsWaiting w weight → Went false w (acting act w) weight (if is_turn_of act w then 1 else 0)
-    from-waiting-near (requests r) is w weight h =
-        let x = quiet-requests service tei c d p q unheard unheard w (end t asked []) (end u fresh []) h.both (none-granted-asked t) r is in
-        stayed false w (acting (requests r) w) weight 0 refl x.granted (inl (record { both = x.both; is = h.is }))
     from-waiting-near sends is w weight h =
         let sent = holds-given service tei p unheard c w.near (end t asked []) h.both.near refl in
         record {
@@ -63,62 +60,57 @@ module _ (service : Service) (tei : ℕ) where
           goes = inr (inl (record { both = record { near = sent; far = h.both.far }; is = refl }));
           price = lower _ weight 3 (granted_of w) _ (one-at-most (frames_by (answered next w.near))) h.is (ap (λ xs. length xs + length w.far.granted) (gives-granted w.near));
         }
+    from-waiting-near (requests r) is w weight h =
+        let x = quiet-requests service tei c d p q unheard unheard w (end t asked []) (end u fresh []) h.both (none-granted-asked t) r is in
+        stayed false w (acting (requests r) w) weight 0 refl x.granted (inl (record { both = x.both; is = h.is }))
     from-waiting-near receives is w weight h = grind (arith, quiet-takes, unheard, end, asked, stayed)
     from-waiting-near other is w weight h = absurd is
 
     from-waiting-far : (act : EndStep) → IsTalkOf service tei act → (w : Wire) (weight : ℕ) → IsWaiting w weight → Went false w (turned (acting act (turned w))) weight (if is_turn_of act (turned w) then 1 else 0)
-    from-waiting-far (requests r) is w weight h =
-        let x = quiet-requests service tei d c q p unheard unheard (turned w) (end u fresh []) (end t asked []) (turned-both service tei c d p q unheard unheard w _ _ h.both) (none-granted-fresh u) r is in
-        stayed false w (turned (acting (requests r) (turned w))) weight 0 refl (omega (arith, x.granted)) (inl (record { both = turned-both service tei d c q p unheard unheard (acting (requests r) (turned w)) (end u fresh []) (end t asked []) x.both; is = h.is }))
-    from-waiting-far sends is w weight h =
-        let x = quiet-gives service tei d c q p unheard unheard (turned w) (end u fresh []) (end t asked []) (turned-both service tei c d p q unheard unheard w _ _ h.both) refl in
-        stayed false w (turned (acting sends (turned w))) weight _ x.none (omega (arith, x.granted)) (inl (record { both = turned-both service tei d c q p unheard unheard (acting sends (turned w)) (end u fresh []) (end t asked []) x.both; is = h.is }))
-    from-waiting-far receives is w weight h = grind (arith, quiet-takes, unheard, end, asked, turned-both, stayed)
-    from-waiting-far other is w weight h = absurd is
+    from-waiting-far act is w weight h =
+        let x = quiet-acts service tei d c q p unheard unheard (turned w) (end u fresh []) (end t asked []) (turned-both service tei c d p q unheard unheard w _ _ h.both) (none-granted-fresh u) refl act (λ e. refl) is in
+        stayed false w (turned (acting act (turned w))) weight _ x.none (omega (arith, x.granted)) (inl (record { both = turned-both service tei d c q p unheard unheard (acting act (turned w)) (end u fresh []) (end t asked []) x.both; is = h.is }))
 
     -- ---- SABME is on its way
 
     from-called-near : (act : EndStep) → IsTalkOf service tei act → (w : Wire) (weight : ℕ) → IsCalled w weight → Went false w (acting act w) weight (if is_turn_of act w then 1 else 0)
-    from-called-near (requests r) is w weight h =
-        let x = quiet-requests service tei c d p q unheard unheard w (end t awaiting (sabme t ∷ [])) (end u fresh []) h.both (none-granted-awaiting t) r is in
-        stayed false w (acting (requests r) w) weight 0 refl x.granted (inr (inl (record { both = x.both; is = h.is })))
-    from-called-near sends is w weight h =
-        let x = quiet-gives service tei c d p q unheard unheard w (end t awaiting (sabme t ∷ [])) (end u fresh []) h.both refl in
-        stayed false w (acting sends w) weight _ x.none x.granted (inr (inl (record { both = x.both; is = h.is })))
-    from-called-near receives is w weight h = grind (arith, quiet-takes, unheard, end, awaiting, sabme, stayed)
-    from-called-near other is w weight h = absurd is
+    from-called-near act is w weight h =
+        let x = quiet-acts service tei c d p q unheard unheard w (end t awaiting (sabme t ∷ [])) (end u fresh []) h.both (none-granted-awaiting t) refl act (λ e. refl) is in
+        stayed false w (acting act w) weight _ x.none x.granted (inr (inl (record { both = x.both; is = h.is })))
 
     answers : (w : Wire) (weight : ℕ) → IsCalled w weight → Went false w (turned (acting receives (turned w))) weight (turn_of w.near.way)
     answers w weight h =
-        let f = sabme t in
-        let way = first-way service tei c p unheard w.near (end t awaiting (f ∷ [])) f [] refl h.both.near in
-        let s = w.far in
-        let second = after_note (indicated service tei) in
-        let same : with_first_of w.near.way s ≡ frame_comes (spelling (own_side c) f) s = ap (λ way. with_first_of way s) way.0 in
-        let x : Took service tei q unheard d s (end u fresh []) (spelling (own_side c) f) f = takes_frame service tei q unheard d c back s (end u fresh []) f h.both.far.stands way.1 in
-        let is : with_link (received (frame f)) (end u fresh []) ≡ with_ua_waiting (end u called []) = ap (λ y. end u y []) (takes-sabme u ru t) in
+        let near = end t awaiting (sabme t ∷ []) in
+        let both = turned-both service tei c d p q unheard unheard w near (end u fresh []) h.both in
+        let becomes = ap (λ y. end u y []) (takes-sabme u ru t) in
         record {
           weight = 2 + half.one_up service tei (indicated service tei) c d p q face back rt (end u called []);
           goes = inr (inr (inl (record {
             m = end u called [];
             none = refl;
-            both = grind (arith, holds-lost, unheard, end, awaiting, with_ua_waiting, called);
+            both = record {
+              near = holds-lost service tei p unheard c w.near near h.both.near;
+              far = hears-first service tei d c q p unheard (turned w) (end u fresh []) near both (sabme t) [] refl back (after_note (indicated service tei)) (with_ua_waiting (end u called [])) becomes refl refl refl refl (told-of-sabme u ru t);
+            };
             pair = first-pair t u rt ru;
             is = refl;
           })));
           price =
               lower _ weight 2 (granted_of w) _ (one-at-most w.near.way) h.is
-              (ap (λ (s' : Endpoint). length w.near.granted + length s'.granted) same ∙ ap (λ xs. length w.near.granted + length xs) (takes-granted (spelling (own_side c) f) s));
+              (let same = hears-granted service tei d c q p unheard (turned w) (end u fresh []) near both (sabme t) [] refl back in omega (arith, same));
         }
 
+    called-idle : (act : EndStep) → (act ≡ receives → ⊥) → IsTalkOf service tei act → (w : Wire) (weight : ℕ) → IsCalled w weight → Went false w (turned (acting act (turned w))) weight (if is_turn_of act (turned w) then 1 else 0)
+    called-idle act not is w weight h =
+        let way = sabme t ∷ [] in
+        let x = quiet-acts service tei d c q p unheard unheard (turned w) (end u fresh []) (end t awaiting way) (turned-both service tei c d p q unheard unheard w _ _ h.both) (none-granted-fresh u) refl act (λ e. absurd (not e)) is in
+        stayed false w (turned (acting act (turned w))) weight _ x.none (omega (arith, x.granted)) (inr (inl (record { both = turned-both service tei d c q p unheard unheard (acting act (turned w)) (end u fresh []) (end t awaiting way) x.both; is = h.is })))
+
     from-called-far : (act : EndStep) → IsTalkOf service tei act → (w : Wire) (weight : ℕ) → IsCalled w weight → Went false w (turned (acting act (turned w))) weight (if is_turn_of act (turned w) then 1 else 0)
-    from-called-far (requests r) is w weight h =
-        let x = quiet-requests service tei d c q p unheard unheard (turned w) (end u fresh []) (end t awaiting (sabme t ∷ [])) (turned-both service tei c d p q unheard unheard w _ _ h.both) (none-granted-fresh u) r is in
-        stayed false w (turned (acting (requests r) (turned w))) weight 0 refl (omega (arith, x.granted)) (inr (inl (record { both = turned-both service tei d c q p unheard unheard (acting (requests r) (turned w)) (end u fresh []) (end t awaiting (sabme t ∷ [])) x.both; is = h.is })))
-    from-called-far sends is w weight h =
-        let x = quiet-gives service tei d c q p unheard unheard (turned w) (end u fresh []) (end t awaiting (sabme t ∷ [])) (turned-both service tei c d p q unheard unheard w _ _ h.both) refl in
-        stayed false w (turned (acting sends (turned w))) weight _ x.none (omega (arith, x.granted)) (inr (inl (record { both = turned-both service tei d c q p unheard unheard (acting sends (turned w)) (end u fresh []) (end t awaiting (sabme t ∷ [])) x.both; is = h.is })))
-    from-called-far act is w weight h = grind (arith, answers)
+    from-called-far receives is w weight h = answers w weight h
+    from-called-far (requests r) is w weight h = called-idle (requests r) (λ e. cc e) is w weight h
+    from-called-far sends is w weight h = called-idle sends (λ e. cc e) is w weight h
+    from-called-far other is w weight h = absurd is
 
     -- ---- one end is up, or both
 

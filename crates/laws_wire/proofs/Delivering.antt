@@ -1,6 +1,6 @@
 -- Two cards that face each other deliver what layer 3 hands over.
 use Rattle.laws_wire.proofs.Vocabulary.{◌≡◌, ℕ, ◌<◌, ◌||◌, [], None, option_map, sym, ap, subst, ◌∙◌, arith, Service, Link, LinkEndpoint, Config, has_lines, line_sound, next, gave, Steady, Endpoint, Wire, IsStill, answered, Face, Speaks, own_link, AreOpposite, is_busy, List, ◌∷◌, ◌++◌, refl, append_assoc, LineTold, StepAt, at_near, at_far, turned, doing, ◌+◌, ◌*◌, ◌≤◌, Bool, cond, length, map}
-use Rattle.laws_wire.proofs.Vocabulary.{take, drop, Some, append-nil, length-append, map-append, take-append-drop, All, All-nil, Established, other_side, Ends, link_in, place_in, terms, AreTurns, weight_at, IsReady, IsTaken, Pair, all-turns, doing_all, turns, IsBeginningOf, ToldInOrder, calling, IsTalk, data_told, granted_of, or_parts, two_ends_doing_all, append_cancel_left, Line}
+use Rattle.laws_wire.proofs.Vocabulary.{take, drop, Some, append-nil, length-append, map-append, take-append-drop, All, All-nil, Established, Ends, link_in, place_in, terms, AreTurns, weight_at, IsReady, IsTaken, Pair, all-turns, doing_all, turns, IsBeginningOf, ToldInOrder, calling, IsTalk, data_told, granted_of, or_parts, two_ends_doing_all, append_cancel_left, Line}
 use Rattle.model_link.specs.Sound as link_sound
 use Rattle.laws_wire.proofs.Talking as talking
 use Rattle.laws_link.specs.two.Rounds.{HasArrived}

@@ -1,8 +1,7 @@
 -- Two stations of which one releases the link where both rest: what each thing that is done makes of them.
-use Rattle.laws_wire.proofs.Vocabulary.{◌≡◌, ℕ, Bool, true, false, List, [], ◌∷◌, ◌++◌, cond, refl, sym, ap, subst, ◌∙◌, ◌⊎◌, inl, inr, append-nil, arith, All, nat_lt, flat_map, lt-ltb, All-head, All-tail, Service, Timer, Parts, spelling, Established, ControlFrame, Terms, LinkTimer, T203, Link, may_repeat, frame_of, course, LinkEndpoint, with_link, response, Ua, Dm, IsInRange, begun}
-use Rattle.laws_wire.proofs.Vocabulary.{Config}
-use Rattle.laws_wire.proofs.Vocabulary.{LineTold, expiry, next, terms, HasNothingToSend, awaits_answer, T200, Endpoint, Wire, happens, EndStep, requests, expires, sends, receives, loses, acting, turned, StepAt, at_near, at_far, doing, doing_all, is_poll, is_final, IsTimelyOf, for_layer_3, IsLeaving, IsTimelyThere, StayTimelyThere, release_confirmed, release_indicated, map, expired, timer_T200}
-use Rattle.laws_wire.proofs.Vocabulary.{timer_T203, own_side}
+use Rattle.laws_wire.proofs.Vocabulary.{◌≡◌, ℕ, Bool, true, false, List, [], ◌∷◌, ◌++◌, cond, refl, sym, ap, subst, ◌∙◌, ◌⊎◌, inl, inr, append-nil, arith, All, nat_lt, flat_map, lt-ltb, All-head, All-tail, Service, Timer, Parts, spelling, Established, ControlFrame, Terms, LinkTimer, T203, Link, may_repeat, frame_of, course, LinkEndpoint, with_link, response, Ua, Dm, IsInRange, begun, Config}
+use Rattle.laws_wire.proofs.Vocabulary.{LineTold, expiry, next, terms}
+use Rattle.laws_wire.proofs.Vocabulary.{HasNothingToSend, awaits_answer, T200, Endpoint, Wire, happens, EndStep, requests, expires, sends, receives, loses, acting, turned, StepAt, at_near, at_far, doing, doing_all, is_poll, is_final, IsTimelyOf, for_layer_3, IsLeaving, IsTimelyThere, StayTimelyThere, release_confirmed, release_indicated, map, expired, timer_T200, timer_T203, own_side}
 use Rattle.laws_wire.proofs.Awaited.{NoneOpen, may-there, long-there, waits-first, goes-first}
 use Rattle.laws_wire.proofs.Ringing.{Tries, once_more}
 use Rattle.laws_wire.proofs.Leaving.{its_disc, disc, leaving, left, gone, hears-disc, told-disc, repeats-disc, repeats-untold, told-again}
@@ -11,7 +10,7 @@ use Rattle.laws_wire.proofs.Speaking.{said_by}
 use Rattle.laws_wire.proofs.Talking.{Face}
 use Rattle.laws_wire.proofs.Tells.{Tells, as-end, t-given, t-taken, t-expired, first-carried, t-silent}
 use Rattle.laws_wire.proofs.TimelyFirst.{takes-none, loses-none}
-use Rattle.laws_wire.proofs.TimelyUp.{each-timer}
+use Rattle.laws_wire.proofs.Simulated.{each-timer}
 use Rattle.laws_wire.proofs.Standing.{IsCarried}
 
 module _ (service : Service) (tei : ℕ) where

@@ -1,6 +1,7 @@
 -- The premises of the law on expiries are met by the worked call.
-use Rattle.laws_wire.proofs.Vocabulary.{arith, ◌≡◌, ◌≤◌, ℕ, ◌+◌, false, List, [], ◌∷◌, ◌++◌, length, refl, sym, ◌∙◌, true≢false, All, leb-true, Call, exchanged, reading, side_reading, header_of, control_of, unnumbered_of, supervisory_of, distance_of, named, seq, Data, Wire, requests, expires, sends, at_near, doing_all, confirmed, heard_in, IsRoughTalk, round, StayTimely, LosesNothing, GoesOn}
-use Rattle.laws_wire.proofs.Vocabulary.{near_asks, user, network, begins, MayRepeat, awaits_reply, moves, line_answer, line_takes_slot, line_after, tei_refusal, tei_course}
+use Rattle.laws_wire.proofs.Vocabulary.{arith, ◌≡◌, ◌≤◌, ◌+◌, false, [], ◌∷◌, length, refl, sym, ◌∙◌, true≢false, All, leb-true, Call, exchanged, reading, side_reading, header_of, control_of, unnumbered_of, supervisory_of, distance_of, named, seq, Data, Wire, requests, expires, at_near, doing_all, confirmed, heard_in, IsRoughTalk, StayTimely, LosesNothing, near_asks, user, network, begins}
+use Rattle.laws_wire.proofs.Vocabulary.{MayRepeat, awaits_reply, moves}
+use Rattle.laws_wire.proofs.Vocabulary.{line_answer, line_takes_slot, line_after, tei_refusal, tei_course}
 use Rattle.lapd_frame.specs.declared.timers.Timer.TheVariants.{T200}
 use Rattle.laws_wire.specs.Arriving.{LosesNoMore}
 unfoldable use Rattle.laws_wire.specs.Expiring.{how_often}

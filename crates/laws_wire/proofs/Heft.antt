@@ -1,18 +1,15 @@
 -- What is left to do on a wire, as its stations are; and what is done at an end makes it less, whatever its phase.
-use Rattle.laws_wire.proofs.Vocabulary.{◌≡◌, ℕ, ◌+◌, ◌*◌, ◌≤◌, Bool, false, cond, List, [], length, refl, sym, subst, inl, inr, append-nil, arith, Service, Timer, Parts, LinkTimer, T200, T203, Terms, Link, Course, course, begun, LinkEndpoint, with_link, Config, LineTold, request, Line, place_in, Request, SetBusy, ClearBusy, at_requested, aim_of_request, contents_requested, Endpoint, Wire, happens}
-use Rattle.laws_wire.proofs.Vocabulary.{EndStep, requests, expires, receives, acting, turned, granted_of, link_of, flat_map, is_granted, answered, IsAsked, IsOfLink, IsFullTalkOf, IsTimelyOf, is_move_of, expiries_of, requested, LinkClearBusy, LinkRequest, LinkSetBusy, timer_T200, timer_T203, reports_of}
-use Rattle.laws_wire.specs.Facing.{line_of, read_as}
-use Rattle.laws_wire.proofs.Awaited.{link-is, way-is, may-there}
+use Rattle.laws_wire.proofs.Vocabulary.{◌≡◌, ℕ, ◌+◌, ◌≤◌, Bool, false, cond, List, [], length, refl, sym, subst, inl, inr, append-nil, arith, Service, Timer, T200, T203, Terms, Link, Course, course, begun, LinkEndpoint, with_link, Config, LineTold, request, Line, place_in, Request, SetBusy, ClearBusy, at_requested, aim_of_request, contents_requested, Endpoint, Wire, happens}
+use Rattle.laws_wire.proofs.Vocabulary.{EndStep, requests, expires, receives, acting, is_granted, answered, IsAsked, IsOfLink, IsFullTalkOf, IsTimelyOf, is_move_of, expiries_of, requested, LinkClearBusy, LinkRequest, LinkSetBusy, timer_T200, timer_T203, reports_of}
+use Rattle.laws_wire.proofs.Awaited.{may-there}
 use Rattle.laws_wire.proofs.Held.{Held}
 use Rattle.laws_wire.proofs.Loads.{load, load_way, one-waits}
-use Rattle.laws_wire.proofs.LoadsTimed.{May, timer-fairly}
-use Rattle.laws_wire.proofs.LooseUp.{for-asked}
-use Rattle.laws_wire.proofs.LossyPhases.{Aims}
-use Rattle.laws_wire.proofs.Rested.{Then, then-gives, then-loses, then-asks, fairly-expires}
+use Rattle.laws_wire.proofs.LoadsTimed.{timer-fairly}
+use Rattle.laws_wire.proofs.Simulated.{for-asked, each-timer}
+use Rattle.laws_wire.proofs.Rested.{then-gives, then-loses, then-asks, fairly-expires}
 use Rattle.laws_wire.proofs.Standing.{StationStands, Granted, asks-stands}
 use Rattle.laws_wire.proofs.Talking.{Face}
-use Rattle.laws_wire.proofs.TimelyUp.{each-timer}
-use Rattle.laws_wire.proofs.Weighing.{undelivered, weigh_of, weigh}
+use Rattle.laws_wire.proofs.Weighing.{undelivered, weigh, Pays, heft, heft-is}
 
 -- ---- own busy begins or ends: one frame waits
 
@@ -32,50 +29,10 @@ module _ (w : ℕ) (t : Terms) (l : Link) where
   ready-reports = grind (arith, one-waits, nothing-said, either)
 
 module _ (service : Service) (tei : ℕ) where
-  abbrev its_link : Endpoint → Link
-  its_link s = link_of service tei (line_of s)
-
-  abbrev its_way : Endpoint → List Parts
-  its_way s = flat_map (read_as s.card.config) s.way
-
-  abbrev pub heft : ℕ → Wire → ℕ
-  heft v w = weigh_of v (its_link w.near) (its_way w.near) (its_link w.far) (its_way w.far)
-
-  pub heft-is : (v : ℕ) (c d : Config) (p q : ℕ) (w : Wire) (n m : LinkEndpoint) → StationStands c service tei p w.near n → StationStands d service tei q w.far m → heft v w ≡ weigh v n m
-  heft-is v c d p q w n m near far =
-      λ i. weigh_of v (link-is service tei c p w.near n near i) (way-is service tei c p w.near n near i) (link-is service tei d q w.far m far i) (way-is service tei d q w.far m far i)
-
-  -- So many turns or losses are made, so many timers expire, and so often own busy begins or ends, while more contents are granted.
-  pub record Pays (v moved expired reported : ℕ) (w w' : Wire) : Type 0 where
-    pub more : ℕ
-    pub granted : granted_of w' ≡ granted_of w + more
-    pub falls : moved + heft v w' ≤ heft v w + (v + 4) * expired + (v + 6) * more + 2 * reported
-
-  abbrev its : ℕ → Endpoint → ℕ
-  its v s = load v (its_link s) + load_way v (its_way s)
-
-  pub pays-turned : (v moved expired reported : ℕ) (w w' : Wire) → Pays v moved expired reported (turned w) w' → Pays v moved expired reported w (turned w')
-  pays-turned v moved expired reported w w' h = grind arith
-
   module _ (c d : Config) (p q : ℕ) (past_n past_m : List LineTold) (face : Face c d) (v : ℕ) (w : Wire) (n m : LinkEndpoint) (near : Held c service tei p past_n w.near n)
       (far : Held d service tei q past_m w.far m) (low : m.link.r ≤ length n.link.contents) where
-    abbrev Does : Wire → ℕ → ℕ → Type 0
-    Does w' moved expired = Then service tei c d p q past_n past_m face v w n m near far low w' moved expired
-
-    here : heft v w ≡ weigh v n m
-    here = heft-is v c d p q w n m near.stands far.stands
-
-    pub from-then : (w' : Wire) (moved expired : ℕ) → Does w' moved expired → Pays v moved expired 0 w w'
-    from-then w' moved expired h = record {
-      more = h.more;
-      granted = h.granted;
-      falls =
-          sum moved (heft v w') (weigh v h.n' h.m') (heft v w) (weigh v n m) ((v + 4) * expired) ((v + 6) * h.more)
-          (heft-is v c d p q w' h.n' h.m' h.near' h.far') here h.fell.falls;
-    }
-      where
-        sum : (moved a a' b b' x y : ℕ) → a ≡ a' → b ≡ b' → moved + a' ≤ b' + x + y → moved + a ≤ b + x + y + 2 * 0
-        sum moved a a' b b' x y e f less = omega (arith, e, f, less)
+    here : heft service tei v w ≡ weigh v n m
+    here = heft-is service tei v c d p q w n m near.stands far.stands
 
     abbrev moved_by : EndStep → ℕ
     moved_by act = cond {A = ℕ} (is_move_of act w) 1 0
@@ -96,33 +53,29 @@ module _ (service : Service) (tei : ℕ) where
       abbrev bit : Bool
       bit = is_granted (answered (request r) w.near)
 
-      reported : Granted service tei p w.near n own r rq aims s' → Pays v 0 0 (cond {A = ℕ} bit 1 0) w (record w { near = s' })
+      reported : Granted service tei p w.near n own r rq aims s' → Pays service tei v 0 0 (cond {A = ℕ} bit 1 0) w (record w { near = s' })
       reported g = grind (arith, append-nil, load, load_way, undelivered, heft-is, StationStands, here)
 
-      busy-pays : Pays v 0 0 (cond {A = ℕ} bit 1 0) w (acting (requests r) w)
+      busy-pays : Pays service tei v 0 0 (cond {A = ℕ} bit 1 0) w (acting (requests r) w)
       busy-pays = elim (asks-stands service tei p w.near n own r rq aims) [ inl e ↦ (grind arith) | inr g ↦ reported g ]
 
-    asks-pays : (r : Request) → IsAsked service tei r → Pays v 0 0 (reports_of (requests r) w) w (acting (requests r) w)
+    asks-pays : (r : Request) → IsAsked service tei r → Pays service tei v 0 0 (reports_of (requests r) w) w (acting (requests r) w)
     asks-pays r is =
-        for-asked service tei (λ r. Pays v 0 0 (reports_of (requests r) w) w (acting (requests r) w))
-        (λ octets. from-then _ 0 0 (then-asks service tei c d p q past_n past_m face v w n m near far low octets))
+        for-asked service tei (λ r. Pays service tei v 0 0 (reports_of (requests r) w) w (acting (requests r) w))
+        (λ octets. then-asks service tei c d p q past_n past_m face v w n m near far low octets)
         (busy-pays (SetBusy service tei) LinkSetBusy (λ l. refl) refl (grind (arith, one-waits, nothing-said, either)))
         (busy-pays (ClearBusy service tei) LinkClearBusy (λ l. refl) refl (ready-reports v n.terms n.link)) r is
 
     -- ---- a timer expires
 
-    expires-so : (timer : Timer) (its : LinkTimer) → Aims service tei timer its → May v n.terms n.link its → Pays v 0 1 0 w (acting (expires timer) w)
-    expires-so timer its aims may =
-        from-then (acting (expires timer) w) 0 1 (fairly-expires service tei c d p q past_n past_m face v w n m near far low timer its aims (timer-fairly v n.terms n.link its may))
-
-    pub expires-pays : (timer : Timer) → IsOfLink service tei timer → IsTimelyOf (expires timer) w → Pays v 0 1 0 w (acting (expires timer) w)
+    pub expires-pays : (timer : Timer) → IsOfLink service tei timer → IsTimelyOf (expires timer) w → Pays service tei v 0 1 0 w (acting (expires timer) w)
     expires-pays timer is x =
-        each-timer service tei (λ timer. IsTimelyOf (expires timer) w → Pays v 0 1 0 w (acting (expires timer) w))
-        (λ x. expires-so (timer_T200 service tei) T200 (λ l. refl) (λ e. may-there service tei c p w.near n near.stands x.1))
-        (λ x. expires-so (timer_T203 service tei) T203 (λ l. refl) (λ e. cc e)) timer is x
+        each-timer service tei (λ timer. IsTimelyOf (expires timer) w → Pays service tei v 0 1 0 w (acting (expires timer) w))
+        (λ x. fairly-expires service tei c d p q past_n past_m face v w n m near far low (timer_T200 service tei) T200 (λ l. refl) (timer-fairly v n.terms n.link T200 (λ e. may-there service tei c p w.near n near.stands x.1)))
+        (λ x. fairly-expires service tei c d p q past_n past_m face v w n m near far low (timer_T203 service tei) T203 (λ l. refl) (timer-fairly v n.terms n.link T203 (λ e. cc e))) timer is x
 
     -- ---- each act, but that it takes
 
-    pub acts-pays : (act : EndStep) → (act ≡ receives → ⊥) → IsFullTalkOf service tei act → IsTimelyOf act w → Pays v (moved_by act) (expiries_of act) (reports_of act w) w (acting act w)
+    pub acts-pays : (act : EndStep) → (act ≡ receives → ⊥) → IsFullTalkOf service tei act → IsTimelyOf act w → Pays service tei v (moved_by act) (expiries_of act) (reports_of act w) w (acting act w)
     acts-pays (requests r) not is x = asks-pays r is
-    acts-pays act o is x = grind (arith, expires-pays, from-then, then-gives, then-loses)
+    acts-pays act o is x = grind (arith, expires-pays, then-gives, then-loses)

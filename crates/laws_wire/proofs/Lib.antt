@@ -12,6 +12,7 @@ pub mod LineSpeaks
 pub mod Standing
 pub mod Talking
 pub mod Up
+pub mod Simulated
 pub mod Quiet
 pub mod BothAsking
 pub mod BothHalf
@@ -33,9 +34,6 @@ pub mod Firm
 pub mod Awaited
 pub mod TimelyFirst
 pub mod TimelyUp
-pub mod TimelyPhases
-pub mod TimelyRinging
-pub mod TimelyAnswered
 pub mod TimelyRun
 pub mod Loose
 pub mod Dense
@@ -53,6 +51,7 @@ pub mod OftenRun
 pub mod OftenMoves
 pub mod ExpiringMet
 pub mod LooseUp
+pub mod FirmUp
 pub mod UaBefore
 pub mod UaCalled
 pub mod UaCalledAt

@@ -1,13 +1,13 @@
 -- The second phase of such a call: one end still rings, and the other is up.
-use Rattle.laws_wire.proofs.Vocabulary.{arith, ◌≡◌, ℕ, true, List, [], ◌∷◌, ◌++◌, refl, sym, ap, subst, ◌∙◌, ◌⊎◌, inl, inr, append-nil, All-head, Service, Parts, spelling, Terms, course, IsInRange, LinkEndpoint, frames_of, Config, terms, Endpoint, Wire, with_first_of, without_first, EndStep, requests, expires, sends, receives, loses, acting, turned, frame_comes}
-use Rattle.laws_wire.proofs.Vocabulary.{indicated, IsRoughTalkOf, own_side}
+use Rattle.laws_wire.proofs.Vocabulary.{arith, ◌≡◌, ℕ, true, List, [], ◌∷◌, ◌++◌, refl, sym, ap, subst, ◌∙◌, ◌⊎◌, inl, inr, append-nil, All-head, Service, Parts, spelling, Terms, course, IsInRange, LinkEndpoint, frames_of, Config, terms, Endpoint, Wire, with_first_of, without_first, EndStep, requests, expires, sends, receives, loses, acting, turned, frame_comes, All-nil, indicated, IsRoughTalkOf}
+use Rattle.laws_wire.proofs.Vocabulary.{own_side}
 use Rattle.model_link.specs.Events as link
 use Rattle.laws_wire.proofs.Acting.{Acted, up-asks, up-expires, up-gives, up-loses}
 use Rattle.laws_wire.proofs.Calling.{sabme, ua, end, caller}
 use Rattle.laws_wire.proofs.Fair.{HasError, sabme-error}
 use Rattle.laws_wire.proofs.Held.{Erred, now-erred, taken-told}
 use Rattle.laws_wire.proofs.Joint.{Joint, IsMeant}
-use Rattle.laws_wire.proofs.LossyPhases.{made, for-data, for-timer, first-way, empty, UaOrNone, IsHalf, Went, as-up, no-take, no-take_far, no-loss_far, reface}
+use Rattle.laws_wire.proofs.LossyPhases.{made, for-data, for-timer, first-way, empty, UaOrNone, IsHalf, Went, as-up, no-take, no-take_far, no-loss_far}
 use Rattle.laws_wire.proofs.Ringing.{ringing, answered, IsSabme, AreSabmes}
 use Rattle.laws_wire.proofs.StillRinging.{StillRings, rings-asks, rings-expires, rings-gives, rings-loses, ignores-frame, hears-ua}
 use Rattle.laws_wire.proofs.Talking.{Face}
@@ -63,11 +63,13 @@ module _ (service : Service) (tei : ℕ) (c d : Config) (p q : ℕ) (face : Face
           n = n';
           m = x.n;
           first = h.way ++ frames_of t h.waiting;
+          second = [];
           there = [];
           here = x.near;
           sabmes = h.sabmes;
+          others = All-nil (IsSabme u);
           near = record { held = held; up = refl; line = sym (append-nil (h.way ++ frames_of t h.waiting)); joint = (record { there = there.back; back = there.there }) };
-          far = reface service tei c d p q (indicated service tei ∷ []) d q (without_first w.far) x.n (end t caller []) n' [] x.near [] x.at there;
+          far = record { held = x.at.held; up = x.at.up; line = x.at.line; joint = there };
         })
 
     -- what was before the line
@@ -76,14 +78,13 @@ module _ (service : Service) (tei : ℕ) (c d : Config) (p q : ℕ) (face : Face
 
     half-takes : (way : List Parts) → h.m.way ≡ way → Leads (acting receives w)
     half-takes [] e = no-take service tei c d p q w (empty service tei d q _ w.far h.m h.far.held e) (inl (inr (inl h)))
-    half-takes (f ∷ fs) e = go (up-loses service tei q _ d w.far h.m (end t caller []) h.first h.line [] h.far f fs e).lost
-      where
-        go : ((h.first ≡ []) × IsMeant f × Acted service tei q (indicated service tei ∷ []) d (without_first w.far) (end t caller []) h.first [])
-            ⊎ ((others : List Parts) × (h.first ≡ f ∷ others) × Acted service tei q (indicated service tei ∷ []) d (without_first w.far) (end t caller []) others []) → Leads (acting receives w)
-        go (inl (none, meant, x)) = unheard-by f fs e meant x
-        go (inr (others, is, x)) =
-            let only = only-ua f others is in
-            confirms fs (e ∙ ap (λ y. y ∷ fs) only.0) (subst (λ first. Acted service tei q (indicated service tei ∷ []) d (without_first w.far) (end t caller []) first []) only.1 x)
+    half-takes (f ∷ fs) e =
+        elim (up-loses service tei q _ d w.far h.m (end t caller []) h.first h.line [] h.far f fs e).lost [
+          | inl x ↦ unheard-by f fs e x.1 x.2
+          | inr x ↦
+              let only = only-ua f x.0 x.1 in
+              confirms fs (e ∙ ap (λ y. y ∷ fs) only.0) (subst (λ first. Acted service tei q (indicated service tei ∷ []) d (without_first w.far) (end t caller []) first []) only.1 x.2)
+        ]
 
     pub half-near : (act : EndStep) → IsRoughTalkOf service tei act → Leads (acting act w)
     half-near (requests r) is =

@@ -6,7 +6,6 @@ use Rattle.model_link.specs.declared.timers.LinkTimer.TheVariants as link_timer
 use Rattle.laws_wire.proofs.Acting.{UpAt}
 use Rattle.laws_wire.proofs.Calling.{ua, end, caller}
 use Rattle.laws_wire.proofs.Held.{Held, Erred}
-use Rattle.laws_wire.proofs.Joint.{Joint}
 use Rattle.laws_wire.proofs.Ringing.{ringing, IsSabme, AreSabmes, Tries}
 use Rattle.laws_wire.proofs.Standing.{IsCarried}
 use Rattle.laws_wire.proofs.Answered.{lost-none, takes-none}
@@ -41,6 +40,23 @@ module _ (service : Service) (tei : ℕ) where
     pub empty : s.way ≡ []
     empty = h.stands.way ∙ ap (map (spelling (own_side k))) none
 
+  -- Both ends are up, and SABMEs may still be on either way, before what a link that is up sends.
+  pub record IsUpWith (c d : Config) (p q : ℕ) (past other : List LineTold) (w : Wire) : Type 0 where
+    pub n : LinkEndpoint
+    pub m : LinkEndpoint
+    pub first : List Parts
+    pub second : List Parts
+    pub there : List Parts
+    pub here : List Parts
+    pub sabmes : All (IsSabme (terms c service tei)) first
+    pub others : All (IsSabme (terms d service tei)) second
+    pub near : UpAt service tei p past c w.near n m first there here
+    pub far : UpAt service tei q other d w.far m n second here there
+
+  abbrev pub turned-with : (c d : Config) (p q : ℕ) (past other : List LineTold) (w : Wire) → IsUpWith c d p q past other w → IsUpWith d c q p other past (turned w)
+  turned-with c d p q past other w h =
+      record { n = h.m; m = h.n; first = h.second; second = h.first; there = h.here; here = h.there; sabmes = h.others; others = h.sabmes; near = h.far; far = h.near }
+
   module _ (c d : Config) (p q : ℕ) where
     abbrev t : Terms
     t = terms c service tei
@@ -73,15 +89,8 @@ module _ (service : Service) (tei : ℕ) where
       pub is_ua : UaOrNone first
       pub far : UpAt service tei q (indicated service tei ∷ []) d w.far m (end t caller []) first line []
 
-    pub record IsUp (w : Wire) : Type 0 where
-      pub n : LinkEndpoint
-      pub m : LinkEndpoint
-      pub first : List Parts
-      pub there : List Parts
-      pub here : List Parts
-      pub sabmes : All (IsSabme t) first
-      pub near : UpAt service tei p (confirmed service tei ∷ []) c w.near n m first there here
-      pub far : UpAt service tei q (indicated service tei ∷ []) d w.far m n [] here there
+    abbrev pub IsUp : Wire → Type 0
+    IsUp w = IsUpWith c d p q (confirmed service tei ∷ []) (indicated service tei ∷ []) w
 
     abbrev pub Goes : Wire → Type 0
     Goes w = IsRinging w ⊎ IsHalf w ⊎ IsUp w
@@ -102,13 +111,5 @@ module _ (service : Service) (tei : ℕ) where
     pub no-take_far : (w : Wire) → w.near.way ≡ [] → Went w → Went (turned (acting receives (turned w)))
     no-take_far w e h = subst Went (sym (ap turned (takes-none (turned w) e))) h
 
-    pub no-loss : (w : Wire) → w.near.way ≡ [] → Went w → Went (acting loses w)
-    no-loss w e h = subst (λ s. Went (record w { near = s })) (sym (lost-none w.near e)) h
-
     pub no-loss_far : (w : Wire) → w.far.way ≡ [] → Went w → Went (turned (acting loses (turned w)))
     no-loss_far w e h = subst (λ s. Went (made w s)) (sym (lost-none w.far e)) h
-
-    -- an up end that has another before it
-    pub reface : (past : List LineTold) (k : Config) (place : ℕ) (s : Endpoint) (m n n' : LinkEndpoint) (first near far : List Parts) → UpAt service tei place past k s m n first near far → Joint m n' near far
-        → UpAt service tei place past k s m n' first near far
-    reface past k place s m n n' first near far h joint = record { held = h.held; up = h.up; line = h.line; joint = joint }

@@ -1,12 +1,12 @@
 -- The first phase of such a call: one end rings, and the other is down.
-use Rattle.laws_wire.proofs.Vocabulary.{◌≡◌, ℕ, false, List, [], ◌∷◌, ◌++◌, drop, None, refl, sym, ap, subst, ◌∙◌, ◌⊎◌, inl, inr, arith, All-head, Service, Parts, Terms, fresh, IsInRange, frames_of, Config, request, terms, refusal, Data, Endpoint, Wire, happens, EndStep, requests, expires, sends, receives, loses, acting, turned}
-use Rattle.laws_wire.proofs.Vocabulary.{IsRoughTalkOf, LinkData}
+use Rattle.laws_wire.proofs.Vocabulary.{◌≡◌, ℕ, List, [], ◌∷◌, ◌++◌, drop, refl, ap, subst, ◌∙◌, ◌⊎◌, inl, inr, arith, All-head, Service, Parts, Terms, fresh, IsInRange, frames_of, Config, request, terms, Data, Endpoint, Wire, happens, EndStep, requests, expires, sends, receives, loses, acting, turned, IsRoughTalkOf}
 use Rattle.laws_wire.proofs.Calling.{sabme, ua, end, answering}
-use Rattle.laws_wire.proofs.Held.{Held, Erred, held-given, held-lost, held-expired, held-asked}
+use Rattle.laws_wire.proofs.Held.{Held, Erred, held-given, held-lost, held-expired}
 use Rattle.laws_wire.proofs.LossyPhases.{made, for-data, for-timer, empty, IsRinging, Went, no-take, no-take_far}
 use Rattle.laws_wire.proofs.Ringing.{ringing, IsSabme, AreSabmes, one-sabme_less}
 use Rattle.laws_wire.proofs.StillRinging.{StillRings, rings-asks, rings-expires, rings-gives, rings-loses, hears-sabme}
 use Rattle.laws_wire.proofs.Talking.{Face}
+use Rattle.laws_wire.proofs.TimelyFirst.{asks-still}
 
 module _ (service : Service) (tei : ℕ) (c d : Config) (p q : ℕ) (face : Face c d) (back : Face d c) (rt : IsInRange (terms c service tei)) (ru : IsInRange (terms d service tei)) where
   abbrev t : Terms
@@ -39,11 +39,7 @@ module _ (service : Service) (tei : ℕ) (c d : Config) (p q : ℕ) (face : Face
     down-with s x = inl (inl (record { repeats = h.repeats; waiting = h.waiting; way = h.way; near = h.near; far = x; sabmes = h.sabmes }))
 
     down-asks : (octets : List ℕ) → Leads (made w (happens (request (Data service tei octets)) w.far))
-    down-asks octets =
-        elim (held-asked service tei q [] d w.far (end u fresh []) h.far octets) [
-          | inl same ↦ subst (λ s. Leads (made w s)) (sym same) (inl (inl h))
-          | inr x ↦ let none : refusal u fresh false (LinkData octets) ≡ None = x.none in absurd (cc)
-        ]
+    down-asks octets = down-with _ (asks-still service tei d q [] w.far (end u fresh []) h.far (Data service tei octets) (refl, refl) refl)
 
     -- SABME comes
     answers : (fs : List Parts) → h.way ≡ sabme t ∷ fs → Leads (turned (acting receives (turned w)))

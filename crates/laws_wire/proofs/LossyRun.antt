@@ -1,17 +1,17 @@
 -- A whole call in which frames are lost and timers expire: what layer 3 of each was told, as long as no error was.
-use Rattle.laws_wire.proofs.Vocabulary.{arith, ◌≡◌, ℕ, List, [], ◌∷◌, ◌++◌, map, take, refl, sym, ap, ◌∙◌, inl, inr, append-nil, All, flat_map, All-nil, All-cons, All-head, All-tail, Service, fresh, IsInRange, LinkEndpoint, Config, LineTold, terms, terms_in_range, Endpoint, Wire, EndStep, StepAt, at_near, at_far, acting, doing, doing_all, calling, CanCall, confirmed, indicated}
+use Rattle.laws_wire.proofs.Vocabulary.{arith, ◌≡◌, ℕ, List, [], ◌∷◌, ◌++◌, map, take, refl, sym, ap, ◌∙◌, inl, inr, append-nil, All, flat_map, All-nil, All-cons, All-head, All-tail, Service, fresh, IsInRange, LinkEndpoint, Config, LineTold, terms, terms_in_range, Endpoint, Wire, EndStep, StepAt, at_near, at_far, acting, doing, doing_all, calling, CanCall, confirmed, indicated, turned}
 use Rattle.laws_wire.proofs.Vocabulary.{data_told, IsBeginningOf, for_layer_3, heard_in, HasNoError, IsRoughTalk, CallsAreToldInOrder, list_any-append}
 use Rattle.laws_wire.proofs.Beginning.{calls, answers}
 use Rattle.laws_wire.proofs.Calling.{asked, sabme, end}
 use Rattle.laws_wire.proofs.Held.{Held, not-erred}
 use Rattle.laws_wire.proofs.LossyHalf.{half-near, half-far}
-use Rattle.laws_wire.proofs.LossyPhases.{IsRinging, Goes, HasErred, Went}
+use Rattle.laws_wire.proofs.LossyPhases.{IsRinging, Goes, HasErred, Went, as-up, turned-with}
 use Rattle.laws_wire.proofs.LossyRinging.{ringing-near, ringing-far}
-use Rattle.laws_wire.proofs.LossyUp.{up-near_acts, up-far_acts}
 use Rattle.laws_wire.proofs.Ringing.{ringing, IsSabme, none_tried}
 use Rattle.laws_wire.proofs.SoFar.{at-first, then-data}
 use Rattle.laws_wire.proofs.Spelled.{sides-turned}
 use Rattle.laws_wire.proofs.Talking.{Face, unheard, Holds, none-told}
+use Rattle.laws_wire.proofs.LossyUp.{up-acts}
 
 -- what was told stays told
 pub record More (s s' : Endpoint) : Type 0 where
@@ -28,10 +28,19 @@ module _ (service : Service) (tei : ℕ) (c d : Config) (p q : ℕ) (face : Face
   pub goes : (k : StepAt) → IsRoughTalk service tei k → (w : Wire) → Goes service tei c d p q w → Leads (doing k w)
   goes (at_near act) is w (inl h) = ringing-near service tei c d p q face back rt ru w h act is
   goes (at_near act) is w (inr (inl h)) = half-near service tei c d p q face back rt ru w h act is
-  goes (at_near act) is w (inr (inr h)) = up-near_acts service tei c d p q face back rt ru w h act is
+  goes (at_near act) is w (inr (inr h)) =
+      elim (up-acts service tei c d p q face (confirmed service tei ∷ []) (indicated service tei ∷ []) w h act is) [ inl y ↦ as-up service tei c d p q (acting act w) y | inr e ↦ inr e ]
   goes (at_far act) is w (inl h) = ringing-far service tei c d p q face back rt ru w h act is
   goes (at_far act) is w (inr (inl h)) = half-far service tei c d p q face back rt ru w h act is
-  goes (at_far act) is w (inr (inr h)) = up-far_acts service tei c d p q face back rt ru w h act is
+  goes (at_far act) is w (inr (inr h)) =
+      let first = confirmed service tei ∷ [] in
+      let second = indicated service tei ∷ [] in
+      let v = acting act (turned w) in
+      elim (up-acts service tei d c q p back second first (turned w) (turned-with service tei c d p q first second w h) act is) [
+        | inl y ↦ as-up service tei c d p q (turned v) (turned-with service tei d c q p second first v y)
+        | inr (inl e) ↦ inr (inr e)
+        | inr (inr e) ↦ inr (inl e)
+      ]
 
   pub errs : (k : StepAt) (w : Wire) → HasErred service tei c d p q w → HasErred service tei c d p q (doing k w)
   errs o w x = grind (arith, list_any-append)

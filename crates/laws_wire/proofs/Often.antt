@@ -1,16 +1,16 @@
 -- How often T200 of an end runs out once nothing more is lost: the first time, and then once for each content at most that it sent.
-use Rattle.laws_wire.proofs.Vocabulary.{◌≡◌, ℕ, ◌+◌, ◌≤◌, ◌<◌, Bool, true, false, cond, IsTrue, List, [], ◌∷◌, ◌++◌, refl, sym, ap, subst, ◌∙◌, ◌⊎◌, inl, inr, arith, true≢false, Some, Parts, Seq, seq, State, Established, TimerRecovery, LinkTimer, T203, received, expired, Link, is_multiple_frame, is_running, LinkEndpoint, with_link, with_sent, frames_of, named-within, frame-taken, Means, Rising}
-use Rattle.laws_wire.proofs.Vocabulary.{rising-low, named-number, course, offer, answer-says}
-use Rattle.laws_wire.proofs.Vocabulary.{is_recovering, Heard, Flow, offer-goes, heard, line, Longer, line-longer, NoAlien, Kind, numbered, enquiry, answer, report, rejection, alien, kind_of, kinds_of, kinds-append, tally, one_enquiry, one_answer, Calm, Every, T200, frame, after, line_of}
+use Rattle.laws_wire.proofs.Vocabulary.{◌≡◌, ℕ, ◌+◌, ◌≤◌, ◌<◌, true, IsTrue, List, [], ◌∷◌, ◌++◌, refl, sym, ap, subst, ◌∙◌, ◌⊎◌, inl, inr, arith, Parts, Seq, seq, Established, TimerRecovery, LinkTimer, received, expired, Link, is_multiple_frame, is_running, LinkEndpoint, with_link, with_sent, frames_of, named-within, frame-taken, Rising, rising-low, named-number, course, offer, answer-says}
+use Rattle.laws_wire.proofs.Vocabulary.{is_recovering, Heard, offer-goes}
+use Rattle.laws_wire.proofs.Vocabulary.{heard, line, Longer, line-longer, NoAlien, Kind, numbered, enquiry, answer, report, rejection, alien, kind_of, kinds_of, kinds-append, tally, one_enquiry, one_answer, Calm, Every, T200, frame, after, line_of}
 use Rattle.laws_link.proofs.OfTwo.Going.{Gives, Offered}
 use Rattle.laws_link.specs.two.Timely.{IsTimely}
-use Rattle.laws_wire.proofs.Dense.{Dense, dense-push, dense-next}
-use Rattle.laws_wire.proofs.Firm.{Firm, firm-takes}
+use Rattle.laws_wire.proofs.Dense.{Dense, dense-push}
+use Rattle.laws_wire.proofs.Firm.{Firm}
 use Rattle.laws_wire.proofs.Lively.{Lively, lively-heard, lively-offers}
-use Rattle.laws_wire.proofs.Replying.{Enquired, line-push, expires-so, asks-so, next-taken}
+use Rattle.laws_wire.proofs.Replying.{Enquired, line-push, expires-so, asks-so}
 use Rattle.laws_wire.proofs.Roomy.{kinds, none-asked, none-answered}
 use Rattle.laws_wire.proofs.Tame.{IsFree}
-use Rattle.laws_wire.proofs.Sure.{Asking, Steady, Sure, room-for, none-open, back, known, there, high, near, hears-number, sure-begins, sure-sends, sure-hears}
+use Rattle.laws_wire.proofs.Sure.{Sure, room-for, none-open, known, there, high, near, hears-number, sure-begins, sure-sends, sure-hears}
 
 -- where nothing is on the way that has a number, it has all come
 calm-ends : (lo hi : ℕ) (xs : List Kind) → Every Calm xs → Dense lo hi xs → lo ≡ hi

@@ -1,6 +1,5 @@
 -- What the other end does leaves it as it was how often T200 ran out, once nothing more is lost.
-use Rattle.laws_wire.proofs.Vocabulary.{◌≡◌, ℕ, ◌+◌, ◌≤◌, Bool, true, false, IsTrue, List, [], ◌∷◌, refl, sym, ap, subst, ◌∙◌, ◌⊎◌, inl, inr, eq-eqb, arith, Control, Parts, Seq, seq, LinkTimer, received, expired, Link, is_multiple_frame, LinkEndpoint, with_link, is_recovering, Heard, heard, line, NoAlien, Kind, numbered, enquiry, answer, report, rejection, alien, kind_of, frame, after, line_of}
-use Rattle.laws_wire.proofs.Vocabulary.{begun, frame_step, Information, Terms, Course, Rising}
+use Rattle.laws_wire.proofs.Vocabulary.{◌≡◌, ℕ, ◌+◌, ◌≤◌, Bool, true, false, IsTrue, List, ◌∷◌, refl, sym, ap, subst, ◌⊎◌, inl, inr, eq-eqb, arith, Control, Parts, Seq, seq, LinkTimer, received, expired, Link, is_multiple_frame, LinkEndpoint, with_link, is_recovering, Heard, heard, line, NoAlien, Kind, numbered, answer, rejection, alien, kind_of, frame, after, line_of, begun, frame_step, Rising}
 use Rattle.laws_link.specs.two.Timely.{IsTimely}
 use Rattle.laws_wire.proofs.Dense.{Dense, Replies}
 use Rattle.laws_wire.proofs.Firm.{Firm}

@@ -1,9 +1,7 @@
 -- However T200 expires, once nothing more is lost and nothing more is granted there are so many moves at most.
-use Rattle.laws_wire.proofs.Vocabulary.{◌≡◌, ℕ, ◌+◌, ◌-◌, ◌*◌, ◌≤◌, LineTold, Endpoint, data_told, length-map, List, [], ◌∷◌, ◌++◌, length, sym, ap, subst, ◌∙◌, inl, inr, arith, All, All-append, Service, Config, terms, Wire, StepAt, doing_all, calling, CanCall, granted_of, heard_in, IsRoughTalk, HasNoErrors, moves, expiries, most_frames, most_left, frames_left, notes_left, StayTimely, GoesOn}
-use Rattle.laws_wire.proofs.Vocabulary.{near_asks, far_asks, confirmed, indicated, all_told}
+use Rattle.laws_wire.proofs.Vocabulary.{◌≡◌, ℕ, ◌+◌, ◌*◌, ◌≤◌, LineTold, Endpoint, data_told, length-map, List, ◌++◌, length, sym, subst, inl, inr, arith, All, All-append, Service, Config, terms, Wire, StepAt, doing_all, calling, CanCall, granted_of, IsRoughTalk, HasNoErrors, moves, expiries, most_frames, most_left, frames_left, notes_left, StayTimely, GoesOn, confirmed, indicated, all_told}
 use Rattle.std.proofs.Math.Nat.{mul-le-mul_left}
-use Rattle.laws_wire.specs.Expiring.{how_often, most_since, MovesComeToAnEndAsT200Expires}
-use Rattle.laws_wire.specs.Losing.{due_near, due_far}
+use Rattle.laws_wire.specs.Expiring.{MovesComeToAnEndAsT200Expires}
 use Rattle.laws_wire.proofs.LeftToDo.{weighs-left}
 use Rattle.laws_wire.proofs.LossyPhases.{IsUp, Goes as Phases}
 use Rattle.laws_wire.proofs.LossyRun.{Setting, setting, fair-goes}

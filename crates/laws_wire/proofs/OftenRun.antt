@@ -1,17 +1,19 @@
 -- A call from nothing, in which nothing is lost any more from some time on: how often T200 of either end runs out since.
-use Rattle.laws_wire.proofs.Vocabulary.{◌≡◌, ℕ, ◌+◌, ◌≤◌, true, false, ◌&&◌, Bool, cond, IsTrue, List, [], ◌∷◌, ◌++◌, length, map, drop, refl, sym, ap, subst, ◌∙◌, ◌⊎◌, inl, inr, true≢false, arith, All, All-head, All-tail, Service, Timer, Parts, TimerRecovery, LinkTimer, T203, is_multiple_frame, LinkEndpoint, with_link, with_sent, Config, LineTold, request, awaits_answer, CanRepeat, length-map}
-use Rattle.laws_wire.proofs.Vocabulary.{length-append, length-take-le, all_told}
-use Rattle.laws_wire.proofs.Vocabulary.{T200, line_of, rising-low, flows-low, Data, Endpoint, Wire, happens, EndStep, requests, expires, sends, receives, loses, acting, turned, StepAt, at_near, at_far, doing, doing_all, calling, confirmed, indicated, data_told, heard_in, IsRoughTalkOf, IsRoughTalk, IsTimelyOf, IsTimely, StayTimely, LosesNothing, runs_t200, is_t200}
-use Rattle.laws_wire.proofs.Vocabulary.{near_asks, far_asks, offer-goes, expired, timer_T200, timer_T203, two_ends_with_first_of, two_ends_without_first}
+use Rattle.laws_wire.proofs.Vocabulary.{◌≡◌, ℕ, ◌+◌, ◌≤◌, true, false, ◌&&◌, Bool, cond, List, [], ◌∷◌, length, map, drop, refl, sym, ap, subst, ◌∙◌, ◌⊎◌, inl, inr, arith, All, All-head, All-tail, Service, Parts, T203, LinkEndpoint, with_sent, Config, LineTold, length-map, length-append, length-take-le, all_told, T200, line_of, rising-low, flows-low, Endpoint, Wire, EndStep, requests, expires}
+use Rattle.laws_wire.proofs.Vocabulary.{sends, receives, loses, acting}
+use Rattle.laws_wire.proofs.Vocabulary.{turned, StepAt, at_near, at_far, doing, doing_all, calling, confirmed, indicated, data_told, heard_in, IsRoughTalkOf, IsRoughTalk, IsTimelyOf, IsTimely, StayTimely, LosesNothing, runs_t200, is_t200, near_asks, far_asks, offer-goes, two_ends_acting, Ends, timer_T200, timer_T203, two_ends_with_first_of}
 use Rattle.laws_link.specs.two.Timely as two_links
 unfoldable use Rattle.laws_wire.specs.Expiring.{how_often}
 use Rattle.laws_wire.specs.Expiring.{ExpiriesComeToAnEnd}
 use Rattle.laws_wire.specs.Losing.{due_near, due_far}
-use Rattle.laws_wire.proofs.Asking.{with_more, asked-form}
-use Rattle.laws_wire.proofs.Awaited.{closed, may-there, long-there, runs-up}
-use Rattle.laws_wire.proofs.Firm.{Firm, firm-turned, firm-asks, firm-takes}
-use Rattle.laws_wire.proofs.Held.{Held, Grants, held-asked}
-use Rattle.laws_wire.proofs.LossyPhases.{for-data, Aims}
+use Rattle.laws_wire.proofs.Asking.{with_more, asked-or}
+use Rattle.laws_wire.proofs.Awaited.{runs-up}
+use Rattle.laws_wire.proofs.Firm.{Firm, firm-turned}
+use Rattle.laws_wire.proofs.FirmUp.{BothUp, turned-up, up-does}
+use Rattle.laws_wire.proofs.LooseUp.{IsRequest}
+use Rattle.laws_wire.proofs.Held.{Held}
+use Rattle.laws_wire.proofs.LossyPhases.{for-data}
+use Rattle.laws_wire.proofs.Simulated.{step_of, timer_of}
 use Rattle.laws_wire.proofs.LossyRun.{setting}
 use Rattle.laws_wire.proofs.Often.{Often, In7, In8, often-by, often-expires, often-counts, often-sends, often-hears}
 use Rattle.laws_wire.proofs.OftenHeard.{often-replied, often-other-expires, often-other-hears}
@@ -19,9 +21,7 @@ use Rattle.laws_wire.proofs.Replying.{offer-says}
 use Rattle.laws_wire.proofs.Sure.{Sure, sure-expires}
 use Rattle.laws_wire.proofs.Talking.{Face}
 use Rattle.laws_wire.proofs.Tame.{IsFreeFrame}
-use Rattle.laws_wire.proofs.TimelyRun.{starts, runs}
-use Rattle.laws_wire.proofs.TimelyUp.{each-timer, never, AreUp, BothUp, turned-up, up-gives, up-takes, up-expires}
-use Rattle.laws_wire.proofs.UnderwayRun.{are-up}
+use Rattle.laws_wire.proofs.TimelyRun.{are-up, on-time}
 
 -- V(A) is not after V(S)
 acked-low : (n m : LinkEndpoint) → Firm n m → n.link.a ≤ n.link.s
@@ -89,85 +89,62 @@ module _ (service : Service) (tei : ℕ) where
     low : n.link.a ≤ n.link.s
     low = acked-low n m firm
 
-    abbrev Now : ℕ → Wire → Type 0
-    Now more w' = OftenUp c d p q past other o (e + more) o' e' w'
+    abbrev ends : Ends
+    ends = record { near = n; far = m }
 
-    none-more : e ≡ e + 0
-    none-more = omega arith
+    abbrev x : EndStep → LinkEndpoint
+    x act = (two_ends_acting (step_of act) ends).near
 
-    same-count : (w' : Wire) → OftenUp c d p q past other o e o' e' w' → Now 0 w'
-    same-count w' x = subst (λ e. OftenUp c d p q past other o e o' e' w') none-more x
+    abbrev y : EndStep → LinkEndpoint
+    y act = (two_ends_acting (step_of act) ends).far
 
-    asks-data : (octets : List ℕ) → Now 0 (acting (requests (Data service tei octets)) w)
-    asks-data octets = same-count (acting (requests (Data service tei octets)) w) (go (held-asked service tei p past c w.near n h.up.near octets))
+    abbrev more : EndStep → ℕ
+    more act = Count (is_t200 act && runs_t200 service tei w.near)
+
+    as-often : (n' m' : LinkEndpoint) → Often o e n' m' → Often o (e + 0) n' m'
+    as-often n' m' f = let none : e ≡ e + 0 = omega arith in subst (λ e. Often o e n' m') none f
+
+    -- as something is done at the end
+    there-after : (act : EndStep) → IsRoughTalkOf service tei act → LosesNothing (at_near act) → two_links.IsTimelyStep (step_of act) n m → Firm (x act) (y act) → Often o (e + more act) (x act) (y act)
+    there-after (requests r) is kept timely then =
+        as-often (x (requests r)) m
+        (for-data service tei (λ r. Often o e (x (requests r)) m)
+        (λ octets. asked-or octets n (λ n. Often o e n m) h.there (often-by o e n m (with_more octets n) m (omega arith) (λ s. grind arith) (λ s x. x) h.there)) r is)
+    there-after (expires (timer_T200 s t)) is kept timely then = go (runs_t200 service tei w.near) refl
       where
-        s' : Endpoint
-        s' = happens (request (Data service tei octets)) w.near
+        go : (b : Bool) → runs_t200 service tei w.near ≡ b → Often o (e + Count b) (x (expires (timer_T200 s t))) m
+        go true runs =
+            often-counts o e n m firm wide timely.1 (sym (runs-up service tei c p w.near n h.up.near.stands firm.joined.near_up) ∙ runs) then.joined.near_up low h.there
+        go false runs =
+            as-often (x (expires (timer_T200 s t))) m
+            (often-expires o e n m firm wide T200 timely.1 then.joined.near_up low (sure-expires n m firm wide T200 timely.1 then.joined.near_up) h.there)
+    there-after (expires (timer_T203 s t)) is kept timely then =
+        as-often (x (expires (timer_T203 s t))) m (often-expires o e n m firm wide T203 timely.1 then.joined.near_up low (sure-expires n m firm wide T203 timely.1 then.joined.near_up) h.there)
+    there-after (expires timer) is kept timely then = elim is [ ]
+    there-after sends is kept timely then = as-often (x sends) m (often-sends o e n m firm wide low h.there)
+    there-after receives is kept timely then = as-often (x receives) (y receives) (hears-first o e n m firm wide m.way refl then h.there)
+    there-after loses is kept timely then = absurd kept
 
-        sure : Sure n m → Sure (with_more octets n) m
-        sure s = grind arith
+    back-after : (act : EndStep) → IsRoughTalkOf service tei act → LosesNothing (at_near act) → two_links.IsTimelyStep (step_of act) n m → Firm (x act) (y act) → Often o' e' (y act) (x act)
+    back-after (requests r) is kept timely then =
+        for-data service tei (λ r. Often o' e' m (x (requests r)))
+        (λ octets. asked-or octets n (Often o' e' m) h.back (often-replied o' e' n m firm.joined.back.rising (with_more octets n).link n.way n.delivered refl (inl (refl, refl)) h.back)) r is
+    back-after (expires timer) is kept timely then = often-other-expires o' e' n m firm wide (timer_of timer) timely.1 then.joined.near_up h.back
+    back-after sends is kept timely then =
+        often-replied o' e' n m firm.joined.back.rising (with_sent n).link (with_sent n).way n.delivered (offer-goes n.terms n.link).r (offer-says n.terms n.link n.way) h.back
+    back-after receives is kept timely then = takes-first o' e' n m firm wide m.way refl then h.back
+    back-after loses is kept timely then = absurd kept
 
-        go : (s' ≡ w.near) ⊎ Grants service tei p past c w.near n h.up.near octets s' → OftenUp c d p q past other o e o' e' (record w { near = s' })
-        go (inl same) = subst (λ s. OftenUp c d p q past other o e o' e' (record w { near = s })) (sym same) h
-        go (inr x) = record {
-          n = with_more octets n;
-          m = m;
-          up = record { near = x.held; far = h.up.far; firm = subst (λ y. Firm y m) (asked-form octets n x.none) (firm-asks n m firm octets) };
-          there = often-by o e n m (with_more octets n) m (omega arith) sure (λ s x. x) h.there;
-          back = often-replied o' e' n m firm.joined.back.rising (with_more octets n).link n.way n.delivered refl (inl (refl, refl)) h.back;
-        }
-
-    abbrev After : LinkTimer → LinkEndpoint
-    After its = with_link (expired its) n
-
-    expires-by : (timer : Timer) (its : LinkTimer) (more : ℕ) → Aims service tei timer its → (can : CanRepeat its n) (timely : two_links.IsTimely its n m)
-        → (IsTrue (is_multiple_frame (After its).link.state) → Often o (e + more) (After its) m) → Now more (acting (expires timer) w)
-    expires-by timer its more aims can timely counts =
-        let up = up-expires service tei c d p q face past other w n m h.up timer its aims can timely in
-        record { n = After its; m = m; up = up; there = counts up.firm.joined.near_up; back = often-other-expires o' e' n m firm wide its timely up.firm.joined.near_up h.back }
-
-    expires-t200 : IsTimelyOf (expires (timer_T200 service tei)) w → Now (Count (runs_t200 service tei w.near)) (acting (expires (timer_T200 service tei)) w)
-    expires-t200 (long, may) =
-        let there = may-there service tei c p w.near n h.up.near.stands may in
-        let none = λ (state : n.link.state ≡ TimerRecovery).
-        closed n m (long-there service tei c d p q w.near w.far n m h.up.near.stands h.up.far.stands long (ap awaits_answer state)) in
-        let timely : two_links.IsTimely T200 n m = λ state running. none state in
-        expires-by (timer_T200 service tei) T200 (Count (runs_t200 service tei w.near)) (λ l. refl) (λ state running. there (ap awaits_answer state) running) timely
-        (λ up. go up timely (runs_t200 service tei w.near) refl)
+    often-acts : (act : EndStep) → IsRoughTalkOf service tei act → LosesNothing (at_near act) → IsTimelyOf act w → OftenUp c d p q past other o (e + more act) o' e' (acting act w)
+    often-acts act is kept in_time =
+        elim (up-does service tei c d p q face past other w n m h.up act is in_time) [
+          | inl (its, same) ↦ subst (OftenUp c d p q past other o (e + more act) o' e') (sym same) (subst (λ k. OftenUp c d p q past other o k o' e' w) (no-more act its) h)
+          | inr z ↦ record { n = x act; m = y act; up = z.up; there = there-after act is kept z.timely z.up.firm; back = back-after act is kept z.timely z.up.firm }
+        ]
       where
-        go : IsTrue (is_multiple_frame (After T200).link.state) → two_links.IsTimely T200 n m → (b : Bool) → runs_t200 service tei w.near ≡ b → Often o (e + Count b) (After T200) m
-        go up timely true is = often-counts o e n m firm wide timely (sym (runs-up service tei c p w.near n h.up.near.stands firm.joined.near_up) ∙ is) up low h.there
-        go up timely false is =
-            subst (λ e. Often o e (After T200) m) none-more
-            (often-expires o e n m firm wide T200 timely up low (sure-expires n m firm wide T200 timely up) h.there)
-
-    expires-t203 : Now 0 (acting (expires (timer_T203 service tei)) w)
-    expires-t203 =
-        let timely : two_links.IsTimely T203 n m = λ state running. absurd (never service tei c p past w.near n h.up.near firm.near_sane.timed state running) in
-        expires-by (timer_T203 service tei) T203 0 (λ l. refl) (λ state running. absurd (never service tei c p past w.near n h.up.near firm.near_sane.timed state running)) timely
-        (λ up. subst (λ e. Often o e (After T203) m) none-more (often-expires o e n m firm wide T203 timely up low (sure-expires n m firm wide T203 timely up) h.there))
-
-    often-acts : (act : EndStep) → IsRoughTalkOf service tei act → LosesNothing (at_near act) → IsTimelyOf act w
-        → Now (Count (is_t200 act && runs_t200 service tei w.near)) (acting act w)
-    often-acts (requests r) is kept x = for-data service tei (λ r. Now 0 (acting (requests r) w)) asks-data r is
-    often-acts (expires timer) is kept x =
-        each-timer service tei (λ timer. IsTimelyOf (expires timer) w → Now (Count (is_t200 (expires timer) && runs_t200 service tei w.near)) (acting (expires timer) w))
-        expires-t200 (λ x. expires-t203) timer is x
-    often-acts sends is kept x = same-count (acting sends w) (record {
-      n = with_sent n;
-      m = m;
-      up = up-gives service tei c d p q face past other w n m h.up;
-      there = often-sends o e n m firm wide low h.there;
-      back = often-replied o' e' n m firm.joined.back.rising (with_sent n).link (with_sent n).way n.delivered (offer-goes n.terms n.link).r (offer-says n.terms n.link n.way) h.back;
-    })
-    often-acts receives is kept x = same-count (acting receives w) (record {
-      n = two_ends_with_first_of m.way n;
-      m = two_ends_without_first m;
-      up = up-takes service tei c d p q face past other w n m h.up;
-      there = hears-first o e n m firm wide m.way refl (firm-takes n m firm) h.there;
-      back = takes-first o' e' n m firm wide m.way refl (firm-takes n m firm) h.back;
-    })
-    often-acts loses is kept x = absurd kept
+        no-more : (act : EndStep) → IsRequest service tei act → e ≡ e + Count (is_t200 act && runs_t200 service tei w.near)
+        no-more (requests r) its = omega arith
+        no-more act its = absurd its
 
   -- ---- and all of them
 
@@ -219,7 +196,7 @@ expiries-come-to-an-end service c d line other tei before since (can, wide_c, wi
     let x = setting service c d line other tei can in
     let w = doing_all before (calling service tei c line d other) in
     let last = doing_all since w in
-    let was = are-up service tei c d 0 0 w (runs service tei c d 0 0 x.face x.back x.near x.far before talk (calling service tei c line d other) timely (starts service c d line other tei x)) on.0 in
+    let was = are-up service tei c d 0 0 x.face x.back x.near x.far w (on-time service c d line other tei before can talk timely) on.0 in
     let o = was.m.link.r in let o' = was.n.link.r in
     let begun : OftenUp service tei c d 0 0 (confirmed service tei ∷ []) (indicated service tei ∷ []) o 0 o' 0 w = record {
       n = was.n;

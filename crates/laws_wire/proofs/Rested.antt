@@ -11,7 +11,7 @@ use Rattle.laws_wire.proofs.LoadsTimed.{Expires, timer-expires}
 use Rattle.laws_wire.proofs.LossyPhases.{Aims, for-data, for-timer, first-way}
 use Rattle.laws_wire.proofs.Standing.{IsCarried, StationStands, expires-stands, gives-frames}
 use Rattle.laws_wire.proofs.Talking.{Face}
-use Rattle.laws_wire.proofs.Weighing.{Fell, undelivered, accepts-more, goes as goes_on, delivers}
+use Rattle.laws_wire.proofs.Weighing.{Fell, undelivered, accepts-more, goes as goes_on, delivers, Pays, heft, heft-is, weigh}
 
 -- what a frame does to the link that hears it
 pub record TakesWell (v : ℕ) (l l' : Link) (f : Parts) : Type 0 where
@@ -24,15 +24,22 @@ any-mapped f (x ∷ xs) = omega arith
 
 module _ (service : Service) (tei : ℕ) (c d : Config) (p q : ℕ) (past_n past_m : List LineTold) (face : Face c d) (v : ℕ) (w : Wire) (n m : LinkEndpoint)
     (near : Held c service tei p past_n w.near n) (far : Held d service tei q past_m w.far m) (low : m.link.r ≤ length n.link.contents) where
+  abbrev pub Then : Wire → ℕ → ℕ → Type 0
+  Then w' moved expired = Pays service tei v moved expired 0 w w'
+
   -- the stations stand for other ends, of which so much is left to do
-  pub record Then (w' : Wire) (moved expired : ℕ) : Type 0 where
-    pub n' : LinkEndpoint
-    pub m' : LinkEndpoint
-    pub near' : StationStands c service tei p w'.near n'
-    pub far' : StationStands d service tei q w'.far m'
-    pub more : ℕ
-    pub fell : Fell v moved expired more n m n' m'
-    pub granted : granted_of w' ≡ granted_of w + more
+  so : (w' : Wire) (moved expired : ℕ) (n' m' : LinkEndpoint) → StationStands c service tei p w'.near n' → StationStands d service tei q w'.far m' → (more : ℕ) → Fell v moved expired more n m n' m'
+      → granted_of w' ≡ granted_of w + more → Then w' moved expired
+  so w' moved expired n' m' near' far' more fell granted = record {
+    more = more;
+    granted = granted;
+    falls =
+        sum moved (heft service tei v w') (weigh v n' m') (heft service tei v w) (weigh v n m) ((v + 4) * expired) ((v + 6) * more) (heft-is service tei v c d p q w' n' m' near' far')
+        (heft-is service tei v c d p q w n m near.stands far.stands) fell.falls;
+  }
+    where
+      sum : (moved a a' b b' x y : ℕ) → a ≡ a' → b ≡ b' → moved + a' ≤ b' + x + y → moved + a ≤ b + x + y + 2 * 0
+      sum moved a a' b b' x y e f less = omega (arith, e, f, less)
 
   -- nothing more is granted
   none-more : (a b x y : ℕ) → a ≡ x → b ≡ y → a + b ≡ x + y + 0
@@ -50,17 +57,11 @@ module _ (service : Service) (tei : ℕ) (c d : Config) (p q : ℕ) (past_n past
   -- ---- it gives
 
   pub then-gives : Then (acting sends w) (moved_by sends) 0
-  then-gives = record {
-    n' = with_sent n;
-    m' = m;
-    near' = (held-given service tei p past_n c w.near n near x.contents).stands;
-    far' = far.stands;
-    more = 0;
-    fell = goes_on v n m (with_sent n) m x.contents refl (moved_by sends) 0 x.received
-        (total (moved_by sends) (load v (with_sent n).link) (load_way v n.way) (load_way v news) (load_way v (n.way ++ news)) (load v m.link + load_way v m.way) (load v n.link) (length news) ((v + 4) * 0)
-        (way-append v n.way news) (subst (λ xs. cond {A = ℕ} (is_any xs) 1 0 ≤ length news) (sym (gives-frames service tei p w.near n own)) (any-mapped (spelling (own_side w.near.card.config)) news)) x.falls);
-    granted = (none-more (length (happens next w.near).granted) (length w.far.granted) (length w.near.granted) (length w.far.granted) (ap length (gives-granted w.near)) refl);
-  }
+  then-gives = so _ _ _ (with_sent n) m ((held-given service tei p past_n c w.near n near x.contents).stands) far.stands 0
+      (goes_on v n m (with_sent n) m x.contents refl (moved_by sends) 0 x.received
+      (total (moved_by sends) (load v (with_sent n).link) (load_way v n.way) (load_way v news) (load_way v (n.way ++ news)) (load v m.link + load_way v m.way) (load v n.link) (length news) ((v + 4) * 0)
+      (way-append v n.way news) (subst (λ xs. cond {A = ℕ} (is_any xs) 1 0 ≤ length news) (sym (gives-frames service tei p w.near n own)) (any-mapped (spelling (own_side w.near.card.config)) news)) x.falls))
+      (none-more (length (happens next w.near).granted) (length w.far.granted) (length w.near.granted) (length w.far.granted) (ap length (gives-granted w.near)) refl)
     where
       news : List Parts
       news = frame_given n.terms (given n.terms n.link)
@@ -75,15 +76,9 @@ module _ (service : Service) (tei : ℕ) (c d : Config) (p q : ℕ) (past_n past
 
   pub then-loses : Then (acting loses w) (moved_by loses) 0
   then-loses =
-      record {
-        n' = two_ends_without_first n;
-        m' = m;
-        near' = (held-lost service tei p past_n c w.near n near).stands;
-        far' = far.stands;
-        more = 0;
-        fell = grind (arith, goes_on, total, load, load_way);
-        granted = (none-more (length (without_first w.near).granted) (length w.far.granted) (length w.near.granted) (length w.far.granted) (ap length refl) refl);
-      }
+      so _ _ _ (two_ends_without_first n) m ((held-lost service tei p past_n c w.near n near).stands) far.stands 0
+      (grind (arith, goes_on, total, load, load_way))
+      (none-more (length (without_first w.near).granted) (length w.far.granted) (length w.near.granted) (length w.far.granted) (ap length refl) refl)
     where
       total : (moved l way way' other z : ℕ) → moved + way ≤ way' → moved + (l + way) + other ≤ l + way' + other + z
       total moved l way way' other z less = omega (arith, less)
@@ -104,15 +99,9 @@ module _ (service : Service) (tei : ℕ) (c d : Config) (p q : ℕ) (past_n past
     total l' l way other less = omega (arith, less)
 
     pub fairly-expires : Expires v n.terms n.link went → Then (acting (expires timer) w) 0 1
-    fairly-expires y = record {
-      n' = n2;
-      m' = m;
-      near' = subst (λ k. StationStands k service tei p left n2) near.stands.config (expires-stands service tei p w.near n own timer its aims);
-      far' = far.stands;
-      more = 0;
-      fell = goes_on v n m n2 m y.contents refl 0 1 y.received (total (load v went.link) (load v n.link) (load_way v n.way) (load v m.link + load_way v m.way) y.within);
-      granted = (none-more (length left.granted) (length w.far.granted) (length w.near.granted) (length w.far.granted) (ap length (same-granted (expiry timer) w.near refl)) refl);
-    }
+    fairly-expires y = so _ _ _ n2 m (subst (λ k. StationStands k service tei p left n2) near.stands.config (expires-stands service tei p w.near n own timer its aims)) far.stands 0
+        (goes_on v n m n2 m y.contents refl 0 1 y.received (total (load v went.link) (load v n.link) (load_way v n.way) (load v m.link + load_way v m.way) y.within))
+        (none-more (length left.granted) (length w.far.granted) (length w.near.granted) (length w.far.granted) (ap length (same-granted (expiry timer) w.near refl)) refl)
 
     then-expires : Leads (expires timer)
     then-expires = go (timer-expires v n.terms n.link its)
@@ -133,18 +122,12 @@ module _ (service : Service) (tei : ℕ) (c d : Config) (p q : ℕ) (past_n past
       one-more a b x y e f = omega (arith, e, f)
 
       go : (s' ≡ w.near) ⊎ Grants service tei p past_n c w.near n near octets s' → Then (acting (requests (Data service tei octets)) w) 0 0
-      go (inl same) = grind (arith, goes_on, none-more, s')
-      go (inr x) = record {
-        n' = with_more octets n;
-        m' = m;
-        near' = x.held.stands;
-        far' = far.stands;
-        more = 1;
-        fell = grind (arith, length-append, load, with_more, load_way, undelivered, accepts-more, load_waiting, owes, may_reject);
-        granted =
-            one-more (length s'.granted) (length w.far.granted) (length n.link.contents) (length w.near.granted)
-            (ap length x.held.granted ∙ length-append n.link.contents (octets ∷ [])) (sym (ap length near.granted));
-      }
+      go (inl same) =
+          subst (λ s. Then (record w { near = s }) 0 0) (sym same) (so w 0 0 n m near.stands far.stands 0 (goes_on v n m n m refl refl 0 0 refl (omega arith)) (omega arith))
+      go (inr x) = so _ _ _ (with_more octets n) m x.held.stands far.stands 1
+          (grind (arith, length-append, load, with_more, load_way, undelivered, accepts-more, load_waiting, owes, may_reject))
+          (one-more (length s'.granted) (length w.far.granted) (length n.link.contents) (length w.near.granted)
+          (ap length x.held.granted ∙ length-append n.link.contents (octets ∷ [])) (sym (ap length near.granted)))
 
   -- ---- it takes
 
@@ -158,7 +141,12 @@ module _ (service : Service) (tei : ℕ) (c d : Config) (p q : ℕ) (past_n past
   lost = (held-lost service tei q past_m d w.far m far).stands
 
   pub takes-nothing : m.way ≡ [] → Then (acting receives w) (moved_by receives) 0
-  takes-nothing e' = grind (arith, lost, goes_on, load_way, taken-grants)
+  takes-nothing e' =
+      let none : w.far.way ≡ [] = far.stands.way ∙ ap (map (spelling (own_side d))) e' in
+      let still : moved_by receives ≡ 0 = ap (λ ways. cond {A = ℕ} (is_any ways) 1 0) none in
+      let same : load_way v m1.way ≡ load_way v m.way = ap (λ way. load_way v (drop 1 way)) e' ∙ sym (ap (load_way v) e') in
+      so _ _ _ n m1 (subst (λ ways. StationStands c service tei p (with_first_of ways w.near) n) (sym none) near.stands) lost 0
+      (goes_on v n m n m1 refl refl (moved_by receives) 0 refl (omega (arith, still, same))) taken-grants
 
   module _ (f : Parts) (fs : List Parts) (e : m.way ≡ f ∷ fs) where
     way-there : (w.far.way ≡ spelling (own_side d) f ∷ map (spelling (own_side d)) fs) × IsCarried d service tei f
@@ -187,15 +175,9 @@ module _ (service : Service) (tei : ℕ) (c d : Config) (p q : ℕ) (past_n past
             (omega (arith, behind, less))
 
     pub takes-well : TakesWell v n.link x.link f → x.link.r ≤ length m.link.contents → Then (acting receives w) (moved_by receives) 0
-    takes-well y few = record {
-      n' = n1;
-      m' = m1;
-      near' = subst (λ ways. StationStands c service tei p (with_first_of ways w.near) n1) (sym way-there.0) (taken-stands service tei p past_n c w.near n near d face f way-there.1);
-      far' = lost;
-      more = 0;
-      fell = subst (λ ways. Fell v (cond {A = ℕ} (is_any ways) 1 0) 0 0 n m n1 m1) (sym way-there.0) (fell y few);
-      granted = taken-grants;
-    }
+    takes-well y few = so _ _ _ n1 m1 (subst (λ ways. StationStands c service tei p (with_first_of ways w.near) n1) (sym way-there.0) (taken-stands service tei p past_n c w.near n near d face f way-there.1)) lost 0
+        (subst (λ ways. Fell v (cond {A = ℕ} (is_any ways) 1 0) 0 0 n m n1 m1) (sym way-there.0) (fell y few))
+        (taken-grants)
 
     takes-error : HasError x.notes → Erred (acting receives w).near
     takes-error error =

@@ -1,8 +1,10 @@
 -- There is room for each enquiry and each answer of two ends of which neither was ever busy, where three control frames may wait.
-use Rattle.laws_wire.proofs.Vocabulary.{◌≡◌, ℕ, ◌+◌, ◌≤◌, true, false, List, [], ◌∷◌, ◌++◌, length, refl, arith, All, lt-ltb, All-head, All-tail, Parts, ControlFrame, Terms, Bool, Control, LinkEndpoint, has_room, frames_of, is_enquiry, HasNo, line, Kind, kind_of, kinds_of, kinds-append, tally, one_enquiry, one_answer, one_rejection, not-enquiry}
+use Rattle.laws_wire.proofs.Vocabulary.{◌≡◌, ℕ, ◌+◌, ◌≤◌, true, false, List, [], ◌∷◌, ◌++◌, length, refl, arith, All, lt-ltb, All-head, All-tail, Parts, ControlFrame, Terms, Bool, Control, LinkEndpoint, has_room, frames_of, is_enquiry, HasNo, line, Kind, kind_of, kinds_of, kinds-append, tally, one_enquiry, one_answer, one_rejection, not-enquiry, NoAlien, Every, inl, inr, subst}
 use Rattle.laws_link.specs.two.Timely.{is_answer}
 use Rattle.laws_wire.proofs.Firm.{Firm}
-use Rattle.laws_wire.proofs.Tame.{WaitsSo}
+use Rattle.laws_link.proofs.OfTwo.Flow.{Order}
+use Rattle.laws_link.proofs.OfTwo.Trains.{Rise, Comes, Beyond}
+use Rattle.laws_wire.proofs.Tame.{WaitsSo, counts}
 
 abbrev pub kinds : LinkEndpoint → List Kind
 kinds n = line n.terms n.way n.link.waiting
@@ -11,19 +13,45 @@ tally-append : (one : Kind → ℕ) (xs ys : List Kind) → tally one (xs ++ ys)
 tally-append one [] ys = omega arith
 tally-append one (x ∷ xs) ys = let more : tally one (xs ++ ys) ≡ tally one xs + tally one ys = tally-append one xs ys in omega (arith, more)
 
-count-waits : (t : Terms) (ws : List ControlFrame) → All WaitsSo ws
+-- none of two that stay up is an alien
+comes-known : (lo top : ℕ) (x : Kind) → Comes lo top x → NoAlien x
+comes-known lo top x h = grind arith
+
+beyond-known : (r : ℕ) (x : Kind) → Beyond r x → NoAlien x
+beyond-known r x h = grind arith
+
+rise-known : (lo hi : ℕ) (xs : List Kind) → Rise lo hi xs → Every NoAlien xs
+rise-known lo hi [] h = tt
+rise-known lo hi (x ∷ xs) (top, up, here, rest) = (comes-known lo top x here, rise-known top hi xs rest)
+
+order-known : (rejects : Bool) (r s : ℕ) (xs : List Kind) → Order rejects r s xs → Every NoAlien xs
+order-known false r s xs h = rise-known r s xs h
+order-known true r s [] h = tt
+order-known true r s (x ∷ xs) (inl h) = rise-known r s (x ∷ xs) h
+order-known true r s (x ∷ xs) (inr h) = (beyond-known r x h.0, order-known true r s xs h.1)
+
+every-right : (P : Kind → Type 0) (xs ys : List Kind) → Every P (xs ++ ys) → Every P ys
+every-right P [] ys h = h
+every-right P (x ∷ xs) ys h = every-right P xs ys h.1
+
+one-known : (f : ControlFrame) → WaitsSo f → NoAlien (kind_of f.command f.control) → counts (kind_of f.command f.control) ≡ 1
+one-known f h known = elim h.one [ inl e ↦ e | inr e ↦ absurd (subst NoAlien e known) ]
+
+count-waits : (t : Terms) (ws : List ControlFrame) → All WaitsSo ws → Every NoAlien (kinds_of (frames_of t ws))
     → length ws ≡ tally one_enquiry (kinds_of (frames_of t ws)) + tally one_answer (kinds_of (frames_of t ws)) + tally one_rejection (kinds_of (frames_of t ws))
-count-waits t [] h = refl
-count-waits t (f ∷ fs) h =
+count-waits t [] h known = refl
+count-waits t (f ∷ fs) h known =
     let x = kind_of f.command f.control in
-    let here : one_enquiry x + one_answer x + one_rejection x ≡ 1 = (All-head WaitsSo f fs h).one in
+    let here : one_enquiry x + one_answer x + one_rejection x ≡ 1 = one-known f (All-head WaitsSo f fs h) known.0 in
     let more : length fs ≡ tally one_enquiry (kinds_of (frames_of t fs)) + tally one_answer (kinds_of (frames_of t fs)) + tally one_rejection (kinds_of (frames_of t fs)) =
-    count-waits t fs (All-tail WaitsSo f fs h) in
+    count-waits t fs (All-tail WaitsSo f fs h) known.1 in
     omega (arith, here, more)
 
 pub roomy : (n m : LinkEndpoint) → Firm n m → 3 ≤ n.terms.control → tally one_enquiry (kinds n) + tally one_answer (kinds n) ≤ 1 → has_room n.terms n.link ≡ true
 roomy n m h wide few =
-    let all = count-waits n.terms n.link.waiting h.near_tame.waiting in
+    let waits = frames_of n.terms n.link.waiting in
+    let known = subst (Every NoAlien) (kinds-append n.way waits) (order-known m.link.rejecting m.link.r n.link.s (kinds n) h.there.order) in
+    let all = count-waits n.terms n.link.waiting h.near_tame.waiting (every-right NoAlien (kinds_of n.way) (kinds_of waits) known) in
     grind (arith, frames_of, kinds_of, kinds-append, tally-append, lt-ltb)
 
 -- none of a kind waits or is on its way

@@ -1,17 +1,18 @@
 -- An end that rings: what it does, whatever the other does; and what it hears.
-use Rattle.laws_wire.proofs.Vocabulary.{◌≡◌, ℕ, false, List, [], map, drop, None, sym, ap, subst, ◌∙◌, ◌⊎◌, inl, inr, All, option_to_list, Service, Timer, Parts, ControlFrame, Terms, LinkTimer, course, LinkEndpoint, with_link, with_sent, Config, terms, expiry, request, next, refusal, Course, Data, Endpoint, happens, without_first, LinkData, expired, ◌≤◌, length}
+use Rattle.laws_wire.proofs.Vocabulary.{◌≡◌, ℕ, List, [], map, drop, sym, ap, subst, ◌∙◌, ◌⊎◌, inl, inr, All, option_to_list, Service, Timer, Parts, ControlFrame, Terms, LinkTimer, course, LinkEndpoint, with_link, with_sent, Config, terms, expiry, request, next, Course, Data, Endpoint, happens, without_first, expired, ◌≤◌, length}
 use Rattle.laws_wire.proofs.Vocabulary.{◌∷◌, refl, spelling, fresh, IsInRange, LineTold, Wire, frame_comes, with_first_of, confirmed, indicated, NoteData, Means, own_side}
 use Rattle.model_link.specs.Events as link
 use Rattle.model_link.specs.declared.timers.LinkTimer.TheVariants as link_timer
 use Rattle.laws_wire.proofs.Answered.{takes-granted}
 use Rattle.laws_wire.proofs.Calling.{end, sabme, ua, answering, takes-sabme, told-of-sabme}
 use Rattle.laws_wire.proofs.Fair.{HasError}
-use Rattle.laws_wire.proofs.Held.{Held, TellsIt, Erred, now-erred, held-given, held-lost, held-first, held-taken, taken-told, taken-stands, expired-told, held-expired, held-asked}
+use Rattle.laws_wire.proofs.Held.{Held, TellsIt, Erred, now-erred, held-given, held-lost, held-first, held-taken, taken-told, taken-stands, expired-told, held-expired}
 use Rattle.laws_wire.proofs.LossyPhases.{Aims, first-way}
 use Rattle.laws_wire.proofs.Ringing.{ringing, answered, Ignores, ignores, IsSabme, AreSabmes, Rings, t200-rings, t203-rings, RingsOn, gives-sabme, one-sabme_more, one-sabme_less, Tries}
 use Rattle.laws_wire.proofs.Spelled.{carried-short}
 use Rattle.laws_wire.proofs.Standing.{StationStands}
 use Rattle.laws_wire.proofs.Talking.{Face}
+use Rattle.laws_wire.proofs.TimelyFirst.{asks-still}
 
 module _ (service : Service) (tei : ℕ) (c : Config) (p : ℕ) where
   abbrev t : Terms
@@ -29,11 +30,7 @@ module _ (service : Service) (tei : ℕ) (c : Config) (p : ℕ) where
     rung = end t (ringing k ws) way
 
     pub rings-asks : (octets : List ℕ) → StillRings (happens (request (Data service tei octets)) s)
-    rings-asks octets =
-        elim (held-asked service tei p [] c s rung h octets) [
-          | inl same ↦ record { repeats = k; waiting = ws; way = way; held = subst (λ x. Held c service tei p [] x rung) (sym same) h; sabmes = sabmes }
-          | inr x ↦ let none : refusal t (ringing k ws) false (LinkData octets) ≡ None = x.none in absurd (cc)
-        ]
+    rings-asks octets = record { repeats = k; waiting = ws; way = way; held = asks-still service tei c p [] s rung h (Data service tei octets) (refl, refl) refl; sabmes = sabmes }
 
     pub rings-expires : (timer : Timer) (its : LinkTimer) → Aims service tei timer its → StillRings (happens (expiry timer) s) ⊎ Erred (happens (expiry timer) s)
     rings-expires timer its aims = go (by its)

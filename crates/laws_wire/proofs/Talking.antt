@@ -1,6 +1,7 @@
 -- A station in a call: what its layer 3 was granted is what its link accepted, and it was told what its link delivered.
-use Rattle.laws_wire.proofs.Vocabulary.{arith, ◌≡◌, ℕ, ◌≤◌, Bool, false, cond, List, [], ◌∷◌, ◌++◌, length, map, drop, Option, Some, None, Ok, refl, sym, ap, subst, ◌∙◌, ◌⊎◌, append-nil, append_assoc, All, option_to_list, nat_lt, ltb-false, All-tail, Refusal, TooLong, Service, Parts, spelling, Terms, Link, LinkEndpoint, with_link, with_sent, Config, came, LineTold, request, next}
-use Rattle.laws_wire.proofs.Vocabulary.{heard_side, link-grants, Data, Endpoint, happens, without_first, frame_comes, data_told, map-append, two_ends_without_first, course, refusal, own_side}
+use Rattle.laws_wire.proofs.Vocabulary.{arith, ◌≡◌, ℕ, ◌≤◌, Bool, false, cond, List, [], ◌∷◌, ◌++◌, length, map, drop, Option, Some, None, Ok, refl, sym, ap, subst, ◌∙◌, ◌⊎◌, append-nil, append_assoc, All, option_to_list, nat_lt, ltb-false, All-tail, Refusal, TooLong, Service, Parts, spelling, Terms, Link, LinkEndpoint, with_link, with_sent, Config, came, LineTold, request, next, heard_side}
+use Rattle.laws_wire.proofs.Vocabulary.{link-grants, Data, Endpoint}
+use Rattle.laws_wire.proofs.Vocabulary.{happens, without_first, frame_comes, data_told, map-append, two_ends_without_first, course, refusal, own_side}
 use Rattle.model_bits.specs.Stream.{frame}
 use Rattle.model_link.specs.Events as link
 use Rattle.laws_wire.proofs.Answered.{gives-told, gives-granted, takes-granted}
@@ -63,22 +64,19 @@ module _ (service : Service) (tei place : ℕ) (first : Past) where
   drop-carried c [] h = h
   drop-carried c (f ∷ fs) h = All-tail (IsCarried c service tei) f fs h
 
-  pub holds-lost : (c : Config) (s : Endpoint) (n : LinkEndpoint) → Holds c service tei place first s n → Holds c service tei place first (without_first s) (two_ends_without_first n)
-  holds-lost c s n h = record {
-    stands = record {
-      config = h.stands.config;
-      sound = h.stands.sound;
-      within = h.stands.within;
-      speaks = h.stands.speaks;
-      terms = h.stands.terms;
-      way = ap (drop 1) h.stands.way ∙ (grind arith);
-      carried = drop-carried c n.way h.stands.carried;
-    };
-    granted = h.granted;
-    since = h.since;
-    told = h.told;
-    delivered = h.delivered;
+  pub stands-lost : (c : Config) (s : Endpoint) (n : LinkEndpoint) → StationStands c service tei place s n → StationStands c service tei place (without_first s) (two_ends_without_first n)
+  stands-lost c s n h = record {
+    config = h.config;
+    sound = h.sound;
+    within = h.within;
+    speaks = h.speaks;
+    terms = h.terms;
+    way = ap (drop 1) h.way ∙ (grind arith);
+    carried = drop-carried c n.way h.carried;
   }
+
+  pub holds-lost : (c : Config) (s : Endpoint) (n : LinkEndpoint) → Holds c service tei place first s n → Holds c service tei place first (without_first s) (two_ends_without_first n)
+  holds-lost c s n h = record { stands = stands-lost c s n h.stands; granted = h.granted; since = h.since; told = h.told; delivered = h.delivered }
 
   -- it takes a frame of the other side
   pub record Took (c : Config) (s : Endpoint) (n : LinkEndpoint) (octets : List ℕ) (f : Parts) : Type 0 where

@@ -1,35 +1,50 @@
--- Two stations whose links are up, where each timer is timely: both stay up, whatever is lost.
-use Rattle.laws_wire.proofs.Vocabulary.{arith, ◌≡◌, ℕ, Bool, true, IsTrue, List, [], ◌∷◌, map, Some, None, refl, sym, ap, subst, ◌∙◌, ◌⊎◌, inl, inr, append-nil, true≢false, All, All-head, Control, Service, Timer, Parts, spelling, TimerRecovery, LinkTimer, T203, is_multiple_frame, course, given, is_running, awaits_answer, IsTimed, IsTimedIn, runs, LinkEndpoint, Ends, with_link, with_sent}
-use Rattle.laws_wire.proofs.Vocabulary.{offer-gave, Config, LineTold, expiry, request, next, gave, CanRepeat, nothing-given, T200, Data, Endpoint, Wire, happens, with_first_of, EndStep, requests, expires, sends, receives, loses, acting, turned, answered, IsOfLink, IsRoughTalkOf, is_poll, is_final, IsTimelyOf, rounds, Joined, Flows, expired, timer_T200, timer_T203, two_ends_with_first_of}
-use Rattle.laws_wire.proofs.Vocabulary.{two_ends_without_first, two_links_rounds, own_side}
+-- Stations whose links are up, where each timer is timely: what is done there, as it is done at the ends for which they stand.
+use Rattle.laws_wire.proofs.Vocabulary.{arith, ◌≡◌, ℕ, Bool, true, IsTrue, List, [], ◌∷◌, ◌++◌, map, Some, None, refl, sym, ap, subst, ◌∙◌, ◌⊎◌, inl, inr, append-nil, true≢false, All, All-head, Control, Service, Timer, Parts, spelling, TimerRecovery, LinkTimer, T203, is_multiple_frame, course, given, is_running, awaits_answer, IsTimed, IsTimedIn, runs, LinkEndpoint, with_link, Config, LineTold}
+use Rattle.laws_wire.proofs.Vocabulary.{expiry, request, next, gave}
+use Rattle.laws_wire.proofs.Vocabulary.{nothing-given, T200, Data, Endpoint, Wire, happens, with_first_of, EndStep, requests, expires, answered, is_poll, is_final, IsTimelyOf, Joined, Flows, expired, two_ends_with_first_of, own_side, ClearBusy, Course, IsAsked, IsFullTalkOf, IsNotRelease, Line, Link, LinkClearBusy, LinkSetBusy, Request, SetBusy, Terms, aim_of_request, at_requested}
+use Rattle.laws_wire.proofs.Vocabulary.{contents_requested, false, link_expires}
+use Rattle.laws_wire.proofs.Vocabulary.{place_in, requested, IsStill, IsNoneOpen, Ends}
 use Rattle.laws_link.specs.two.Timely as two_links_timely
-use Rattle.laws_wire.proofs.Asking.{with_more, asked-form}
-use Rattle.laws_wire.proofs.Awaited.{NoneOpen, closed, may-there, long-there}
+use Rattle.laws_wire.proofs.Asking.{asked-form}
+use Rattle.laws_wire.proofs.Awaited.{NoneOpen, closed, may-there, long-there, open-here}
 use Rattle.laws_wire.proofs.Fair.{HasError, Fine, timer-fair}
-use Rattle.laws_wire.proofs.Firm.{timer-quiet, Firm, firm-turned, firm-sends, firm-loses, firm-asks, firm-expires, firm-takes, takes-fine, takes-kept}
-use Rattle.laws_wire.proofs.Held.{Held, held-given, held-lost, held-taken, held-expired, Grants, held-asked}
+use Rattle.laws_wire.proofs.Held.{Held, held-taken, held-expired, held-asked, heard-then}
 use Rattle.laws_wire.proofs.Joint.{timer-goes}
-use Rattle.laws_wire.proofs.LossyPhases.{for-data, Aims}
-use Rattle.laws_wire.proofs.RoundsKeep.{rounds-keep}
-use Rattle.laws_wire.proofs.Standing.{IsCarried, StationStands, still-gives-none}
+use Rattle.laws_wire.proofs.LossyPhases.{Aims}
+use Rattle.laws_wire.proofs.Standing.{IsCarried, StationStands, still-gives-none, asks-stands}
 use Rattle.laws_wire.proofs.Talking.{Face, no-way}
+use Rattle.laws_wire.proofs.Simulated.{asked_of, each-timer, for-asked, step_of, timer_of, Stand}
+use Rattle.laws_wire.proofs.Loose.{takes-fine, takes-kept, timer-quiet}
+
+-- what own busy asks for is told nobody, and leaves the contents
+pub record Mute (l : Link) (c : Course) : Type 0 where
+  pub contents : c.link.contents ≡ l.contents
+  pub notes : c.notes ≡ []
+  pub delivered : c.delivered ≡ None
+  pub unit : c.unit ≡ None
+
+module _ (t : Terms) (l : Link) where
+  pub busy-mute : Mute l (course t (requested LinkSetBusy false) l)
+  busy-mute = grind arith
+
+  pub ready-mute : Mute l (course t (requested LinkClearBusy false) l)
+  ready-mute = grind arith
 
 module _ (service : Service) (tei : ℕ) where
-  -- the timers of a call
-  pub each-timer : (P : Timer → Type 0) → P (timer_T200 service tei) → P (timer_T203 service tei) → (timer : Timer) → IsOfLink service tei timer → P timer
-  each-timer o x y z is = grind arith
-
   -- where no turn is left
   pub record IsHushed (n : LinkEndpoint) : Type 0 where
     pub given : given n.terms n.link ≡ None
     pub way : n.way ≡ []
 
+  pub hushed-there : (k : Config) (place : ℕ) (s : Endpoint) (n : LinkEndpoint) → StationStands k service tei place s n → answered next s ≡ gave None → s.way ≡ [] → IsHushed n
+  hushed-there k place s n h none empty = record {
+    given = still-gives-none service tei place s n (subst (λ k. StationStands k service tei place s n) (sym h.config) h) none;
+    way = no-way (spelling (own_side k)) n.way (sym h.way ∙ empty);
+  }
+
   pub hushed : (k : Config) (place : ℕ) (past : List LineTold) (s : Endpoint) (n : LinkEndpoint) → Held k service tei place past s n → answered next s ≡ gave None → s.way ≡ []
       → IsHushed n
-  hushed k place past s n h none empty = record {
-    given = still-gives-none service tei place s n (subst (λ k. StationStands k service tei place s n) (sym h.stands.config) h.stands) none;
-    way = no-way (spelling (own_side k)) n.way (sym h.stands.way ∙ empty);
-  }
+  hushed k place past s n h none empty = hushed-there k place s n h.stands none empty
 
   pub none-waits : (n : LinkEndpoint) → IsHushed n → n.link.waiting ≡ []
   none-waits n h = (nothing-given n.terms n.link h.given).waiting
@@ -40,6 +55,15 @@ module _ (service : Service) (tei : ℕ) where
 
   pub none-open : (n m : LinkEndpoint) → IsHushed n → IsHushed m → NoneOpen n m
   none-open n m h k = record { commands = none-of is_poll n (none-waits n h) h.way; responses = none-of is_final m (none-waits m k) k.way }
+
+  -- on the wire, either
+  pub still-open : (c d : Config) (p q : ℕ) (w : Wire) (e : Ends) → Stand service tei c d p q w e → IsStill w → IsNoneOpen w.near w.far × IsNoneOpen w.far w.near
+  still-open c d p q w e h still =
+      let near = hushed-there c p w.near e.near h.near still.near still.near_way in
+      let far = hushed-there d q w.far e.far h.far still.far still.far_way in (
+        open-here service tei c d p q w.near w.far e.near e.far h.near h.far (none-open e.near e.far near far),
+        open-here service tei d c q p w.far w.near e.far e.near h.far h.near (none-open e.far e.near far near),
+      )
 
   -- a station whose link is up, and stays so as a timer expires
   module _ (k : Config) (place : ℕ) (past : List LineTold) (s : Endpoint) (n : LinkEndpoint) (h : Held k service tei place past s n) where
@@ -79,94 +103,52 @@ module _ (service : Service) (tei : ℕ) where
           let fine = takes-fine n m joined same there back f fs e in
           held-taken service tei p past c s n h d face f from (record { its_notes = fine.its_notes; no_unit = fine.no_unit }) (takes-kept n m joined same there back f fs e)
 
-  pub record BothUp (c d : Config) (p q : ℕ) (past other : List LineTold) (w : Wire) (n m : LinkEndpoint) : Type 0 where
-    pub near : Held c service tei p past w.near n
-    pub far : Held d service tei q other w.far m
-    pub firm : Firm n m
+  -- own busy begins or ends
+  module _ (c : Config) (place : ℕ) (past : List LineTold) (s : Endpoint) (n : LinkEndpoint) (h : Held c service tei place past s n) where
+    abbrev asked : Request → LinkEndpoint
+    asked r = with_link (requested (asked_of r) false) n
 
-  pub turned-up : (c d : Config) (p q : ℕ) (past other : List LineTold) (w : Wire) (n m : LinkEndpoint) → BothUp c d p q past other w n m → BothUp d c q p other past (turned w) m n
-  turned-up c d p q past other w n m h = record { near = h.far; far = h.near; firm = firm-turned n m h.firm }
+    abbrev Asks : Request → Type 0
+    Asks r = (happens (request r) s ≡ s) ⊎ Held c service tei place past (happens (request r) s) (asked r)
 
-  pub record AreUp (c d : Config) (p q : ℕ) (past other : List LineTold) (w : Wire) : Type 0 where
-    pub n : LinkEndpoint
-    pub m : LinkEndpoint
-    pub up : BothUp c d p q past other w n m
+    held-busy : (r : Request) → ((l : Line) → aim_of_request r l ≡ at_requested service tei (asked_of r) (place_in l tei)) → contents_requested r ≡ []
+        → Mute n.link (course n.terms (requested (asked_of r) false) n.link) → Asks r
+    held-busy r aims none mute =
+        elim (asks-stands service tei place s n (subst (λ k. StationStands k service tei place s n) (sym h.stands.config) h.stands) r (asked_of r) aims) [
+          | inl same ↦ inl same
+          | inr g ↦
+              inr (record {
+                stands = subst (λ k. StationStands k service tei place (happens (request r) s) (asked r)) h.stands.config g.stands;
+                granted = g.granted ∙ ap (λ xs. s.granted ++ xs) none ∙ append-nil s.granted ∙ h.granted ∙ sym mute.contents;
+                heard = heard-then service tei place past c s n h (happens (request r) s) (course n.terms (requested (asked_of r) false) n.link) g.told (grind arith);
+              })
+        ]
 
-  pub turned-are : (c d : Config) (p q : ℕ) (past other : List LineTold) (w : Wire) → AreUp c d p q past other w → AreUp d c q p other past (turned w)
-  turned-are c d p q past other w h = record { n = h.m; m = h.n; up = turned-up c d p q past other w h.n h.m h.up }
+    held-data : (octets : List ℕ) → Asks (Data service tei octets)
+    held-data octets =
+        elim (held-asked service tei place past c s n h octets) [
+          | inl same ↦ inl same
+          | inr x ↦ inr (subst (Held c service tei place past (happens (request (Data service tei octets)) s)) (sym (asked-form octets n x.none)) x.held)
+        ]
 
-  module _ (c d : Config) (p q : ℕ) (face : Face c d) (past other : List LineTold) (w : Wire) (n m : LinkEndpoint) (h : BothUp c d p q past other w n m) where
-    abbrev Now : Wire → LinkEndpoint → LinkEndpoint → Type 0
-    Now w' n' m' = BothUp c d p q past other w' n' m'
+    -- it is asked
+    pub held-request : (r : Request) → IsAsked service tei r → Asks r
+    held-request r is =
+        for-asked service tei Asks held-data (held-busy (SetBusy service tei) (λ l. refl) refl (busy-mute n.terms n.link))
+        (held-busy (ClearBusy service tei) (λ l. refl) refl (ready-mute n.terms n.link)) r is
 
-    pub up-gives : Now (acting sends w) (with_sent n) m
-    up-gives =
-        let kept = (offer-gave n.terms h.firm.joined.near_ranges n.link h.firm.joined.near_sound n.link.waiting refl).same in
-        record { near = held-given service tei p past c w.near n h.near kept; far = h.far; firm = firm-sends n m h.firm }
+  -- what is timely on the wire is timely at the ends
+  module _ (c d : Config) (p q : ℕ) (past other : List LineTold) (w : Wire) (n m : LinkEndpoint) (near : Held c service tei p past w.near n) (far : Held d service tei q other w.far m)
+      (timed : IsTimed n.link) where
+    stops : {A : Type 0} → n.link.state ≡ TimerRecovery → is_running T203 n.link ≡ true → A
+    stops state running = absurd (never c p past w.near n near timed state running)
 
-    pub up-takes : Now (acting receives w) (two_ends_with_first_of m.way n) (two_ends_without_first m)
-    up-takes = record {
-      near = took-held c d p q face past other w.near w.far n m h.near h.far h.firm.joined h.firm.same h.firm.there h.firm.back;
-      far = held-lost service tei q other d w.far m h.far;
-      firm = firm-takes n m h.firm;
-    }
-
-    pub up-asks : (octets : List ℕ) → AreUp c d p q past other (acting (requests (Data service tei octets)) w)
-    up-asks octets = go (held-asked service tei p past c w.near n h.near octets)
-      where
-        s' : Endpoint
-        s' = happens (request (Data service tei octets)) w.near
-
-        go : (s' ≡ w.near) ⊎ Grants service tei p past c w.near n h.near octets s' → AreUp c d p q past other (record w { near = s' })
-        go (inl same) = record { n = n; m = m; up = record { near = subst (λ s. Held c service tei p past s n) (sym same) h.near; far = h.far; firm = h.firm } }
-        go (inr x) = record {
-          n = with_more octets n;
-          m = m;
-          up = record { near = x.held; far = h.far; firm = subst (λ y. Firm y m) (asked-form octets n x.none) (firm-asks n m h.firm octets) };
-        }
-
-    -- a timer
-    pub up-expires : (timer : Timer) (its : LinkTimer) → Aims service tei timer its → CanRepeat its n → two_links_timely.IsTimely its n m
-        → Now (acting (expires timer) w) (with_link (expired its) n) m
-    up-expires timer its aims can timely =
-        let firm = firm-expires n m h.firm its can timely in
-        record { near = timer-held c p past w.near n h.near h.firm.joined.near_up timer its aims firm.joined.near_up; far = h.far; firm = firm }
-
-    up-t200 : IsTimelyOf (expires (timer_T200 service tei)) w → AreUp c d p q past other (acting (expires (timer_T200 service tei)) w)
-    up-t200 (long, may) =
-        let there = may-there service tei c p w.near n h.near.stands may in
-        let none = λ (state : n.link.state ≡ TimerRecovery).
-        closed n m (long-there service tei c d p q w.near w.far n m h.near.stands h.far.stands long (ap awaits_answer state)) in
-        record {
-          n = with_link (expired T200) n;
-          m = m;
-          up = up-expires (timer_T200 service tei) T200 (λ l. refl) (λ state running. there (ap awaits_answer state) running) (λ state running. none state);
-        }
-
-    up-t203 : AreUp c d p q past other (acting (expires (timer_T203 service tei)) w)
-    up-t203 = record {
-      n = with_link (expired T203) n;
-      m = m;
-      up = up-expires (timer_T203 service tei) T203 (λ l. refl) (λ state running. absurd (never c p past w.near n h.near h.firm.near_sane.timed state running)) (λ state running. absurd (never c p past w.near n h.near h.firm.near_sane.timed state running));
-    }
-
-    -- each act that is timely
-    pub up-acts : (act : EndStep) → IsRoughTalkOf service tei act → IsTimelyOf act w → AreUp c d p q past other (acting act w)
-    up-acts (requests r) is x = for-data service tei (λ r. AreUp c d p q past other (acting (requests r) w)) up-asks r is
-    up-acts (expires timer) is x =
-        each-timer (λ timer. IsTimelyOf (expires timer) w → AreUp c d p q past other (acting (expires timer) w)) up-t200 (λ x. up-t203) timer is x
-    up-acts sends is x = record { n = with_sent n; m = m; up = up-gives }
-    up-acts receives is x = record { n = two_ends_with_first_of m.way n; m = two_ends_without_first m; up = up-takes }
-    up-acts loses is x = record { n = two_ends_without_first n; m = m; up = (record { near = held-lost service tei p past c w.near n h.near; far = h.far; firm = firm-loses n m h.firm }) }
-
-  -- so it is round after round
-  abbrev At : Config → Config → ℕ → ℕ → List LineTold → List LineTold → Wire → Ends → Type 0
-  At c d p q past other w e = BothUp c d p q past other w e.near e.far
-
-  module _ (c d : Config) (p q : ℕ) (face : Face c d) (back : Face d c) (past other : List LineTold) where
-    pub rounds-up : (k : ℕ) (w : Wire) (e : Ends) → At c d p q past other w e → At c d p q past other (rounds k w) (two_links_rounds k e)
-    rounds-up =
-        rounds-keep (At c d p q past other) (At d c q p other past)
-        (λ w e. turned-up c d p q past other w e.near e.far) (λ w e. turned-up d c q p other past w e.near e.far)
-        (λ w e. up-gives c d p q face past other w e.near e.far) (λ w e. up-gives d c q p back other past w e.near e.far)
-        (λ w e. up-takes c d p q face past other w e.near e.far) (λ w e. up-takes d c q p back other past w e.near e.far)
+    pub timely-step : (act : EndStep) → IsFullTalkOf service tei act → IsTimelyOf act w → two_links_timely.IsTimelyStep (step_of act) n m
+    timely-step (requests r) is x = for-asked service tei (λ r. IsNotRelease (asked_of r)) (λ octets. tt) tt tt r is
+    timely-step (expires timer) is x =
+        each-timer service tei (λ timer. IsTimelyOf (expires timer) w → two_links_timely.IsTimelyStep (link_expires (timer_of timer)) n m)
+        (λ (long, may). (
+          λ state running. may-there service tei c p w.near n near.stands may (ap awaits_answer state) running,
+          λ state running. closed n m (long-there service tei c d p q w.near w.far n m near.stands far.stands long (ap awaits_answer state)),
+        )) (λ x. (stops, stops)) timer is x
+    timely-step act is x = grind arith

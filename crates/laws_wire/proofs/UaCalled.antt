@@ -1,8 +1,9 @@
 -- The link of the end that is called, before its caller is up: it has received nothing but SABME.
-use Rattle.laws_wire.proofs.Vocabulary.{◌≡◌, ℕ, ◌+◌, ◌≤◌, Bool, true, false, cond, ◌||◌, IsTrue, List, [], ◌∷◌, ◌++◌, Option, None, Some, refl, sym, ap, subst, ◌∙◌, ◌⊎◌, inl, inr, append_assoc, eqb-true, ne_eqb, arith, flat_map, list_any, All, All-head, front_rest, Refusal, Parts, State, Established, TimerRecovery, Sabme, LinkTimer, T203, ControlFrame, Terms, Link, is_multiple_frame}
-use Rattle.laws_wire.proofs.Vocabulary.{may_repeat}
-use Rattle.laws_wire.proofs.Vocabulary.{has_outstanding, received, requested, expired, offer, course, given, given_of, is_running, begun, frame_given, IsInRange, IsWaitingFrame, LinkEndpoint, frame_of, frames_of, frames-append, kinds-append, has_room, Reports, still, at-first, offer-gave, Calm, Kind, enquiry, report, kind_of, kinds_of, tally, tally-push, one_enquiry, one_answer, one_rejection}
-use Rattle.laws_wire.proofs.Vocabulary.{line, most, is_recovering, Sane, frame, after, Course, ◌then◌, for_layer_3, LinkClearBusy, LinkEvent, LinkRequest, LinkSetBusy, F, granted, refusal, error_f, renewed, carried-reports, rising-reports, timer-stays, timed-after, heeds-after, expires-goes, IsSound, is_information, Every, every-push, Behind, calm-rise}
+use Rattle.laws_wire.proofs.Vocabulary.{◌≡◌, ℕ, ◌+◌, ◌≤◌, Bool, true, false, cond, ◌||◌, IsTrue, List, [], ◌∷◌, ◌++◌, Option, None, Some, refl, sym, ap, subst, ◌∙◌, ◌⊎◌, inl, inr, append_assoc, eqb-true, ne_eqb, arith, flat_map, list_any, All, All-head, front_rest, Refusal, Parts, State, Established, TimerRecovery, Sabme, LinkTimer, T203, ControlFrame, Terms, Link, is_multiple_frame, may_repeat}
+use Rattle.laws_wire.proofs.Vocabulary.{has_outstanding, received}
+use Rattle.laws_wire.proofs.Vocabulary.{requested, expired, offer, course, given, given_of, is_running, begun, frame_given, IsInRange, IsWaitingFrame, LinkEndpoint, frame_of, frames_of, frames-append, kinds-append, has_room, Reports, still, at-first, offer-gave, Calm, Kind, enquiry, report, kind_of, kinds_of, tally, tally-push, one_enquiry, one_answer, one_rejection, line, most, is_recovering}
+use Rattle.laws_wire.proofs.Vocabulary.{Sane, frame, after, Course}
+use Rattle.laws_wire.proofs.Vocabulary.{◌then◌, for_layer_3, LinkClearBusy, LinkEvent, LinkRequest, LinkSetBusy, F, granted, refusal, error_f, renewed, carried-reports, rising-reports, timer-stays, timed-after, heeds-after, expires-goes, IsSound, is_information, Every, every-push, Behind, calm-rise, Grown, IsNotRelease, LinkData, asks-went, no-reports, request-stays}
 use Rattle.model_link.specs.Counts.{with_establishment}
 use Rattle.model_link.specs.Machine
 use Rattle.model_link.specs.Offers
@@ -13,7 +14,7 @@ use Rattle.laws_wire.proofs.Joint.{Goes, by-up, stays, timer-goes}
 use Rattle.laws_wire.proofs.Loose.{Loose}
 use Rattle.laws_wire.proofs.Ringing.{answered, Tries}
 use Rattle.laws_wire.proofs.Speaking.{said_by}
-use Rattle.laws_wire.proofs.TimelyFirst.{firm-first, near-ready}
+use Rattle.laws_wire.proofs.TimelyFirst.{loose-first, near-ready}
 use Rattle.laws_wire.proofs.Fair.{or-true}
 
 pub sane-after : (t : Terms) (e : LinkEvent) (l : Link) → Sane l → Sane (after t e l)
@@ -43,15 +44,28 @@ module _ (t : Terms) (l : Link) (up : IsTrue (is_multiple_frame l.state)) (sane 
   by-refusal : (rq : LinkRequest) (o : Option Refusal) → Goes l (granted t rq (begun l)).link [] → Goes l (elim o as (λ o. Course) [ None ↦ granted t rq (begun l) | Some _ ↦ begun l ]).link []
   by-refusal rq o g = grind (arith, stays)
 
-  pub busy-goes : Goes l (after t (requested LinkSetBusy false) l) []
+  busy-goes : Goes l (after t (requested LinkSetBusy false) l) []
   busy-goes =
       by-refusal LinkSetBusy (refusal t l false LinkSetBusy)
       (by-up t l _ ((set_busy_up t l {S = still l.s}).leads (begun l) (at-first t l)) (grind arith))
 
-  pub ready-goes : Goes l (after t (requested LinkClearBusy false) l) []
+  ready-goes : Goes l (after t (requested LinkClearBusy false) l) []
   ready-goes =
       by-refusal LinkClearBusy (refusal t l false LinkClearBusy)
       (by-up t l _ ((clear_busy_up t l {S = still l.s}).leads (begun l) (at-first t l)) (grind arith))
+
+  -- so it goes on as layer 3 asks
+  request-stirs : (rq : LinkRequest) → IsNotRelease rq → Goes l (after t (requested rq false) l) [] → Stirs Free l (after t (requested rq false) l)
+  request-stirs rq mild g = grind (arith, asks-went, request-stays, sane-after, Grown, is_recovering)
+
+  pub busy-stirs : Stirs Free l (after t (requested LinkSetBusy false) l)
+  busy-stirs = request-stirs LinkSetBusy tt busy-goes
+
+  pub ready-stirs : Stirs Free l (after t (requested LinkClearBusy false) l)
+  ready-stirs = request-stirs LinkClearBusy tt ready-goes
+
+  pub data-stirs : (octets : List ℕ) → Stirs Free l (after t (requested (LinkData octets) false) l)
+  data-stirs octets = grind (arith, sane-after, no-reports)
 
   -- a timer
   module _ (timer : LinkTimer) (can : l.state ≡ TimerRecovery → is_running timer l ≡ true → may_repeat t l ≡ true) (free : l.state ≡ TimerRecovery → is_running timer l ≡ true → Free) where
@@ -166,7 +180,7 @@ module _ (t u : Terms) (rt : IsInRange t) (ru : IsInRange u) (same : t.n201 ≡ 
         same = same;
         there = grind (arith, answered);
         back = grind (arith, calm-rise, behind-calm);
-        near_sane = (firm-first t u rt ru same k few).near_sane;
+        near_sane = (loose-first t u rt ru same k few).near_sane;
         far_sane = subst Sane (sym (λ i. record l { a = sym h.a i; s = sym h.s i; r = sym h.r i; rejecting = sym h.rejecting i; waiting = sym waits i })) h.sane;
       }
 

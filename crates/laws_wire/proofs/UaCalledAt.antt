@@ -1,16 +1,15 @@
 -- The station of the end that is called, whose link is up: what requests, timers and calls for the next frame do there.
-use Rattle.laws_wire.proofs.Vocabulary.{◌≡◌, ℕ, ◌==◌, Bool, true, false, not, ◌||◌, IsTrue, List, [], ◌∷◌, ◌++◌, None, refl, sym, ap, subst, ◌∙◌, ◌⊎◌, inl, inr, arith, Service, Timer, TimerRecovery, LinkTimer, T203, Terms, Link, after, is_multiple_frame, has_outstanding, given, is_running, awaits_answer, no-reports, LinkEndpoint, with_link, frame_given, Config, LineTold, expiry, request, Line}
-use Rattle.laws_wire.proofs.Vocabulary.{place_in, Request, at_requested, aim_of_request, IsNotRelease, CanRepeat, HasNo, Sane, T200, Data, SetBusy, ClearBusy, Endpoint, Wire, happens, expires, contents_requested, IsOfLink, is_poll, IsTimelyOf, requested, LinkEvent, offer, LinkSetBusy, expired, LinkClearBusy, LinkData, LinkRequest, timer_T200, timer_T203, course, IsAsked, gives_information}
-use Rattle.laws_wire.proofs.Vocabulary.{timer-stays, request-stays, is_recovering, Grown, asks-went}
+use Rattle.laws_wire.proofs.Vocabulary.{◌≡◌, ℕ, ◌==◌, Bool, true, false, not, ◌||◌, IsTrue, List, None, refl, sym, ap, subst, ◌∙◌, inl, inr, arith, Service, Timer, TimerRecovery, LinkTimer, T203, Terms, Link, after, is_multiple_frame, has_outstanding, given, is_running, awaits_answer, LinkEndpoint, with_link, frame_given, Config, LineTold, expiry, request, Request, IsNotRelease, CanRepeat, HasNo}
+use Rattle.laws_wire.proofs.Vocabulary.{Sane, T200, Endpoint, Wire}
+use Rattle.laws_wire.proofs.Vocabulary.{happens, expires, IsOfLink, is_poll, IsTimelyOf, requested, LinkEvent, offer, expired, LinkRequest, timer_T200, timer_T203, course, IsAsked, gives_information, timer-stays, event-delivers, none-delivered}
 use Rattle.laws_wire.proofs.Acting.{ranges, sound}
-use Rattle.laws_wire.proofs.Asking.{asked-form}
 use Rattle.laws_wire.proofs.Awaited.{awaits-is, may-there, none-there, gives-reads}
-use Rattle.laws_wire.proofs.Held.{Held, Grants, held-asked}
-use Rattle.laws_wire.proofs.Joint.{Goes, only-link, timer-delivers}
-use Rattle.laws_wire.proofs.LooseUp.{Mute, busy-mute, ready-mute, for-asked, held-busy}
+use Rattle.laws_wire.proofs.Held.{Held}
+use Rattle.laws_wire.proofs.Joint.{only-link, timer-delivers}
+use Rattle.laws_wire.proofs.TimelyUp.{held-request, timer-held, never}
+use Rattle.laws_wire.proofs.Simulated.{for-asked, asked_of, each-timer}
 use Rattle.laws_wire.proofs.LossyPhases.{Aims}
-use Rattle.laws_wire.proofs.TimelyUp.{each-timer, timer-held, never}
-use Rattle.laws_wire.proofs.UaCalled.{sane-after, Stirs, busy-goes, ready-goes, timer-stirs, informs, flagged}
+use Rattle.laws_wire.proofs.UaCalled.{Stirs, timer-stirs, informs, flagged, busy-stirs, data-stirs, ready-stirs}
 
 pub same-flag : (b : Bool) (l l' : Link) → l'.s ≡ l.s → l'.a ≡ l.a → b ≡ has_outstanding l → b ≡ has_outstanding l'
 same-flag b l l' s a e = e ∙ (λ i. not (sym s i == sym a i))
@@ -48,45 +47,22 @@ module _ (service : Service) (tei : ℕ) (d : Config) (q : ℕ) (past : List Lin
       pub stirs : Stirs Free M.link left
 
     module _ (P : Endpoint → Type 0) (same : P s) (on : (rq : LinkRequest) (s' : Endpoint) → IsNotRelease rq → StirsAt (requested rq false) s' → P s') where
-      asks-more : (octets : List ℕ) → P (happens (request (Data service tei octets)) s)
-      asks-more octets = go (held-asked service tei q past d s M h octets)
-        where
-          s' : Endpoint
-          s' = happens (request (Data service tei octets)) s
-
-          go : (s' ≡ s) ⊎ Grants service tei q past d s M h octets s' → P s'
-          go (inl none) = subst P (sym none) same
-          go (inr x) =
-              on (LinkData octets) s' tt (record {
-                left = record M.link { contents = M.link.contents ++ octets ∷ [] };
-                becomes = asked-form octets M x.none;
-                held = x.held;
-                stirs = grind (arith, asked-form, sane-after, no-reports);
-              })
-
-      asks-busy : (r : Request) (rq : LinkRequest) → IsNotRelease rq → (aims : (l : Line) → aim_of_request r l ≡ at_requested service tei rq (place_in l tei)) → contents_requested r ≡ []
-          → Mute M.link (course M.terms (requested rq false) M.link) → Goes M.link (after M.terms (requested rq false) M.link) [] → P (happens (request r) s)
-      asks-busy r rq mild aims none mute g = go (held-busy service tei d q past s M h r rq aims none mute)
-        where
-          s' : Endpoint
-          s' = happens (request r) s
-
-          go : (s' ≡ s) ⊎ Held d service tei q past s' (with_link (requested rq false) M) → P s'
-          go (inl none) = subst P (sym none) same
-          go (inr x) =
-              let is = only-link M (requested rq false) mute.delivered in
-              on rq s' mild (record {
-                left = after M.terms (requested rq false) M.link;
-                becomes = is;
-                held = subst (Held d service tei q past s') is x;
-                stirs = grind (arith, asks-went, request-stays, sane-after, Grown, is_recovering);
-              })
-
       pub asked-at : (r : Request) → IsAsked service tei r → P (happens (request r) s)
       asked-at r is =
-          for-asked service tei (λ r. P (happens (request r) s)) asks-more
-          (asks-busy (SetBusy service tei) LinkSetBusy tt (λ l. refl) refl (busy-mute M.terms M.link) (busy-goes M.terms M.link up sane Free))
-          (asks-busy (ClearBusy service tei) LinkClearBusy tt (λ l. refl) refl (ready-mute M.terms M.link) (ready-goes M.terms M.link up sane Free)) r is
+          elim (held-request service tei d q past s M h r is) [
+            | inl none ↦ subst P (sym none) same
+            | inr x ↦
+                let e = requested (asked_of r) false in
+                let is-so = only-link M e (none-delivered M.terms M.link (course M.terms e M.link) (event-delivers M.terms M.link e)) in
+                on (asked_of r) (happens (request r) s) (for-asked service tei (λ r. IsNotRelease (asked_of r)) (λ octets. tt) tt tt r is) (record {
+                  left = after M.terms e M.link;
+                  becomes = is-so;
+                  held = subst (Held d service tei q past (happens (request r) s)) is-so x;
+                  stirs =
+                      for-asked service tei (λ r. Stirs Free M.link (after M.terms (requested (asked_of r) false) M.link)) (λ octets. data-stirs M.terms M.link up sane Free octets)
+                      (busy-stirs M.terms M.link up sane Free) (ready-stirs M.terms M.link up sane Free) r is;
+                })
+          ]
 
     abbrev pub FreeAs : LinkTimer → Type 0
     FreeAs its = M.link.state ≡ TimerRecovery → is_running its M.link ≡ true → Free

@@ -1,18 +1,16 @@
 -- A call in which UA may be lost and an end may be busy comes to rest, from any time of it on.
-use Rattle.laws_wire.proofs.Vocabulary.{◌≡◌, ◌≢◌, ℕ, zero, suc, ◌+◌, ◌*◌, ◌≤◌, List, [], ◌∷◌, ◌++◌, length, refl, sym, ap, subst, ◌∙◌, arith, length-append, length-map, All, All-cons, All-nil, All-append, Service, IsInRange, Config, LineTold, terms, Wire, expires, sends, receives, at_near, at_far, StepAt, doing, doing_all, IsStill, calling, CanCall, granted_of, confirmed, heard_in, IsFullTalk}
+use Rattle.laws_wire.proofs.Vocabulary.{◌≡◌, ◌≢◌, ℕ, zero, suc, ◌+◌, ◌*◌, ◌≤◌, List, [], ◌∷◌, ◌++◌, length, refl, sym, ap, subst, ◌∙◌, arith, length-append, length-map, All, All-cons, All-nil, All-append, Service, Config, LineTold, terms, Wire, expires, sends, receives, at_near, at_far, StepAt, doing, doing_all, IsStill, calling, CanCall, granted_of, confirmed, heard_in, IsFullTalk, Ends, fresh}
 use Rattle.laws_wire.proofs.Vocabulary.{StayPatient, MayRepeat, BothMayRepeat, with_t200_expired, rounds, expiries, most_frames, expiry, timer_T200, IsAtRest, Called, uncalled, seen, ToldSo, length-drop, reports, most_moves, none_busy, Busy, busy, busy_behind, HasLeft, near_expires, LossyCallsComeToRest}
 use Rattle.laws_wire.proofs.Answered.{same-granted}
-use Rattle.laws_wire.proofs.Awaited.{open-here}
 use Rattle.laws_wire.proofs.LossyRun.{setting}
 use Rattle.laws_wire.proofs.RestedRounds.{doing-append, expiries-append, many, many-rounds, none-expires, none-more}
-use Rattle.laws_wire.proofs.TimelyUp.{hushed, none-open}
-use Rattle.laws_wire.proofs.Talking.{Face}
-use Rattle.laws_wire.proofs.UaLostRun.{Goes}
+use Rattle.laws_wire.proofs.TimelyUp.{still-open}
 use Rattle.laws_wire.proofs.UaMoves.{both-patient, many-full, many-patient, none-reported, reports-append, rests-in}
-use Rattle.laws_wire.proofs.UaSettles.{patient-before, lossy-calls-are-answered, lossy-calls-settle}
-use Rattle.laws_wire.proofs.UaTold.{patient-goes, lossy-calls-come-through}
-use Rattle.laws_wire.proofs.UaWeighs.{Seen, seen-in}
+use Rattle.laws_wire.proofs.UaSettles.{lossy-calls-are-answered, lossy-calls-settle}
+use Rattle.laws_wire.proofs.UaTold.{lossy-calls-come-through}
 use Rattle.laws_wire.proofs.UnderwayRounds.{told-still}
+use Rattle.laws_wire.proofs.Simulated.{stands-on}
+use Rattle.laws_wire.proofs.Calling.{asked, end}
 
 -- ---- own busy is not asked for
 
@@ -28,37 +26,18 @@ none-busier (suc n) w x = none-busier n (doing (at_near receives) (doing (at_far
 
 -- ---- where no turn is left T200 of the end that calls is timely
 
-module _ (service : Service) (tei : ℕ) (c d : Config) (p q : ℕ) (face : Face c d) (back : Face d c) (rt : IsInRange (terms c service tei)) (ru : IsInRange (terms d service tei)) (v : ℕ)
-    (wide_c : 2 * (terms c service tei).k ≤ v) (wide_d : 2 * (terms d service tei).k ≤ v) where
-  seen-long : (w : Wire) → Seen service tei c d p q face back rt ru v wide_c wide_d w → IsStill w → MayRepeat service tei w.near → StayPatient (near_expires service tei) w
-  unfolding StayPatient
-  seen-long w s still may =
-      let near-quiet = hushed service tei c p s.past_n w.near s.n s.near still.near still.near_way in
-      let far-quiet = hushed service tei d q s.past_m w.far s.m s.far still.far still.far_way in
-      ((λ awaits. open-here service tei c d p q w.near w.far s.n s.m s.near.stands s.far.stands (none-open service tei s.n s.m near-quiet far-quiet), may), tt)
-
-  goes-long : (x : Called) (w : Wire) → Goes service tei c d p q face back rt ru x w → IsStill w → MayRepeat service tei w.near → StayPatient (near_expires service tei) w
-  goes-long x w h still may =
-      let still' = subst IsStill h.is still in
-      subst (StayPatient (near_expires service tei)) (sym h.is)
-      (patient-before h.earlier (near_expires service tei) h.v
-      (seen-long h.v (seen-in service tei c d p q face back rt ru v wide_c wide_d x h.v h.phase)
-      (record { near = still'.near; far = still'.far; near_way = still'.near_way; far_way = still'.far_way }) (subst (λ (w : Wire). MayRepeat service tei w.near) h.is may)))
-
 module _ (service : Service) (c d : Config) (line other tei k : ℕ) (can : CanCall c line d other tei) where
   abbrev begun : Wire
   begun = calling service tei c line d other
 
-  wide : (a b : ℕ) → (2 * a ≤ 2 * a + 2 * b) × (2 * b ≤ 2 * a + 2 * b)
-  wide a b = (omega arith, omega arith)
-
-  long : (ds : List StepAt) → All (IsFullTalk service tei) ds → StayPatient ds begun → IsStill (doing_all ds begun) → MayRepeat service tei (doing_all ds begun).near
+  long : (ds : List StepAt) → All (IsFullTalk service tei) ds → IsStill (doing_all ds begun) → MayRepeat service tei (doing_all ds begun).near
       → StayPatient (near_expires service tei) (doing_all ds begun)
-  long ds talk patient =
+  unfolding StayPatient
+  long ds talk still may =
       let s = setting service c d line other tei can in
-      let less = wide (terms c service tei).k (terms d service tei).k in
-      goes-long service tei c d 0 0 s.face s.back s.near s.far (2 * (terms c service tei).k + 2 * (terms d service tei).k) less.0 less.1 (seen service tei ds begun uncalled) (doing_all ds begun)
-      (patient-goes service c d line other tei ds can talk patient)
+      let first : Ends = record { near = end (terms c service tei) asked []; far = end (terms d service tei) fresh [] } in
+      let x = stands-on service tei c d 0 0 s.face s.back ds talk begun first (record { near = s.near_held.stands; far = s.far_held.stands }) in
+      ((λ awaits. (still-open service tei c d 0 0 (doing_all ds begun) x.0 x.1 still).0, may), tt)
 
   module _ (ds : List StepAt) (talk : All (IsFullTalk service tei) ds) (patient : StayPatient ds begun) (told : heard_in (doing_all ds begun).near ≢ []) where
     abbrev x : Called
@@ -109,7 +88,7 @@ module _ (service : Service) (c d : Config) (line other tei k : ℕ) (ds : List 
     patient-1 = both-patient ds (many n) first patient (many-patient n at)
 
     calls-so : StayPatient calls (doing_all ds1 first)
-    calls-so = long service c d line other tei k can ds1 talk-1 patient-1 (subst IsStill (sym is-1) still) (subst (λ (w : Wire). MayRepeat service tei w.near) (sym is-1) may)
+    calls-so = long service c d line other tei k can ds1 talk-1 (subst IsStill (sym is-1) still) (subst (λ (w : Wire). MayRepeat service tei w.near) (sym is-1) may)
 
     -- T200 of the end that calls expires
     abbrev ds2 : List StepAt

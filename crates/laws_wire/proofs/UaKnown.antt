@@ -1,12 +1,14 @@
 -- What is known of the links of a call in which UA may be lost: each runs the timer that it needs, and is busy only as it was asked.
 use Rattle.laws_wire.proofs.Vocabulary.{arith, ◌≡◌, ℕ, ◌*◌, ◌≤◌, Bool, true, false, not, ◌&&◌, ◌||◌, IsTrue, List, [], ◌∷◌, ◌++◌, map, refl, sym, ap, subst, ◌∙◌, ◌⊎◌, inl, inr, true≢false, All, All-head, All-tail, Service, Timer, Parts, spelling, LinkTimer, is_multiple_frame, after, IsInRange, LinkEndpoint, with_link, Config, expiry, request, terms, next, Line, place_in, Request, Data, SetBusy}
-use Rattle.laws_wire.proofs.Vocabulary.{ClearBusy, at_requested, aim_of_request, sound-after, Endpoint, Wire, happens, frame_comes, with_first_of, EndStep, requests, expires, sends, receives, loses, acting, turned, StepAt, at_near, at_far, doing, doing_all, link_of, is_granted, answered, IsAsked, IsFullTalkOf, IsFullTalk, StayPatient, or_parts, frame, requested, LinkEvent, offer, expired}
-use Rattle.laws_wire.proofs.Vocabulary.{LinkSetBusy, received, LinkClearBusy, LinkData, LinkRequest, Called, seeing, HasItsTimer, timely-after, busy_asked, as_heard, each-row, own_side}
+use Rattle.laws_wire.proofs.Vocabulary.{ClearBusy, at_requested}
+use Rattle.laws_wire.proofs.Vocabulary.{aim_of_request, sound-after, Endpoint, Wire, happens, frame_comes, with_first_of, EndStep, requests, expires, sends, receives, loses, acting, turned, StepAt, at_near, at_far, doing, doing_all, link_of, is_granted, answered, IsAsked, IsFullTalkOf, IsFullTalk, StayPatient, or_parts, frame, requested, LinkEvent, offer, expired, LinkSetBusy, received}
+use Rattle.laws_wire.proofs.Vocabulary.{LinkClearBusy, LinkData, LinkRequest}
+use Rattle.laws_wire.proofs.Vocabulary.{Called, seeing, HasItsTimer, timely-after, busy_asked, as_heard, each-row, own_side}
 use Rattle.laws_wire.specs.Facing.{line_of}
 use Rattle.laws_wire.specs.Settling.{Busy, busy_by, busy_behind, busy}
 use Rattle.laws_wire.proofs.Awaited.{link-is}
-use Rattle.laws_wire.proofs.Firm.{free as stays-free}
-use Rattle.laws_wire.proofs.LooseUp.{for-asked}
+use Rattle.laws_wire.proofs.Tame.{free as stays-free}
+use Rattle.laws_wire.proofs.Simulated.{for-asked}
 use Rattle.laws_wire.proofs.LossyPhases.{Aims, for-timer}
 use Rattle.laws_wire.proofs.Standing.{IsCarried, StationStands, link-sound, link-ranges, gives-stands, expires-stands, Granted, asks-stands, asks-answered}
 use Rattle.laws_wire.proofs.Talking.{Face, unheard, Took, takes as takes_frame}

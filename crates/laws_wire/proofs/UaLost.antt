@@ -1,18 +1,19 @@
 -- The phases of a call in which UA may be lost: one end rings, and the other is down; or it is up, and its UA waits, is on its way, or is
 -- not to come.
 use Rattle.laws_wire.proofs.Vocabulary.{◌≡◌, ℕ, ◌≤◌, Bool, true, false, not, List, [], ◌∷◌, ◌++◌, map, take, refl, sym, ap, subst, ◌∙◌, ◌⊎◌, inl, inr, arith, nat_lt, option_to_list, lt-ltb, All, All-head, All-drop, Control, Service, Parts, ControlFrame, Terms, may_repeat, course, IsInRange, LinkEndpoint, with_link, Config, LineTold, expiry, request, terms, Request, Rising, kind_of, T203}
+use Rattle.laws_wire.proofs.Vocabulary.{requested, with_link}
 use Rattle.laws_wire.proofs.Vocabulary.{one_enquiry, tally, line, HasNo, T200, Course, Endpoint, Wire, happens, without_first, EndStep, requests, expires, sends, receives, loses, acting, IsStill, confirmed, heard_in, is_poll, IsTimelyOf, IsFullTalkOf, timer_T200, timer_T203, NoteData}
 use Rattle.model_link.specs.Events as link
 use Rattle.laws_wire.proofs.Awaited.{awaits-is, may-there, none-there, goes-first, waits-first}
 use Rattle.laws_wire.proofs.Calling.{sabme, end}
 use Rattle.laws_wire.proofs.Held.{TellsIt, Held, held-given, held-lost, held-expired}
-use Rattle.laws_wire.proofs.LooseUp.{for-asked}
+use Rattle.laws_wire.proofs.Simulated.{for-asked, each-timer, asked_of}
 use Rattle.laws_wire.proofs.LossyPhases.{empty}
 use Rattle.laws_wire.proofs.Ringing.{ringing, its_sabme, repeated, t200-repeats, Tries, once_more}
 use Rattle.laws_wire.proofs.StillRinging.{ignores-frame}
 use Rattle.laws_wire.proofs.Talking.{Face}
-use Rattle.laws_wire.proofs.TimelyFirst.{takes-none, loses-none, gives-nothing, asks-refused, busy-refused, ready-refused}
-use Rattle.laws_wire.proofs.TimelyUp.{each-timer, hushed, none-waits}
+use Rattle.laws_wire.proofs.TimelyFirst.{takes-none, loses-none, gives-nothing, asks-still}
+use Rattle.laws_wire.proofs.TimelyUp.{hushed, none-waits}
 
 -- This goes before what is on the way of an end.
 abbrev pub behind : List Parts → LinkEndpoint → LinkEndpoint
@@ -76,10 +77,7 @@ module _ (service : Service) (tei : ℕ) (c d : Config) (p q : ℕ) (face : Face
       → Held c service tei p [] (happens (request r) s) (end t (ringing k ws) way)
   asks-held ws way k s h r is =
       let n = end t (ringing k ws) way in
-      for-asked service tei (λ r. Held c service tei p [] (happens (request r) s) n)
-      (λ octets. subst (λ s. Held c service tei p [] s n) (sym (asks-refused service tei c p [] s n h (λ octets none. cc none) octets)) h)
-      (subst (λ s. Held c service tei p [] s n) (sym (busy-refused service tei c p [] s n h refl)) h)
-      (subst (λ s. Held c service tei p [] s n) (sym (ready-refused service tei c p [] s n h refl)) h) r is
+      asks-still service tei c p [] s n h r is (for-asked service tei (λ r. with_link (requested (asked_of r) false) n ≡ n) (λ octets. refl) refl refl r is)
 
   -- while UA is to come T200 does not expire
   pub near-waits : (k : Tries) (w : Wire) → Held c service tei p [] w.near (end t (ringing k []) []) → (IsTimelyOf (expires (timer_T200 service tei)) w → ⊥) → (act : EndStep)

@@ -1,16 +1,16 @@
 -- A whole call in which UA may be lost: what is told, and that all has come where no turn is left and T200 runs at neither end.
-use Rattle.laws_wire.proofs.Vocabulary.{◌≡◌, ℕ, ◌==◌, Bool, true, false, cond, ◌&&◌, ◌||◌, List, [], ◌∷◌, ◌++◌, length, map, refl, sym, ap, subst, ◌∙◌, ◌⊎◌, inl, inr, append-nil, append_assoc, arith, All, All-head, All-tail, Service, Parts, ControlFrame, spelling, fresh, IsInRange, LinkEndpoint, frames_of, Config, LineTold, T203, expiry, request, terms, T200, Endpoint, Wire, happens, EndStep}
-use Rattle.laws_wire.proofs.Vocabulary.{requests, expires, sends, receives, loses, acting, turned, StepAt, at_near, at_far, doing, doing_all, is_any, confirmed, indicated, heard_in, is_final, IsTimelyOf, eqb-true, timer_T200, timer_T203, IsFullTalkOf, IsFullTalk, IsPatient, StayPatient, Called, error_f, renewed, told_of_sabme, with_sabme, takes_sabme, gives_information, seeing, seen, and-false}
-use Rattle.laws_wire.proofs.Vocabulary.{own_side}
+use Rattle.laws_wire.proofs.Vocabulary.{◌≡◌, ℕ, ◌==◌, Bool, true, false, cond, ◌&&◌, ◌||◌, List, [], ◌∷◌, ◌++◌, length, map, refl, sym, ap, subst, ◌∙◌, ◌⊎◌, inl, inr, append-nil, append_assoc, arith, All, All-head, All-tail, Service, Parts, ControlFrame, spelling, fresh, IsInRange, LinkEndpoint, frames_of, Config, LineTold, T203, expiry, terms, T200, Endpoint, Wire, happens, EndStep, requests}
+use Rattle.laws_wire.proofs.Vocabulary.{expires, sends, receives, loses}
+use Rattle.laws_wire.proofs.Vocabulary.{acting, turned, StepAt, at_near, at_far, doing, doing_all, is_any, confirmed, indicated, heard_in, is_final, IsTimelyOf, eqb-true, timer_T200, timer_T203, IsFullTalkOf, IsFullTalk, IsPatient, StayPatient, Called, error_f, renewed, told_of_sabme, with_sabme, takes_sabme, gives_information, seeing, seen, and-false, own_side, requested, with_link}
 use Rattle.laws_wire.proofs.Awaited.{awaits-is, none-there}
 use Rattle.laws_wire.proofs.Calling.{end, answering, sabme, ua}
 use Rattle.laws_wire.proofs.Held.{Held, held-lost, held-expired}
-use Rattle.laws_wire.proofs.LooseUp.{for-asked, LooseUp, loose-turned-up, loose-acts}
-use Rattle.laws_wire.proofs.Ringing.{ringing, its_sabme}
+use Rattle.laws_wire.proofs.Simulated.{for-asked, each-timer, asked_of}
+use Rattle.laws_wire.proofs.LooseUp.{LooseUp, loose-turned-up, loose-acts}
+use Rattle.laws_wire.proofs.Ringing.{ringing, its_sabme, Tries}
 use Rattle.laws_wire.proofs.StillRinging.{hears-sabme}
 use Rattle.laws_wire.proofs.Talking.{Face}
-use Rattle.laws_wire.proofs.TimelyFirst.{takes-none, gives-nothing, asks-refused, busy-refused, ready-refused}
-use Rattle.laws_wire.proofs.TimelyUp.{each-timer}
+use Rattle.laws_wire.proofs.TimelyFirst.{takes-none, gives-nothing, asks-still}
 use Rattle.laws_wire.proofs.UaBefore.{more-told, with_before, timely-with}
 use Rattle.laws_wire.proofs.UaCalledAt.{none-informed}
 use Rattle.laws_wire.proofs.UaLost.{behind, Rings, Ringing, ringing-takes, near-rings, near-waits}
@@ -45,24 +45,27 @@ module _ (service : Service) (tei : ℕ) (c d : Config) (p q : ℕ) (face : Face
   abbrev pub Up : List LineTold → Wire → Type 0
   Up past w = LooseUp service tei c d p q its_near past w
 
-  -- SABME was taken, and so it was told
+  -- SABME was taken, and so it was told; and UA is to come, or came
+  abbrev pub IsSure : List LineTold → Bool → Wire → Type 0
+  IsSure past b w = R (Waiting past b) [] [] w ⊎ Coming past b w ⊎ Up past w
+
+  -- or it is not to come
   abbrev pub IsCalled : List LineTold → Bool → Wire → Type 0
-  IsCalled past b w = Rs (Away past b) w ⊎ R (Waiting past b) [] [] w ⊎ Coming past b w ⊎ Up past w
+  IsCalled past b w = Rs (Away past b) w ⊎ IsSure past b w
 
   -- ---- what the near end does
 
-  near-but : (past : List LineTold) (b : Bool) (w : Wire) → IsCalled past b w → (act : EndStep) → (act ≡ receives → ⊥) → IsFullTalkOf service tei act → IsTimelyOf act w → IsCalled past b (acting act w)
-  near-but past b w (inl h) act not is x = inl (near-rings service tei c d p q face back rt ru (Away past b) w h act not is x)
-  near-but past b w (inr (inl h)) act not is x =
+  sure-but : (past : List LineTold) (b : Bool) (w : Wire) → IsSure past b w → (act : EndStep) → (act ≡ receives → ⊥) → IsFullTalkOf service tei act → IsTimelyOf act w → IsSure past b (acting act w)
+  sure-but past b w (inl h) act not is x =
       let awaited = λ (x : IsTimelyOf (expires (timer_T200 service tei)) w).
       is-awaited service tei c d p q face back rt ru past b (turned w) h.far
       (none-there service tei d q w.far h.far.M h.far.held.stands is_final (x.0 (awaits-is service tei c p w.near (end (terms c service tei) (ringing h.repeats []) []) h.near.stands)).responses) in
-      inr (inl (record { repeats = h.repeats; near = near-waits service tei c d p q face back rt ru h.repeats w h.near awaited act not is x; far = subst (Waiting past b) (sym (grind arith)) h.far }))
-  near-but past b w (inr (inr (inl h))) act not is x =
+      inl (record { repeats = h.repeats; near = near-waits service tei c d p q face back rt ru h.repeats w h.near awaited act not is x; far = subst (Waiting past b) (sym (grind arith)) h.far })
+  sure-but past b w (inr (inl h)) act not is x =
       let awaited = λ (x : IsTimelyOf (expires (timer_T200 service tei)) w).
       comes-awaited service tei c d p q face back rt ru past b w h
       (none-there service tei d q w.far (whole h) h.far.stands is_final (x.0 (awaits-is service tei c p w.near (end (terms c service tei) (ringing h.repeats []) []) h.near.stands)).responses) in
-      inr (inr (inl (record {
+      inr (inl (record {
         repeats = h.repeats;
         near = near-waits service tei c d p q face back rt ru h.repeats w h.near awaited act not is x;
         m = h.m;
@@ -72,11 +75,15 @@ module _ (service : Service) (tei : ℕ) (c d : Config) (p q : ℕ) (face : Face
         loose = h.loose;
         rejecting = h.rejecting;
         flag = h.flag;
-      })))
+      }))
     where
       whole : Coming past b w → LinkEndpoint
       whole h = behind (h.stale ++ ua (terms d service tei) ∷ []) h.m
-  near-but past b w (inr (inr (inr h))) act not is x = inr (inr (inr (loose-acts service tei c d p q face its_near past w h act is x)))
+  sure-but past b w (inr (inr h)) act not is x = inr (inr (loose-acts service tei c d p q face its_near past w h act is x))
+
+  near-but : (past : List LineTold) (b : Bool) (w : Wire) → IsCalled past b w → (act : EndStep) → (act ≡ receives → ⊥) → IsFullTalkOf service tei act → IsTimelyOf act w → IsCalled past b (acting act w)
+  near-but past b w (inl h) act not is x = inl (near-rings service tei c d p q face back rt ru (Away past b) w h act not is x)
+  near-but past b w (inr h) act not is x = inr (sure-but past b w h act not is x)
 
   module _ (past : List LineTold) (b : Bool) (w : Wire) where
     away-takes : (ws : List ControlFrame) (way : List Parts) → R (Away past b) ws way w → R (Away past b) ws way (acting receives w)
@@ -84,22 +91,30 @@ module _ (service : Service) (tei : ℕ) (c d : Config) (p q : ℕ) (face : Face
         ringing-takes service tei c d p q face back rt ru (Away past b) ws way w h (away-loses service tei c d p q face back rt ru past b (turned w) h.far) past h.far.M h.far.held
         h.far.M.link.r (frames_of h.far.M.terms h.far.M.link.waiting) h.far.rising
 
+    sure-takes : IsSure past b w → IsSure past b (acting receives w)
+    sure-takes (inl h) =
+        inl (ringing-takes service tei c d p q face back rt ru (Waiting past b) [] [] w h (waiting-loses service tei c d p q face back rt ru past b (turned w) h.far) past h.far.M h.far.held 0
+        (frames_of (terms d service tei) h.far.old) h.far.rising)
+    sure-takes (inr (inl h)) = inr (comes-takes service tei c d p q face back rt ru past b w h)
+    sure-takes (inr (inr h)) = inr (inr (loose-acts service tei c d p q face its_near past w h receives tt tt))
+
     near-takes : IsCalled past b w → IsCalled past b (acting receives w)
     near-takes (inl (inl h)) = inl (inl (away-takes [] [] h))
     near-takes (inl (inr (inl h))) = inl (inr (inl (away-takes (its_sabme ∷ []) [] h)))
     near-takes (inl (inr (inr h))) = inl (inr (inr (away-takes [] (sabme (terms c service tei) ∷ []) h)))
-    near-takes (inr (inl h)) =
-        inr (inl (ringing-takes service tei c d p q face back rt ru (Waiting past b) [] [] w h (waiting-loses service tei c d p q face back rt ru past b (turned w) h.far) past h.far.M h.far.held
-        0 (frames_of (terms d service tei) h.far.old) h.far.rising))
-    near-takes (inr (inr (inl h))) = inr (inr (comes-takes service tei c d p q face back rt ru past b w h))
-    near-takes (inr (inr (inr h))) = inr (inr (inr (loose-acts service tei c d p q face its_near past w h receives tt tt)))
+    near-takes (inr h) = inr (sure-takes h)
+
+  -- each act, where it is so of all but that it takes
+  pub by-act : (P : EndStep → Type 0) → ((act : EndStep) → (act ≡ receives → ⊥) → P act) → P receives → (act : EndStep) → P act
+  by-act P but takes act = grind arith
 
   near-called : (past : List LineTold) (b : Bool) (w : Wire) → IsCalled past b w → (act : EndStep) → IsFullTalkOf service tei act → IsTimelyOf act w → IsCalled past b (acting act w)
-  near-called past b w h (requests r) is x = near-but past b w h (requests r) (λ e. cc e) is x
-  near-called past b w h (expires timer) is x = near-but past b w h (expires timer) (λ e. cc e) is x
-  near-called past b w h sends is x = near-but past b w h sends (λ e. cc e) is x
-  near-called past b w h receives is x = near-takes past b w h
-  near-called past b w h loses is x = near-but past b w h loses (λ e. cc e) is x
+  near-called past b w h =
+      by-act (λ act. IsFullTalkOf service tei act → IsTimelyOf act w → IsCalled past b (acting act w)) (λ act not is x. near-but past b w h act not is x) (λ is x. near-takes past b w h)
+
+  pub sure-near : (past : List LineTold) (b : Bool) (w : Wire) → IsSure past b w → (act : EndStep) → IsFullTalkOf service tei act → IsTimelyOf act w → IsSure past b (acting act w)
+  sure-near past b w h =
+      by-act (λ act. IsFullTalkOf service tei act → IsTimelyOf act w → IsSure past b (acting act w)) (λ act not is x. sure-but past b w h act not is x) (λ is x. sure-takes past b w h)
 
   -- ---- what the far end does
 
@@ -127,72 +142,85 @@ module _ (service : Service) (tei : ℕ) (c d : Config) (p q : ℕ) (face : Face
     stays : (A : Wire → Type 0) → w.near.way ≡ [] → A w → A (done receives w)
     stays A none h = subst A (sym (ap turned (takes-none (turned w) none))) h
 
+    none-comes : (A : Wire → Type 0) (k : Tries) → Held c service tei p [] w.near (end (terms c service tei) (ringing k []) []) → A w → (takes_sabme w ≡ false) × A (done receives w)
+    none-comes A k near h =
+        let none = empty-way (end (terms c service tei) (ringing k []) []) [] near refl in
+        (ap (λ way. is_any way && length (heard_in w.near) == 0) none, stays A none h)
+
     told-no : (n : LinkEndpoint) → Held c service tei p its_near w.near n → takes_sabme w ≡ false
     told-no n h = grind (arith, eqb-true, and-false)
 
   -- it is asked, or a timer expires
   module _ (past : List LineTold) (b : Bool) (w : Wire) (act : EndStep) (untaken : act ≡ receives → ⊥) (not : act ≡ sends → ⊥) (nor : act ≡ loses → ⊥) (is : IsFullTalkOf service tei act)
       (x : IsTimelyOf act (turned w)) where
+    pub sure-stirs : IsSure past b w → IsSure past b (done act w)
+    sure-stirs (inl h) =
+        inl (rings-far (Waiting past b) (Waiting past b) [] [] w (done act w) (grind arith) (λ y. waiting-acts service tei c d p q face back rt ru past b (turned w) y act untaken not is x) h)
+    sure-stirs (inr (inl h)) = inr (inl (comes-acts service tei c d p q face back rt ru past b w h act untaken not nor is x))
+    sure-stirs (inr (inr h)) = inr (inr (up-far past w h act is x))
+
     far-stirs : IsCalled past b w → IsCalled past b (done act w)
     far-stirs (inl h) =
         inl (all-far (Away past b) (Away past b) w (done act w) (grind arith) (λ y. away-acts service tei c d p q face back rt ru past b (turned w) y act untaken not is x) h)
-    far-stirs (inr (inl h)) =
-        inr (inl (rings-far (Waiting past b) (Waiting past b) [] [] w (done act w) (grind arith) (λ y. waiting-acts service tei c d p q face back rt ru past b (turned w) y act untaken not is x) h))
-    far-stirs (inr (inr (inl h))) = inr (inr (inl (comes-acts service tei c d p q face back rt ru past b w h act untaken not nor is x)))
-    far-stirs (inr (inr (inr h))) = inr (inr (inr (up-far past w h act is x)))
+    far-stirs (inr h) = inr (sure-stirs h)
 
   module _ (past : List LineTold) (b : Bool) (w : Wire) where
     abbrev now : Bool
     now = b || gives_information w.far
 
+    pub sure-gives : IsSure past b w → IsSure past now (done sends w)
+    sure-gives (inl h) = go (waiting-gives service tei c d p q face back rt ru past b (turned w) h.far h.repeats (done sends w) h.near refl)
+      where
+        go : Waiting past now (done sends w).far ⊎ Coming past now (done sends w) → IsSure past now (done sends w)
+        go (inl y) = inl (record { repeats = h.repeats; near = h.near; far = y })
+        go (inr y) = inr (inl y)
+    sure-gives (inr (inl h)) = inr (inl (comes-gives service tei c d p q face back rt ru past b w h))
+    sure-gives (inr (inr h)) = inr (inr (up-far past w h sends tt tt))
+
     far-gives : IsCalled past b w → IsCalled past now (done sends w)
     far-gives (inl h) = inl (all-far (Away past b) (Away past now) w (done sends w) refl (λ y. away-gives service tei c d p q face back rt ru past b (turned w) y) h)
-    far-gives (inr (inl h)) = go (waiting-gives service tei c d p q face back rt ru past b (turned w) h.far h.repeats (done sends w) h.near refl)
-      where
-        go : Waiting past now (done sends w).far ⊎ Coming past now (done sends w) → IsCalled past now (done sends w)
-        go (inl y) = inr (inl (record { repeats = h.repeats; near = h.near; far = y }))
-        go (inr y) = inr (inr (inl y))
-    far-gives (inr (inr (inl h))) = inr (inr (inl (comes-gives service tei c d p q face back rt ru past b w h)))
-    far-gives (inr (inr (inr h))) = inr (inr (inr (up-far past w h sends tt tt)))
+    far-gives (inr h) = inr (sure-gives h)
+
+    -- UA may be lost, while the other was told nothing
+    pub sure-loses : IsSure past b w → IsSure past b (done loses w) ⊎ ((heard_in w.near ≡ []) × IsCalled past b (done loses w))
+    sure-loses (inl h) =
+        inl (inl (rings-far (Waiting past b) (Waiting past b) [] [] w (done loses w) refl (λ y. waiting-loses service tei c d p q face back rt ru past b (turned w) y) h))
+    sure-loses (inr (inl h)) =
+        elim (comes-loses service tei c d p q face back rt ru past b w h) [
+          | inl y ↦ inl (inr (inl y))
+          | inr y ↦ inr (h.near.heard, inl (inl (record { repeats = h.repeats; near = h.near; far = y })))
+        ]
+    sure-loses (inr (inr h)) = inl (inr (inr (up-far past w h loses tt tt)))
 
     far-loses : IsCalled past b w → IsCalled past b (done loses w)
     far-loses (inl h) = inl (all-far (Away past b) (Away past b) w (done loses w) refl (λ y. away-loses service tei c d p q face back rt ru past b (turned w) y) h)
-    far-loses (inr (inl h)) = inr (inl (rings-far (Waiting past b) (Waiting past b) [] [] w (done loses w) refl (λ y. waiting-loses service tei c d p q face back rt ru past b (turned w) y) h))
-    far-loses (inr (inr (inl h))) = go (comes-loses service tei c d p q face back rt ru past b w h)
-      where
-        go : Coming past b (done loses w) ⊎ Away past b (done loses w).far → IsCalled past b (done loses w)
-        go (inl y) = inr (inr (inl y))
-        go (inr y) = inl (inl (record { repeats = h.repeats; near = h.near; far = y }))
-    far-loses (inr (inr (inr h))) = inr (inr (inr (up-far past w h loses tt tt)))
+    far-loses (inr h) = elim (sure-loses h) [ inl y ↦ inr y | inr (untold, y) ↦ y ]
+
+    -- it takes no SABME then
+    pub sure-hears : IsSure past b w → (takes_sabme w ≡ false) × IsSure past b (done receives w)
+    sure-hears (inl h) = none-comes w (IsSure past b) h.repeats h.near (inl h)
+    sure-hears (inr (inl h)) = none-comes w (IsSure past b) h.repeats h.near (inr (inl h))
+    sure-hears (inr (inr h)) = (told-no w h.n h.near, inr (inr (up-far past w h receives tt tt)))
 
     abbrev Takes : Type 0
     Takes = ((takes_sabme w ≡ false) × IsCalled past b (done receives w)) ⊎ ((takes_sabme w ≡ true) × TookSabme service tei c d p q face back rt ru past b w (done receives w))
 
     far-takes : IsCalled past b w → IsTimelyOf receives (turned w) → Takes
-    far-takes (inl (inl h)) x =
-        let none = empty-way w (end (terms c service tei) (ringing h.repeats []) []) [] h.near refl in
-        inl ((ap (λ way. is_any way && length (heard_in w.near) == 0) none), stays w (IsCalled past b) none (inl (inl h)))
+    far-takes (inl (inl h)) x = inl (none-comes w (IsCalled past b) h.repeats h.near (inl (inl h)))
     far-takes (inl (inr (inl h))) x = grind (arith, empty-way, end, ringing, its_sabme, stays)
     far-takes (inl (inr (inr h))) x =
         inr (
           ap (λ way. is_any way && length (heard_in w.near) == 0) h.near.stands.way ∙ ap (λ ts. length ts == 0) h.near.heard,
           sabme-renews service tei c d p q face back rt ru past w h.repeats h.near b h.far,
         )
-    far-takes (inr (inl h)) x =
-        let none = empty-way w (end (terms c service tei) (ringing h.repeats []) []) [] h.near refl in
-        inl ((ap (λ way. is_any way && length (heard_in w.near) == 0) none), stays w (IsCalled past b) none (inr (inl h)))
-    far-takes (inr (inr (inl h))) x =
-        let none = empty-way w (end (terms c service tei) (ringing h.repeats []) []) [] h.near refl in
-        inl ((ap (λ way. is_any way && length (heard_in w.near) == 0) none), stays w (IsCalled past b) none (inr (inr (inl h))))
-    far-takes (inr (inr (inr h))) x = inl (told-no w h.n h.near, inr (inr (inr (up-far past w h receives tt x))))
+    far-takes (inr h) x = let y = sure-hears h in inl (y.0, inr y.1)
 
   -- ---- while it is down
 
   module _ (w : Wire) where
     down-acts : Down w.far → (act : EndStep) → (act ≡ receives → ⊥) → IsFullTalkOf service tei act → Down (acting act (turned w)).near
     down-acts h (requests r) not is =
-        for-asked service tei (λ r. Down (happens (request r) w.far)) (λ octets. subst Down (sym (asks-refused service tei d q [] w.far down h (λ octets none. cc none) octets)) h)
-        (subst Down (sym (busy-refused service tei d q [] w.far down h refl)) h) (subst Down (sym (ready-refused service tei d q [] w.far down h refl)) h) r is
+        asks-still service tei d q [] w.far down h r is (for-asked service tei (λ r. with_link (requested (asked_of r) false) down ≡ down) (λ octets. refl) refl refl r is)
     down-acts h (expires timer) not is =
         each-timer service tei (λ timer. Down (happens (expiry timer) w.far))
         (held-expired service tei q [] d w.far down h (timer_T200 service tei) T200 (λ l. refl) (record { its_notes = refl; no_unit = refl }) refl)
@@ -207,10 +235,8 @@ module _ (service : Service) (tei : ℕ) (c d : Config) (p q : ℕ) (face : Face
     pub there : (P : Endpoint → Type 0) → Rs P w → P w.far
     there o x = grind arith
 
-    down-takes : Rs Down w → ((takes_sabme w ≡ false) × Rs Down (done receives w)) ⊎ ((takes_sabme w ≡ true) × R (Waiting (indicated service tei ∷ []) false) [] [] (done receives w))
-    down-takes (inl h) =
-        let none = empty-way w (end (terms c service tei) (ringing h.repeats []) []) [] h.near refl in
-        inl ((ap (λ way. is_any way && length (heard_in w.near) == 0) none), stays w (Rs Down) none (inl h))
+    pub down-takes : Rs Down w → ((takes_sabme w ≡ false) × Rs Down (done receives w)) ⊎ ((takes_sabme w ≡ true) × R (Waiting (indicated service tei ∷ []) false) [] [] (done receives w))
+    down-takes (inl h) = inl (none-comes w (Rs Down) h.repeats h.near (inl h))
     down-takes (inr (inl h)) =
         let none = empty-way w (end (terms c service tei) (ringing h.repeats (its_sabme ∷ [])) []) [] h.near refl in
         inl ((ap (λ way. is_any way && length (heard_in w.near) == 0) none), stays w (Rs Down) none (inr (inl h)))
@@ -255,30 +281,25 @@ module _ (service : Service) (tei : ℕ) (c d : Config) (p q : ℕ) (face : Face
     pub phase : Phase x v
 
   module _ (x : Called) (v : Wire) (g : List (List ℕ)) (up : x.given_up ≡ length g) where
+    on : (v' : Wire) → (Rs Down v → Rs Down v') → (IsCalled x.told x.sent v → IsCalled x.told x.sent v') → Phase x v → Phase x v'
+    on v' f f' (inl (told, sent, h)) = inl (told, sent, f h)
+    on v' f f' (inr (some, h)) = inr (some, f' h)
+
     near-goes : Phase x v → (act : EndStep) → IsFullTalkOf service tei act → IsTimelyOf act (with_before g v) → Goes x (acting act (with_before g v))
-    near-goes h act is timely = record { v = acting act v; earlier = g; is = grind arith; given_up = up; phase = go h }
-      where
-        go : Phase x v → Phase x (acting act v)
-        go (inl (told, sent, h)) = inl (told, sent, down-near v h act is (timely-with act v.near v.far v.near.granted (g ++ v.far.granted) timely))
-        go (inr (some, h)) = inr (some, near-called x.told x.sent v h act is (timely-with act v.near v.far v.near.granted (g ++ v.far.granted) timely))
+    near-goes h act is timely =
+        let timely' = timely-with act v.near v.far v.near.granted (g ++ v.far.granted) timely in
+        record { v = acting act v; earlier = g; is = grind arith; given_up = up; phase = on (acting act v) (λ h. down-near v h act is timely') (λ h. near-called x.told x.sent v h act is timely') h }
 
     far-goes : (act : EndStep) → Phase x (done act v) → Goes x (done act (with_before g v))
     far-goes act h = record { v = done act v; earlier = g; is = grind (arith, append_assoc); given_up = up; phase = h }
 
     stirs-goes : Phase x v → (act : EndStep) → (act ≡ receives → ⊥) → (act ≡ sends → ⊥) → (act ≡ loses → ⊥) → IsFullTalkOf service tei act → IsTimelyOf act (turned (with_before g v))
         → Goes x (done act (with_before g v))
-    stirs-goes h act untaken not nor is timely = far-goes act (go h)
-      where
-        go : Phase x v → Phase x (done act v)
-        go (inl (told, sent, h)) = inl (told, sent, down-far v h act untaken is)
-        go (inr (some, h)) = inr (some, far-stirs x.told x.sent v act untaken not nor is (timely-with act v.far v.near (g ++ v.far.granted) v.near.granted timely) h)
+    stirs-goes h act untaken not nor is timely =
+        far-goes act (on (done act v) (λ h. down-far v h act untaken is) (far-stirs x.told x.sent v act untaken not nor is (timely-with act v.far v.near (g ++ v.far.granted) v.near.granted timely)) h)
 
     loses-goes : Phase x v → Goes x (done loses (with_before g v))
-    loses-goes h = far-goes loses (go h)
-      where
-        go : Phase x v → Phase x (done loses v)
-        go (inl (told, sent, h)) = inl (told, sent, down-far v h loses (λ e. cc e) tt)
-        go (inr (some, h)) = inr (some, far-loses x.told x.sent v h)
+    loses-goes h = far-goes loses (on (done loses v) (λ h. down-far v h loses (λ e. cc e) tt) (far-loses x.told x.sent v) h)
 
     gives-goes : Phase x v → Goes (record x { sent = x.sent || gives_information v.far }) (done sends (with_before g v))
     gives-goes h = record { v = done sends v; earlier = g; is = grind (arith, append_assoc); given_up = up; phase = go h }
@@ -329,16 +350,10 @@ module _ (service : Service) (tei : ℕ) (c d : Config) (p q : ℕ) (face : Face
     After b = Goes (cond b taken x) (done receives (with_before g v))
 
     takes-goes : Phase x v → Goes (cond (takes_sabme v) taken x) (done receives (with_before g v))
-    takes-goes (inl (told, sent, h)) = go (down-takes v h)
-      where
-        go : ((takes_sabme v ≡ false) × Rs Down (done receives v)) ⊎ ((takes_sabme v ≡ true) × R (Waiting (indicated service tei ∷ []) false) [] [] (done receives v)) → After (takes_sabme v)
-        go (inl (e, y)) = subst After (sym e) (far-goes receives (inl (told, sent, y)))
-        go (inr (e, y)) = subst After (sym e) (first-goes told sent y)
-    takes-goes (inr (some, h)) = go (far-takes x.told x.sent v h tt)
-      where
-        go : Takes x.told x.sent v → After (takes_sabme v)
-        go (inl (e, y)) = subst After (sym e) (far-goes receives (inr (some, y)))
-        go (inr (e, y)) = subst After (sym e) (sabme-goes y some)
+    takes-goes (inl (told, sent, h)) =
+        elim (down-takes v h) [ inl (e, y) ↦ subst After (sym e) (far-goes receives (inl (told, sent, y))) | inr (e, y) ↦ subst After (sym e) (first-goes told sent y) ]
+    takes-goes (inr (some, h)) =
+        elim (far-takes x.told x.sent v h tt) [ inl (e, y) ↦ subst After (sym e) (far-goes receives (inr (some, y))) | inr (e, y) ↦ subst After (sym e) (sabme-goes y some) ]
 
   pub step : (x : Called) (k : StepAt) → IsFullTalk service tei k → (w : Wire) → IsPatient k w → Goes x w → Goes (seeing service tei k w x) (doing k w)
   step x k is w patient h = subst (λ w. IsPatient k w → Goes (seeing service tei k w x) (doing k w)) (sym h.is) (by k is) patient

@@ -2,7 +2,6 @@
 use Rattle.laws_wire.proofs.Vocabulary.{◌≡◌, ℕ, zero, suc, ◌+◌, ◌*◌, ◌≤◌, List, [], ◌∷◌, ◌++◌, length, refl, sym, ap, subst, ◌∙◌, arith, length-append, All, All-nil, All-append, All-head, All-tail, Service, fresh, IsInRange, Config, terms, cond, Wire, EndStep, sends, receives, StepAt, at_near, at_far, turned, doing, doing_all, IsStill, calling, CanCall, granted_of, IsFullTalk, StayPatient, rounds}
 use Rattle.laws_wire.proofs.Vocabulary.{is_move_of, moves, expiries_of, expiries, most_frames, IsPatient, Called, uncalled, seeing, seen, reports_of, reports, most_moves, LossyMovesComeToAnEnd, LossyRoundsComeToRest, append_assoc}
 use Rattle.laws_wire.proofs.Calling.{asked, end}
-use Rattle.laws_wire.proofs.Heft.{heft, heft-is, Pays}
 use Rattle.laws_wire.proofs.LossyRun.{setting}
 use Rattle.laws_wire.proofs.RestedRounds.{doing-append, moves-append, expiries-append, many, none-expires, none-more, finds}
 use Rattle.laws_wire.proofs.RestedRun.{twice}
@@ -11,6 +10,7 @@ use Rattle.laws_wire.proofs.UaBefore.{with_before, timely-with}
 use Rattle.laws_wire.proofs.UaLostRun.{Phase, Goes, step}
 use Rattle.laws_wire.proofs.UaTold.{patient-goes}
 use Rattle.laws_wire.proofs.UaWeighs.{Steps, near-pays, far-pays}
+use Rattle.laws_wire.proofs.Weighing.{Pays, both-pay, heft, heft-is}
 
 module _ (service : Service) (tei v : ℕ) where
   abbrev P : ℕ → ℕ → ℕ → Wire → Wire → Type 0
@@ -29,21 +29,6 @@ module _ (service : Service) (tei v : ℕ) where
     far-alike : (act : EndStep) → P (cond {A = ℕ} (is_move_of act (turned w)) 1 0) (expiries_of act) (reports_of act (turned w)) a b
         → P (cond {A = ℕ} (is_move_of act (turned (with_before g w))) 1 0) (expiries_of act) (reports_of act (turned (with_before g w))) a b
     far-alike act h = grind arith
-
-  -- one after the other
-  both-pay : (moved expired reported moved' expired' reported' : ℕ) (w w' w'' : Wire) → P moved expired reported w w' → P moved' expired' reported' w' w''
-      → P (moved + moved') (expired + expired') (reported + reported') w w''
-  both-pay moved expired reported moved' expired' reported' w w' w'' h k = record {
-    more = h.more + k.more;
-    granted = all (granted_of w) (granted_of w') (granted_of w'') h.more k.more h.granted k.granted;
-    falls = grind (arith, sum, heft);
-  }
-    where
-      all : (a b c x y : ℕ) → b ≡ a + x → c ≡ b + y → c ≡ a + (x + y)
-      all a b c x y e f = omega (arith, e, f)
-
-      sum : (m m' a b c x x' xs y y' ys r r' : ℕ) → xs ≡ x + x' → ys ≡ y + y' → m + b ≤ a + x + y + 2 * r → m' + c ≤ b + x' + y' + 2 * r' → m + m' + c ≤ a + xs + ys + 2 * (r + r')
-      sum m m' a b c x x' xs y y' ys r r' e f h k = omega (arith, e, f, h, k)
 
   module _ (c d : Config) (p q : ℕ) (face : Face c d) (back : Face d c) (rt : IsInRange (terms c service tei)) (ru : IsInRange (terms d service tei)) (wide_c : 2 * (terms c service tei).k ≤ v)
       (wide_d : 2 * (terms d service tei).k ≤ v) where
@@ -70,7 +55,7 @@ module _ (service : Service) (tei v : ℕ) where
     runs-pay [] all w patient x h = record { more = 0; granted = omega arith; falls = omega arith }
     runs-pay (k ∷ ds) all w patient x h =
         let is = All-head (IsFullTalk service tei) k ds all in
-        both-pay _ _ _ (moves ds (doing k w)) (expiries ds) (reports ds (doing k w)) w (doing k w) (doing_all ds (doing k w)) (one x k is w patient.0 h)
+        both-pay service tei v _ _ _ (moves ds (doing k w)) (expiries ds) (reports ds (doing k w)) w (doing k w) (doing_all ds (doing k w)) (one x k is w patient.0 h)
         (runs-pay ds (All-tail (IsFullTalk service tei) k ds all) (doing k w) patient.1 (seeing service tei k w x) (step service tei c d p q face back rt ru x k is w patient.0 h))
 
 pub lossy-moves-come-to-an-end : LossyMovesComeToAnEnd

@@ -1,7 +1,7 @@
 -- Where both ends are up, neither is busy and no turn is left: once T200 expires, so many rounds are enough for all that is missing, and it stops.
 use Rattle.laws_wire.proofs.Vocabulary.{◌≡◌, true, ℕ, ◌+◌, ◌≤◌, false, List, ◌++◌, length, map, take, None, refl, sym, ap, subst, arith, length-map, length-append, length-take-le, eq-eqb, Service, Timer, Established, T200, Link, may_repeat, given, LinkEndpoint, Ends, with_link, Config, LineTold, next, gave, runs, is_running, IsCutOff, all-recovered, nothing-to_send, awaits_answer, Endpoint, Wire}
-use Rattle.laws_wire.proofs.Vocabulary.{expires, acting}
-use Rattle.laws_wire.proofs.Vocabulary.{turned, answered, IsStill, link_of, data_told, heard_in, is_poll, runs_t200, rounds, with_t200_expired, both_expire, BothMayRepeat, StayPatient, expired, timer_T200, two_links_rounds, TwoLinksHasArrived, HasItsTimer, HasNo, TimerRecovery, enquiry_with, expires-one, is_final, rising-low, [], AreFree, free-recovered, flows-low}
+use Rattle.laws_wire.proofs.Vocabulary.{expires, acting, turned}
+use Rattle.laws_wire.proofs.Vocabulary.{answered, IsStill, link_of, data_told, heard_in, is_poll, runs_t200, rounds, with_t200_expired, both_expire, BothMayRepeat, StayPatient, expired, timer_T200, two_links_rounds, TwoLinksHasArrived, HasItsTimer, HasNo, TimerRecovery, enquiry_with, expires-one, is_final, rising-low, [], AreFree, free-recovered, flows-low}
 use Rattle.laws_link.specs.two.CutOff as cut_off
 use Rattle.laws_wire.specs.Facing.{line_of}
 use Rattle.laws_wire.proofs.Awaited.{NoneOpen, closed, may-there, open-here, link-is, runs-up}
@@ -34,7 +34,7 @@ module _ (service : Service) (tei : ℕ) (c d : Config) (p q : ℕ) (face : Face
   At w n m = LooseAt service tei c d p q past other w n m
 
   -- so it is round after round
-  loose-rounds : (k : ℕ) (w : Wire) (e : Ends) → At w e.near e.far → At (rounds k w) (two_links_rounds k e).near (two_links_rounds k e).far
+  pub loose-rounds : (k : ℕ) (w : Wire) (e : Ends) → At w e.near e.far → At (rounds k w) (two_links_rounds k e).near (two_links_rounds k e).far
   loose-rounds =
       rounds-keep (λ w e. At w e.near e.far) (λ w e. LooseAt service tei d c q p other past w e.near e.far)
       (λ w e. at-turned service tei c d p q past other w e.near e.far) (λ w e. at-turned service tei d c q p other past w e.near e.far)

@@ -1,10 +1,10 @@
 -- A call in which UA may be lost and an end may be busy comes to where no turn is left and T200 runs at neither end.
-use Rattle.laws_wire.proofs.Vocabulary.{◌≡◌, ◌≢◌, ℕ, ◌+◌, ◌≤◌, ◌*◌, Bool, false, List, [], ◌∷◌, ◌++◌, length, map, refl, sym, ap, subst, ◌∙◌, inl, inr, arith, All, All-nil, All-append, Service, Parts, ControlFrame, fresh, IsInRange, LinkEndpoint, Config, LineTold, terms, Endpoint, Wire, expires, at_near, at_far, acting, StepAt, doing, doing_all, IsStill, link_of, calling, CanCall, confirmed}
+use Rattle.laws_wire.proofs.Vocabulary.{◌≡◌, ◌≢◌, ℕ, ◌+◌, ◌≤◌, ◌*◌, Bool, false, List, [], ◌∷◌, ◌++◌, length, map, refl, sym, ap, subst, ◌∙◌, inl, inr, arith, All, All-nil, All-append, Service, fresh, IsInRange, LinkEndpoint, Config, LineTold, terms, Endpoint, Wire, expires, at_near, at_far, acting, StepAt, doing, doing_all, IsStill, link_of, calling, CanCall, confirmed}
 use Rattle.laws_wire.proofs.Vocabulary.{data_told, heard_in, IsFullTalk, StayPatient, MayRepeat, BothMayRepeat, both_expire, with_t200_expired, rounds, timer_T200, IsAtRest, Called, uncalled, seen, all_kept, none_busy, busy, HasLeft, HasTold, Settles, near_expires, LossyCallsAreAnswered, LossyCallsSettle, HasItsTimer, timely-fresh, append_assoc}
 use Rattle.laws_wire.specs.Facing.{line_of}
 use Rattle.laws_wire.proofs.Acting.{ranges}
 use Rattle.laws_wire.proofs.Awaited.{open-here, link-is}
-use Rattle.laws_wire.proofs.Calling.{end, asked, its_ua, ua}
+use Rattle.laws_wire.proofs.Calling.{end, asked}
 use Rattle.laws_wire.proofs.Held.{Held}
 use Rattle.laws_wire.proofs.LooseUp.{LooseAt}
 use Rattle.laws_wire.proofs.LossyRun.{Setting, setting}
@@ -19,7 +19,7 @@ use Rattle.laws_wire.proofs.UaLostRun.{Away, Rs, Down, Up, IsCalled, Phase, Goes
 use Rattle.laws_wire.proofs.UaMoves.{both-patient, many-full, many-patient}
 use Rattle.laws_wire.proofs.UaRings.{answers-again, answers-first, rings-again}
 use Rattle.laws_wire.proofs.UaSettled.{loose-goes_on, loose-settles}
-use Rattle.laws_wire.proofs.UaTold.{all-is, still-there, patient-goes}
+use Rattle.laws_wire.proofs.UaTold.{sure-still, all-is, still-there, patient-goes}
 
 -- ---- what was granted before does not matter
 
@@ -53,10 +53,6 @@ module _ (g : List (List ℕ)) where
   )
 
 -- ---- the phases where no turn is left
-
-some-waits : (xs ys : List ControlFrame) (x : ControlFrame) → (xs ++ x ∷ []) ++ ys ≡ [] → ⊥
-some-waits [] ys x e = cc e
-some-waits (y ∷ xs) ys x e = cc e
 
 module _ (service : Service) (tei : ℕ) (c d : Config) (p q : ℕ) (face : Face c d) (back : Face d c) (rt : IsInRange (terms c service tei)) (ru : IsInRange (terms d service tei)) where
   abbrev Its : List LineTold → Wire → Type 0
@@ -98,13 +94,7 @@ module _ (service : Service) (tei : ℕ) (c d : Config) (p q : ℕ) (face : Face
           rings-again service tei c d p q face back rt ru (Away service tei c d p q face back rt ru past b) v h may past M h.far.held quiet.way
               (answers-again service tei c d p q face back rt ru M.link M.terms (ranges service tei q past d v.far M h.far.held) h.far.up h.far.a (none-waits service tei M quiet)),
         ))
-    called-tells past b none (inr (inl h)) = grind (arith, some-waits, its_ua, none-waits, far-quiet)
-    called-tells past b none (inr (inr (inl h))) = absurd (some-comes h.stale (far-quiet past _ h.far).way)
-      where
-        some-comes : (stale : List Parts) → (stale ++ ua (terms d service tei) ∷ []) ++ h.m.way ≡ [] → ⊥
-        some-comes [] e = cc e
-        some-comes (f ∷ fs) e = cc e
-    called-tells past b none (inr (inr (inr h))) = absurd (cc (sym h.near.heard ∙ none))
+    called-tells past b none (inr h) = absurd (cc (sym (sure-still service tei c d p q face back rt ru past b v h still).near.heard ∙ none))
 
     pub phase-tells : (x : Called) → Phase service tei c d p q face back rt ru x v → heard_in v.near ≡ [] → Tells
     phase-tells x (inl (told, sent, h)) none =

@@ -1,16 +1,18 @@
 -- What is told in a call in which UA may be lost, from its phases.
 use Rattle.laws_wire.proofs.Vocabulary.{arith, ◌≡◌, ℕ, Bool, false, List, [], ◌∷◌, ◌++◌, length, map, take, drop, refl, sym, ap, append-nil, append_assoc, map-append, take-append-drop, subst, ◌∙◌, inl, inr, true≢false, All, front_rest, Service, Parts, ControlFrame, IsInRange, LinkEndpoint, Config, LineTold, terms, Endpoint, Wire, turned, StepAt, doing_all, IsStill, CanCall, calling, data_told}
-use Rattle.laws_wire.proofs.Vocabulary.{IsBeginningOf, heard_in, runs_t200, IsFullTalk, StayPatient, Called, uncalled, seen, all_kept, ToldSo, LossyCallsComeThrough}
+use Rattle.laws_wire.proofs.Vocabulary.{IsBeginningOf, heard_in}
+use Rattle.laws_wire.proofs.Vocabulary.{runs_t200, IsFullTalk, StayPatient, Called, uncalled, seen, all_kept, ToldSo, LossyCallsComeThrough}
 use Rattle.laws_wire.proofs.Awaited.{runs-is}
-use Rattle.laws_wire.proofs.Calling.{end, sabme}
+use Rattle.laws_wire.proofs.Calling.{end, sabme, its_ua, ua}
 use Rattle.laws_wire.proofs.Held.{Held}
 use Rattle.laws_wire.proofs.LooseUp.{loose-turned-up, loose-told, loose-rests}
 use Rattle.laws_wire.proofs.LossyRun.{setting}
 use Rattle.laws_wire.proofs.Ringing.{ringing, its_sabme, Tries, none_tried}
 use Rattle.laws_wire.proofs.Talking.{Face}
 use Rattle.laws_wire.proofs.UaLost.{not-told}
-use Rattle.laws_wire.proofs.UaLostRun.{its_near, Away, Rs, Down, Up, IsCalled, Phase, Goes, patient-runs}
+use Rattle.laws_wire.proofs.UaLostRun.{its_near, Away, Rs, Down, Up, IsCalled, IsSure, Phase, Goes, patient-runs}
 use Rattle.laws_wire.proofs.UaPhases.{comes-none}
+use Rattle.laws_wire.proofs.TimelyUp.{hushed, none-waits}
 use Rattle.laws_wire.proofs.UaBefore.{with_before}
 
 module _ (service : Service) (tei : ℕ) (past : List LineTold) where
@@ -72,6 +74,22 @@ module _ (service : Service) (tei : ℕ) (c d : Config) (p q : ℕ) (face : Face
   so-far : (x : Called) (v : Wire) → Phase service tei c d p q face back rt ru x v → NearSoFar v × FarSoFar x.told v
   so-far x v (inl (told, sent, h)) = grind (arith, nothing-yet, not-told, Down, far-none)
   so-far x v (inr (some, h)) = called-so-far x.told x.sent v h
+
+  -- ---- where no turn is left UA has come
+
+  some-comes : (stale way : List Parts) (f : Parts) → (stale ++ f ∷ []) ++ way ≡ [] → ⊥
+  some-comes [] way f e = cc e
+  some-comes (g ∷ gs) way f e = cc e
+
+  some-waits : (old post : List ControlFrame) (f : ControlFrame) → (old ++ f ∷ []) ++ post ≡ [] → ⊥
+  some-waits [] post f e = cc e
+  some-waits (g ∷ gs) post f e = cc e
+
+  pub sure-still : (past : List LineTold) (b : Bool) (v : Wire) → IsSure service tei c d p q face back rt ru past b v → IsStill v → Up service tei c d p q face back rt ru past v
+  sure-still past b v (inl h) still =
+      absurd (some-waits h.far.old h.far.post its_ua (sym h.far.waits ∙ none-waits service tei h.far.M (hushed service tei d q past v.far h.far.M h.far.held still.far still.far_way)))
+  sure-still past b v (inr (inl h)) still = absurd (some-comes h.stale h.m.way (ua (terms d service tei)) (hushed service tei d q past v.far _ h.far still.far still.far_way).way)
+  sure-still past b v (inr (inr h)) still = h
 
   -- ---- where no turn is left, and T200 runs at neither end
 

@@ -1,10 +1,10 @@
 -- Each step of a call in which UA may be lost makes what is left to do less; so its moves are bounded.
-use Rattle.laws_wire.proofs.Vocabulary.{◌≡◌, ℕ, ◌+◌, ◌-◌, ◌*◌, ◌≤◌, Bool, false, cond, not, IsTrue, List, [], ◌∷◌, ◌++◌, length, refl, sym, ap, subst, ◌∙◌, ◌⊎◌, inl, inr, eqb-true, arith, Service, Parts, spelling, ControlFrame, Terms, Link, fresh, has_outstanding, has_room, is_multiple_frame, frames_of, after, Means, IsInRange, LinkEndpoint, with_link, Config, LineTold, terms, Rising, Endpoint}
+use Rattle.laws_wire.proofs.Vocabulary.{◌≡◌, ℕ, ◌+◌, ◌-◌, ◌*◌, ◌≤◌, Bool, false, cond, IsTrue, List, [], ◌∷◌, ◌++◌, length, refl, sym, ap, subst, ◌∙◌, ◌⊎◌, inl, inr, eqb-true, arith, Service, Parts, spelling, ControlFrame, Terms, Link, fresh, has_outstanding, has_room, is_multiple_frame, frames_of, after, Means, IsInRange, LinkEndpoint, with_link, Config, LineTold, terms, Rising, Endpoint}
 use Rattle.laws_wire.proofs.Vocabulary.{Wire, frame_comes, without_first, EndStep, receives, acting, turned, StepAt, at_near, at_far, doing, IsFullTalkOf, IsTimelyOf, is_move, is_move_of, expiries_in, two_ends_with_first_of, two_ends_without_first, link_receives, Called, reports_in, own_side}
 use Rattle.model_link.specs.Events as link
 use Rattle.laws_wire.proofs.Answered.{takes-granted}
 use Rattle.laws_wire.proofs.Calling.{end, its_ua, sabme, ua, takes-sabme}
-use Rattle.laws_wire.proofs.Heft.{heft, heft-is, Pays, pays-turned, from-then, acts-pays}
+use Rattle.laws_wire.proofs.Heft.{acts-pays}
 use Rattle.laws_wire.proofs.Held.{Held, held-lost, taken-stands}
 use Rattle.laws_wire.proofs.Loads.{load, load_way, load_waiting, may_reject, one-waits}
 use Rattle.laws_wire.proofs.LoadsHeard.{frame-hears}
@@ -17,7 +17,7 @@ use Rattle.laws_wire.proofs.Talking.{Face}
 use Rattle.laws_wire.proofs.UaCalled.{again, renews}
 use Rattle.laws_wire.proofs.UaLost.{behind}
 use Rattle.laws_wire.proofs.UaLostRun.{Away, Waiting, Coming, Rs, Down, IsCalled, Phase}
-use Rattle.laws_wire.proofs.Weighing.{undelivered, weigh_of}
+use Rattle.laws_wire.proofs.Weighing.{undelivered, weigh_of, Pays, heft, heft-is, pays-turned}
 
 module _ (service : Service) (tei : ℕ) (c d : Config) (p q : ℕ) (face : Face c d) (back : Face d c) (rt : IsInRange (terms c service tei)) (ru : IsInRange (terms d service tei)) (v : ℕ)
     (wide_c : 2 * (terms c service tei).k ≤ v) (wide_d : 2 * (terms d service tei).k ≤ v) where
@@ -92,24 +92,18 @@ module _ (service : Service) (tei : ℕ) (c d : Config) (p q : ℕ) (face : Face
   -- ---- the near end takes
 
   module _ (k : Tries) (ws : List ControlFrame) (way : List Parts) (w : Wire) (near : Rung k ws way w.near) (f : FarEnd w.far) where
-    nothing-takes : f.m.way ≡ [] → P (moved_by receives w) 0 0 w (acting receives w)
-    nothing-takes e =
-        from-then service tei c d p q [] f.past face v w (end t (ringing k ws) way) f.m near f.held f.none (acting receives w) (moved_by receives w) 0
-        (takes-nothing service tei c d p q [] f.past face v w (end t (ringing k ws) way) f.m near f.held f.none e)
-
     ignores-one : (g : Parts) (gs : List Parts) → f.m.way ≡ g ∷ gs → (number : ℕ) → Means number g.control → P (moved_by receives w) 0 0 w (acting receives w)
     ignores-one g gs e number means =
         let l = ringing k ws in
         let well : TakesWell v l (after t (link.received (link.frame g)) l) g × ((after t (link.received (link.frame g)) l).r ≤ length f.m.link.contents) =
         subst (λ l'. TakesWell v l l' g × (l'.r ≤ length f.m.link.contents)) (sym (untouched t k ws g number means)) (record { contents = refl; falls = inl (refl, omega arith) }, omega arith) in
-        from-then service tei c d p q [] f.past face v w (end t l way) f.m near f.held f.none (acting receives w) (moved_by receives w) 0
-        (takes-well service tei c d p q [] f.past face v w (end t l way) f.m near f.held f.none g gs e well.0 well.1)
+        takes-well service tei c d p q [] f.past face v w (end t l way) f.m near f.held f.none g gs e well.0 well.1
 
     ringing-takes : (r : ℕ) (rest : List Parts) → Rising 0 r (f.m.way ++ rest) → P (moved_by receives w) 0 0 w (acting receives w)
     ringing-takes r rest x = go f.m.way refl
       where
         go : (its : List Parts) → f.m.way ≡ its → P (moved_by receives w) 0 0 w (acting receives w)
-        go [] e = nothing-takes e
+        go [] e = takes-nothing service tei c d p q [] f.past face v w (end t (ringing k ws) way) f.m near f.held f.none e
         go (g ∷ gs) e = let y = subst (λ its. Rising 0 r (its ++ rest)) e x in ignores-one g gs e y.0 y.2
 
   -- UA, or what was before it
@@ -123,9 +117,8 @@ module _ (service : Service) (tei : ℕ) (c d : Config) (p q : ℕ) (face : Face
         go : (stale : List Parts) → h.stale ≡ stale → P (moved_by receives w) 0 0 w (acting receives w)
         go [] e =
             let l = ringing h.repeats [] in
-            from-then service tei c d p q [] past face v w (end t l []) its_far.m h.near its_far.held its_far.none (acting receives w) (moved_by receives w) 0
-            (takes-well service tei c d p q [] past face v w (end t l []) its_far.m h.near its_far.held its_far.none (ua u) h.m.way (ap (λ stale. (stale ++ ua u ∷ []) ++ h.m.way) e)
-            (record { contents = refl; falls = inl (refl, omega arith) }) (omega arith))
+            takes-well service tei c d p q [] past face v w (end t l []) its_far.m h.near its_far.held its_far.none (ua u) h.m.way (ap (λ stale. (stale ++ ua u ∷ []) ++ h.m.way) e)
+            (record { contents = refl; falls = inl (refl, omega arith) }) (omega arith)
         go (g ∷ gs) e =
             let y = subst (Rising 0 0) e h.rising in
             ignores-one h.repeats [] [] w h.near its_far g ((gs ++ ua u ∷ []) ++ h.m.way) (ap (λ stale. (stale ++ ua u ∷ []) ++ h.m.way) e) y.0 y.2
@@ -146,17 +139,11 @@ module _ (service : Service) (tei : ℕ) (c d : Config) (p q : ℕ) (face : Face
       → 2 * (terms a service tei).k ≤ v → Loose n m → P (moved_by receives w) 0 0 w (acting receives w)
   up-takes a b p q face past_n past_m w n m near far wide h = go m.way refl
     where
-      low : m.link.r ≤ length n.link.contents
-      low = h.joined.there.accepted
-
       go : (way : List Parts) → m.way ≡ way → P (moved_by receives w) 0 0 w (acting receives w)
-      go [] e =
-          from-then service tei a b p q past_n past_m face v w n m near far low (acting receives w) (moved_by receives w) 0
-          (takes-nothing service tei a b p q past_n past_m face v w n m near far low e)
+      go [] e = takes-nothing service tei a b p q past_n past_m face v w n m near far h.joined.there.accepted e
       go (f ∷ fs) e =
           let well = loose-well n m h (subst (λ t. 2 * t.k ≤ v) (sym near.stands.terms) wide) f fs e in
-          from-then service tei a b p q past_n past_m face v w n m near far low (acting receives w) (moved_by receives w) 0
-          (takes-well service tei a b p q past_n past_m face v w n m near far low f fs e well.0 well.1)
+          takes-well service tei a b p q past_n past_m face v w n m near far h.joined.there.accepted f fs e well.0 well.1
 
   all-takes : (Q : Endpoint → Type 0) (w : Wire) → (of : (s : Endpoint) → Q s → FarEnd s)
       → ((s : Endpoint) (h : Q s) → (r : ℕ) × (rest : List Parts) × Rising 0 r ((of s h).m.way ++ rest)) → Rs service tei c d p q face back rt ru Q w → P (moved_by receives w) 0 0 w (acting receives w)
@@ -183,8 +170,7 @@ module _ (service : Service) (tei : ℕ) (c d : Config) (p q : ℕ) (face : Face
   far-takes-nothing : (k : Tries) (ws : List ControlFrame) (w : Wire) → Rung k ws [] w.near → FarEnd w.far → FarTakes w
   far-takes-nothing k ws w near f =
       pays-turned service tei v (moved_by receives (turned w)) 0 0 w (acting receives (turned w))
-      (from-then service tei d c q p f.past [] back v (turned w) f.m (end t (ringing k ws) []) f.held near (omega arith) (acting receives (turned w)) (moved_by receives (turned w)) 0
-      (takes-nothing service tei d c q p f.past [] back v (turned w) f.m (end t (ringing k ws) []) f.held near (omega arith) refl))
+      (takes-nothing service tei d c q p f.past [] back v (turned w) f.m (end t (ringing k ws) []) f.held near (omega arith) refl)
 
   -- SABME, for the first time
   first-sabme : (k : Tries) (w : Wire) → Rung k [] (sabme t ∷ []) w.near → Down service tei c d p q face back rt ru w.far → FarTakes w
@@ -194,8 +180,7 @@ module _ (service : Service) (tei : ℕ) (c d : Config) (p q : ℕ) (face : Face
       let well : TakesWell v fresh (after u (link.received (link.frame (sabme t))) fresh) (sabme t) × ((after u (link.received (link.frame (sabme t))) fresh).r ≤ 0) =
       subst (λ l. TakesWell v fresh l (sabme t) × (l.r ≤ 0)) (sym (takes-sabme u ru t)) (record { contents = refl; falls = inl (refl, omega arith) }, omega arith) in
       pays-turned service tei v (moved_by receives (turned w)) 0 0 w (acting receives (turned w))
-      (from-then service tei d c q p [] [] back v (turned w) m n h near (omega arith) (acting receives (turned w)) (moved_by receives (turned w)) 0
-      (takes-well service tei d c q p [] [] back v (turned w) m n h near (omega arith) (sabme t) [] refl well.0 well.1))
+      (takes-well service tei d c q p [] [] back v (turned w) m n h near (omega arith) (sabme t) [] refl well.0 well.1)
 
   -- and again: UA waits, where there is room, for which SABME stood
   module _ (past : List LineTold) (b : Bool) (k : Tries) (w : Wire) (near : Rung k [] (sabme t ∷ []) w.near) (h : Away service tei c d p q face back rt ru past b w.far) where
@@ -273,15 +258,11 @@ module _ (service : Service) (tei : ℕ) (c d : Config) (p q : ℕ) (face : Face
     abbrev s : Seen w
     s = seen-in x w h
 
-    far-but : (act : EndStep) → (act ≡ receives → ⊥) → IsFullTalkOf service tei act → IsTimelyOf act (turned w) → Steps (at_far act) w
-    far-but act not is timely =
-        pays-turned service tei v _ _ _ w (acting act (turned w))
-        (acts-pays service tei d c q p s.past_m s.past_n back v (turned w) s.m s.n s.far s.near s.here act not is timely)
-
     pub near-pays : (act : EndStep) → IsFullTalkOf service tei act → IsTimelyOf act w → Steps (at_near act) w
     near-pays receives is timely = near-takes x w h
     near-pays other is timely = acts-pays service tei c d p q s.past_n s.past_m face v w s.n s.m s.near s.far s.there other (λ e. cc e) is timely
 
     pub far-pays : (act : EndStep) → IsFullTalkOf service tei act → IsTimelyOf act (turned w) → Steps (at_far act) w
     far-pays receives is timely = far-takes x w h
-    far-pays other is timely = far-but other (λ e. cc e) is timely
+    far-pays other is timely = pays-turned service tei v _ _ _ w (acting other (turned w))
+        (acts-pays service tei d c q p s.past_m s.past_n back v (turned w) s.m s.n s.far s.near s.here other (λ e. cc e) is timely)

@@ -1,20 +1,22 @@
 -- Two stations that are up, nothing is lost, and T200 expires at either: what is then sure to arrive, and that it has, where no turn is left.
-use Rattle.laws_wire.proofs.Vocabulary.{◌≡◌, ℕ, ◌≤◌, true, false, ◌&&◌, IsTrue, List, [], ◌∷◌, ◌++◌, map, drop, refl, sym, ap, subst, ◌∙◌, ◌⊎◌, inl, inr, true≢false, arith, All, take_all, All-head, All-tail, Service, Timer, Parts, TimerRecovery, LinkTimer, T203, is_multiple_frame, LinkEndpoint, with_link, with_sent, frames_of, Config, LineTold, request, awaits_answer, CanRepeat, HasNothingToSend}
-use Rattle.laws_wire.proofs.Vocabulary.{line, one_enquiry, one_answer, nothing-given, T200, line_of, Data, Endpoint, Wire, happens, EndStep, requests, expires, sends, receives, loses, acting, turned, StepAt, at_near, at_far, doing, doing_all, IsStill, confirmed, indicated, data_told, heard_in, IsRoughTalkOf, IsRoughTalk, IsTimelyOf, IsTimely, StayTimely, LosesNothing, runs_t200, is_t200}
-use Rattle.laws_wire.proofs.Vocabulary.{near_asks, far_asks, ever, lt-ltb, ltb-false, nat_lt, offer-goes, expired, timer_T200, timer_T203, two_ends_with_first_of, two_ends_without_first}
+use Rattle.laws_wire.proofs.Vocabulary.{◌≡◌, ℕ, ◌≤◌, true, false, ◌&&◌, List, [], ◌∷◌, ◌++◌, map, drop, refl, sym, subst, ◌∙◌, ◌⊎◌, inl, inr, true≢false, arith, All, take_all, All-head, All-tail, Service, Parts, LinkEndpoint, with_sent, frames_of, Config, LineTold, HasNothingToSend, line, one_enquiry, one_answer, nothing-given, line_of, Wire, EndStep, requests, expires, sends, receives, loses}
+use Rattle.laws_wire.proofs.Vocabulary.{acting, turned, StepAt, at_near}
+use Rattle.laws_wire.proofs.Vocabulary.{at_far, doing, doing_all, IsStill, confirmed, indicated, data_told, heard_in, IsRoughTalkOf, IsRoughTalk, IsTimelyOf, IsTimely, StayTimely, LosesNothing, runs_t200, is_t200, near_asks, far_asks, ever, lt-ltb, ltb-false, nat_lt, offer-goes, two_ends_acting, Ends, timer_T200, two_ends_with_first_of}
 use Rattle.laws_link.specs.two.Timely as two_links
-use Rattle.laws_wire.proofs.Asking.{with_more, asked-form}
-use Rattle.laws_wire.proofs.Awaited.{closed, may-there, long-there, runs-up}
-use Rattle.laws_wire.proofs.Firm.{Firm, firm-asks, firm-takes}
-use Rattle.laws_wire.proofs.Held.{Grants, held-asked}
-use Rattle.laws_wire.proofs.Loose.{as-loose, loose-came}
-use Rattle.laws_wire.proofs.LossyPhases.{for-data, Aims}
+use Rattle.laws_wire.proofs.Asking.{with_more, asked-or}
+use Rattle.laws_wire.proofs.Awaited.{runs-up}
+use Rattle.laws_wire.proofs.Firm.{Firm, as-loose}
+use Rattle.laws_wire.proofs.FirmUp.{BothUp, turned-up, up-does}
+use Rattle.laws_wire.proofs.LooseUp.{IsRequest}
+use Rattle.laws_wire.proofs.Loose.{loose-came}
+use Rattle.laws_wire.proofs.LossyPhases.{for-data}
+use Rattle.laws_wire.proofs.Simulated.{step_of, timer_of}
 use Rattle.laws_wire.proofs.Roomy.{kinds}
 use Rattle.laws_wire.proofs.Sure.{Sure, sure-begins, sure-expires, sure-sends, sure-hears}
 use Rattle.laws_wire.proofs.SureHeard.{other-expires, other-hears, sure-replied}
 use Rattle.laws_wire.proofs.Talking.{Face}
 use Rattle.laws_wire.proofs.Tame.{IsFreeFrame}
-use Rattle.laws_wire.proofs.TimelyUp.{each-timer, IsHushed, hushed, never, BothUp, turned-up, up-gives, up-takes, up-expires}
+use Rattle.laws_wire.proofs.TimelyUp.{IsHushed, hushed}
 use Rattle.laws_wire.proofs.Replying.{offer-says}
 
 -- ---- where no turn is left
@@ -62,84 +64,57 @@ module _ (service : Service) (tei : ℕ) where
     wide : 3 ≤ n.terms.control
     wide = subst (λ t. 3 ≤ t.control) (sym h.up.near.stands.terms) wide_c
 
-    abbrev Now : Type 0 → Wire → Type 0
-    Now more w' = SureUp c d p q past other (A ⊎ more) B w'
+    abbrev e : Ends
+    e = record { near = n; far = m }
 
-    abbrev Nothing : Type 0
-    Nothing = false ≡ true
+    abbrev x : EndStep → LinkEndpoint
+    x act = (two_ends_acting (step_of act) e).near
 
-    old : {P : Type 0} → (A → P) → A ⊎ Nothing → P
-    old f o = grind arith
+    abbrev y : EndStep → LinkEndpoint
+    y act = (two_ends_acting (step_of act) e).far
 
-    asks-data : (octets : List ℕ) → Now Nothing (acting (requests (Data service tei octets)) w)
-    asks-data octets = go (held-asked service tei p past c w.near n h.up.near octets)
+    -- as something is done at the end
+    there-after : (act : EndStep) → IsRoughTalkOf service tei act → LosesNothing (at_near act) → two_links.IsTimelyStep (step_of act) n m → Firm (x act) (y act) → Sure n m → Sure (x act) (y act)
+    there-after (requests r) is kept timely then s = for-data service tei (λ r. Sure (x (requests r)) m) (λ octets. asked-or octets n (λ n. Sure n m) s (grind arith)) r is
+    there-after (expires timer) is kept timely then s = sure-expires n m firm wide (timer_of timer) timely.1 then.joined.near_up s
+    there-after sends is kept timely then s = sure-sends n m firm wide s
+    there-after receives is kept timely then s = grind (arith, sure-hears)
+    there-after loses is kept timely then s = absurd kept
+
+    back-after : (act : EndStep) → IsRoughTalkOf service tei act → LosesNothing (at_near act) → two_links.IsTimelyStep (step_of act) n m → Firm (x act) (y act) → Sure m n → Sure (y act) (x act)
+    back-after (requests r) is kept timely then s =
+        for-data service tei (λ r. Sure m (x (requests r)))
+        (λ octets. asked-or octets n (Sure m) s (sure-replied n m firm.joined.back.rising (with_more octets n).link n.way n.delivered refl (inl (refl, refl)) s)) r is
+    back-after (expires timer) is kept timely then s = other-expires n m firm wide (timer_of timer) timely.1 then.joined.near_up s
+    back-after sends is kept timely then s =
+        sure-replied n m firm.joined.back.rising (with_sent n).link (with_sent n).way n.delivered (offer-goes n.terms n.link).r (offer-says n.terms n.link n.way) s
+    back-after receives is kept timely then s = takes-back n m firm wide m.way refl then s
+    back-after loses is kept timely then s = absurd kept
+
+    abbrev Asks : EndStep → Type 0
+    Asks act = (is_t200 act && runs_t200 service tei w.near) ≡ true
+
+    begins-now : (act : EndStep) → two_links.IsTimelyStep (step_of act) n m → Firm (x act) (y act) → Asks act → Sure (x act) (y act)
+    begins-now (expires (timer_T200 s t)) timely then asks =
+        sure-begins n m firm wide timely.1 (sym (runs-up service tei c p w.near n h.up.near.stands firm.joined.near_up) ∙ asks) then.joined.near_up
+    begins-now act timely then asks = grind arith
+
+    sure-acts : (act : EndStep) → IsRoughTalkOf service tei act → LosesNothing (at_near act) → IsTimelyOf act w → SureUp c d p q past other (A ⊎ Asks act) B (acting act w)
+    sure-acts act is kept in_time =
+        elim (up-does service tei c d p q face past other w n m h.up act is in_time) [
+          | inl (its, same) ↦
+              subst (SureUp c d p q past other (A ⊎ Asks act) B) (sym same) (sure-by c d p q past other A B (A ⊎ Asks act) B w (λ o. elim o [ inl a ↦ a | inr asks ↦ absurd (no-request act its asks) ]) (λ b. b) h)
+          | inr z ↦ record {
+            n = x act;
+            m = y act;
+            up = z.up;
+            there = λ o. elim o [ inl a ↦ there-after act is kept z.timely z.up.firm (h.there a) | inr asks ↦ begins-now act z.timely z.up.firm asks ];
+            back = λ b. back-after act is kept z.timely z.up.firm (h.back b);
+          }
+        ]
       where
-        s' : Endpoint
-        s' = happens (request (Data service tei octets)) w.near
-
-        go : (s' ≡ w.near) ⊎ Grants service tei p past c w.near n h.up.near octets s' → Now Nothing (record w { near = s' })
-        go (inl same) = grind (arith, firm, old)
-        go (inr x) = record {
-          n = with_more octets n;
-          m = m;
-          up = record { near = x.held; far = h.up.far; firm = subst (λ y. Firm y m) (asked-form octets n x.none) (firm-asks n m firm octets) };
-          there = old (λ a. grind arith);
-          back = λ b. (sure-replied n m firm.joined.back.rising (with_more octets n).link n.way n.delivered refl (inl (refl, refl)) (h.back b));
-        }
-
-    abbrev After : LinkTimer → LinkEndpoint
-    After its = with_link (expired its) n
-
-    expires-by : (timer : Timer) (its : LinkTimer) (more : Type 0) → Aims service tei timer its → (can : CanRepeat its n) (timely : two_links.IsTimely its n m)
-        → (IsTrue (is_multiple_frame (After its).link.state) → more → Sure (After its) m) → Now more (acting (expires timer) w)
-    expires-by timer its more aims can timely begins =
-        let up = up-expires service tei c d p q face past other w n m h.up timer its aims can timely in
-        record {
-          n = After its;
-          m = m;
-          up = up;
-          there = go up.firm.joined.near_up;
-          back = λ b. other-expires n m firm wide its timely up.firm.joined.near_up (h.back b);
-        }
-      where
-        go : IsTrue (is_multiple_frame (After its).link.state) → A ⊎ more → Sure (After its) m
-        go up o = grind (arith, sure-expires, firm, wide)
-
-    expires-t200 : IsTimelyOf (expires (timer_T200 service tei)) w → Now (runs_t200 service tei w.near ≡ true) (acting (expires (timer_T200 service tei)) w)
-    expires-t200 (long, may) =
-        let there = may-there service tei c p w.near n h.up.near.stands may in
-        let none = λ (state : n.link.state ≡ TimerRecovery).
-        closed n m (long-there service tei c d p q w.near w.far n m h.up.near.stands h.up.far.stands long (ap awaits_answer state)) in
-        expires-by (timer_T200 service tei) T200 (runs_t200 service tei w.near ≡ true) (λ l. refl) (λ state running. there (ap awaits_answer state) running) (λ state running. none state)
-        (λ up e. sure-begins n m firm wide (λ state running. none state) (sym (runs-up service tei c p w.near n h.up.near.stands firm.joined.near_up) ∙ e) up)
-
-    expires-t203 : Now Nothing (acting (expires (timer_T203 service tei)) w)
-    expires-t203 =
-        expires-by (timer_T203 service tei) T203 Nothing (λ l. refl)
-        (λ state running. absurd (never service tei c p past w.near n h.up.near firm.near_sane.timed state running))
-        (λ state running. absurd (never service tei c p past w.near n h.up.near firm.near_sane.timed state running)) (λ up e. absurd (true≢false (sym e)))
-
-    sure-acts : (act : EndStep) → IsRoughTalkOf service tei act → LosesNothing (at_near act) → IsTimelyOf act w
-        → Now ((is_t200 act && runs_t200 service tei w.near) ≡ true) (acting act w)
-    sure-acts (requests r) is kept x = for-data service tei (λ r. Now Nothing (acting (requests r) w)) asks-data r is
-    sure-acts (expires timer) is kept x =
-        each-timer service tei (λ timer. IsTimelyOf (expires timer) w → Now ((is_t200 (expires timer) && runs_t200 service tei w.near) ≡ true) (acting (expires timer) w))
-        expires-t200 (λ x. expires-t203) timer is x
-    sure-acts sends is kept x = record {
-      n = with_sent n;
-      m = m;
-      up = up-gives service tei c d p q face past other w n m h.up;
-      there = old (λ a. sure-sends n m firm wide (h.there a));
-      back = λ b. (sure-replied n m firm.joined.back.rising (with_sent n).link (with_sent n).way n.delivered (offer-goes n.terms n.link).r (offer-says n.terms n.link n.way) (h.back b));
-    }
-    sure-acts receives is kept x = record {
-      n = two_ends_with_first_of m.way n;
-      m = two_ends_without_first m;
-      up = up-takes service tei c d p q face past other w n m h.up;
-      there = old (λ a. (grind (arith, (firm-takes n m firm), sure-hears)));
-      back = λ b. takes-back n m firm wide m.way refl (firm-takes n m firm) (h.back b);
-    }
-    sure-acts loses is kept x = absurd kept
+        no-request : (act : EndStep) → IsRequest service tei act → Asks act → ⊥
+        no-request act its asks = grind arith
 
   -- ---- and all of them
 

@@ -1,20 +1,11 @@
 -- A call from nothing, in which nothing is lost any more from some time on.
-use Rattle.laws_wire.proofs.Vocabulary.{arith, ◌≡◌, ℕ, true, false, [], ◌∷◌, ◌⊎◌, inl, inr, ◌≢◌, Service, Config, Wire, turned, doing_all, IsStill, calling, confirmed, indicated, all_told, heard_in, runs_t200, near_asks, far_asks, ever, ArrivesUnderTraffic}
-use Rattle.laws_wire.proofs.TimelyPhases.{Down, Goes}
+use Rattle.laws_wire.proofs.Vocabulary.{◌≡◌, ℕ, true, false, [], ◌∷◌, ◌⊎◌, inl, inr, Service, Config, Wire, turned, doing_all, IsStill, calling, confirmed, indicated, all_told, heard_in, runs_t200, near_asks, far_asks, ever, ArrivesUnderTraffic}
 use Rattle.laws_wire.proofs.LossyRun.{setting}
-use Rattle.laws_wire.proofs.TimelyRun.{starts, runs}
-use Rattle.laws_wire.proofs.TimelyUp.{AreUp, BothUp, turned-up}
-use Rattle.laws_wire.proofs.UaLost.{rings-untold}
+use Rattle.laws_wire.proofs.TimelyRun.{are-up, on-time}
+use Rattle.laws_wire.proofs.FirmUp.{AreUp, turned-up}
 use Rattle.laws_wire.proofs.Underway.{SureUp, sure-runs, has-come}
 
 module _ (service : Service) (tei : ℕ) (c d : Config) (p q : ℕ) where
-  -- once the end that called was told anything, both are up
-  pub are-up : (w : Wire) → Goes service tei c d p q w → heard_in w.near ≢ [] → AreUp service tei c d p q (confirmed service tei ∷ []) (indicated service tei ∷ []) w
-  are-up w (inl h) told = absurd (told (rings-untold service tei c p (Down service tei c d p q) w h))
-  are-up w (inr (inl h)) told = absurd (told h.is.near.heard)
-  are-up w (inr (inr (inl h))) told = absurd (told h.is.near.heard)
-  are-up w (inr (inr (inr h))) told = h
-
   abbrev Up : Type 0 → Type 0 → Wire → Type 0
   Up A B w = SureUp service tei c d p q (confirmed service tei ∷ []) (indicated service tei ∷ []) A B w
 
@@ -27,27 +18,20 @@ module _ (service : Service) (tei : ℕ) (c d : Config) (p q : ℕ) where
   comes : (A B : Type 0) (last : Wire) → Up (Asked A) (Asked B) last → IsStill last
       → (A ⊎ (runs_t200 service tei last.near ≡ false) → heard_in last.far ≡ all_told service tei (indicated service tei) last.near)
       × (B ⊎ (runs_t200 service tei last.far ≡ false) → heard_in last.near ≡ all_told service tei (confirmed service tei) last.far)
-  comes A B last h still = (near, far)
-    where
-      near : A ⊎ (runs_t200 service tei last.near ≡ false) → heard_in last.far ≡ all_told service tei (indicated service tei) last.near
-      near (inl a) = has-come service tei c d p q (confirmed service tei ∷ []) (indicated service tei ∷ []) last h.n h.m h.up still (inl (h.there (inr a)))
-      near (inr none) = has-come service tei c d p q (confirmed service tei ∷ []) (indicated service tei ∷ []) last h.n h.m h.up still (inr none)
-
-      up' : BothUp service tei d c q p (indicated service tei ∷ []) (confirmed service tei ∷ []) (turned last) h.m h.n
-      up' = turned-up service tei c d p q (confirmed service tei ∷ []) (indicated service tei ∷ []) last h.n h.m h.up
-
-      still' : IsStill (turned last)
-      still' = record { near = still.far; far = still.near; near_way = still.far_way; far_way = still.near_way }
-
-      far : B ⊎ (runs_t200 service tei last.far ≡ false) → heard_in last.near ≡ all_told service tei (confirmed service tei) last.far
-      far (inl b) = has-come service tei d c q p (indicated service tei ∷ []) (confirmed service tei ∷ []) (turned last) h.m h.n up' still' (inl (h.back (inr b)))
-      far (inr none) = has-come service tei d c q p (indicated service tei ∷ []) (confirmed service tei ∷ []) (turned last) h.m h.n up' still' (inr none)
+  comes A B last h still =
+      let first = confirmed service tei ∷ [] in
+      let second = indicated service tei ∷ [] in (
+        λ o. has-come service tei c d p q first second last h.n h.m h.up still (elim o [ inl a ↦ inl (h.there (inr a)) | inr none ↦ inr none ]),
+        λ o.
+            has-come service tei d c q p second first (turned last) h.m h.n (turned-up service tei c d p q first second last h.n h.m h.up)
+            (record { near = still.far; far = still.near; near_way = still.far_way; far_way = still.near_way }) (elim o [ inl b ↦ inl (h.back (inr b)) | inr none ↦ inr none ]),
+      )
 
 pub arrives-under-traffic : ArrivesUnderTraffic
 arrives-under-traffic service c d line other tei before since (can, wide_c, wide_d, talk, timely, on) = λ still.
     let x = setting service c d line other tei can in
     let w = doing_all before (calling service tei c line d other) in
-    let up = are-up service tei c d 0 0 w (runs service tei c d 0 0 x.face x.back x.near x.far before talk (calling service tei c line d other) timely (starts service c d line other tei x)) on.0 in
+    let up = are-up service tei c d 0 0 x.face x.back x.near x.far w (on-time service c d line other tei before can talk timely) on.0 in
     let h = sure-runs service tei c d 0 0 x.face x.back wide_c wide_d ⊥ ⊥ since w on.1 on.2 on.3 (begins service tei c d 0 0 w up) in
     let both = comes service tei c d 0 0 (ever (near_asks service tei) since w ≡ true) (ever (far_asks service tei) since w ≡ true) (doing_all since w) h still in
     record { near = both.0; far = both.1 }

@@ -1,27 +1,10 @@
 -- What two ends still have to do, where v turns go again at most: what their links have to send, what is on their ways, and for
 -- each contents that are not delivered yet a REJ, v turns, and an acknowledgement.
-use Rattle.laws_wire.proofs.Vocabulary.{◌≡◌, ℕ, ◌+◌, ◌-◌, ◌*◌, ◌≤◌, List, [], ◌∷◌, length, map, refl, sym, ap, ◌∙◌, arith, All, All-head, All-tail, Service, Parts, spelling, Link, LinkEndpoint, Config, Endpoint, own_side}
+use Rattle.laws_wire.proofs.Vocabulary.{◌≡◌, ℕ, ◌+◌, ◌-◌, ◌*◌, ◌≤◌, List, length, ap, ◌∙◌, arith, Service, Parts, Link, LinkEndpoint, Config, Endpoint, Wire, flat_map, granted_of, link_of, turned}
+use Rattle.laws_wire.specs.Facing.{line_of, read_as}
 use Rattle.laws_wire.proofs.Loads.{load, load_way}
-use Rattle.laws_wire.proofs.Standing.{IsCarried, StationStands}
-
--- ---- a station stands for one end alone
-
-module _ (service : Service) (tei : ℕ) (c : Config) where
-  spelled-same : (xs ys : List Parts) → All (IsCarried c service tei) xs → All (IsCarried c service tei) ys → map (spelling (own_side c)) xs ≡ map (spelling (own_side c)) ys → xs ≡ ys
-  spelled-same [] [] h g e = refl
-  spelled-same (x ∷ xs) (y ∷ ys) h g e =
-      let first : spelling (own_side c) x ≡ spelling (own_side c) y = cc in
-      let rest : map (spelling (own_side c)) xs ≡ map (spelling (own_side c)) ys = cc in
-      let here = All-head (IsCarried c service tei) x xs h in
-      let there = All-head (IsCarried c service tei) y ys g in
-      let same : x ≡ y = cc in
-      let others = spelled-same xs ys (All-tail (IsCarried c service tei) x xs h) (All-tail (IsCarried c service tei) y ys g) rest in
-      λ i. same i ∷ others i
-  spelled-same other any h g e = absurd (cc)
-
-  module _ (place : ℕ) (s : Endpoint) (n n' : LinkEndpoint) (h : StationStands c service tei place s n) (g : StationStands c service tei place s n') where
-    pub same-way : n.way ≡ n'.way
-    same-way = spelled-same n.way n'.way h.carried g.carried (sym h.way ∙ g.way)
+use Rattle.laws_wire.proofs.Standing.{StationStands}
+use Rattle.laws_wire.proofs.Awaited.{link-is, way-is}
 
 -- ---- the weight of two ends
 
@@ -36,11 +19,47 @@ weigh v n m = weigh_of v n.link n.way m.link m.way
 
 -- So many turns or losses are made, and so many timers expire, while more contents are accepted.
 pub record Fell (v moved expired more : ℕ) (n m n' m' : LinkEndpoint) : Type 0 where
-  pub grown : length n'.link.contents + length m'.link.contents ≡ length n.link.contents + length m.link.contents + more
   pub falls : moved + weigh v n' m' ≤ weigh v n m + (v + 4) * expired + (v + 6) * more
 
-pub fell-turned : (v moved expired more : ℕ) (n m n' m' : LinkEndpoint) → Fell v moved expired more n m n' m' → Fell v moved expired more m n m' n'
-fell-turned v moved expired more n m n' m' h = grind (arith, load, load_way)
+-- ---- what is left to do on a wire, as its stations are
+
+module _ (service : Service) (tei : ℕ) where
+  abbrev its_link : Endpoint → Link
+  its_link s = link_of service tei (line_of s)
+
+  abbrev its_way : Endpoint → List Parts
+  its_way s = flat_map (read_as s.card.config) s.way
+
+  abbrev pub heft : ℕ → Wire → ℕ
+  heft v w = weigh_of v (its_link w.near) (its_way w.near) (its_link w.far) (its_way w.far)
+
+  pub heft-is : (v : ℕ) (c d : Config) (p q : ℕ) (w : Wire) (n m : LinkEndpoint) → StationStands c service tei p w.near n → StationStands d service tei q w.far m → heft v w ≡ weigh v n m
+  heft-is v c d p q w n m near far =
+      λ i. weigh_of v (link-is service tei c p w.near n near i) (way-is service tei c p w.near n near i) (link-is service tei d q w.far m far i) (way-is service tei d q w.far m far i)
+
+  -- So many turns or losses are made, so many timers expire, and so often own busy begins or ends, while more contents are granted.
+  pub record Pays (v moved expired reported : ℕ) (w w' : Wire) : Type 0 where
+    pub more : ℕ
+    pub granted : granted_of w' ≡ granted_of w + more
+    pub falls : moved + heft v w' ≤ heft v w + (v + 4) * expired + (v + 6) * more + 2 * reported
+
+  pub pays-turned : (v moved expired reported : ℕ) (w w' : Wire) → Pays v moved expired reported (turned w) w' → Pays v moved expired reported w (turned w')
+  pays-turned v moved expired reported w w' h = grind arith
+
+  -- one after the other
+  pub both-pay : (v moved expired reported moved' expired' reported' : ℕ) (w w' w'' : Wire) → Pays v moved expired reported w w' → Pays v moved' expired' reported' w' w''
+      → Pays v (moved + moved') (expired + expired') (reported + reported') w w''
+  both-pay v moved expired reported moved' expired' reported' w w' w'' h k = record {
+    more = h.more + k.more;
+    granted = all (granted_of w) (granted_of w') (granted_of w'') h.more k.more h.granted k.granted;
+    falls = grind (arith, sum, heft);
+  }
+    where
+      all : (a b c x y : ℕ) → b ≡ a + x → c ≡ b + y → c ≡ a + (x + y)
+      all a b c x y e f = omega (arith, e, f)
+
+      sum : (m m' a b c x x' xs y y' ys r r' : ℕ) → xs ≡ x + x' → ys ≡ y + y' → m + b ≤ a + x + y + 2 * r → m' + c ≤ b + x' + y' + 2 * r' → m + m' + c ≤ a + xs + ys + 2 * (r + r')
+      sum m m' a b c x x' xs y y' ys r r' e f h k = omega (arith, e, f, h, k)
 
 -- ---- what becomes of the weight of one end, while the other stays
 

@@ -6,7 +6,8 @@ use Rattle.laws_wire.proofs.Vocabulary.{CanRepeat, awaits_answer}
 use Rattle.model_link.specs.TwoEnds as two_ends
 use Rattle.laws_link.specs.two.Timely as two_links_timely
 use Rattle.laws_wire.proofs.LossyPhases.{Aims}
-use Rattle.laws_wire.proofs.TimelyUp.{each-timer, never}
+use Rattle.laws_wire.proofs.Simulated.{each-timer}
+use Rattle.laws_wire.proofs.TimelyUp.{never}
 use Rattle.laws_wire.proofs.UaCalledAt.{Free, asked-at}
 use Rattle.laws_time.proofs.OfCircuit.CaughtLinks.{sent-still, timer-still, stirred, Keeps}
 

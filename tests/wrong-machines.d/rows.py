@@ -38,6 +38,7 @@ SHARED = {
     "Bus": "laws_teis",
     "Buses": "laws_teis",
     "Images": "model_image",
+    "Saved": "model_image",
     "Handles": "lapd_c",
 }
 

@@ -19,7 +19,9 @@ EXPORT = re.compile(r'^pub extern "C" fn (lapd_\w+)\((?:.|\n)*?\) -> u32\n((?:.*
 # The records, and what a call is that has one.
 KINDS = {'Called': 'event', 'IsCallOf': 'several events', 'IsMomentCall': 'expiry of what is due first', 'Questioned': 'question',
          'IsQuestion': 'question', 'IsCardStart': 'start', 'IsTimedStart': 'start', 'IsClockStart': 'start of a clock',
-         'IsFreed': 'end', 'IsTimersCall': 'lengths of timers', 'IsClockCall': 'event of a clock'}
+         'IsFreed': 'end', 'IsTimersCall': 'lengths of timers', 'IsClockCall': 'event of a clock', 'IsCardSave': 'save',
+         'IsCardRestore': 'start of the card of an image', 'IsClockSave': 'save of a clock',
+         'IsClockRestore': 'start of the clock of an image'}
 # The record of each call, up to the handle before and after it, its status, and what is written.
 RECORDS = {
     'lapd_card_start': 'IsCardStart kinds.Octets config.now',
@@ -27,6 +29,8 @@ RECORDS = {
     'lapd_card_start_timed': 'IsTimedStart kinds.Octets config.now lengths.now',
     'lapd_card_start_frames_timed': 'IsTimedStart kinds.Frames config.now lengths.now',
     'lapd_card_free': 'IsFreed IsHandle card_of status.no_card',
+    'lapd_card_save': 'IsCardSave',
+    'lapd_card_restore': 'IsCardRestore image.now',
     'lapd_card_set_lengths': 'IsTimersCall',
     'lapd_octet': 'Called (octet_asked line octet)',
     'lapd_pull': 'Called (pull_asked line)',
@@ -61,9 +65,11 @@ RECORDS = {
     'lapd_clock_due': 'IsClockCall (λ c. timer_status (due_at c now)) (λ c. after_due c now)',
     'lapd_clock_next': 'IsClockCall (λ c. timer_status (next_moment c)) (λ c. c)',
     'lapd_clock_free': 'IsFreed IsHandle clock_of status.no_clock',
+    'lapd_clock_save': 'IsClockSave',
+    'lapd_clock_restore': 'IsClockRestore image.now',
 }
 LEAVES = re.compile(r' handle\.old handle\.new result(?: (\w+)\.old \1\.new| \((\w+)\.old, (\w+)\.old\) \(\2\.new, \3\.new\))?')
-ALONE = 'lapd_version', 'lapd_frame_text'
+ALONE = 'lapd_version', 'lapd_frame_text', 'lapd_image_octets'
 REQUIRES = {'{ IsHandle handle.old }'}
 MOST = 3
 ASKS = re.compile(r'\(?(?:of_\w+ )?(?:\(Some line\) |None )?\(?(\w+_(?:asked|of|from))\b')

@@ -1,5 +1,5 @@
 // asked.cpp: what lapd.hpp can be asked for and no script asks: states, links, rooms, a line that goes down, frames in words,
-// begun frames, timers of a card's own, a terminal, ends and second starts; and that one that fails leaves its answer as it was. Status 0
+// begun frames, timers of a card's own, a terminal, images, ends and second starts; and that one that fails leaves its answer as it was. Status 0
 // where all is as it should be. For tests alone.
 #include <cstdio>
 #include <cstring>
@@ -105,6 +105,32 @@ void asks_frames(lapd::frame_card &card, lapd::report &report) {
     wants(card.next_frame(1, room, goes, report) == status::no_frame && goes.size() == 3, "no frame");
 }
 
+// A card of frames with a TEI is saved, and goes on in another; so does a clock.
+void asks_images() {
+    lapd::frame_card card, other;
+    lapd::card of_octets;
+    lapd::clock clock, second;
+    lapd::report report;
+    lapd::octets image;
+    std::vector<uint8_t> room(lapd::image_octets(config)), small(9);
+    wants(room.size() > 1000 && lapd::image_octets({}) == 0, "how long an image is");
+    wants(card.save(room, image) == status::no_card && card.start(config) == status::ok && card.assign(1, 64, report) == status::ok, "no card");
+    wants(card.frame(1, sabme, report) == status::ok && card.save(small, image) == status::wrong_length && image.empty(), "a small room");
+    wants(card.save(room, image) == status::ok && image.data() == room.data() && image.size() > 600, "an image");
+    wants(card.restore(image) == status::second_start && other.restore(image.first(20)) == status::bad_image, "no restore");
+    lapd::state state{};
+    uint32_t line = 0;
+    wants(other.restore(image) == status::ok && other.state_of(1, service::call, 64, state) == status::ok && state == lapd::state::established
+              && other.next_waiting(0, line) == status::ok && line == 1, "a card that goes on");
+    uint8_t octet = 0;
+    wants(of_octets.restore(image) == status::ok && of_octets.pull(1, octet, report) == status::wrong_card, "a card of the other kind");
+    const lapd::order start(lapd_order{LAPD_START, {LAPD_T201, 0, 0}});
+    uint64_t moment = 0;
+    wants(clock.save(room, image) == status::no_clock && clock.start(config) == status::ok && clock.apply(1, start, 5) == status::ok, "a clock");
+    wants(clock.save(room, image) == status::ok && second.restore(image) == status::ok && second.next(moment) == status::ok && moment == 1005
+              && second.restore(image) == status::second_start && other.end() == status::ok && other.restore(image) == status::bad_image, "a clock that goes on");
+}
+
 // A card that keeps its own timers: a link is asked for at 5 s, so T200 falls due a second later, and a second after that.
 void asks_timers(lapd::any_card &card) {
     lapd::report report;
@@ -206,6 +232,7 @@ int main() {
     wants(frames.start(config) == status::ok && frames.start(config) == status::second_start, "a start for frames");
     wants(octets.assign(1, 64, report) == status::ok && frames.assign(1, 64, report) == status::ok, "a TEI");
     asks_words();
+    asks_images();
     asks_terminal();
     asks_frames(frames, report);
     asks_octets(octets, report);

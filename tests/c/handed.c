@@ -2,7 +2,8 @@
  * handed.c: what lapd.c's own parts decide of a call is what its machine decides. For tests alone; it has lapd.c in it, so
  * that it can ask the machine itself.
  *
- * - Configurations: fault_of finds the field that the machine's start finds, at each edge and at random.
+ * - Configurations: fault_of finds the field that the machine's start finds, at each edge and at random, and lapd_image_octets is
+ *   what the machine answers.
  * - Octets: a frame or contents of more octets than a call hands over are answered as their first ones are.
  * - Stack: none of that, nor the start of a large card of octets, takes half of the stack in a machine's memory, which is
  *   filled there and looked at afterwards.
@@ -27,7 +28,7 @@ static void fail(const char *what, u32 one, u32 other) {
 enum { FILL = 0xA5 };
 
 static machine *filled(u64 heap) {
-    machine *instance = new_machine(heap);
+    machine *instance = new_machine(heap, 0);
     memset(instance, FILL, STACK / 2);
     return instance;
 }
@@ -54,6 +55,9 @@ static void compare(const lapd_config *config) {
         if (status != (fault != LAPD_OK ? fault : LAPD_NO_MEMORY))
             fail("a configuration", fault, status);
     }
+    u32 octets = w2c_lapd_image_octets(instance, OTHER);
+    if (octets != lapd_image_octets(config))
+        fail("octets of an image", lapd_image_octets(config), octets);
     *(fault == LAPD_OK ? &good : &bad) += 1;
     end(instance);
 }

@@ -1,8 +1,8 @@
 /*
  * heap_holds.c: a card of each kind and a clock fit into the octets that lapd_card_octets, lapd_card_octets_frames,
- * lapd_card_octets_timed, lapd_card_octets_frames_timed and lapd_clock_octets say, over c/heap.c; where there are fewer and
- * fewer, a start is refused memory at last, and what it had taken is given back; and what they give back can be taken again.
- * The heap is compiled with room for the largest of these configurations.
+ * lapd_card_octets_timed, lapd_card_octets_frames_timed and lapd_clock_octets say, over c/heap.c, and so do those that are restored
+ * from their images; where there are fewer and fewer, a start or a restore is refused memory at last, and what it had taken is given
+ * back; and what they give back can be taken again. The heap is compiled with room for the largest of these configurations.
  */
 #include <stdbool.h>
 #include <stdint.h>
@@ -10,10 +10,13 @@
 
 #include "lapd.h"
 
-/* What each start takes besides, as a machine of lapd.c does. */
+enum { MOST_IMAGE = 1 << 20 };
+
+/* What each start takes besides, as a machine of lapd.c does, which has room for an image, too. */
 #ifndef EACH
 #define EACH 0
 #endif
+#define BESIDES(config) (EACH == 0 ? 0 : EACH + (uint64_t)(lapd_image_octets(config) + 15) / 16 * 16)
 
 static const lapd_config configs[] = {
     {1, 1, 1, 1, 1, 1, 2, 1, 8, 0, LAPD_NETWORK, 0, 0, LAPD_PROFILE},
@@ -63,10 +66,29 @@ static const kind kinds[] = {{lapd_card_start, lapd_card_octets},
                              {start_frames_timed, lapd_card_octets_frames_timed}};
 enum { KINDS = sizeof kinds / sizeof *kinds };
 
+/* An image of a card and one of a clock. */
+static struct {
+    size_t card, clock;
+    uint8_t of_card[MOST_IMAGE], of_clock[MOST_IMAGE];
+} image;
+
+/* Both are saved, end, and are restored. */
+static int resumes(lapd_card *card, lapd_clock *clock) {
+    uint32_t one = lapd_card_save(card, image.of_card, sizeof image.of_card, &image.card);
+    uint32_t other = lapd_clock_save(clock, image.of_clock, sizeof image.of_clock, &image.clock);
+    if (one != LAPD_OK || other != LAPD_OK || lapd_card_free(card) != LAPD_OK || lapd_clock_free(clock) != LAPD_OK)
+        return 0;
+    one = lapd_card_restore(card, image.of_card, image.card);
+    other = lapd_clock_restore(clock, image.of_clock, image.clock);
+    if (one != LAPD_OK || other != LAPD_OK)
+        fprintf(stderr, "no restore: %s, %s\n", lapd_status_text(one), lapd_status_text(other));
+    return one == LAPD_OK && other == LAPD_OK;
+}
+
 static int holds(const lapd_config *config, const kind *of) {
     lapd_card card = LAPD_CARD_NONE;
     lapd_clock clock = LAPD_CLOCK_NONE;
-    uint64_t octets = of->octets(config) + lapd_clock_octets(config) + 2 * EACH;
+    uint64_t octets = of->octets(config) + lapd_clock_octets(config) + 2 * BESIDES(config);
     void *rest = all_but(octets);
     if (rest == NULL) {
         fprintf(stderr, "%u lines: what the heap held before was not given back\n", config->lines);
@@ -76,25 +98,26 @@ static int holds(const lapd_config *config, const kind *of) {
     if (one != LAPD_OK || other != LAPD_OK)
         fprintf(stderr, "%u lines in %llu octets: %s, %s\n", config->lines, (unsigned long long)octets,
                 lapd_status_text(one), lapd_status_text(other));
-    if (one == LAPD_OK)
+    int good = one == LAPD_OK && other == LAPD_OK && resumes(&card, &clock);
+    if (card.started)
         one = lapd_card_free(&card);
-    if (other == LAPD_OK)
+    if (clock.started)
         other = lapd_clock_free(&clock);
     rattle_dealloc(rest);
-    return one == LAPD_OK && other == LAPD_OK;
+    return good && one == LAPD_OK && other == LAPD_OK;
 }
 
-/* A start with too little: in so many octets, and in every eighth less, down to none. */
-static int refuses(const lapd_config *config, const kind *of) {
+/* A start or a restore with too little: in so many octets, and in every eighth less, down to none. */
+static int refuses(const lapd_config *config, const kind *of, int is_restored) {
     lapd_card card = LAPD_CARD_NONE;
     unsigned refused = 0;
-    for (uint64_t octets = of->octets(config) + EACH; octets > 16; octets -= (octets / 8 + 15) / 16 * 16) {
+    for (uint64_t octets = of->octets(config) + BESIDES(config); octets > 16; octets -= (octets / 8 + 15) / 16 * 16) {
         void *rest = all_but(octets);
         if (rest == NULL) {
             fprintf(stderr, "%u lines: what a start had taken was not given back\n", config->lines);
             return 0;
         }
-        uint32_t status = of->start(&card, config);
+        uint32_t status = is_restored ? lapd_card_restore(&card, image.of_card, image.card) : of->start(&card, config);
         refused += status == LAPD_NO_MEMORY;
         if (status == LAPD_OK && lapd_card_free(&card) != LAPD_OK)
             return 0;
@@ -109,6 +132,7 @@ int main(void) {
     int good = 1;
     for (int round = 0; round < 3; round++)
         for (size_t i = 0; i < KINDS * (sizeof configs / sizeof *configs); i++)
-            good &= holds(&configs[i / KINDS], &kinds[i % KINDS]) & refuses(&configs[i / KINDS], &kinds[i % KINDS]);
+            for (int is_restored = 0; is_restored < 2; is_restored++)
+                good &= holds(&configs[i / KINDS], &kinds[i % KINDS]) & refuses(&configs[i / KINDS], &kinds[i % KINDS], is_restored);
     return !good;
 }

@@ -1,7 +1,7 @@
 /*
- * libpri_terminal.h: libpri as the terminal of a basic access line, point to multipoint, for interop.c, interop_frames.c and
- * gateway_day.c; as the network of a primary rate access, point to point, for interop_trunk.c, and of a basic access line,
- * point to multipoint, for interop_terminals.c.
+ * libpri_terminal.h: libpri as the terminal of a basic access line, point to multipoint, for interop.c, interop_frames.c,
+ * interop_standby.c, interop_saved.c and gateway_day.c; as the network of a primary rate access, point to point, for
+ * interop_trunk.c, and of a basic access line, point to multipoint, for interop_terminals.c.
  * Its frames go by two functions of the test's; what it says is shown where VERBOSE is set.
  */
 #ifndef LIBPRI_TERMINAL_H

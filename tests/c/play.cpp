@@ -366,6 +366,8 @@ fault station::obey(const command &line) {
         losses_ = true;
         return NO_FAULT;
     }
+    if (line.verb == SAVE || line.verb == RESTORE) // what they show and do is asked by tests/image
+        return line.verb == SAVE || frames_ ? NO_FAULT : WRONG_CARD;
     if (is_of_other_card(line))
         return WRONG_CARD;
     want_ok(any()->lines(lines), "lines");

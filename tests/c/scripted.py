@@ -21,7 +21,8 @@ CAUSES = {b"abort": lapd.Cause.ABORT, b"ragged": lapd.Cause.RAGGED, b"short": la
 # Words that are followed by octets, and by how many numbers before; and the range of the last number.
 NUMBERS: Dict[bytes, Tuple[int, int, int]] = {
     b"rx": (1, 0, MOST_NUMBER), b"in": (1, 0, MOST_NUMBER), b"pull": (2, 1, MOST_PULLS), b"next": (1, 0, MOST_NUMBER),
-    b"wait": (1, 0, MOST_WAIT), b"stored": (0, 0, 0), b"losses": (0, 0, 0), b"counters": (1, 0, MOST_NUMBER),
+    b"wait": (1, 0, MOST_WAIT), b"stored": (0, 0, 0), b"losses": (0, 0, 0), b"save": (0, 0, 0),
+    b"restore": (0, 0, 0), b"counters": (1, 0, MOST_NUMBER),
     b"messages": (1, 0, MOST_NUMBER), b"down": (1, 0, MOST_NUMBER), b"ask": (1, 0, MOST_NUMBER),
     **{it: (2, 0, MOST_TEI) for it in (b"assign", b"remove", b"check", b"disown", b"verify", b"establish", b"release", b"busy",
                                        b"ready", b"deactivate", b"data", b"unit", b"establish16", b"release16", b"busy16", b"ready16",
@@ -235,8 +236,12 @@ class Station:
             self.losses = True
         elif line.word == "stored":
             yield f"stored {self.card.stored()} limit {self.card.limit()}"
-        elif line.word in (("rx", "pull") if isinstance(self.card, lapd.FrameCard) else ("failed", "next")):
+        elif line.word in (("rx", "pull") if isinstance(self.card, lapd.FrameCard) else ("failed", "next", "restore")):
             raise Faulty("wrong card")
+        elif line.word == "save":
+            pass  # what it shows is asked by tests/image
+        elif line.word == "restore":
+            self.card = type(self.card).restore(self.card.save())
         elif line.numbers[0] >= self.card.lines():
             raise Faulty("bad line")
         else:

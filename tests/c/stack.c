@@ -24,8 +24,8 @@ enum { PAINT = 0xA5, STACK = 65536 };
 
 static uint8_t stack[STACK];
 static ucontext_t here, there;
-static lapd_card card;
-static lapd_clock timers;
+static lapd_card card, other;
+static lapd_clock timers, other_timers;
 static lapd_report report;
 static const lapd_config config = {1, 8, 7, 7, 8, 4, 4, 8, 260, 3, LAPD_NETWORK, 0, 0, LAPD_PROFILE};
 static const lapd_lengths lengths = {1000, 10000, 1000, 2000};
@@ -45,6 +45,8 @@ static struct lapd_link_counters of_link;
 static char text[LAPD_MOST_TEXT];
 static uint32_t status, waiting;
 static uint64_t moment;
+static uint8_t image[1 << 14];
+static size_t of_image;
 
 static void run(void) {
     called();
@@ -84,6 +86,12 @@ static void timed_frames_start(void) { status = lapd_card_start_frames_timed(&ca
 static void fall_due(void) { status = lapd_fall_due(&card, LAPD_LATEST - 1, &report); }
 static void find_moment(void) { status = lapd_next_moment(&card, &moment); }
 static void find_change(void) { status = lapd_changed_at(&card, 0, LAPD_CALL, 64, &moment); }
+static void card_save(void) { status = lapd_card_save(&card, image, sizeof image, &of_image); }
+static void card_restore(void) { status = lapd_card_restore(&other, image, of_image); }
+static void other_free(void) { status = lapd_card_free(&other); }
+static void clock_save(void) { status = lapd_clock_save(&timers, image, sizeof image, &of_image); }
+static void clock_restore(void) { status = lapd_clock_restore(&other_timers, image, of_image); }
+static void other_clock_free(void) { status = lapd_clock_free(&other_timers); }
 static void set_lengths(void) { status = lapd_card_set_lengths(&card, &lengths); }
 static void take_frame(void) { status = lapd_frame(&card, 0, octets, length, &report); }
 static void fail_frame(void) { status = lapd_frame_failed(&card, 0, LAPD_FCS, &report); }
@@ -132,6 +140,13 @@ static void hear(hdlc_sender *sender, const uint8_t *frame, size_t length, size_
     }
 }
 
+/* A card is saved, and another restored from its image. */
+static void saves(const char *save, const char *restore) {
+    show(save, most(0, card_save));
+    show(restore, within(MOST_OF_START, card_restore));
+    most(0, other_free);
+}
+
 /* The same of a card of frames, and of one that keeps its own timers: what comes, what is then sent, and what falls due. */
 static void frames(bool is_timed, const uint8_t *const *come, const size_t *octets_of, size_t count) {
     size_t takes = 0, gives = 0;
@@ -152,6 +167,7 @@ static void frames(bool is_timed, const uint8_t *const *come, const size_t *octe
     show(is_timed ? "lapd_next_frame, own timers" : "lapd_next_frame", most(gives, give_frame));
     show("lapd_frame_failed", most(0, fail_frame));
     if (is_timed) {
+        saves("lapd_card_save, own timers", "lapd_card_restore, own timers");
         show("lapd_next_moment", most(0, find_moment));
         show("lapd_changed_at", most(0, find_change));
         show("lapd_card_set_lengths", most(0, set_lengths));
@@ -196,6 +212,10 @@ int main(void) {
     show("lapd_link_counters", most(0, ask_of_link));
     frame[1] = 0x81; /* an I-frame */
     show("lapd_frame_text", within(MOST_OF_TEXT, ask_text));
+    saves("lapd_card_save", "lapd_card_restore");
+    show("lapd_clock_save", most(0, clock_save));
+    show("lapd_clock_restore", within(MOST_OF_START, clock_restore));
+    most(0, other_clock_free);
     show("lapd_card_free", most(0, card_free));
     show("lapd_clock_free", most(0, clock_free));
     for (int is_timed = 0; is_timed < 2; is_timed++)

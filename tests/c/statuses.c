@@ -10,7 +10,7 @@
 #include "lapd.h"
 #include "lapd_memory.h"
 
-enum { TURNS = 8000000, MOST_CALLS = 60, MOST_STATUSES = 64, FIELDS = 14 };
+enum { TURNS = 8000000, MOST_CALLS = 70, MOST_STATUSES = 64, FIELDS = 14, SAVED = 2048 };
 
 static struct {
     const char *name;
@@ -100,11 +100,18 @@ static void saw(const char *name, uint32_t status) {
 }
 #define CALL(name, ...) saw(#name, name(__VA_ARGS__))
 
+static uint8_t image[SAVED], image_of_clock[SAVED];
+static size_t length, length_of_clock = 1;
+
 static void starts_and_ends(void) {
     lapd_config of_card = config(), of_clock = config();
     refuses = below(4) == 0;
     lapd_lengths of_timers = {below(8), 10, 10, below(8)};
-    switch (below(7)) {
+    switch (below(11)) {
+    case 10: CALL(lapd_card_save, &card, image, below(2) ? sizeof image : 100, &length); break;
+    case 9: CALL(lapd_card_restore, &card, image, length); break;
+    case 8: CALL(lapd_clock_save, &timers, image_of_clock, below(2) ? sizeof image_of_clock : 9, &length_of_clock); break;
+    case 7: CALL(lapd_clock_restore, &timers, image_of_clock, length_of_clock - below(2)); break;
     case 6: CALL(lapd_card_start_timed, &card, &of_card, &of_timers); break;
     case 5: CALL(lapd_card_start_frames_timed, &card, &of_card, &of_timers); break;
     case 0: CALL(lapd_card_start, &card, &of_card); break;

@@ -28,7 +28,7 @@
  * octets: lapd_card_start.
  *
  * A card has no callbacks, starts no thread, prints nothing, sets no errno, and takes memory in its start alone, as a
- * clock does. The library comes in three ways, with this header for each:
+ * clock does; a restore is a start. The library comes in three ways, with this header for each:
  *
  *  - as assembler text, lapd.S, for x86-64 and 64-bit ARM with ELF, as Linux has it: cc program.c lapd.S lapd_malloc.c. This
  *    is the proved code, as the toolchain compiles it. Proofs end with the module of the toolchain's compiler: that LLVM makes
@@ -168,14 +168,14 @@ enum {
     LAPD_WRONG_TIMER = 17,   /* none of LAPD_T200, LAPD_T203, LAPD_T201 and LAPD_T202 */
     LAPD_WRONG_REQUEST = 18, /* none of the requests */
     LAPD_WRONG_LENGTH = 19,  /* contents of a request that has none; an exchange of two lengths, or beyond them; or too
-                                little room for a frame */
+                                little room for a frame or an image */
     LAPD_WRONG_ORDER = 20,   /* an order is none, or a report's number of orders is over 4 */
     LAPD_WRONG_TIME = 21,    /* a moment after LAPD_LATEST, or of lapd_fall_due before its last one or from 2^63 on; or a
                                 timer's length out of range */
     LAPD_WRONG_POINTER = 30, /* a pointer is null: of lapd.c, and where LAPD_CHECKED is defined */
 
     /* What else can be. */
-    LAPD_NO_MEMORY = 22, /* a start was refused memory; what it had taken is given back */
+    LAPD_NO_MEMORY = 22, /* a start or a restore was refused memory; what it had taken is given back */
     LAPD_NO_TIMER = 23,  /* no timer is due, or none runs */
     LAPD_NO_PLACE = 24,  /* no place for one more timer of the line; orders of one card of the clock's configuration always
                             find one */
@@ -200,7 +200,11 @@ enum {
     LAPD_BAD_N200 = 42,
     LAPD_BAD_SIDE = 43, /* of lapd_frame_text, too */
     LAPD_BAD_SAPI = 44,
-    LAPD_BAD_READING = 45
+    LAPD_BAD_READING = 45,
+
+    /* Of a restore. No card and no clock is there then. */
+    LAPD_BAD_IMAGE = 46 /* no image, or one of another kind or version; damaged so that its form shows it; or of no state that a
+                           card or a clock can have */
 };
 
 /* ---- The configuration of a card -------------------------------------------------------------------------------- */
@@ -717,6 +721,43 @@ LAPD_STATUS lapd_limit(lapd_card *card, uint32_t *octets);
 /* How many lines the card has. */
 LAPD_STATUS lapd_lines(lapd_card *card, uint32_t *lines);
 
+/* ---- A card that is saved, and restored ------------------------------------------------------------------------- */
+
+/*
+ * An image is a card as it is at a moment, in octets that are the same on every processor and by each way of this library
+ * (docs/FORMAT.md has them). It has the kind, the configuration, and of each line all that is under way there: TEIs, links,
+ * contents, counters, and which links wait for room. Of a card that keeps its own timers it has also their lengths, its moment, and
+ * when each timer falls due.
+ *
+ *     uint8_t *image = malloc(lapd_image_octets(&config));
+ *     size_t length;
+ *     if (lapd_card_save(&card, image, lapd_image_octets(&config), &length) == LAPD_OK)
+ *         ... image[0] to image[length - 1], to a file or to another process; and there ...
+ *     lapd_card other = LAPD_CARD_NONE;
+ *     if (lapd_card_restore(&other, image, length) == LAPD_OK)
+ *         ... a card that goes on ...
+ *
+ * A restored card goes on as the saved one would: to the same calls it answers the same. But a line of octets begins anew. A frame
+ * that was half received or half sent is lost, as any may be on a line, and lapd_begun and lapd_heard have none yet.
+ *
+ * It is at the moment at which it was saved, and no timer has run meanwhile. So a process whose clock has another origin goes on
+ * from that moment: it adds to its own time what lies between them. Save as lapd_fall_due has answered LAPD_NO_TIMER.
+ */
+
+/* So many octets the image of a card of this configuration has at most, of each kind, and so also that of a clock. 0: a field is
+ * out of range. */
+uint32_t lapd_image_octets(const lapd_config *config);
+
+/* Writes the image of a card in front of `image`, and *length is how many octets it has. The card stays as it is.
+ * LAPD_WRONG_LENGTH: `room` is less than an image of this card may have, and nothing is written. (A card of lapd.c has room for its
+ * image in its own memory, unless that is compiled with -DLAPD_NO_IMAGES: then these calls are not there.) */
+LAPD_STATUS lapd_card_save(lapd_card *card, uint8_t *image, size_t room, size_t *length);
+
+/* Starts the card of an image, of the kind and the configuration that this has. Takes memory as a start does.
+ * LAPD_SECOND_START, LAPD_NO_MEMORY or LAPD_BAD_IMAGE: there is no other card than before. Each octet is looked at before it is
+ * believed, so an image may come from anywhere. But it has no check: one that was changed, and is an image still, is taken. */
+LAPD_STATUS lapd_card_restore(lapd_card *card, const uint8_t *image, size_t length);
+
 /* ---- A frame in words ------------------------------------------------------------------------------------------- */
 
 /*
@@ -782,6 +823,11 @@ LAPD_STATUS lapd_clock_due(lapd_clock *clock, uint64_t now, lapd_due *due);
 
 /* The moment of the timer that falls due first, due or not. LAPD_NO_TIMER: none runs. */
 LAPD_STATUS lapd_clock_next(lapd_clock *clock, uint64_t *moment);
+
+/* The same of a clock: an image of its timers, of their moments and of how long they run. It goes with that of its card, and is
+ * saved and restored in the same way. */
+LAPD_STATUS lapd_clock_save(lapd_clock *clock, uint8_t *image, size_t room, size_t *length);
+LAPD_STATUS lapd_clock_restore(lapd_clock *clock, const uint8_t *image, size_t length);
 
 #ifdef __cplusplus
 }
@@ -1092,6 +1138,7 @@ LAPD_INLINE const char *lapd_status_text(uint32_t status) {
     case LAPD_BAD_SIDE: return "side is out of range";
     case LAPD_BAD_SAPI: return "sapi is out of range";
     case LAPD_BAD_READING: return "reading is out of range";
+    case LAPD_BAD_IMAGE: return "bad image";
     default: return "unknown status";
     }
 }

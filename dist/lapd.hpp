@@ -140,6 +140,7 @@ enum class [[nodiscard]] status : uint32_t {
     bad_side = LAPD_BAD_SIDE,
     bad_sapi = LAPD_BAD_SAPI,
     bad_reading = LAPD_BAD_READING,
+    bad_image = LAPD_BAD_IMAGE,
     // tools/names: end
 };
 
@@ -231,6 +232,9 @@ constexpr bool is_refusal(status of) {
 inline constexpr lapd_config basic_access = LAPD_BASIC_ACCESS;
 inline constexpr lapd_config primary_rate = LAPD_PRIMARY_RATE;
 inline constexpr lapd_lengths default_lengths = LAPD_DEFAULT_LENGTHS;
+
+/// So many octets the image of a card or of a clock has at most; 0 if a field is out of range.
+inline uint32_t image_octets(const lapd_config &config) { return lapd_image_octets(&config); }
 
 // ---- What is told ---------------------------------------------------------------------------------------------------
 
@@ -330,6 +334,16 @@ public:
     any_card &operator=(const any_card &) = delete;
 
     status end() { return of(lapd_card_free(&card_)); }
+    /// The image of the card, in front of a room for which image_octets tells enough.
+    status save(span<uint8_t> room, octets &image) {
+        size_t length = 0;
+        const status is = of(lapd_card_save(&card_, at(room), room.size(), &length));
+        if (is == status::ok)
+            image = octets(room.data(), length);
+        return is;
+    }
+    /// A start: the card of an image goes on. One of the other kind does, too, and answers status::wrong_card to calls of this one.
+    status restore(octets image) { return of(lapd_card_restore(&card_, at(image), image.size())); }
 
     status expire(uint32_t line, const timer &expired, report &to) {
         const lapd_timer raw = expired.raw();
@@ -520,6 +534,15 @@ public:
 
     status start(const lapd_config &config) { return of(lapd_clock_start(&clock_, &config)); }
     status end() { return of(lapd_clock_free(&clock_)); }
+    /// The image of the clock, in front of a room for which image_octets tells enough; and a start of the clock of one.
+    status save(span<uint8_t> room, octets &image) {
+        size_t length = 0;
+        const status is = of(lapd_clock_save(&clock_, at(room), room.size(), &length));
+        if (is == status::ok)
+            image = octets(room.data(), length);
+        return is;
+    }
+    status restore(octets image) { return of(lapd_clock_restore(&clock_, at(image), image.size())); }
     status set_lengths(uint32_t t200, uint32_t t203, uint32_t t201, uint32_t t202 = 2000) {
         return of(lapd_clock_set_lengths(&clock_, t200, t203, t201, t202));
     }

@@ -53,7 +53,7 @@ import dataclasses
 import enum
 import functools
 import os
-from typing import Any, Callable, Dict, Iterator, List, NamedTuple, Optional, Tuple, TypeVar
+from typing import Any, Callable, Dict, Iterator, List, NamedTuple, Optional, Tuple, Type, TypeVar
 
 # ---- Numbers of lapd.h ---------------------------------------------------------------------------------------------------
 
@@ -106,6 +106,7 @@ class Status(enum.IntEnum):
     BAD_SIDE = 43
     BAD_SAPI = 44
     BAD_READING = 45
+    BAD_IMAGE = 46
     # tools/names: end
 
     @classmethod
@@ -337,6 +338,7 @@ _TAKES: Dict[str, List[Any]] = {
     "lapd_version": [],
     "lapd_card_start": [_AT, _AT], "lapd_card_start_frames": [_AT, _AT], "lapd_card_free": [_AT],
     "lapd_card_start_timed": [_AT, _AT, _AT], "lapd_card_start_frames_timed": [_AT, _AT, _AT],
+    "lapd_card_save": [_AT, _AT, _SIZE, _AT], "lapd_card_restore": [_AT, _AT, _SIZE],
     "lapd_fall_due": [_AT, _U64, _AT], "lapd_next_moment": [_AT, _AT], "lapd_card_set_lengths": [_AT, _AT],
     "lapd_changed_at": [_AT, _U32, _U8, _U8, _AT],
     "lapd_octet": [_AT, _U32, _U8, _AT], "lapd_pull": [_AT, _U32, _AT, _AT],
@@ -352,6 +354,7 @@ _TAKES: Dict[str, List[Any]] = {
     "lapd_link_counters": [_AT, _U32, _U8, _U8, _AT],
     "lapd_clock_start": [_AT, _AT], "lapd_clock_set_lengths": [_AT, _U32, _U32, _U32, _U32], "lapd_clock_free": [_AT],
     "lapd_clock_apply_report": [_AT, _U32, _AT, _U64], "lapd_clock_due": [_AT, _U64, _AT], "lapd_clock_next": [_AT, _AT],
+    "lapd_clock_save": [_AT, _AT, _SIZE, _AT], "lapd_clock_restore": [_AT, _AT, _SIZE],
     "lapd_status_text": [_U32], "lapd_note_text": [_AT], "lapd_note_text_of": [_AT, _AT, _AT, _SIZE],
     "lapd_cause_text": [_U8], "lapd_counter_text": [_U32],
     "lapd_turned": [_U8], "lapd_frame_text": [_AT, _SIZE, ctypes.c_uint16, _AT, _SIZE],
@@ -627,15 +630,36 @@ _Owned = TypeVar("_Owned", bound="_Owner")
 class _Owner:
     """What holds memory of the library: ended by `with`, by `close`, or with the object."""
 
-    _start, _free = "", ""
+    _start, _free, _save, _restore = "", "", "", ""
 
     def __init__(self, config: Config) -> None:
+        self._hold()
+        self._begin(config)
+
+    def _hold(self) -> None:
+        """What is handed to the library with a call."""
         self._handle = _Handle()
         self._at = ctypes.byref(self._handle)
-        self._begin(config)
 
     def _begin(self, config: Config) -> None:
         _call(self._start, self._at, ctypes.byref(config._raw()))
+
+    def save(self) -> bytes:
+        """Its image: octets from which `restore` begins one that goes on."""
+        length, octets = ctypes.c_size_t(), 1 << 15
+        while True:
+            room = ctypes.create_string_buffer(octets)
+            if _unless(Status.WRONG_LENGTH, self._save, self._at, room, octets, ctypes.byref(length)):
+                return room.raw[: length.value]
+            octets *= 2
+
+    @classmethod
+    def restore(cls: Type[_Owned], image: bytes) -> _Owned:
+        """That of an image. An Error with BAD_IMAGE: these octets are none."""
+        octets, owner = _octets(image), cls.__new__(cls)
+        owner._hold()
+        _call(cls._restore, owner._at, octets, len(octets))
+        return owner
 
     def close(self) -> None:
         """Ends it, and gives its memory back. Nothing happens where that was done."""
@@ -659,11 +683,22 @@ class _Owner:
 class AnyCard(_Owner):
     """What a card of either kind does."""
 
-    _free = "lapd_card_free"
+    _free, _save, _restore = "lapd_card_free", "lapd_card_save", "lapd_card_restore"
 
-    def __init__(self, config: Config) -> None:
+    def _hold(self) -> None:
         self._told = _Report()
-        super().__init__(config)
+        super()._hold()
+
+    @classmethod
+    def restore(cls: Type[_Owned], image: bytes) -> _Owned:
+        """The card of an image, which goes on: one of this class, as `FrameCard.restore(image)` says, or of the class that the image
+        has, as `AnyCard.restore(image)` does. An Error with BAD_IMAGE: these octets are none; with WRONG_CARD: one of another class."""
+        kinds: Dict[bytes, Any] = {b"\0": FrameCard, b"\1": Card, b"\2": TimedFrameCard, b"\3": TimedCard}
+        kind = kinds.get(_octets(image)[5:6], cls)
+        if not issubclass(kind, cls):
+            raise Error(Status.WRONG_CARD)
+        owner: _Owned = super(AnyCard, kind).restore(image)
+        return owner
 
     def _event(self, name: str, line: int, *words: Any) -> Report:
         _call(name, self._at, line, *words, ctypes.byref(self._told))
@@ -824,9 +859,9 @@ class FrameCard(AnyCard):
 
     _start = "lapd_card_start_frames"
 
-    def __init__(self, config: Config) -> None:
+    def _hold(self) -> None:
         self._room = (ctypes.c_uint8 * MOST_FRAME)()
-        super().__init__(config)
+        super()._hold()
 
     def frame(self, line: int, octets: bytes) -> Report:
         """A frame came: its octets without the check."""
@@ -916,7 +951,7 @@ class TimedFrameCard(_Timed, FrameCard):
 class Clock(_Owner):
     """The timers of all lines of a card; each moment is a number of milliseconds that the caller hands in."""
 
-    _start, _free = "lapd_clock_start", "lapd_clock_free"
+    _start, _free, _save, _restore = "lapd_clock_start", "lapd_clock_free", "lapd_clock_save", "lapd_clock_restore"
 
     def set_lengths(self, t200: int, t203: int, t201: int, t202: int = 2000) -> None:
         _call("lapd_clock_set_lengths", self._at, t200, t203, t201, t202)

@@ -236,6 +236,22 @@ LAPD_INLINE_STATUS lapd_checked_lines(lapd_card *card, uint32_t *lines) {
 }
 #define lapd_lines lapd_checked_lines
 
+LAPD_INLINE_STATUS lapd_checked_card_save(lapd_card *card, uint8_t *image, size_t room, size_t *length) {
+    static uint8_t no_octet = 0;
+    if (card == LAPD_NULL || (image == LAPD_NULL && room != 0) || length == LAPD_NULL)
+        return LAPD_WRONG_POINTER;
+    return lapd_card_save(card, image == LAPD_NULL ? &no_octet : image, room, length);
+}
+#define lapd_card_save lapd_checked_card_save
+
+LAPD_INLINE_STATUS lapd_checked_card_restore(lapd_card *card, const uint8_t *image, size_t length) {
+    static uint8_t no_octet = 0;
+    if (card == LAPD_NULL || (image == LAPD_NULL && length != 0))
+        return LAPD_WRONG_POINTER;
+    return lapd_card_restore(card, image == LAPD_NULL ? &no_octet : image, length);
+}
+#define lapd_card_restore lapd_checked_card_restore
+
 LAPD_INLINE_STATUS lapd_checked_frame_text(const uint8_t *octets, size_t length, uint16_t side, char *text,
                                            size_t room) {
     static uint8_t no_octet = 0;
@@ -297,5 +313,21 @@ LAPD_INLINE_STATUS lapd_checked_clock_next(lapd_clock *clock, uint64_t *moment) 
     return lapd_clock_next(clock, moment);
 }
 #define lapd_clock_next lapd_checked_clock_next
+
+LAPD_INLINE_STATUS lapd_checked_clock_save(lapd_clock *clock, uint8_t *image, size_t room, size_t *length) {
+    static uint8_t no_octet = 0;
+    if (clock == LAPD_NULL || (image == LAPD_NULL && room != 0) || length == LAPD_NULL)
+        return LAPD_WRONG_POINTER;
+    return lapd_clock_save(clock, image == LAPD_NULL ? &no_octet : image, room, length);
+}
+#define lapd_clock_save lapd_checked_clock_save
+
+LAPD_INLINE_STATUS lapd_checked_clock_restore(lapd_clock *clock, const uint8_t *image, size_t length) {
+    static uint8_t no_octet = 0;
+    if (clock == LAPD_NULL || (image == LAPD_NULL && length != 0))
+        return LAPD_WRONG_POINTER;
+    return lapd_clock_restore(clock, image == LAPD_NULL ? &no_octet : image, length);
+}
+#define lapd_clock_restore lapd_checked_clock_restore
 
 #endif

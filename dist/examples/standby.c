@@ -2,13 +2,15 @@
  * standby.c: a card whose calls survive it. Two processes have the same card: the active one serves the line, and the standby is
  * handed each call that the active one makes on its card, over a socket pair, and makes the same. A card does the same for the
  * same calls, so both are always in the same state. When the active process is killed, the other goes on, and starts a standby of
- * its own.
+ * its own. A standby is this program, started anew: it gets the card's image first, and from then on the calls. So one that joins
+ * late knows all, and later software comes in without dropping a call: replace the program, and kill the active process twice.
  *
  *     cc -O2 -I .. -o standby standby.c ../lapd.c
  *     standby [--t200 MS] [--n200 N] <> LINE 3<> LAYER3
  *
  * LINE is a socket with one frame a datagram, without a check, and LAYER3 one with the messages of standby.h. Both processes have
- * them open, so that one goes on where the other stopped. The order is all that matters:
+ * them open, so that one goes on where the other stopped. They have one clock, too: with another, a standby would go on from the
+ * moment of the image. The order is all that matters:
  *
  *  1. A call goes to the standby, with its moment, before the card is called (send_over, in `make`).
  *  2. What the call led to goes out only then: notes and answers to layer 3, a frame to the line.
@@ -24,7 +26,6 @@
 
 #include <errno.h>
 #include <poll.h>
-#include <setjmp.h>
 #include <signal.h>
 #include <stdbool.h>
 #include <stddef.h>
@@ -38,7 +39,7 @@
 #include "lapd.h"
 #include "standby.h"
 
-enum { LINE = 0, LAYER_3 = 3, LONGEST_WAIT = 10000 };
+enum { LINE = 0, LAYER_3 = 3, OVER = 4, LONGEST_WAIT = 10000, MOST_IMAGE = 1 << 16 };
 
 static const char usage[] = "usage: standby [--t200 MS] [--n200 N] <> LINE 3<> LAYER3\n";
 static const char help[] =
@@ -66,8 +67,9 @@ typedef struct {
 static lapd_config config = LAPD_BASIC_ACCESS;
 static lapd_lengths lengths = LAPD_DEFAULT_LENGTHS;
 static lapd_card card = LAPD_CARD_NONE;
+static const char *program;
 static int over = -1; /* to the other process */
-static jmp_buf active; /* where a process begins that is the active one from then on */
+static uint8_t image[MOST_IMAGE];
 
 /* What the last call led to, and what was told and asked for in all: the same in both processes. */
 static struct {
@@ -130,38 +132,49 @@ static void happen(const call *it) {
 
 /* ---- The standby -------------------------------------------------------------------------------------------------- */
 
-/* Makes each call that the active process makes, until that is no more. */
-static void follow(void) {
+/* The card is that of the image which comes first, and then the calls come that the active process makes, until that is no more. */
+static void join(void) {
     call it;
-    ssize_t length;
-    while ((length = recv(over, &it, sizeof it, 0)) > 0 || (length < 0 && errno == EINTR))
+    ssize_t length = recv(OVER, image, sizeof image, 0);
+    must(length > 0 && lapd_card_restore(&card, image, (size_t)length) == LAPD_OK, "there is no image of a card");
+    must(recv(OVER, &last, sizeof last, 0) == sizeof last, "there is no last call");
+    while ((length = recv(OVER, &it, sizeof it, 0)) > 0 || (length < 0 && errno == EINTR))
         if (length > 0)
             happen(&it);
-    close(over);
+    close(OVER);
 }
 
-/* Starts a standby, which begins with the card as it is now. In the process that was started this returns nowhere. */
+/* Whether octets went to the standby: otherwise it is gone. */
+static bool is_sent(const void *octets, size_t length) {
+    ssize_t sent;
+    while ((sent = send(over, octets, length, MSG_NOSIGNAL)) < 0 && errno == EINTR)
+        ;
+    return sent >= 0;
+}
+
+/* Starts a standby, and hands it the card as it is now, and what the last call led to. */
 static void start_standby(void) {
-    int ends[2];
-    must(socketpair(AF_UNIX, SOCK_SEQPACKET, 0, ends) == 0, "there is no socket pair");
-    pid_t child = fork();
-    must(child >= 0, "there is no second process");
-    over = ends[child != 0];
-    close(ends[child == 0]);
-    if (child != 0)
-        return;
-    follow();
-    longjmp(active, 1);
+    size_t length;
+    do {
+        int ends[2];
+        close(over);
+        must(socketpair(AF_UNIX, SOCK_SEQPACKET, 0, ends) == 0, "there is no socket pair");
+        pid_t child = fork();
+        must(child >= 0, "there is no second process");
+        if (child == 0) {
+            close(ends[1]);
+            must(dup2(ends[0], OVER) == OVER && execlp(program, program, "--join", (char *)NULL) == 0, "the program is not there");
+        }
+        close(ends[0]);
+        over = ends[1];
+        must(lapd_card_save(&card, image, sizeof image, &length) == LAPD_OK, "there is no image");
+    } while (!is_sent(image, length) || !is_sent(&last, sizeof last));
 }
 
 /* A call goes to the standby. If that is gone, another begins with the card as it is before the call. */
 static void send_over(const call *it) {
-    size_t length = offsetof(call, octets) + it->length;
-    while (send(over, it, length, MSG_NOSIGNAL) < 0)
-        if (errno != EINTR) {
-            close(over);
-            start_standby();
-        }
+    while (!is_sent(it, offsetof(call, octets) + it->length))
+        start_standby();
 }
 
 /* The line, or layer 3, has ended: the standby is to end, too. */
@@ -297,11 +310,8 @@ static bool is_option(const char *name, int *words, char ***word, unsigned long 
     return true;
 }
 
-int main(int words, char **word) {
-    if (words == 2 && strcmp(word[1], "--help") == 0) {
-        printf("%s%s", usage, help);
-        return 0;
-    }
+/* Reads the options, and starts a card. */
+static void start(int words, char **word) {
     unsigned long number;
     while (words > 1)
         if (is_option("--t200", &words, &word, &number))
@@ -310,12 +320,23 @@ int main(int words, char **word) {
             config.n200 = number < UINT16_MAX ? (uint16_t)number : UINT16_MAX;
         else {
             fputs(usage, stderr);
-            return 2;
+            exit(2);
         }
-    signal(SIGCHLD, SIG_IGN); /* nobody waits for a standby that was killed */
     uint32_t status = lapd_card_start_frames_timed(&card, &config, &lengths);
     must(status == LAPD_OK, lapd_status_text(status));
-    (void)setjmp(active); /* a process that takes over comes here */
+}
+
+int main(int words, char **word) {
+    program = word[0];
+    if (words == 2 && strcmp(word[1], "--help") == 0) {
+        printf("%s%s", usage, help);
+        return 0;
+    }
+    signal(SIGCHLD, SIG_IGN); /* nobody waits for a standby that was killed */
+    if (words == 2 && strcmp(word[1], "--join") == 0)
+        join();
+    else
+        start(words, word);
     start_standby();
     tell(); /* of the last call, once more */
     standby_message message = {.kind = STANDBY_ACTIVE, .number = (uint32_t)getpid()};

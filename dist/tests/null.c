@@ -274,6 +274,21 @@ void check_null(void) {
     wants(lapd_lines(&card, NULL) == LAPD_WRONG_POINTER && memcmp(&own, &was, sizeof own) == 0,
           "lapd_lines with null for lines");
     fresh();
+    wants(lapd_card_save(NULL, &own.at_uint8_t, 1, &own.at_size_t) == LAPD_WRONG_POINTER && memcmp(&own, &was, sizeof own) == 0,
+          "lapd_card_save with null for card");
+    fresh();
+    wants(lapd_card_save(&card, NULL, 1, &own.at_size_t) == LAPD_WRONG_POINTER && memcmp(&own, &was, sizeof own) == 0,
+          "lapd_card_save with null for image");
+    fresh();
+    wants(lapd_card_save(&card, &own.at_uint8_t, 1, NULL) == LAPD_WRONG_POINTER && memcmp(&own, &was, sizeof own) == 0,
+          "lapd_card_save with null for length");
+    fresh();
+    wants(lapd_card_restore(NULL, &own.at_uint8_t, 1) == LAPD_WRONG_POINTER && memcmp(&own, &was, sizeof own) == 0,
+          "lapd_card_restore with null for card");
+    fresh();
+    wants(lapd_card_restore(&card, NULL, 1) == LAPD_WRONG_POINTER && memcmp(&own, &was, sizeof own) == 0,
+          "lapd_card_restore with null for image");
+    fresh();
     wants(lapd_frame_text(NULL, 1, 0, &own.at_char, 1) == LAPD_WRONG_POINTER && memcmp(&own, &was, sizeof own) == 0,
           "lapd_frame_text with null for octets");
     fresh();
@@ -315,6 +330,21 @@ void check_null(void) {
     fresh();
     wants(lapd_clock_next(&clock, NULL) == LAPD_WRONG_POINTER && memcmp(&own, &was, sizeof own) == 0,
           "lapd_clock_next with null for moment");
+    fresh();
+    wants(lapd_clock_save(NULL, &own.at_uint8_t, 1, &own.at_size_t) == LAPD_WRONG_POINTER && memcmp(&own, &was, sizeof own) == 0,
+          "lapd_clock_save with null for clock");
+    fresh();
+    wants(lapd_clock_save(&clock, NULL, 1, &own.at_size_t) == LAPD_WRONG_POINTER && memcmp(&own, &was, sizeof own) == 0,
+          "lapd_clock_save with null for image");
+    fresh();
+    wants(lapd_clock_save(&clock, &own.at_uint8_t, 1, NULL) == LAPD_WRONG_POINTER && memcmp(&own, &was, sizeof own) == 0,
+          "lapd_clock_save with null for length");
+    fresh();
+    wants(lapd_clock_restore(NULL, &own.at_uint8_t, 1) == LAPD_WRONG_POINTER && memcmp(&own, &was, sizeof own) == 0,
+          "lapd_clock_restore with null for clock");
+    fresh();
+    wants(lapd_clock_restore(&clock, NULL, 1) == LAPD_WRONG_POINTER && memcmp(&own, &was, sizeof own) == 0,
+          "lapd_clock_restore with null for image");
     fresh();
     wants(lapd_request_with(NULL, 0, 0, 0, 64, &own.at_uint8_t, 1, &own.at_lapd_report) == LAPD_WRONG_POINTER && memcmp(&own, &was, sizeof own) == 0,
           "lapd_request_with with null for card");
@@ -500,11 +530,23 @@ void check_null(void) {
     wants(lapd_heard_frame(&card, 0, NULL, 0, &own.at_size_t) == lapd_heard_frame(&card, 0, &own.at_uint8_t, 0, &own.at_size_t),
           "lapd_heard_frame with null for no octets of out");
     fresh();
+    wants(lapd_card_save(&card, NULL, 0, &own.at_size_t) == lapd_card_save(&card, &own.at_uint8_t, 0, &own.at_size_t),
+          "lapd_card_save with null for no octets of image");
+    fresh();
+    wants(lapd_card_restore(&card, NULL, 0) == lapd_card_restore(&card, &own.at_uint8_t, 0),
+          "lapd_card_restore with null for no octets of image");
+    fresh();
     wants(lapd_frame_text(NULL, 0, 0, &own.at_char, 0) == lapd_frame_text(&own.at_uint8_t, 0, 0, &own.at_char, 0),
           "lapd_frame_text with null for no octets of octets");
     fresh();
     wants(lapd_frame_text(&own.at_uint8_t, 0, 0, NULL, 0) == lapd_frame_text(&own.at_uint8_t, 0, 0, &own.at_char, 0),
           "lapd_frame_text with null for no octets of text");
+    fresh();
+    wants(lapd_clock_save(&clock, NULL, 0, &own.at_size_t) == lapd_clock_save(&clock, &own.at_uint8_t, 0, &own.at_size_t),
+          "lapd_clock_save with null for no octets of image");
+    fresh();
+    wants(lapd_clock_restore(&clock, NULL, 0) == lapd_clock_restore(&clock, &own.at_uint8_t, 0),
+          "lapd_clock_restore with null for no octets of image");
     fresh();
     wants(lapd_request_with(&card, 0, 0, 0, 64, NULL, 0, &own.at_lapd_report) == lapd_request_with(&card, 0, 0, 0, 64, &own.at_uint8_t, 0, &own.at_lapd_report),
           "lapd_request_with with null for no octets of contents");

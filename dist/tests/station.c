@@ -368,6 +368,8 @@ static fault obeyed(station *b, const command *c) {
         b->losses = true;
         return NO_FAULT;
     }
+    if (c->verb == SAVE || c->verb == RESTORE) /* what they show and do is asked by tests/image */
+        return c->verb == SAVE || b->for_frames ? NO_FAULT : WRONG_CARD;
     if (is_of_other_card(b, c))
         return WRONG_CARD;
     return c->numbers[0] >= lines ? BAD_LINE : obey_at(b, c->numbers[0], c);

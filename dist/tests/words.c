@@ -31,6 +31,8 @@ static const meaning meanings[] = {
     {"wait", WAIT, 0, 0, 1, false, 0, 3600000},
     {"stored", STORED, 0, 0, 0, false, 0, ANY},
     {"losses", LOSSES, 0, 0, 0, false, 0, ANY},
+    {"save", SAVE, 0, 0, 0, false, 0, ANY},
+    {"restore", RESTORE, 0, 0, 0, false, 0, ANY},
     {"counters", COUNTERS, 0, 0, 1, false, 0, ANY},
     {"messages", MESSAGES, 0, 0, 1, false, 0, ANY},
     {"down", DOWN, 0, 0, 1, false, 0, ANY},

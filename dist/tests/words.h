@@ -33,7 +33,7 @@ typedef enum {
 
 const char *fault_text(fault kind);
 
-typedef enum { CARD, RX, IN, PULL, FAILED, NEXT, WAIT, TIMERS, STORED, LOSSES, COUNTERS, MESSAGES, DOWN, REQUEST } verbs;
+typedef enum { CARD, RX, IN, PULL, FAILED, NEXT, WAIT, TIMERS, STORED, LOSSES, SAVE, RESTORE, COUNTERS, MESSAGES, DOWN, REQUEST } verbs;
 
 /* A line that was read: what it says, before a card is asked. */
 typedef struct {

@@ -105,6 +105,7 @@ static void no_card(void) {
     ANSWERS(LAPD_NO_CARD, lapd_stored(&none, &own.number));
     ANSWERS(LAPD_NO_CARD, lapd_limit(&none, &own.number));
     ANSWERS(LAPD_NO_CARD, lapd_lines(&none, &own.number));
+    ANSWERS(LAPD_NO_CARD, lapd_card_save(&none, own.out, sizeof own.out, &own.length));
 }
 
 static void wrong_line(void) {
@@ -180,6 +181,8 @@ static void wrong_words(void) {
     ANSWERS(LAPD_WRONG_LENGTH, lapd_frame_text(octets, 3, LAPD_USER, own.text, 4));
     ANSWERS(LAPD_BAD_SIDE, lapd_frame_text(octets, 3, 3, own.text, sizeof own.text));
     ANSWERS(LAPD_WRONG_LENGTH, lapd_note_text_of(&of_packet, &of_card, own.text, 25));
+    ANSWERS(LAPD_WRONG_LENGTH, lapd_card_save(&card, own.out, sizeof own.out, &own.length));
+    ANSWERS(LAPD_WRONG_LENGTH, lapd_card_save(&timed, own.out, sizeof own.out, &own.length));
 }
 
 /* Requests that are refused. Of the card TEI 64 is on line 0, and on line 1 as many as it has; the terminal asks for a TEI. */
@@ -214,6 +217,8 @@ static void wrong_clock(void) {
     ANSWERS(LAPD_NO_CLOCK, lapd_clock_apply(&no_clock, 0, &start, 0));
     ANSWERS(LAPD_NO_CLOCK, lapd_clock_due(&no_clock, 0, &own.due));
     ANSWERS(LAPD_NO_CLOCK, lapd_clock_next(&no_clock, &own.moment));
+    ANSWERS(LAPD_NO_CLOCK, lapd_clock_save(&no_clock, own.out, sizeof own.out, &own.length));
+    ANSWERS(LAPD_WRONG_LENGTH, lapd_clock_save(&clock, own.out, 9, &own.length));
     ANSWERS(LAPD_WRONG_LINE, lapd_clock_apply(&clock, 2, &start, 0));
     ANSWERS(LAPD_WRONG_ORDER, lapd_clock_apply(&clock, 0, &no_order, 0));
     ANSWERS(LAPD_WRONG_TIMER, lapd_clock_apply(&clock, 0, &no_timer, 0));
@@ -259,6 +264,11 @@ static void wrong_starts(void) {
     ANSWERS(LAPD_SECOND_START, lapd_clock_start(&clock, &of_card));
     ANSWERS(LAPD_WRONG_TIME, lapd_card_start_timed(&none, &of_card, &too_short));
     ANSWERS(LAPD_WRONG_TIME, lapd_card_start_frames_timed(&none, &of_card, &too_short));
+    ANSWERS(LAPD_SECOND_START, lapd_card_restore(&card, octets, sizeof octets));
+    ANSWERS(LAPD_SECOND_START, lapd_clock_restore(&clock, octets, sizeof octets));
+    ANSWERS(LAPD_BAD_IMAGE, lapd_card_restore(&none, octets, sizeof octets));
+    ANSWERS(LAPD_BAD_IMAGE, lapd_card_restore(&none, octets, 0));
+    ANSWERS(LAPD_BAD_IMAGE, lapd_clock_restore(&no_clock, octets, sizeof octets));
 }
 
 /* Cards in the states in which they are asked. */

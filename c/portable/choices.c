@@ -24,11 +24,11 @@
 #define LAPD_MALLOC
 #endif
 
+#ifdef __GNUC__
+#pragma GCC diagnostic ignored "-Wunused-function" /* of what was made, some is for tests, and some for images */
+#endif
 #ifdef LAPD_NO_IMAGES
 #define IMAGE_ROOM(octets) ((void)(octets), 0)
-#ifdef __GNUC__
-#pragma GCC diagnostic ignored "-Wunused-function" /* nothing calls then what saves and restores */
-#endif
 #else
 #define IMAGE_ROOM(octets) (octets)
 #endif

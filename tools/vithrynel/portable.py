@@ -21,8 +21,8 @@ BY_HAND = ("lapd_version", "lapd_card_start", "lapd_card_start_frames", "lapd_cl
            "lapd_exchange", "lapd_frame_text",
            "lapd_card_start_timed", "lapd_card_start_frames_timed", "lapd_image_octets", "lapd_card_save", "lapd_card_restore",
            "lapd_clock_save", "lapd_clock_restore")
-# No function of the machine's is asked for these.
-NOT_EXPORTED = ("lapd_version", "lapd_image_octets")
+# No function of the machine's is asked for it.
+NOT_EXPORTED = ("lapd_version",)
 # An array of a struct, by the field that says how much of it there is.
 COUNTED = {("lapd_report", "notes"): "note_count", ("lapd_report", "orders"): "order_count", ("lapd_report", "contents"): "length"}
 # What is read of a struct that is handed over, where that is not all.

@@ -191,9 +191,8 @@ class Statement:
 
 
 def some_of(rows):
-    """The first rows of wrong machines, and how many more there are."""
-    shown = ', '.join('`%s`' % it for it in rows[:MOST_ROWS])
-    return shown + ' (+%d)' % len(rows[MOST_ROWS:]) * (len(rows) > MOST_ROWS)
+    """The first rows of wrong machines; `tests/wrong-machines --statement` has all."""
+    return ', '.join('`%s`' % it for it in rows[:MOST_ROWS])
 
 
 def quoted(premises):

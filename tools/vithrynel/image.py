@@ -6,6 +6,7 @@ from typing import Callable, Dict, List, Optional, Tuple, TypeVar
 from .program import Fault
 
 MAGIC, VERSION, FREE, GROUP = b"LAPD", 1, 255, 127
+LONGEST = 3600000  # that a timer runs, in milliseconds
 KINDS = "i rr rnr rej sabme disc ui ua dm frmr xid undefined".split()
 CAUSES = "abort ragged short fcs extension sapi tei unserved".split()
 NOTES = ("establish-indication establish-confirm release-indication release-confirm data unit xid assigned removed doubled denied "
@@ -251,6 +252,7 @@ def link_of(r: Reader, config: Config, window: int) -> Link:
     contents = r.list(config.queue, lambda: r.contents(config.n201), "contents")
     link = Link(state, flags, rc, va, outstanding, vr, again, counted, contents, r.list(config.control, lambda: control_of(r), "control frames"))
     r.need(outstanding <= len(contents), "contents are missing")
+    r.need(again <= len(contents) - outstanding, "more contents go again than are unsent")
     r.need(not contents or state in (7, 8) or state == 5 and not flags[ASKED], "contents wait in a state that has none")
     r.need(not (flags[OWN_BUSY] and flags[PENDING]), "a busy side owes an acknowledgement")
     allowed = {4: ["-"], 7: ["t200"] + ["t203"] * (outstanding == 0)}.get(state, ["t200"])
@@ -268,6 +270,7 @@ def control_of(r: Reader) -> Tuple[bool, bytes]:
 
 
 def clock_of(r: Reader, card: Card) -> Clock:
-    lengths, now = [r.number(4, 1, 3600000, "a timer's length") for _ in range(4)], r.number(8, 0, (1 << 63) - 1, "the moment")
-    moments = [[r.number(8, 0, (1 << 64) - 2, "when a timer is due") for _ in line.timers()] for line in card.lines]
-    return Clock(lengths, now, moments, [[r.number(8) for _ in range(2 * card.config.terminals)] for _ in card.lines])
+    lengths, now = [r.number(4, 1, LONGEST, "a timer's length") for _ in range(4)], r.number(8, 0, (1 << 63) - 1, "the moment")
+    moments = [[r.number(8, 0, now + LONGEST, "when a timer is due") for _ in line.timers()] for line in card.lines]
+    changed = [[r.number(8, 0, now, "when a state changed") for _ in range(2 * card.config.terminals)] for _ in card.lines]
+    return Clock(lengths, now, moments, changed)

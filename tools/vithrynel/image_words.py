@@ -18,7 +18,7 @@ def head(card: Card) -> Iterator[str]:
     yield f"image version {VERSION} of {'octets' if card.of_octets else 'frames'}{' with timers' * (card.clock is not None)}"
     c = card.config
     numbers = [c.lines, c.terminals, c.k, c.queue, c.unit_queue, c.control, c.slots, c.n201, c.n200, c.k16]
-    side = ["user"] * c.user + ([str(c.seed)] if c.seed is not None else [])
+    side = ["user", *[str(c.seed)] * (c.seed is not None)] if c.user else []
     yield " ".join(["card" if card.of_octets else "frames", *map(str, numbers), *side, "sapi", str(c.sapi), *["annex-b"] * c.annex_b])
 
 

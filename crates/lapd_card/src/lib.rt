@@ -6,7 +6,7 @@
 //!
 //! A caller starts a card, and then hands it what happens. Each answer says what to tell layer 3 (`notes`, `delivered`)
 //! and which timers to start and to stop (`orders`); the caller keeps them, with `lapd_clock` or with timers of its own,
-//! and hands back each one that expires. `example` of `test_product` is this in code that is run:
+//! and hands back each one that expires. `lines` and `frames` of `tool_bench` are such code:
 //!
 //! ```text
 //! let mut card = Card::start(alloc, config, SlabShelf::start(alloc, slots, n201)?)?;
@@ -32,7 +32,7 @@
 //! - `drive` with `sink` and `replies`: whole lists of events at a card of octets; `kept`: a sink that keeps the replies.
 //! - `start` with `fault`: how a card begins, and why it does not.
 //! - `saved`: the lines and counters of a card in an image, and its configuration; how long an image is at most. `saved_kinds`: a card
-//!   of either kind. `running` with `image_queries`: what the owner of a card asks before it saves it.
+//!   of either kind. `image_queries`: what the owner of a card asks before it saves it.
 //! - `stored`: how many octets a card of octets stores, and how many a card of either kind may.
 //!
 //! What the card does is defined below. A row of a link's tables (by state, in `specs/`) and its notes are in
@@ -42,9 +42,8 @@
 //!
 //! # Only tested
 //!
-//! Starts, with each fault; an answer that is kept has its contents; long runs. Of a card of frames, a room that is too small
-//! (`test_product`), and one list of events (`laws_promises`). Through C (`tests/c/run`) frames of each length, and such a card
-//! beside one of octets to which the same happens.
+//! What faults say, and one list of events at a card of each kind (`test_product`); long runs (`tool_bench`). Through C
+//! (`tests/c/run`) frames of each length, and a card of frames beside one of octets to which the same happens.
 #![tactic(auto)]
 
 mod card;
@@ -55,7 +54,6 @@ mod image_queries;
 mod kept;
 mod kinds;
 mod replies;
-mod running;
 mod saved;
 mod saved_kinds;
 mod sink;

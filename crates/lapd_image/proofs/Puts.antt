@@ -1,7 +1,8 @@
 -- Octets that are written one after the other, and what stands in the room then.
-use Rattle.std.proofs.Common.{arith, ℕ, zero, suc, ◌≡◌, ◌+◌, ◌<◌, ◌≤◌, List, [], ◌∷◌, ◌++◌, length, take, map, get_or, min, refl, sym, ap, ◌∙◌, subst, append_assoc, append-nil, length-append, length-take, take_all}
+use Rattle.std.proofs.Common.{arith, ℕ, zero, suc, ◌≡◌, ◌+◌, ◌-◌, ◌<◌, ◌≤◌, List, [], ◌∷◌, ◌++◌, length, take, drop, map, get_or, min, refl, sym, ap, ◌∙◌, subst, append_assoc, append-nil, length-append, length-take, take_all}
 use Rattle.std.specs.Prelude.{flat_map}
 use Rattle.std.proofs.Math.Seq.{take-suc}
+use Rattle.std.proofs.lemmas.List.{drop-drop}
 use Rattle.std.proofs.lemmas.List.Concat.{flat_map_single}
 use Rattle.std.proofs.lemmas.Grind.{flat_map-append}
 use Rattle.lapd_image.specs.Puts.{Puts}
@@ -11,6 +12,21 @@ take-before : {X : Type 0} (n : ℕ) (xs ys : List X) → take n (take n xs ++ y
 take-before zero xs ys = refl
 take-before (suc n) [] ys = refl
 take-before (suc n) (x ∷ xs) ys = ap (λ (l : List _). x ∷ l) (take-before n xs ys)
+
+-- what stands after a place stands after a later one
+further : {X : Type 0} (m n : ℕ) (xs ys : List X) → m ≤ n → drop m xs ≡ drop m ys → drop n xs ≡ drop n ys
+further m n xs ys more same =
+    let sum : m + (n - m) ≡ n = omega (arith, more) in
+    let on : (l : List _) → drop (n - m) (drop m l) ≡ drop n l = λ l. drop-drop (n - m) m l ∙ ap (λ k. drop k l) sum in
+    sym (on xs) ∙ ap (drop (n - m)) same ∙ on ys
+
+-- where putting ends
+pub puts-end : {a old new : List ℕ} {at end : ℕ} → at ≤ length old → Puts a at old end new → end ≡ min (length old) (at + length a)
+puts-end {a} {old} {new} {at} {end} within puts =
+    let front = ap (λ (l : List ℕ). length l) puts.front in
+    let all : length (take (length old) (take at old ++ a)) ≡ min (length old) (length (take at old) + length a) =
+    length-take (length old) (take at old ++ a) ∙ ap (min (length old)) (length-append (take at old) a) in
+    omega (arith, front, all, length-take end new, length-take at old, within, puts.within)
 
 -- Octets are put, and then others.
 pub puts-then : {a b old mid new : List ℕ} {at between end : ℕ} → Puts a at old between mid → Puts b between mid end new → Puts (a ++ b) at old end new
@@ -22,6 +38,7 @@ puts-then {a} {b} {old} {mid} {new} {at} {between} {end} first then = record {
       ∙ (λ i. take (first.room i) (first.front i ++ b))
       ∙ take-before (length old) (take at old ++ a) b
       ∙ ap (take (length old)) (append_assoc (take at old) a b);
+  after = then.after ∙ further between end mid old (omega (arith, puts-end first.within then, first.within, then.within, then.room)) first.after;
 }
 
 -- Nothing is put.
@@ -30,6 +47,7 @@ puts-none {old} {at} within = record {
   room = refl;
   within = within;
   front = sym (ap (take (length old)) (append-nil (take at old)) ∙ take_all (length old) (take at old) (omega (arith, length-take at old)));
+  after = refl;
 }
 
 -- Equal octets are put.
@@ -51,14 +69,6 @@ pub puts-next_octet : {X : Type 0} (f : X → ℕ) (xs : List X) (i : ℕ) (d : 
 puts-next_octet f xs i d within before one =
     puts-same (flat_map_single f (take (suc i) xs))
     (puts-next (λ x. f x ∷ []) xs i d within (puts-same (sym (flat_map_single f (take i xs))) before) one)
-
--- where putting ends
-pub puts-end : {a old new : List ℕ} {at end : ℕ} → at ≤ length old → Puts a at old end new → end ≡ min (length old) (at + length a)
-puts-end {a} {old} {new} {at} {end} within puts =
-    let front = ap (λ (l : List ℕ). length l) puts.front in
-    let all : length (take (length old) (take at old ++ a)) ≡ min (length old) (length (take at old) + length a) =
-    length-take (length old) (take at old ++ a) ∙ ap (min (length old)) (length-append (take at old) a) in
-    omega (arith, front, all, length-take end new, length-take at old, within, puts.within)
 
 -- If there is room for all, all are there.
 pub record AreAllPut (octets : List ℕ) (at : ℕ) (old : List ℕ) (end : ℕ) (new : List ℕ) : Type 0 where

@@ -46,6 +46,7 @@ impl<'a> Reader<'a> {
     pub fn octet(&mut self) -> Result<u8, BadImage>
         ensures read { IfOk result (λ octet. self.old ≡ octet ∷ self.new) }
         ensures none { OnErr result (self.old ≡ []) }
+        ensures kept { OnErr result (self.new ≡ self.old) }
     {
         let Some((first, rest)) = self.rest.split_first() else {
             return Err(BadImage);
@@ -64,6 +65,7 @@ impl<'a> Reader<'a> {
         ensures read { IfOk result (λ n. self.old ≡ number octets n ++ self.new) }
         ensures small { IfOk result (λ n. n < 256 ^ octets) }
         ensures short { OnErr result (length self.old < octets) }
+        ensures kept { OnErr result (self.new ≡ self.old) }
     {
         Ok(number_of(self.octets(octets)?))
     }
@@ -78,6 +80,7 @@ impl<'a> Reader<'a> {
         ensures count { IfOk result (λ octets. length octets.now ≡ count) }
         ensures range { IfOk result (λ octets. All (λ octet. octet < 256) octets.now) }
         ensures short { OnErr result (length self.old < count) }
+        ensures kept { OnErr result (self.new ≡ self.old) }
     {
         if self.rest.len() < count {
             return Err(BadImage);

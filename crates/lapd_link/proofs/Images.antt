@@ -38,7 +38,6 @@ pub saved-resting : {t : Terms} {e : Entity} {m : machine.Link} → IsSound t m 
 saved-resting sound rests low timed octets = record {
   sound = sound;
   timed = timed;
-  again = subst (λ n. n ≤ 255) (ap (λ (l : machine.Link). l.again) rests.is) low.again;
   counts = subst (λ c. All (λ n. n ≤ 65535) (counted_of c)) (ap (λ (l : machine.Link). l.counts) rests.is) low.counts;
   octets = octets;
 }

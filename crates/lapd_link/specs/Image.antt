@@ -13,12 +13,10 @@ use Rattle.model_link.specs.Link as machine
 use Rattle.model_link.specs.Sound.{IsSound}
 use Rattle.model_link.specs.Timed.{IsTimed}
 
--- What may be saved of a link: it is sound, and its timer is that of its state. At most 255 contents go again, its counts have 16
--- bits, and contents are octets.
+-- What may be saved of a link: it is sound, and its timer is that of its state. Its counts have 16 bits, and contents are octets.
 pub record IsSaved (t : Terms) (m : machine.Link) : Type 0 where
   pub sound : IsSound t m
   pub timed : IsTimed m
-  pub again : m.again ≤ 255
   pub counts : All (λ n. n ≤ 65535) (counted_of m.counts)
   pub octets : All AreOctets (machine.queue_of m)
 

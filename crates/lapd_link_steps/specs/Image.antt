@@ -77,9 +77,9 @@ IsTimed AwaitingRelease running sent = running ≡ Some T200
 IsTimed Established running sent = (running ≡ Some T200) ⊎ ((running ≡ Some T203) × (sent ≡ 0))
 IsTimed TimerRecovery running sent = running ≡ Some T200
 
--- A link that may be saved, of which so many contents are queued and so many of them outstanding.
-pub record IsFit (t : Terms) (queued sent : ℕ) (state : State) (own_busy pending asked : Bool) (rc : ℕ) (running : Option LinkTimer) : Type 0 where
-  pub accepted : sent ≤ queued
+-- A link that may be saved, of which so many contents are queued, so many of them outstanding, and so many of the others go again.
+pub record IsFit (t : Terms) (queued sent again : ℕ) (state : State) (own_busy pending asked : Bool) (rc : ℕ) (running : Option LinkTimer) : Type 0 where
+  pub accepted : sent + again ≤ queued
   pub within : sent ≤ t.k
   pub settled : IsSettled state asked queued
   pub owes_nothing : IsTrue own_busy → pending ≡ false

@@ -90,10 +90,11 @@ impl Entity {
 
     /// Whether a link with these parameters can be so while so many contents are queued.
     pub fn is_fit(&self, terms: &Terms, queued: usize) -> bool
-        ensures { IsTrue result ↔ IsFit terms.now queued (outstanding_of self.now.window) self.now.state self.now.own_busy self.now.pending self.now.asked self.now.repeats self.now.running }
+        ensures { IsTrue result ↔ IsFit terms.now queued (outstanding_of self.now.window) self.now.again self.now.state self.now.own_busy self.now.pending
+            self.now.asked self.now.repeats self.now.running }
     {
         let outstanding = self.window.outstanding();
-        usize::from(outstanding) <= queued
+        usize::from(outstanding) + usize::from(self.again) <= queued
             && outstanding <= terms.k
             && (queued == 0 || self.may_keep())
             && !(self.own_busy && self.pending)

@@ -1,5 +1,5 @@
 -- What the places stand for: the set of the timers that run.
-use Rattle.std.specs.Prelude.{◌≡◌, ℕ, ◌+◌, ◌*◌, ◌/◌, ◌<◌, ◌≤◌, Bool, true, false, ◌&&◌, nat_lt, List, ◌∷◌, map, filter, length, get_or, set}
+use Rattle.std.specs.Prelude.{◌≡◌, ℕ, ◌+◌, ◌*◌, ◌/◌, ◌<◌, ◌≤◌, Bool, true, false, ◌&&◌, nat_lt, List, ◌∷◌, map, filter, length, get_or, set, All}
 use Rattle.std.specs.List.{AllByRecursion}
 use Rattle.lapd_clock.specs.Firsts.{never}
 use Rattle.lapd_clock.specs.Timer.{Timer, T201}
@@ -43,6 +43,13 @@ with_timer place timer moment es = set es place (record (at place es) { moment =
 
 abbrev pub without_timer : ℕ → List Expiry → List Expiry
 without_timer place es = set es place (record (at place es) { moment = never })
+
+-- Each that runs falls due at this moment at the latest.
+abbrev pub IsUntil : ℕ → Expiry → Type 0
+IsUntil latest e = e.moment < never → e.moment ≤ latest
+
+abbrev pub AreUntil : ℕ → List Expiry → Type 0
+AreUntil latest es = All (IsUntil latest) es
 
 -- A timer of a line runs at a place, or at none.
 abbrev pub runs_as : ℕ → Timer → Expiry → Bool

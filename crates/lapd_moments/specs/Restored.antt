@@ -1,7 +1,6 @@
 -- What it means that the timers of a card are restored from an image, part by part.
 use Rattle.std.specs.List.{range_with_len}
-use Rattle.std.specs.Prelude.{◌≡◌, ◌≢◌, ℕ, ◌+◌, ◌*◌, ◌<◌, ◌≤◌, ◌^◌, Bool, false, List, [], ◌∷◌, ◌++◌, All, flat_map, is_some, Some, if◌then◌else◌}
-use Rattle.lapd_clock.specs.Firsts.{never}
+use Rattle.std.specs.Prelude.{◌≡◌, ◌≢◌, ℕ, ◌+◌, ◌*◌, ◌<◌, ◌≤◌, Bool, false, List, [], ◌∷◌, ◌++◌, All, flat_map, is_some, Some, if◌then◌else◌}
 use Rattle.lapd_clock.specs.Timer.{Timer, T200, T203, T201, T202}
 use Rattle.lapd_clock.specs.Timers.{Expiry}
 use Rattle.lapd_moments.specs.Image.{link_moments, links_moments, own_moments, line_moments, link_runs, line_runs, RunsHere}
@@ -13,11 +12,9 @@ use Rattle.model_line.specs.Line.{tei_at}
 use Rattle.model_link.specs.declared.timers.LinkTimer.{LinkTimer}
 use Rattle.model_timed.specs.Clock.{Clock}
 
--- A clock that the timers of a card can hold: the moment is before 2^63, and a timer that runs falls due before that which says
--- that none does.
-pub record IsInTime (c : Clock) : Type 0 where
-  pub now : c.now < 2 ^ 63
-  pub moments : All (λ e. e.moment < never) c.running
+-- Each timer of a clock falls due at this moment at the latest.
+abbrev pub FallsUntil : ℕ → Clock → Type 0
+FallsUntil latest c = All (λ e. e.moment ≤ latest) c.running
 
 -- The image of whatever value stood at the front is passed.
 abbrev pub Passes : {A : Type 0} → (A → List ℕ) → (A → Type 0) → List ℕ → List ℕ → Type 0

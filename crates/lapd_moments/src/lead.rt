@@ -105,12 +105,11 @@ pub(crate) fn lead_after(
                 },
             );
         }
-        let others = lead.others.min(moment);
         return (
             bound,
             Lead {
                 place: lead.place,
-                others,
+                others: lead.others.min(moment),
                 used,
             },
         );
@@ -126,11 +125,10 @@ pub(crate) fn lead_after(
         );
     }
     let (first, others) = earliest(&places[begin..begin + used]);
-    let place = begin + first;
     (
-        places[place].moment,
+        places[begin + first].moment,
         Lead {
-            place,
+            place: begin + first,
             others,
             used,
         },

@@ -1,10 +1,12 @@
 //! The moments of timers in an image.
 
-ghost use Rattle.std.specs.Prelude.{◌<◌, ◌≤◌, length, OnOk, OnErr};
+ghost use Rattle.std.specs.Prelude.{◌≡◌, ◌<◌, ◌≤◌, length, OnOk, OnErr};
+ghost use Rattle.lapd_clock.specs.Firsts.{never};
 ghost use Rattle.lapd_image.specs.Numbers.{number};
 ghost use Rattle.lapd_image.specs.Puts.{Puts};
 ghost use Rattle.lapd_image.specs.Reads.{HasNone};
-ghost use Rattle.lapd_moments.specs.Image.{moment_at, IsMoment, IsStartedBy};
+ghost use Rattle.lapd_moments.specs.Image.{moment_at, IsStartedBy};
+ghost use Rattle.lapd_moments.specs.Places.{AreUntil};
 
 use crate::moments::Moments;
 use crate::place::NEVER;
@@ -26,23 +28,27 @@ impl Moments {
         put_number(out, at, 8, moment)
     }
 
-    /// Reads a moment, and starts the timer of a place with it.
+    /// Reads a moment, and starts the timer of a place with it. It may fall due at the latest moment that is told, and no later.
     ///
     /// # Errors
     ///
-    /// [`BadImage`] if no moment is at the front at which a timer may fall due. Then nothing has changed but the reader.
+    /// [`BadImage`] if no such moment is at the front. Then nothing has changed but the reader.
     pub fn restore(
         &mut self,
         place: usize,
         timer: Timer,
+        latest: u64,
         reader: &mut Reader<'_>,
     ) -> Result<(), BadImage>
         requires place { place < length self.old }
+        requires some_time { latest < never }
         ensures read { OnOk result (IsStartedBy place timer reader.old reader.new self.old self.new) }
-        ensures none { OnErr result (HasNone (number 8) IsMoment reader.old) }
+        ensures until { OnOk result (AreUntil latest self.old → AreUntil latest self.new) }
+        ensures none { OnErr result (HasNone (number 8) (λ moment. moment ≤ latest) reader.old) }
+        ensures unchanged { OnErr result (self.new ≡ self.old) }
     {
         let moment = reader.number(8)?;
-        if moment == NEVER {
+        if moment > latest {
             return Err(BadImage);
         }
         self.start(place, timer, moment);

@@ -1,10 +1,10 @@
 -- What the calls of a card's timers come to.
 use Rattle.std.proofs.Common.{arith, ◌≡◌, ℕ, zero, suc, ◌+◌, ◌*◌, ◌<◌, ◌≤◌, Bool, cond, List, [], ◌∷◌, length, set, take, get_or, Option, refl, sym, ap, ◌∙◌, subst}
 use Rattle.std.specs.List.{AllByRecursion}
-use Rattle.std.proofs.lemmas.List.Elements.{All-from_recursion, recursion_from_All}
+use Rattle.std.proofs.lemmas.List.Elements.{All-from_recursion, All-nil, recursion_from_All}
 use Rattle.std.specs.Prelude.{filter}
 use Rattle.lapd_clock.specs.Firsts.{never}
-use Rattle.lapd_clock.specs.Timer.{Timer, Lengths, Order}
+use Rattle.lapd_clock.specs.Timer.{Timer, Lengths, Order, AreInRange}
 use Rattle.lapd_clock.specs.Timers as clocks
 use Rattle.lapd_clock.specs.Timers.{Expiry}
 use Rattle.lapd_clock.specs.Places.{in_order}
@@ -21,6 +21,7 @@ use Rattle.model_timed.specs.RunTheSame.{as_they_are}
 use Rattle.model_timed.proofs.Running.{run-fresh}
 use Rattle.lapd_timed.specs.Places.{AreOnLines}
 use Rattle.lapd_timed.specs.Stands.{IsOn, HeldTimers, AreKept}
+use Rattle.lapd_timed.proofs.WithinHour.{hour-later, hour-lengths}
 
 -- where no timer runs, none is in the set
 none-run : (es : List Expiry) → AllByRecursion (λ e. e.moment ≡ never) es → filter is_running es ≡ []
@@ -32,9 +33,9 @@ unfolding in_order
 none-in es all = sym (ap in_order (none-run es all))
 
 -- A start.
-pub started : (lines terminals : ℕ) (lengths : Lengths) (es : List Expiry) → AreIdle lines (4 * terminals + 2) es → (c : Config) → c.lines ≡ lines → c.terminals ≡ terminals → IsInRange c
+pub started : (lines terminals : ℕ) (lengths : Lengths) (es : List Expiry) → AreInRange lengths → AreIdle lines (4 * terminals + 2) es → (c : Config) → c.lines ≡ lines → c.terminals ≡ terminals → IsInRange c
     → AreKept as_they_are (record { lines = lines; terminals = terminals; lengths = lengths; now = 0; moments = es }) (cards.fresh c) (stopped lengths)
-started lines terminals lengths es idle c lines_are terminals_are ranged = record {
+started lines terminals lengths es range idle c lines_are terminals_are ranged = record {
   reached = reached-fresh c ranged;
   clock_is = record {
     lines = lines_are;
@@ -43,6 +44,7 @@ started lines terminals lengths es idle c lines_are terminals_are ranged = recor
     lengths = refl;
     running = none-in es idle.rest;
     places = idle_holds terminals lines (IsOn (cards.fresh c)) es idle;
+    within_hour = record { lengths = range; moments = All-nil (λ (e : Expiry). e.moment ≤ 3600000) };
   };
   same = run-fresh c lengths;
 }
@@ -112,8 +114,8 @@ pub stopped-length : (es new : List Expiry) (i : ℕ) → new ≡ without_timer 
 stopped-length es new i is = ap length is ∙ length-set es i (record (at i es) { moment = never })
 
 -- The moment, and the lengths.
-pub gone-to : (h : HeldTimers) (moment : ℕ) (m : Card) (c : Clock) → AreKept as_they_are h m c → AreKept as_they_are (record h { now = moment }) m (at_moment moment c)
-gone-to h moment m c k = record {
+pub gone-to : (h : HeldTimers) (moment : ℕ) (m : Card) (c : Clock) → h.now ≤ moment → AreKept as_they_are h m c → AreKept as_they_are (record h { now = moment }) m (at_moment moment c)
+gone-to h moment m c later k = record {
   reached = k.reached;
   clock_is = record {
     lines = k.clock_is.lines;
@@ -122,12 +124,13 @@ gone-to h moment m c k = record {
     lengths = k.clock_is.lengths;
     running = k.clock_is.running;
     places = k.clock_is.places;
+    within_hour = hour-later moment c (omega (arith, k.clock_is.now, later)) k.clock_is.within_hour;
   };
   same = k.same;
 }
 
-pub with-lengths : (h : HeldTimers) (lengths : Lengths) (m : Card) (c : Clock) → AreKept as_they_are h m c → AreKept as_they_are (record h { lengths = lengths }) m (with_lengths lengths c)
-with-lengths h lengths m c k = record {
+pub with-lengths : (h : HeldTimers) (lengths : Lengths) (m : Card) (c : Clock) → AreInRange lengths → AreKept as_they_are h m c → AreKept as_they_are (record h { lengths = lengths }) m (with_lengths lengths c)
+with-lengths h lengths m c range k = record {
   reached = k.reached;
   clock_is = record {
     lines = k.clock_is.lines;
@@ -136,6 +139,7 @@ with-lengths h lengths m c k = record {
     lengths = refl;
     running = k.clock_is.running;
     places = k.clock_is.places;
+    within_hour = hour-lengths lengths c range k.clock_is.within_hour;
   };
   same = k.same;
 }

@@ -29,6 +29,7 @@ use Rattle.model_timed.specs.Clock.{Clock, obey}
 use Rattle.model_timed.proofs.Running.{stays-in-place}
 use Rattle.lapd_timed.specs.Places.{own_place, link_on, number_at, slot_at, IsOwnOrFound}
 use Rattle.lapd_timed.specs.Stands.{IsOn, IsOnAmid, HeldTimers, AreAt}
+use Rattle.lapd_timed.proofs.WithinHour.{hour-obeyed}
 
 -- An event at a line of a card: before it and after it no TEI is at two places of a line, and no two are at one.
 same-tei : (a b : ℕ) → Some a ≡ Some b → a ≡ b
@@ -154,6 +155,7 @@ module _ (m : Card) (e : Event) (reached : IsReached m) (here : e.line < m.confi
             ∙ ap (λ rs. with_expiry (record { moment = moment; line = line; timer = timer }) (without line timer rs)) amid.running
             ∙ started_in_place h.moments i line timer moment o.its soon ∙ ap timers_in (sym new);
         places = subst (Holds h.lines (2 * h.terminals) slot line_slot (IsOnAmid e m)) (sym new) (o.holds moment);
+        within_hour = hour-obeyed line (Start timer) c amid.within_hour;
       }
 
   pub carried-start : (line : ℕ) → line < h.lines → (timer : Timer) (i moment : ℕ) (es : List Expiry) → own_place h.terminals line timer (line_at line (after e m)) ≡ Some i
@@ -179,6 +181,7 @@ module _ (m : Card) (e : Event) (reached : IsReached m) (here : e.line < m.confi
             ∙ started_in_place h.moments again.place line timer moment its soon ∙ ap timers_in (sym again.is);
         places = subst (Holds h.lines (2 * h.terminals) slot line_slot (IsOnAmid e m)) (sym again.is)
             (holds_restarted h.lines (2 * h.terminals) slot line_slot (IsOnAmid e m) h.moments amid.places again.place line timer moment again.runs);
+        within_hour = hour-obeyed line (Start timer) c amid.within_hour;
       }
 
   -- and one that is stopped is stopped where it runs
@@ -192,6 +195,7 @@ module _ (m : Card) (e : Event) (reached : IsReached m) (here : e.line < m.confi
     running = ap (without line timer) amid.running ∙ stopped_in_place h.moments i line timer its ∙ ap timers_in (sym new);
     places = subst (Holds h.lines (2 * h.terminals) slot line_slot (IsOnAmid e m)) (sym new)
         (holds_stopped h.lines (2 * h.terminals) slot line_slot (IsOnAmid e m) h.moments amid.places i its.within);
+    within_hour = hour-obeyed line (Stop timer) c amid.within_hour;
   }
 
   pub carried-stop : (line : ℕ) → line < h.lines → (timer : Timer) (i : ℕ) (es : List Expiry)
@@ -217,6 +221,7 @@ module _ (m : Card) (e : Event) (reached : IsReached m) (here : e.line < m.confi
         lengths = amid.lengths;
         running = ap (without line timer) amid.running ∙ stopped_nowhere h.moments line timer nowhere;
         places = amid.places;
+        within_hour = hour-obeyed line (Stop timer) c amid.within_hour;
       }
 
 -- T200 and T203 of a link take turns, in the places that they have beside each other.

@@ -1,11 +1,11 @@
 -- Moments are read into their places; and states are noted.
-use Rattle.std.proofs.Common.{arith, ◌≡◌, ℕ, zero, suc, ◌*◌, ◌<◌, cond, ◌==◌, true, false, List, [], ◌∷◌, ◌++◌, length, set, take, refl, sym, ap, ◌∙◌, append_assoc, append-nil, length-append, length-take, subst}
+use Rattle.std.proofs.Common.{arith, ◌≡◌, ℕ, zero, suc, ◌*◌, ◌^◌, ◌<◌, ◌≤◌, cond, ◌==◌, true, false, List, [], ◌∷◌, ◌++◌, length, set, take, refl, sym, ap, ◌∙◌, append_assoc, append-nil, length-append, length-take, subst}
 use Rattle.std.proofs.lemmas.Grind.{flat_map-append}
 use Rattle.std.specs.Prelude.{All}
 use Rattle.std.proofs.lemmas.List.Elements.{All-cons, All-head, All-nil, All-tail}
 use Rattle.std.proofs.lemmas.Bool.Decides.{nat_tests}
 use Rattle.lapd_image.specs.Numbers.{number}
-use Rattle.lapd_image.proofs.Reading.{length-number}
+use Rattle.lapd_image.proofs.Reading.{front-read, length-number, number-read}
 use Rattle.model_image.specs.Images.{changes}
 use Rattle.model_timed.specs.Changes.{Mark, seen}
 
@@ -42,6 +42,18 @@ pub too-few : (ms front rest : List ℕ) (i : ℕ) → i < length ms → front �
 too-few ms front rest i h e short =
     let size = ap (λ (l : List ℕ). length l) e ∙ length-append (changes (take i ms)) rest in
     omega (arith, size, length-changes (take i ms), length-take i ms, h, short)
+
+-- no moments that are past, where one is not
+pub late-none : (now m : ℕ) (xs ys new rest : List ℕ) → length xs < length ys → m < 256 ^ 8 → now < m → All (λ (k : ℕ). k ≤ now) ys → changes xs ++ (number 8 m ++ new) ≡ changes ys ++ rest → ⊥
+late-none now m xs [] new rest short small late past e = absurd (omega (arith, short))
+late-none now m [] (y ∷ ys) new rest short small late past e =
+    let own : y ≤ now = All-head (λ (k : ℕ). k ≤ now) y ys past in
+    let same = number-read 8 m y new (changes ys ++ rest) small (omega (arith, own, late, small)) (e ∙ append_assoc (number 8 y) (changes ys) rest) in
+    absurd (omega (arith, same.0, own, late))
+late-none now m (x ∷ xs) (y ∷ ys) new rest short small late past e =
+    late-none now m xs ys new rest (omega (arith, short)) small late (All-tail (λ (k : ℕ). k ≤ now) y ys past)
+    (front-read (number 8 x) (number 8 y) (changes xs ++ (number 8 m ++ new)) (changes ys ++ rest) (length-number 8 x ∙ sym (length-number 8 y))
+    (sym (append_assoc (number 8 x) (changes xs) (number 8 m ++ new)) ∙ e ∙ append_assoc (number 8 y) (changes ys) rest)).1
 
 -- a link that is seen in a state is in that one
 pub seen-state : (now state : ℕ) (m : Mark) → (seen now state m).state ≡ state

@@ -1,10 +1,10 @@
 -- What was read is a clock beside the card: each timer runs once, in the order in which they fall due.
-use Rattle.std.proofs.Common.{arith, ◌≡◌, ◌≢◌, ℕ, zero, suc, ◌+◌, ◌*◌, ◌^◌, ◌<◌, ◌++◌, true, false, cond, inl, inr, List, [], ◌∷◌, length, get_or, drop, take, refl, sym, ap, ◌∙◌, subst, length-drop, length-take, append_assoc}
+use Rattle.std.proofs.Common.{arith, ◌≡◌, ◌≢◌, ℕ, zero, suc, ◌+◌, ◌*◌, ◌^◌, ◌<◌, ◌≤◌, ◌++◌, true, false, cond, inl, inr, List, [], ◌∷◌, length, get_or, drop, take, refl, sym, ap, ◌∙◌, subst, length-drop, length-take, append_assoc}
 use Rattle.std.specs.Prelude.{All, filter, flat_map}
 use Rattle.std.specs.List.{AllByRecursion, range_with_len}
 use Rattle.std.proofs.Math.Nat.{suc-mul}
 use Rattle.std.proofs.lemmas.Bool.Decides.{nat_tests}
-use Rattle.std.proofs.lemmas.List.Elements.{All-cons, All-drop, All-nil, All-take}
+use Rattle.std.proofs.lemmas.List.Elements.{All-cons, All-drop, All-from_recursion, All-nil, All-take}
 use Rattle.lapd_clock.specs.Firsts.{never}
 use Rattle.lapd_clock.specs.Sound.{IsOneEach}
 use Rattle.lapd_clock.specs.Given.{lengths_of}
@@ -17,7 +17,7 @@ use Rattle.lapd_image.specs.Numbers.{number}
 use Rattle.lapd_image.specs.Reads.{IsReadAs}
 use Rattle.lapd_moments.specs.Image.{all_moments, line_moments}
 use Rattle.lapd_moments.specs.OfCard.{slot_of, line_slot_of, AreApart, Holds}
-use Rattle.lapd_moments.specs.Places.{at, is_running, timers_in, without_timer, AreIdle, RunsAt}
+use Rattle.lapd_moments.specs.Places.{at, is_running, nothing, timers_in, without_timer, AreIdle, AreUntil, RunsAt}
 use Rattle.lapd_moments.specs.Restored.{AreLinesRead, OnLine}
 use Rattle.lapd_moments.proofs.InPlace.{held_none, stopped_in_place}
 use Rattle.lapd_moments.proofs.Laid.{idle_holds}
@@ -35,6 +35,7 @@ use Rattle.model_timed.specs.Clock.{Clock}
 use Rattle.model_timed.specs.RunTheSame.{RunAs, as_they_are}
 use Rattle.lapd_timed.specs.Image.{AreReadFrom, AreSaved}
 use Rattle.lapd_timed.specs.Marked.{slot_in}
+use Rattle.lapd_timed.specs.Stands.{FallsWithinHour}
 use Rattle.lapd_timed.specs.declared.card_timers.CardTimers.{CardTimers}
 use Rattle.lapd_timed.proofs.Spelled.{apart-on, get-dropped, get-taken, know, timers-spelled}
 
@@ -79,6 +80,9 @@ once-each (x ∷ xs) apart =
     soon-so e h = grind (arith, nat_tests)
 
 -- nothing runs at the start
+pub idle-until : (latest : ℕ) (es : List Expiry) → AllByRecursion (λ e. e.moment ≡ never) es → AreUntil latest es
+idle-until latest es rest = λ i d there runs. absurd (omega (arith, All-from_recursion (λ (e : Expiry). e.moment ≡ never) es rest i d there, runs))
+
 pub none-yet : (m : Card) (lines terminals : ℕ) (front : List ℕ) (es : List Expiry) → m.config.lines ≡ lines → m.config.terminals ≡ terminals → AreIdle lines (4 * terminals + 2) es → AreLinesRead m terminals 0 front front es
 none-yet m lines terminals front es lines_are terminals_are idle = record {
   places = record { terminals_are = terminals_are; holds = subst (λ n. Holds n (2 * terminals) (slot_of terminals) (line_slot_of terminals) (OnLine m) es) (sym lines_are) (idle_holds terminals lines (OnLine m) es idle) };
@@ -103,15 +107,15 @@ unfolding rows
 length-rows zero links ms = refl
 length-rows (suc n) links ms = ap suc (length-rows n links (drop links ms))
 
-pub rows-each : (P : List ℕ → Type 0) (n links : ℕ) (ms : List ℕ) → length ms ≡ n * links → All (λ (k : ℕ). k < 2 ^ 64) ms
-    → ((row : List ℕ) → length row ≡ links → All (λ (k : ℕ). k < 2 ^ 64) row → P row) → All P (rows n links ms)
+pub rows-each : (P : List ℕ → Type 0) (now n links : ℕ) (ms : List ℕ) → length ms ≡ n * links → All (λ (k : ℕ). k ≤ now) ms
+    → ((row : List ℕ) → length row ≡ links → All (λ (k : ℕ). k ≤ now) row → P row) → All P (rows n links ms)
 unfolding rows
-rows-each P zero links ms size few one = All-nil P
-rows-each P (suc n) links ms size few one =
+rows-each P now zero links ms size past one = All-nil P
+rows-each P now (suc n) links ms size past one =
     let long = suc-mul n links in
     All-cons P (take links ms) (rows n links (drop links ms))
-    (one (take links ms) (omega (arith, size, long, length-take links ms)) (All-take (λ (k : ℕ). k < 2 ^ 64) links ms few))
-    (rows-each P n links (drop links ms) (omega (arith, size, long, length-drop links ms)) (All-drop (λ (k : ℕ). k < 2 ^ 64) links ms few) one)
+    (one (take links ms) (omega (arith, size, long, length-take links ms)) (All-take (λ (k : ℕ). k ≤ now) links ms past))
+    (rows-each P now n links (drop links ms) (omega (arith, size, long, length-drop links ms)) (All-drop (λ (k : ℕ). k ≤ now) links ms past) one)
 
 pub rows-get : (n links : ℕ) (ms : List ℕ) (line k : ℕ) → line < n → k < links → get_or (get_or (rows n links ms) line []) k 0 ≡ get_or ms (line * links + k) 0
 unfolding rows
@@ -134,7 +138,8 @@ four-parts a b c d rest =
 
 module _ (t : CardTimers) (m : Card) (reached : IsReached m) (lines_are : m.config.lines ≡ t.lines) (terminals_are : m.config.terminals ≡ t.terminals) (front a b mid rest : List ℕ)
     (one : IsReadAs lengths AreInRange (lengths_of t.lengths) front a) (two : IsReadAs (number 8) (λ (n : ℕ). n < 2 ^ 63) t.moment a b)
-    (read : AreLinesRead m t.terminals m.config.lines b mid t.moments) (then : mid ≡ changes t.changes.moments ++ rest) (few : All (λ (k : ℕ). k < 2 ^ 64) t.changes.moments)
+    (read : AreLinesRead m t.terminals m.config.lines b mid t.moments) (until : AreUntil (t.moment + 3600000) t.moments)
+    (then : mid ≡ changes t.changes.moments ++ rest) (past : All (λ (k : ℕ). k ≤ t.moment) t.changes.moments)
     (links : t.changes.links ≡ 2 * t.terminals) (size : length t.changes.moments ≡ t.lines * (2 * t.terminals)) (as_many : length t.changes.states ≡ t.lines * (2 * t.terminals))
     (noted : (line k : ℕ) → line < t.lines → k < 2 * t.terminals → get_or t.changes.states (slot_in t.changes line k) 0 ≡ standing k (line_at line m)) where
   abbrev its_clock : Clock
@@ -153,11 +158,20 @@ module _ (t : CardTimers) (m : Card) (reached : IsReached m) (lines_are : m.conf
   link-count : link_count m.config ≡ 2 * t.terminals
   link-count = ap (λ n. 2 * n) terminals_are
 
+  running-so : (P : Expiry → Type 0) → ((j : ℕ) → j < length t.moments → (at j t.moments).moment < never → P (at j t.moments)) → AllByRecursion P (timers_in t.moments)
+  running-so P each = All-in_order P (filter is_running t.moments) (each-running P t.moments each)
+
+  within-hour : FallsWithinHour its_clock
+  within-hour = record {
+    lengths = one.saved;
+    moments = from-recursion (λ e. e.moment ≤ t.moment + 3600000) (timers_in t.moments) (running-so (λ e. e.moment ≤ t.moment + 3600000) (λ j h soon. until j nothing h soon));
+  }
+
   saved : AreSaved t m its_clock its_rows
   saved = record {
     stand = record {
       reached = reached;
-      clock_is = record { lines = lines_are; terminals = terminals_are; now = refl; lengths = refl; running = refl; places = holds };
+      clock_is = record { lines = lines_are; terminals = terminals_are; now = refl; lengths = refl; running = refl; places = holds; within_hour = within-hour };
       same = run;
     };
     noted = record {
@@ -174,12 +188,9 @@ module _ (t : CardTimers) (m : Card) (reached : IsReached m) (lines_are : m.conf
     };
     rows = record {
       lines = length-rows t.lines (2 * t.terminals) t.changes.moments ∙ sym lines_are;
-      links = rows-each (λ row. length row ≡ link_count m.config) t.lines (2 * t.terminals) t.changes.moments size few (λ row own small. own ∙ sym link-count);
+      links = rows-each (λ row. length row ≡ link_count m.config) t.moment t.lines (2 * t.terminals) t.changes.moments size past (λ row own small. own ∙ sym link-count);
     };
   }
-
-  running-so : (P : Expiry → Type 0) → ((j : ℕ) → j < length t.moments → (at j t.moments).moment < never → P (at j t.moments)) → AllByRecursion P (timers_in t.moments)
-  running-so P each = All-in_order P (filter is_running t.moments) (each-running P t.moments each)
 
   pub read-from : ((j : ℕ) → j < length t.moments → (at j t.moments).line < t.lines) → AreReadFrom m t front rest
   read-from on_lines = record {
@@ -188,17 +199,16 @@ module _ (t : CardTimers) (m : Card) (reached : IsReached m) (lines_are : m.conf
     saved = record {
       clock = record {
         lengths = one.saved;
-        now = let small : t.moment < 2 ^ 63 = two.saved in omega (arith, small);
-        moments = from-recursion (λ e. e.moment < 2 ^ 64) (timers_in t.moments) (running-so (λ e. e.moment < 2 ^ 64) (λ j h soon. omega (arith, soon)));
+        now = two.saved;
+        moments = within-hour.moments;
         in_order = IsInOrder-in_order (filter is_running t.moments);
         one_each = once-each t.moments (no-two m t.lines t.terminals t.moments holds (apart-on m t.lines reached lines_are));
         on_lines = running-so (λ e. e.line < m.config.lines) (λ j h soon. subst (λ n. (at j t.moments).line < n) (sym lines_are) (on_lines j h));
         running = run;
       };
-      time = record { now = two.saved; moments = from-recursion (λ e. e.moment < never) (timers_in t.moments) (running-so (λ e. e.moment < never) (λ j h soon. soon)) };
       rows = (
         length-rows t.lines (2 * t.terminals) t.changes.moments ∙ sym lines_are,
-        rows-each (AreMoments m.config) t.lines (2 * t.terminals) t.changes.moments size few (λ row own small. record { each = own ∙ sym link-count; few = small }),
+        rows-each (AreMoments m.config t.moment) t.moment t.lines (2 * t.terminals) t.changes.moments size past (λ row own small. record { each = own ∙ sym link-count; past = small }),
       );
     };
     octets =

@@ -19,6 +19,7 @@ use Rattle.model_timed.proofs.Running.{taken-left}
 use Rattle.lapd_timed.specs.Places.{named_by}
 use Rattle.lapd_timed.specs.Stands.{IsOn, HeldTimers, AreKept}
 use Rattle.lapd_timed.proofs.Carrying.{apart-now}
+use Rattle.lapd_timed.proofs.WithinHour.{hour-first}
 
 -- which timer is due, by the words of both
 pub due-is : (es : List Expiry) (now : ℕ) → clocks.first_due es now ≡ option_map named_by (first_due es now)
@@ -64,6 +65,7 @@ module _ (card : Card) (h : HeldTimers) (c : Clock) (kept : AreKept as_they_are 
       running = ap (drop 1) running-is;
       places = subst (Holds h.lines (2 * h.terminals) (slot_of h.terminals) (line_slot_of h.terminals) (IsOn card)) (sym taken.is)
           (holds_stopped h.lines (2 * h.terminals) (slot_of h.terminals) (line_slot_of h.terminals) (IsOn card) h.moments kept.clock_is.places taken.place taken.first.within);
+      within_hour = hour-first c kept.clock_is.within_hour;
     };
     same = taken-left card c x (timers_in new) running-is
         (subst (λ es. AllByRecursion (λ e. is_of x.line x.timer e ≡ false) (timers_in es)) (sym taken.is) its.only) kept.same;

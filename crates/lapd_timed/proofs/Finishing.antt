@@ -67,6 +67,7 @@ module _ (m : Card) (e : Event) (here : e.line < m.config.lines) (h : HeldTimers
     running = kept.clock_is.running;
     places = holds_moved h.lines (2 * h.terminals) (slot_of h.terminals) (line_slot_of h.terminals) (IsOn m) h.moments kept.clock_is.places (IsOnAmid e m)
         (λ line number tei k there within soon line_is timer_is on. inl on);
+    within_hour = kept.clock_is.within_hour;
   }
 
   -- the same timers run then at the clock and at the lines
@@ -98,6 +99,7 @@ module _ (m : Card) (e : Event) (here : e.line < m.config.lines) (h : HeldTimers
         lengths = amid.lengths;
         running = amid.running;
         places = holds_moved new.lines (2 * new.terminals) (slot_of new.terminals) (line_slot_of new.terminals) (IsOnAmid e m) new.moments amid.places (IsOn (after e m)) stays;
+        within_hour = amid.within_hour;
       };
       same = run-then;
     }

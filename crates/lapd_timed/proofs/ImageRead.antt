@@ -177,6 +177,5 @@ module _ (a b : Card) (sound : IsSound a) (alike : AreAlike a b) where
               let here : n < a.config.lines = subst (λ (x : Config). n < x.lines) (sym alike.config) h in
               of.running n timer here ∙ running-same a.config (line_at n a) (line_at n b) (places n here) (at_number n here) timer;
         };
-        time = may.time;
         rows = subst (λ (x : Config). AreChanges x (Some c) changed) alike.config may.rows;
       }

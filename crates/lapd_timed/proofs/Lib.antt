@@ -1,7 +1,8 @@
 -- Lemmas: orders that are carried out in places (Carrying), what stands when all are (Finishing), what falls due (Falling), and what the
--- calls come to (Calls, Carried), of the timers; of a card with them what an event comes to (Events), and a step (Steps).
+-- calls come to (Calls, Carried), of the timers; that each falls due within an hour (WithinHour); of a card with them what an event comes to (Events), and a step (Steps).
 -- Of an image: what is written is that of a card (Spelled), and may be saved (MaySave); which links wait is read in WaitsRead, and timers
 -- in ChangesRead, LengthsRead, TimersRead and ClockRead; a card in ImageRead, and all of it in WholeRead.
+pub mod WithinHour
 pub mod Carrying
 pub mod Finishing
 pub mod Falling

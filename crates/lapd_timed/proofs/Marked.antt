@@ -1,7 +1,9 @@
 -- What is noted of the links of a card.
 use Rattle.std.proofs.Common.{arith, ◌≡◌, ◌≢◌, ℕ, zero, suc, ◌+◌, ◌*◌, ◌<◌, ◌≤◌, ◌==◌, ◌⊎◌, inl, inr, Bool, true, false, cond, List, [], ◌∷◌, length, get_or, set, refl, sym, ap, ◌∙◌, subst}
+use Rattle.std.specs.Prelude.{All}
 use Rattle.std.proofs.lemmas.Bool.{cases_eq, cases_lt}
 use Rattle.std.proofs.lemmas.List.{get_or-set_other, get_or-set_same}
+use Rattle.std.proofs.lemmas.List.Elements.{All-set}
 use Rattle.std.proofs.Math.Nat.{mul-le-mul_right, suc-mul}
 use Rattle.model_card.specs.Card.{Card, line_at}
 use Rattle.model_timed.specs.Changes.{Mark, Marks, standing, seen, noted}
@@ -37,6 +39,10 @@ length-set [] j x = refl
 length-set (y ∷ ys) zero x = refl
 length-set (y ∷ ys) (suc j) x = ap suc (length-set ys j x)
 
+-- what is past stays so
+pub past-later : (now later : ℕ) (moments : List ℕ) → now ≤ later → All (λ moment. moment ≤ now) moments → All (λ moment. moment ≤ later) moments
+past-later now later moments on past = λ i d there. omega (arith, on, past i d there)
+
 -- one link is noted
 module _ (i state now : ℕ) (h : HeldMarks) where
   abbrev by : Bool → HeldMarks
@@ -62,6 +68,14 @@ module _ (i state now : ℕ) (h : HeldMarks) where
       go : (b : Bool) → length (by b).moments ≡ length h.moments
       go true = refl
       go false = length-set h.moments i now
+
+  -- no moment is later than one that is not before now
+  pub past-stay : (latest : ℕ) → now ≤ latest → All (λ moment. moment ≤ latest) h.moments → All (λ moment. moment ≤ latest) (marked_at i state now h).moments
+  past-stay latest later all = go (get_or h.states i 0 == state)
+    where
+      go : (b : Bool) → All (λ moment. moment ≤ latest) (by b).moments
+      go true = all
+      go false = All-set (λ moment. moment ≤ latest) h.moments i now later all
 
   -- a mark, by its slot
   abbrev mark_of : HeldMarks → ℕ → Mark

@@ -1,5 +1,5 @@
 -- The moment of one timer is read, or none runs.
-use Rattle.std.proofs.Common.{arith, lit<, ◌≡◌, ℕ, ◌^◌, ◌*◌, ◌<◌, Bool, true, false, cond, List, [], ◌∷◌, ◌++◌, append-nil, sym, ap, ◌∙◌, Some}
+use Rattle.std.proofs.Common.{arith, lit<, ◌≡◌, ℕ, ◌^◌, ◌*◌, ◌<◌, ◌≤◌, Bool, true, false, cond, List, [], ◌∷◌, ◌++◌, append-nil, sym, ap, ◌∙◌, Some}
 use Rattle.std.specs.Option.{unwrap_or}
 use Rattle.std.specs.List.{range_with_len}
 use Rattle.std.specs.Prelude.{All, flat_map, is_some}
@@ -12,20 +12,20 @@ use Rattle.lapd_clock.specs.Timers.{Expiry, is_of}
 use Rattle.lapd_image.specs.Numbers.{number}
 use Rattle.lapd_image.specs.Reads.{HasNone}
 use Rattle.lapd_image.proofs.Reading.{number-read}
-use Rattle.lapd_moments.specs.Image.{IsMoment, IsStartedBy}
-use Rattle.lapd_moments.specs.Restored.{line_part, links_part, own_part, IsInTime, Passes}
+use Rattle.lapd_moments.specs.Image.{IsStartedBy}
+use Rattle.lapd_moments.specs.Restored.{line_part, links_part, own_part, FallsUntil, Passes}
 use Rattle.lapd_moments.proofs.InImage.{flat-flat}
 use Rattle.model_card.specs.Card.{Card, line_at}
 use Rattle.model_image.specs.Clocks.{moment, timer_numbered}
 use Rattle.model_timed.specs.Clock.{Clock}
 
--- what a clock has of any timer is a moment
-soon : (line : ℕ) (timer : Timer) (es : List Expiry) → All (λ e. e.moment < never) es → unwrap_or (moment_of line timer es) 0 < never
-soon line timer [] all = lit< tt
-soon line timer (e ∷ es) all = go (is_of line timer e) (soon line timer es (All-tail (λ (x : Expiry). x.moment < never) e es all))
+-- what a clock has of any timer is a moment in time
+soon : (latest line : ℕ) (timer : Timer) (es : List Expiry) → All (λ e. e.moment ≤ latest) es → unwrap_or (moment_of line timer es) 0 ≤ latest
+soon latest line timer [] all = omega arith
+soon latest line timer (e ∷ es) all = go (is_of line timer e) (soon latest line timer es (All-tail (λ (x : Expiry). x.moment ≤ latest) e es all))
   where
-    go : (b : Bool) → unwrap_or (moment_of line timer es) 0 < never → unwrap_or (cond b (Some e.moment) (moment_of line timer es)) 0 < never
-    go true rest = All-head (λ (x : Expiry). x.moment < never) e es all
+    go : (b : Bool) → unwrap_or (moment_of line timer es) 0 ≤ latest → unwrap_or (cond b (Some e.moment) (moment_of line timer es)) 0 ≤ latest
+    go true rest = All-head (λ (x : Expiry). x.moment ≤ latest) e es all
     go false rest = rest
 
 -- What an image has of these timers of a line.
@@ -35,21 +35,21 @@ part line ts c = flat_map (moment c line) ts
 one-part : (line : ℕ) (timer : Timer) (ts : List Timer) (c : Clock) → timer ∷ [] ≡ ts → part line ts c ≡ number 8 (unwrap_or (moment_of line timer c.running) 0)
 one-part line timer ts c is = ap (λ xs. flat_map (moment c line) xs) (sym is) ∙ append-nil (moment c line timer)
 
-pub passes-none : (line : ℕ) (ts : List Timer) (old : List ℕ) → [] ≡ ts → Passes (part line ts) IsInTime old old
-passes-none line ts old none c rest fits e = e ∙ ap (λ xs. flat_map (moment c line) xs ++ rest) (sym none)
+pub passes-none : {latest : ℕ} (line : ℕ) (ts : List Timer) (old : List ℕ) → [] ≡ ts → Passes (part line ts) (FallsUntil latest) old old
+passes-none {latest} line ts old none c rest fits e = e ∙ ap (λ xs. flat_map (moment c line) xs ++ rest) (sym none)
 
-pub passes-one : (line place : ℕ) (timer : Timer) (ts : List Timer) (old new : List ℕ) (es after : List Expiry) → timer ∷ [] ≡ ts → IsStartedBy place timer old new es after
-    → Passes (part line ts) IsInTime old new
-passes-one line place timer ts old new es after is started c rest fits e =
+pub passes-one : {latest : ℕ} → latest < never → (line place : ℕ) (timer : Timer) (ts : List Timer) (old new : List ℕ) (es after : List Expiry) → timer ∷ [] ≡ ts → IsStartedBy place timer old new es after
+    → Passes (part line ts) (FallsUntil latest) old new
+passes-one {latest} some line place timer ts old new es after is started c rest fits e =
     let most : never < 256 ^ 8 = lit< tt in
-    let small = soon line timer c.running fits.moments in
+    let small = soon latest line timer c.running fits in
     let read = started.read.saved in
-    (number-read 8 started.moment (unwrap_or (moment_of line timer c.running) 0) new rest (omega (arith, read, most)) (omega (arith, small, most))
+    (number-read 8 started.moment (unwrap_or (moment_of line timer c.running) 0) new rest (omega (arith, read, most)) (omega (arith, small, some, most))
     (sym started.read.octets ∙ e ∙ ap (λ octets. octets ++ rest) (one-part line timer ts c is))).1
 
-pub none-one : (line : ℕ) (timer : Timer) (ts : List Timer) (old : List ℕ) → timer ∷ [] ≡ ts → HasNone (number 8) IsMoment old → HasNone (part line ts) IsInTime old
-none-one line timer ts old is none c rest fits e =
-    none (unwrap_or (moment_of line timer c.running) 0) rest (soon line timer c.running fits.moments) (e ∙ ap (λ octets. octets ++ rest) (one-part line timer ts c is))
+pub none-one : {latest : ℕ} (line : ℕ) (timer : Timer) (ts : List Timer) (old : List ℕ) → timer ∷ [] ≡ ts → HasNone (number 8) (λ moment. moment ≤ latest) old → HasNone (part line ts) (FallsUntil latest) old
+none-one {latest} line timer ts old is none c rest fits e =
+    none (unwrap_or (moment_of line timer c.running) 0) rest (soon latest line timer c.running fits) (e ∙ ap (λ octets. octets ++ rest) (one-part line timer ts c is))
 
 -- those of a line: of its links, and its own
 pub line-parts : (m : Card) (line terminals : ℕ) → m.config.terminals ≡ terminals → (c : Clock) → line_part m line c ≡ links_part m line (2 * terminals) c ++ own_part m line c

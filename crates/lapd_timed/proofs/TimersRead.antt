@@ -1,24 +1,26 @@
 -- No timers are at the front, part by part.
-use Rattle.std.proofs.Common.{arith, ◌≡◌, ℕ, ◌+◌, ◌*◌, ◌^◌, ◌<◌, List, [], ◌∷◌, ◌++◌, length, refl, sym, ap, ◌∙◌, append_assoc, length-append, Some}
+use Rattle.std.proofs.Common.{arith, ◌≡◌, ℕ, ◌+◌, ◌*◌, ◌^◌, ◌<◌, ◌≤◌, List, [], ◌∷◌, ◌++◌, length, refl, sym, subst, ap, ◌∙◌, append_assoc, length-append, Some}
 use Rattle.std.specs.Result.{IsErrAnd}
 use Rattle.std.specs.Prelude.{All, IfErr, Ok, Err, Result, flat_map}
 use Rattle.std.proofs.Math.Nat.{suc-mul}
-use Rattle.std.proofs.lemmas.List.Elements.{All-head, All-tail}
+use Rattle.std.proofs.lemmas.List.Elements.{All-append, All-head, All-nil, All-tail}
 use Rattle.std.specs.List.{range_with_len}
 use Rattle.std.specs.Option.{unwrap_or}
 use Rattle.lapd_clock.specs.Moments.{moment_of}
 use Rattle.lapd_clock.specs.Timer.{Lengths, AreInRange}
 use Rattle.lapd_image.specs.Numbers.{number}
 use Rattle.lapd_image.specs.Reads.{HasNone, IsReadAs}
-use Rattle.lapd_image.proofs.Reading.{front-read, length-each, length-number, too_few}
-use Rattle.lapd_moments.specs.Restored.{lines_part, IsInTime, Passes}
+use Rattle.lapd_image.proofs.Reading.{front-read, length-each, length-number, number-read}
+use Rattle.lapd_moments.specs.Restored.{lines_part, FallsUntil, Passes}
+use Rattle.lapd_moments.proofs.InImage.{flat-flat}
 use Rattle.model_card.specs.Card.{Card, line_at}
 use Rattle.model_image.specs.Clocks.{lengths, moment, moments, moments_at, timers}
 use Rattle.model_image.specs.Images.{changes}
-use Rattle.model_image.specs.Sound.{AreChanges, AreMoments}
+use Rattle.model_image.specs.Sound.{AreChanges, AreMoments, IsClockOf}
 use Rattle.model_line.specs.Line.{link_count}
 use Rattle.model_timed.specs.Clock.{Clock}
 use Rattle.lapd_timed.specs.Image.{timers_part, HasNoTimers}
+use Rattle.lapd_timed.specs.Marked.{ArePast}
 use Rattle.lapd_timed.proofs.ChangesRead.{length-changes}
 use Rattle.lapd_timed.proofs.LengthsRead.{sixteen}
 
@@ -49,6 +51,14 @@ length-rows links (row ∷ rows) each =
     let later = length-rows links rows (All-tail (λ r. length r ≡ links) row rows each) in
     omega (arith, both, length-changes row, own, later, suc-mul (length rows) links)
 
+-- all moments of some rows, one row after the other
+abbrev concat : List (List ℕ) → List ℕ
+concat rows = flat_map (λ row. row) rows
+
+all-joined : (P : ℕ → Type 0) (rows : List (List ℕ)) → All (All P) rows → All P (concat rows)
+all-joined P [] all = All-nil P
+all-joined P (row ∷ rows) all = All-append P row (concat rows) (All-head (All P) row rows all) (all-joined P rows (All-tail (All P) row rows all))
+
 module _ (m : Card) (l : Lengths) (now : ℕ) (front after_lengths after_now : List ℕ)
     (one : IsReadAs lengths AreInRange l front after_lengths) (two : IsReadAs (number 8) (λ (n : ℕ). n < 2 ^ 63) now after_lengths after_now) where
   -- what follows the lengths, and the moment
@@ -60,20 +70,35 @@ module _ (m : Card) (l : Lengths) (now : ℕ) (front after_lengths after_now : L
   beyond-now c changed rest e =
       (front-read (number 8 now) (number 8 c.now) _ _ (length-number 8 now ∙ sym (length-number 8 c.now)) (sym two.octets ∙ beyond-lengths c changed rest e)).1
 
-  pub none-of-lines : HasNone (lines_part m m.config.lines) IsInTime after_now → HasNoTimers m front
-  none-of-lines none c changed rest may e = none c (flat_map changes changed ++ rest) may.time (beyond-now c changed rest e)
+  -- the moment is that of the clock, if one is there
+  same-now : (c : Clock) (changed : List (List ℕ)) (rest : List ℕ) → IsClockOf m c → front ≡ timers_part m c changed ++ rest → c.now ≡ now
+  same-now c changed rest of e =
+      let small : now < 2 ^ 63 = two.saved in
+      sym (number-read 8 now c.now _ _ (omega (arith, small)) (omega (arith, of.now)) (sym two.octets ∙ beyond-lengths c changed rest e)).0
 
-  pub none-of-changes : (after_lines : List ℕ) (count : ℕ) → Passes (lines_part m m.config.lines) IsInTime after_now after_lines → count ≡ m.config.lines * link_count m.config
-      → length after_lines < 8 * count → HasNoTimers m front
-  none-of-changes after_lines count passes is short c changed rest may e =
-      let here = passes c (flat_map changes changed ++ rest) may.time (beyond-now c changed rest e) in
+  in-time : (c : Clock) (changed : List (List ℕ)) (rest : List ℕ) → IsClockOf m c → front ≡ timers_part m c changed ++ rest → FallsUntil (now + 3600000) c
+  in-time c changed rest of e = subst (λ n. FallsUntil (n + 3600000) c) (same-now c changed rest of e) of.moments
+
+  pub none-of-lines : HasNone (lines_part m m.config.lines) (FallsUntil (now + 3600000)) after_now → HasNoTimers m front
+  none-of-lines none c changed rest may e = none c (flat_map changes changed ++ rest) (in-time c changed rest may.clock e) (beyond-now c changed rest e)
+
+  pub none-of-changes : (after_lines : List ℕ) (count : ℕ) → Passes (lines_part m m.config.lines) (FallsUntil (now + 3600000)) after_now after_lines → count ≡ m.config.lines * link_count m.config
+      → HasNone changes (ArePast count now) after_lines → HasNoTimers m front
+  none-of-changes after_lines count passes is none c changed rest may e =
+      let here = passes c (flat_map changes changed ++ rest) (in-time c changed rest may.clock e) (beyond-now c changed rest e) in
       let rows : All (λ row. length row ≡ link_count m.config) changed = λ k d h. (may.rows.1 k d h).each in
       let size = length-rows (link_count m.config) changed rows ∙ ap (λ n. 8 * (n * link_count m.config)) may.rows.0 in
-      too_few (flat_map changes changed) rest short (omega (arith, size, ap (λ n. 8 * n) is)) here
+      let joined : changes (concat changed) ≡ flat_map changes changed = flat-flat (number 8) (λ row. row) changed in
+      none (concat changed) rest
+      (record {
+        each = omega (arith, size, ap (λ n. 8 * n) is, ap (λ octets. length octets) joined, length-changes (concat changed));
+        past = all-joined (λ moment. moment ≤ now) changed (subst (λ n. All (λ row. All (λ moment. moment ≤ n) row) changed) (same-now c changed rest may.clock e) (λ k d h. (may.rows.1 k d h).past));
+      })
+      (here ∙ ap (λ octets. octets ++ rest) (sym joined))
 
 pub none-of-moment : (m : Card) (l : Lengths) (front after_lengths : List ℕ) → IsReadAs lengths AreInRange l front after_lengths → HasNone (number 8) (λ (n : ℕ). n < 2 ^ 63) after_lengths → HasNoTimers m front
 none-of-moment m l front after_lengths one none c changed rest may e =
-    none c.now (moments m c ++ (flat_map changes changed ++ rest)) may.time.now
+    none c.now (moments m c ++ (flat_map changes changed ++ rest)) may.clock.now
     ((front-read (lengths l) (lengths c.lengths) _ _ (sixteen l ∙ sym (sixteen c.lengths)) (sym one.octets ∙ e ∙ parts m c changed rest)).1)
 
 pub none-of-lengths : (m : Card) (front : List ℕ) → HasNone lengths AreInRange front → HasNoTimers m front
@@ -89,9 +114,9 @@ same-size m c d xs ys rows also =
     let of_line : (k : Clock) (n : ℕ) → length (moments_at m k n) ≡ length (timers m.config (line_at n m)) * 8 =
     λ k n. length-each (moment k n) 8 (λ t. length-number 8 (unwrap_or (moment_of n t k.running) 0)) (timers m.config (line_at n m)) in
     let lines : length (moments m c) ≡ length (moments m d) = same-lengths (moments_at m c) (moments_at m d) (λ n. of_line c n ∙ sym (of_line d n)) (range_with_len 0 m.config.lines) in
-    let of_rows : (zs : List (List ℕ)) → All (AreMoments m.config) zs → length (flat_map changes zs) ≡ 8 * (length zs * link_count m.config) =
-    λ zs all. length-rows (link_count m.config) zs (λ k d h. (all k d h).each) in
-    let changed : length (flat_map changes xs) ≡ length (flat_map changes ys) = of_rows xs rows.1 ∙ ap (λ n. 8 * (n * link_count m.config)) (rows.0 ∙ sym also.0) ∙ sym (of_rows ys also.1) in
+    let of_rows : (now : ℕ) (zs : List (List ℕ)) → All (AreMoments m.config now) zs → length (flat_map changes zs) ≡ 8 * (length zs * link_count m.config) =
+    λ now zs all. length-rows (link_count m.config) zs (λ k d h. (all k d h).each) in
+    let changed : length (flat_map changes xs) ≡ length (flat_map changes ys) = of_rows c.now xs rows.1 ∙ ap (λ n. 8 * (n * link_count m.config)) (rows.0 ∙ sym also.0) ∙ sym (of_rows d.now ys also.1) in
     let whole : (k : Clock) (zs : List (List ℕ)) → length (timers_part m k zs) ≡ 16 + (8 + length (moments m k)) + length (flat_map changes zs) = λ k zs.
     omega (
       arith,

@@ -9,7 +9,6 @@ use Rattle.lapd_card.specs.declared.kinds.AnyCard.{AnyCard}
 use Rattle.lapd_count.specs.Image.{counters}
 use Rattle.lapd_image.specs.Reads.{HasNone, IsReadAs}
 use Rattle.lapd_image.proofs.Reading.{front-read, heads, tails}
-use Rattle.lapd_moments.specs.Restored.{IsInTime}
 use Rattle.lapd_tei.proofs.ImageRead.{bits-read}
 use Rattle.model_card.specs.Card.{Card}
 use Rattle.model_card.specs.Sound.{IsSound}
@@ -21,7 +20,7 @@ use Rattle.model_image.specs.Lines.{line}
 use Rattle.model_image.specs.Images.{changes, image_of, marks, Saved}
 use Rattle.model_image.specs.Sound.{AreChanges, AreMarks, IsClockOf, IsSaved}
 use Rattle.model_timed.specs.Clock.{Clock}
-use Rattle.lapd_timed.specs.Image.{card_octets, head_of, is_kind_of_octets, lines_in, timers_part, AreTimersRead, AreWaitsRead, CanHold, HaveNoTimers, IsRestoredFrom, IsSavedCard, MayBeSaved, MayStandBeside}
+use Rattle.lapd_timed.specs.Image.{card_octets, head_of, is_kind_of_octets, lines_in, timers_part, AreTimersRead, AreWaitsRead, HaveNoTimers, IsRestoredFrom, IsSavedCard, MayBeSaved, MayStandBeside}
 use Rattle.lapd_timed.specs.declared.card_timers.CardTimers.{CardTimers}
 use Rattle.lapd_timed.proofs.ImageRead.{as-many, begun-frames, begun-kind, beside-alike, lines-read, marks-alike, marks-read, same-clock, AreAlike}
 use Rattle.lapd_timed.proofs.TimersRead.{same-size}
@@ -51,10 +50,10 @@ Ends m front (Some c) changed = MayStandBeside m c changed × (front ≡ timers_
 module _ (octets : List ℕ) where
   -- It is the image of none that may be saved.
   abbrev pub IsNone : Type 0
-  IsNone = (s : Saved) → IsSaved s → CanHold s.clock → image_of s ≡ octets → ⊥
+  IsNone = (s : Saved) → IsSaved s → image_of s ≡ octets → ⊥
 
   pub none-of-head : ((of_octets timed : Bool) (rest : List ℕ) → octets ≡ head_of of_octets timed ++ rest → ⊥) → IsNone
-  none-of-head none s may can e = none s.of_octets (is_some s.clock) _ (sym e ∙ parts s)
+  none-of-head none s may e = none s.of_octets (is_some s.clock) _ (sym e ∙ parts s)
 
   module _ (of_octets timed : Bool) (front : List ℕ) (head : octets ≡ head_of of_octets timed ++ front) where
     after-head : (s : Saved) → image_of s ≡ octets → (timed ≡ is_some s.clock) × (front ≡ card_octets (lines_in s) ++ (flat_map marks s.waits ++ behind s))
@@ -64,7 +63,7 @@ module _ (octets : List ℕ) where
         (heads (tails bits), tails left)
 
     pub none-of-card : HasNone card_octets IsSavedCard front → IsNone
-    none-of-card none s may can e = none (lines_in s) _ (may-be-saved s may) (after-head s e).1
+    none-of-card none s may e = none (lines_in s) _ (may-be-saved s may) (after-head s e).1
 
     module _ (l : Lines) (after_card : List ℕ) (read : IsReadAs card_octets IsSavedCard l front after_card) where
       after-lines : (s : Saved) → IsSaved s → image_of s ≡ octets → AreAlike s.card l.card × (after_card ≡ flat_map marks s.waits ++ behind s)
@@ -77,7 +76,7 @@ module _ (octets : List ℕ) where
           subst (λ c. AllZip (AreMarks c) l.card.lines s.waits) alike.config (marks-alike s.card.config s.card.lines l.card.lines s.waits alike.lines may.waits)
 
       pub none-of-waits : HasNone (flat_map marks) (AllZip (AreMarks l.card.config) l.card.lines) after_card → IsNone
-      none-of-waits none s may can e = let after = after-lines s may e in none s.waits (behind s) (marked s may after.0) after.1
+      none-of-waits none s may e = let after = after-lines s may e in none s.waits (behind s) (marked s may after.0) after.1
 
       module _ (waits after_waits : List ℕ) (wait : AreWaitsRead l.card waits after_card after_waits) where
         after-marks : (s : Saved) → IsSaved s → image_of s ≡ octets → AreAlike s.card l.card × (after_waits ≡ clock l.card s.clock ++ flat_map changes s.changed)
@@ -89,23 +88,23 @@ module _ (octets : List ℕ) where
                   ∙ ap (λ x. x ++ flat_map changes s.changed) (same-clock s.card l.card may.card after.0 s.clock),
             )
 
-        ends : (s : Saved) → IsSaved s → CanHold s.clock → image_of s ≡ octets → Ends l.card after_waits s.clock s.changed
-        ends s may can e = let after = after-marks s may e in go s may.card after.0 s.clock may.clock can may.changed after.1
+        ends : (s : Saved) → IsSaved s → image_of s ≡ octets → Ends l.card after_waits s.clock s.changed
+        ends s may e = let after = after-marks s may e in go s may.card after.0 s.clock may.clock may.changed after.1
           where
-            go : (s : Saved) → IsSound s.card → AreAlike s.card l.card → (o : Option Clock) → IfSome o (IsClockOf s.card) → IfSome o IsInTime → AreChanges s.card.config o s.changed
+            go : (s : Saved) → IsSound s.card → AreAlike s.card l.card → (o : Option Clock) → IfSome o (IsClockOf s.card) → AreChanges s.card.config o s.changed
                 → after_waits ≡ clock l.card o ++ flat_map changes s.changed → Ends l.card after_waits o s.changed
-            go s sound alike None of time rows e = e ∙ ap (flat_map changes) rows
-            go s sound alike (Some c) of time rows e = (beside-alike s.card l.card sound alike c s.changed (record { clock = of; time = time; rows = rows }), e)
+            go s sound alike None of rows e = e ∙ ap (flat_map changes) rows
+            go s sound alike (Some c) of rows e = (beside-alike s.card l.card sound alike c s.changed (record { clock = of; rows = rows }), e)
 
         pub none-of-timers : HaveNoTimers l.card timed after_waits → IsNone
-        none-of-timers none s may can e = go s.clock s.changed (ends s may can e) (after-head s e).0
+        none-of-timers none s may e = go s.clock s.changed (ends s may e) (after-head s e).0
           where
             go : (o : Option Clock) (changed : List (List ℕ)) → Ends l.card after_waits o changed → timed ≡ is_some o → ⊥
             go None changed end same = false≢true (sym same ∙ none.0)
             go (Some c) changed end same = none.1 c changed [] end.0 (end.1 ∙ sym (append-nil (timers_part l.card c changed)))
 
         pub none-of-end : (timers : Option CardTimers) (rest : List ℕ) → AreTimersRead l.card timed timers after_waits rest → (rest ≡ [] → ⊥) → IsNone
-        none-of-end timers rest known more s may can e = more (go timers s.clock s.changed known (ends s may can e) (after-head s e).0)
+        none-of-end timers rest known more s may e = more (go timers s.clock s.changed known (ends s may e) (after-head s e).0)
           where
             go : (t : Option CardTimers) (o : Option Clock) (changed : List (List ℕ)) → AreTimersRead l.card timed t after_waits rest → Ends l.card after_waits o changed → timed ≡ is_some o → rest ≡ []
             go None None changed known end same = sym known.1 ∙ end

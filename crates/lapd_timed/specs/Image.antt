@@ -1,13 +1,12 @@
 -- A card and its timers in an image.
 use Rattle.std.specs.List.{AllZip}
-use Rattle.std.specs.Prelude.{◌≡◌, ◌≤◌, ◌/◌, ◌%◌, ◌^◌, ◌==◌, ℕ, Bool, true, false, List, [], ◌∷◌, ◌++◌, All, is_some, flat_map, length, get_or, map, take, Option, None, Some, IfSome, if◌then◌else◌}
+use Rattle.std.specs.Prelude.{◌≡◌, ◌≤◌, ◌/◌, ◌%◌, ◌^◌, ◌==◌, ℕ, Bool, true, false, List, [], ◌∷◌, ◌++◌, All, is_some, flat_map, length, get_or, map, take, Option, None, Some, if◌then◌else◌}
 use Rattle.lapd_card.specs.Image.{begun_as, image, AnyStandsFor, IsSavedConfig, IsSavedOf, Lines}
 use Rattle.lapd_card.specs.Kinds.{counters_of, frames_of, kind_of, AnyStands, FrameCardStands}
 use Rattle.lapd_card.specs.declared.kinds.AnyCard.{AnyCard}
 use Rattle.lapd_card.specs.declared.kinds.AnyCard.TheVariants.{Octets, Frames}
 use Rattle.lapd_clock.specs.Timer.{Lengths}
 use Rattle.lapd_image.specs.Reads.{IsReadAs}
-use Rattle.lapd_moments.specs.Restored.{IsInTime}
 use Rattle.lapd_timed.specs.Stands.{ChangesStand, TimersStand}
 use Rattle.lapd_timed.specs.declared.card_timers.CardTimers.{CardTimers}
 use Rattle.model_bits.specs.Bits.{number_of}
@@ -94,7 +93,6 @@ these_lengths t200 t203 t201 t202 = record { t200 = t200; t203 = t203; t201 = t2
 -- What may be saved of a clock beside a card, and of the changes of its links.
 pub record MayStandBeside (card : Card) (c : Clock) (changed : List (List ℕ)) : Type 0 where
   pub clock : IsClockOf card c
-  pub time : IsInTime c
   pub rows : AreChanges card.config (Some c) changed
 
 -- Timers were read that may be saved beside a card; and none such are at the front.
@@ -125,10 +123,6 @@ pub record IsRestoredFrom (octets : List ℕ) (card : AnyCard) (waits : List ℕ
   pub stands : StandsFor card waits timers saved
   pub begins : AnyStands card (begun_as (kind_in saved) saved.card)
   pub others : (line : ℕ) → saved.card.config.lines ≤ line → get_or waits line 0 ≡ 0
-
--- The timers of a card can hold the clock, if there is one.
-abbrev pub CanHold : Option Clock → Type 0
-CanHold clock = IfSome clock IsInTime
 
 -- Which links of each line wait was read, as the lists of what may be saved and as numbers; and a bit of such a number.
 pub record AreWaitsRead (card : Card) (waits front rest : List ℕ) : Type 0 where

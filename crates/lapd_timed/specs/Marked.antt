@@ -1,5 +1,5 @@
 -- What is noted of the links of a card: their states, and since when they are so.
-use Rattle.std.specs.Prelude.{◌≡◌, ◌≢◌, ℕ, ◌+◌, ◌*◌, ◌<◌, ◌==◌, List, get_or, set, replicate, length, Some, if◌then◌else◌}
+use Rattle.std.specs.Prelude.{◌≡◌, ◌≢◌, ℕ, ◌+◌, ◌*◌, ◌<◌, ◌≤◌, ◌==◌, All, List, get_or, set, replicate, length, Some, if◌then◌else◌}
 use Rattle.model_card.specs.Card.{Card, line_at}
 use Rattle.model_line.specs.Line.{tei_at, place_at}
 use Rattle.model_timed.specs.Changes.{Mark, Marks, standing, seen}
@@ -24,6 +24,11 @@ marked_at i state now h =
 -- Of a link this is the moment.
 abbrev pub with_moment : ℕ → ℕ → HeldMarks → HeldMarks
 with_moment i moment h = record h { moments = set h.moments i moment }
+
+-- So many moments, none of which is after now.
+pub record ArePast (count now : ℕ) (moments : List ℕ) : Type 0 where
+  pub each : length moments ≡ count
+  pub past : All (λ moment. moment ≤ now) moments
 
 -- What is noted of a link.
 abbrev pub mark_in : HeldMarks → ℕ → ℕ → Mark

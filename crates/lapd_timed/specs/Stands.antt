@@ -1,7 +1,7 @@
 -- What the timers of a card stand for: the clock of a timed card.
-use Rattle.std.specs.Prelude.{◌≡◌, ◌⊎◌, ℕ, ◌*◌, ◌<◌, Bool, List, Some}
+use Rattle.std.specs.Prelude.{◌≡◌, ◌⊎◌, ℕ, ◌+◌, ◌*◌, ◌<◌, ◌≤◌, All, Bool, List, Some}
 use Rattle.lapd_clock.specs.Given.{lengths_of}
-use Rattle.lapd_clock.specs.Timer.{Timer, Lengths}
+use Rattle.lapd_clock.specs.Timer.{Timer, Lengths, AreInRange}
 use Rattle.lapd_clock.specs.Timers.{Expiry}
 use Rattle.lapd_card.specs.FrameCard.{Held}
 use Rattle.lapd_card.specs.FrameStands.{FrameStands}
@@ -34,6 +34,11 @@ pub record HeldTimers : Type 0 where
 abbrev pub held : CardTimers → HeldTimers
 held t = record { lines = t.lines; terminals = t.terminals; lengths = lengths_of t.lengths; now = t.moment; moments = t.moments }
 
+-- Timers run for an hour at most, so none that runs falls due later than that after now.
+pub record FallsWithinHour (c : Clock) : Type 0 where
+  pub lengths : AreInRange c.lengths
+  pub moments : All (λ e. e.moment ≤ c.now + 3600000) c.running
+
 -- They are those of a clock: its moment, its lengths, and what runs, each timer at the place that its line and the place of its TEI
 -- tell.
 pub record AreAt (IsAt : ℕ → ℕ → ℕ → Type 0) (h : HeldTimers) (card : Card) (clock : Clock) : Type 0 where
@@ -43,6 +48,7 @@ pub record AreAt (IsAt : ℕ → ℕ → ℕ → Type 0) (h : HeldTimers) (card 
   pub lengths : clock.lengths ≡ h.lengths
   pub running : clock.running ≡ timers_in h.moments
   pub places : Holds h.lines (2 * h.terminals) (slot_of h.terminals) (line_slot_of h.terminals) IsAt h.moments
+  pub within_hour : FallsWithinHour clock
 
 -- And what runs is what the lines of the card run, which the caller has left so.
 pub record AreKept (left : ℕ → Timer → Bool → Bool) (h : HeldTimers) (card : Card) (clock : Clock) : Type 0 where

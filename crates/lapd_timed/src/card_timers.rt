@@ -1,6 +1,6 @@
 //! The timers of a card.
 
-ghost use Rattle.std.specs.Prelude.{◌≡◌, ◌↔◌, ◌+◌, ◌*◌, ◌^◌, ◌<◌, ◌≤◌, None, true, false, length, IfOk, IfSome, IfNone, option_map};
+ghost use Rattle.std.specs.Prelude.{All, ◌≡◌, ◌↔◌, ◌+◌, ◌*◌, ◌^◌, ◌<◌, ◌≤◌, None, true, false, length, IfOk, IfSome, IfNone, option_map};
 ghost use Rattle.lapd_clock.specs.Given.{lengths_of};
 ghost use Rattle.model_card.specs.Card as machine;
 ghost use Rattle.model_card.specs.Card.{Card};
@@ -41,6 +41,7 @@ pub struct CardTimers {
     ghost of_lines: { AreOnLines lines moments },
     ghost links: { changes.links ≡ 2 * terminals },
     ghost marks: { length changes.states ≡ lines * (2 * terminals) },
+    ghost past: { All (λ changed. changed ≤ moment) changes.moments },
 }
 
 impl CardTimers {

@@ -1,8 +1,9 @@
 //! When the state of each link of a card changed last.
 
-ghost use Rattle.std.specs.Prelude.{◌≡◌, ℕ, ◌+◌, ◌*◌, ◌^◌, ◌<◌, ◌≤◌, ◌++◌, All, length, get_or, IfOk, OnOk, OnErr};
+ghost use Rattle.std.specs.Prelude.{◌≡◌, ℕ, ◌+◌, ◌*◌, ◌<◌, ◌≤◌, ◌++◌, All, length, get_or, IfOk, OnOk, OnErr};
 ghost use Rattle.lapd_image.specs.Puts.{Puts};
-ghost use Rattle.lapd_timed.specs.Marked.{marked_at, slot_in, unchanged, with_moment, AreAllNoted};
+ghost use Rattle.lapd_image.specs.Reads.{HasNone};
+ghost use Rattle.lapd_timed.specs.Marked.{marked_at, slot_in, unchanged, with_moment, AreAllNoted, ArePast};
 ghost use Rattle.model_image.specs.Images.{changes};
 
 use lapd_image::{BadImage, Reader, put_number};
@@ -69,7 +70,8 @@ impl Changes {
     pub(crate) fn note_all(&mut self, line: usize, states: &[u8; MOST_LINKS], now: u64)
         requires few { self.old.links ≤ 16 }
         requires there { (number : ℕ) → number < self.old.links → slot_in self.old line number < length self.old.states }
-        ensures { AreAllNoted line now states.now self.old self.new }
+        ensures noted { AreAllNoted line now states.now self.old self.new }
+        ensures past { All (λ moment. moment ≤ now) self.old.moments → All (λ moment. moment ≤ now) self.new.moments }
     {
         for number in 0..self.links {
             self.note(line, number, states[number], now);
@@ -80,8 +82,7 @@ impl Changes {
     /// after.
     pub(crate) fn save(&self, out: &mut [u8], at: usize) -> usize
         requires { at ≤ length out.old }
-        ensures puts { Puts (changes self.now.moments) at out.old result out.new }
-        ensures saved { All (λ moment. moment < 2 ^ 64) self.now.moments }
+        ensures { Puts (changes self.now.moments) at out.old result out.new }
     {
         let mut end = at;
         for moment in &self.moments {
@@ -90,21 +91,24 @@ impl Changes {
         end
     }
 
-    /// Reads as many moments, and puts them in place of these.
+    /// Reads as many moments, and puts them in place of these. None is after now.
     ///
     /// # Errors
     ///
-    /// [`BadImage`] if fewer are at the front.
-    pub(crate) fn restore(&mut self, reader: &mut Reader<'_>) -> Result<(), BadImage>
+    /// [`BadImage`] if no such moments are at the front.
+    pub(crate) fn restore(&mut self, now: u64, reader: &mut Reader<'_>) -> Result<(), BadImage>
         ensures read { OnOk result (reader.old ≡ changes self.new.moments ++ reader.new) }
-        ensures few { OnOk result (All (λ moment. moment < 2 ^ 64) self.new.moments) }
+        ensures past { OnOk result (All (λ moment. moment ≤ now) self.new.moments) }
         ensures count { OnOk result (length self.new.moments ≡ length self.old.moments) }
         ensures links { OnOk result (self.new.links ≡ self.old.links) }
         ensures states { OnOk result (self.new.states ≡ self.old.states) }
-        ensures short { OnErr result (length reader.old < 8 * length self.old.moments) }
+        ensures none { OnErr result (HasNone changes (λ moments. ArePast (length self.old.moments) now moments) reader.old) }
     {
         for slot in 0..self.count() {
             let moment = reader.number(8)?;
+            if moment > now {
+                return Err(BadImage);
+            }
             self.put(slot, moment);
         }
         Ok(())

@@ -7,7 +7,9 @@ ghost use Rattle.lapd_clock.specs.Given.{lengths_of};
 ghost use Rattle.lapd_clock.specs.Timer.{AreInRange};
 ghost use Rattle.lapd_image.specs.Numbers.{number};
 ghost use Rattle.lapd_image.specs.Reads.{HasNone, IsReadAs};
-ghost use Rattle.lapd_moments.specs.Restored.{kind_of, own_kind_of, line_part, lines_part, link_part, links_part, own_part, AreLinesRead, AreLinksRead, ArePlacesOf, IsInTime, IsLineRead, IsLinkRead, IsOwnRead, OwnRest, Passes, RestsAt, RestsHere};
+ghost use Rattle.lapd_moments.specs.Restored.{kind_of, own_kind_of, line_part, lines_part, link_part, links_part, own_part, AreLinesRead, AreLinksRead, ArePlacesOf, FallsUntil, IsLineRead, IsLinkRead, IsOwnRead, OwnRest, Passes, RestsAt, RestsHere};
+ghost use Rattle.lapd_clock.specs.Firsts.{never};
+ghost use Rattle.lapd_moments.specs.Places.{AreUntil};
 ghost use Rattle.lapd_timed.specs.Image.{these_lengths, AreReadFrom, HasNoTimers};
 ghost use Rattle.lapd_timed.specs.Marked.{slot_in};
 ghost use Rattle.lapd_timed.specs.declared.saved.ImageFault.TheVariants as faults;
@@ -27,6 +29,9 @@ use lapd_image::{BadImage, Reader};
 use lapd_moments::Moments;
 use lapd_store::Shelf;
 use std::alloc::Global;
+
+/// The greatest length of a timer, in milliseconds: an hour (profile).
+const LONGEST: u64 = 3_600_000;
 
 impl CardTimers {
     /// Starts the timers of a card as they were saved beside it: which run follows from the card, and so does what is noted of the
@@ -51,10 +56,10 @@ impl CardTimers {
         let lengths = restore_lengths(reader)?;
         let moment = restore_moment(reader)?;
         let mut moments = Moments::idle(alloc, lines, terminals)?;
-        restore_lines(&mut moments, terminals, card, reader)?;
+        restore_lines(&mut moments, terminals, card, moment + LONGEST, reader)?;
         let mut changes = Changes::start(alloc, lines, 2 * terminals)?;
         note_states(&mut changes, card, moment);
-        changes.restore(reader)?;
+        changes.restore(moment, reader)?;
         Ok(CardTimers {
             lines,
             terminals,
@@ -133,25 +138,30 @@ fn note_states<S: Shelf>(changes: &mut Changes, card: &FrameCard<S>, now: u64)
     }
 }
 
-/// Reads the moments of all timers that the lines of a card run, and starts each at its place. So far none runs.
+/// Reads the moments of all timers that the lines of a card run, and starts each at its place. So far none runs. None may fall due
+/// after the latest moment that is told.
 pub(crate) fn restore_lines<S: Shelf>(
     moments: &mut Moments,
     terminals: usize,
     card: &FrameCard<S>,
+    latest: u64,
     reader: &mut Reader<'_>,
 ) -> Result<(), BadImage>
+    requires some_time { latest < never }
     requires terminals { terminals ≤ 8 }
     requires few { line_count card.now ≤ 64 }
     requires size { length moments.old ≡ line_count card.now * (4 * terminals + 2) }
     ensures size { OnOk result (length moments.new ≡ length moments.old) }
+    ensures until { OnOk result (AreUntil latest moments.old → AreUntil latest moments.new) }
     ensures read { OnOk result ((m : Card) → FrameStands S.store card.now m → AreLinesRead m terminals 0 reader.old reader.old moments.old
         → AreLinesRead m terminals m.config.lines reader.old reader.new moments.new) }
     ensures passes { OnOk result ((m : Card) → FrameStands S.store card.now m → m.config.terminals ≡ terminals
-        → Passes (lines_part m m.config.lines) IsInTime reader.old reader.new) }
-    ensures none { OnErr result ((m : Card) → FrameStands S.store card.now m → m.config.terminals ≡ terminals → HasNone (lines_part m m.config.lines) IsInTime reader.old) }
+        → Passes (lines_part m m.config.lines) (FallsUntil latest) reader.old reader.new) }
+    ensures none { OnErr result ((m : Card) → FrameStands S.store card.now m → m.config.terminals ≡ terminals
+        → HasNone (lines_part m m.config.lines) (FallsUntil latest) reader.old) }
 {
     for line in 0..card.lines() {
-        restore_line(moments, terminals, card, line, reader)?;
+        restore_line(moments, terminals, card, line, latest, reader)?;
     }
     Ok(())
 }
@@ -162,21 +172,25 @@ fn restore_line<S: Shelf>(
     terminals: usize,
     card: &FrameCard<S>,
     line: usize,
+    latest: u64,
     reader: &mut Reader<'_>,
 ) -> Result<(), BadImage>
+    requires some_time { latest < never }
     requires terminals { terminals ≤ 8 }
     requires few { line_count card.now ≤ 64 }
     requires line { line < line_count card.now }
     requires size { length moments.old ≡ line_count card.now * (4 * terminals + 2) }
     ensures size { OnOk result (length moments.new ≡ length moments.old) }
+    ensures until { OnOk result (AreUntil latest moments.old → AreUntil latest moments.new) }
     ensures read { OnOk result ((m : Card) → FrameStands S.store card.now m → ArePlacesOf m terminals moments.old → RestsHere terminals line moments.old
         → IsLineRead m terminals line reader.old reader.new moments.old moments.new) }
     ensures passes { OnOk result ((m : Card) → FrameStands S.store card.now m → m.config.terminals ≡ terminals
-        → Passes (line_part m line) IsInTime reader.old reader.new) }
-    ensures none { OnErr result ((m : Card) → FrameStands S.store card.now m → m.config.terminals ≡ terminals → HasNone (line_part m line) IsInTime reader.old) }
+        → Passes (line_part m line) (FallsUntil latest) reader.old reader.new) }
+    ensures none { OnErr result ((m : Card) → FrameStands S.store card.now m → m.config.terminals ≡ terminals
+        → HasNone (line_part m line) (FallsUntil latest) reader.old) }
 {
-    restore_links(moments, terminals, card, line, reader)?;
-    restore_own(moments, terminals, card, line, reader)
+    restore_links(moments, terminals, card, line, latest, reader)?;
+    restore_own(moments, terminals, card, line, latest, reader)
 }
 
 /// Reads those of the links of a line.
@@ -185,21 +199,25 @@ fn restore_links<S: Shelf>(
     terminals: usize,
     card: &FrameCard<S>,
     line: usize,
+    latest: u64,
     reader: &mut Reader<'_>,
 ) -> Result<(), BadImage>
+    requires some_time { latest < never }
     requires terminals { terminals ≤ 8 }
     requires few { line_count card.now ≤ 64 }
     requires line { line < line_count card.now }
     requires size { length moments.old ≡ line_count card.now * (4 * terminals + 2) }
     ensures size { OnOk result (length moments.new ≡ length moments.old) }
+    ensures until { OnOk result (AreUntil latest moments.old → AreUntil latest moments.new) }
     ensures read { OnOk result ((m : Card) → FrameStands S.store card.now m → ArePlacesOf m terminals moments.old → RestsHere terminals line moments.old
         → AreLinksRead m terminals line (2 * terminals) reader.old reader.new moments.old moments.new) }
     ensures passes { OnOk result ((m : Card) → FrameStands S.store card.now m → m.config.terminals ≡ terminals
-        → Passes (links_part m line (2 * terminals)) IsInTime reader.old reader.new) }
-    ensures none { OnErr result ((m : Card) → FrameStands S.store card.now m → m.config.terminals ≡ terminals → HasNone (links_part m line (2 * terminals)) IsInTime reader.old) }
+        → Passes (links_part m line (2 * terminals)) (FallsUntil latest) reader.old reader.new) }
+    ensures none { OnErr result ((m : Card) → FrameStands S.store card.now m → m.config.terminals ≡ terminals
+        → HasNone (links_part m line (2 * terminals)) (FallsUntil latest) reader.old) }
 {
     for number in 0..2 * terminals {
-        restore_link(moments, terminals, card, line, number, reader)?;
+        restore_link(moments, terminals, card, line, number, latest, reader)?;
     }
     Ok(())
 }
@@ -211,25 +229,29 @@ fn restore_link<S: Shelf>(
     card: &FrameCard<S>,
     line: usize,
     number: usize,
+    latest: u64,
     reader: &mut Reader<'_>,
 ) -> Result<(), BadImage>
+    requires some_time { latest < never }
     requires terminals { terminals ≤ 8 }
     requires few { line_count card.now ≤ 64 }
     requires line { line < line_count card.now }
     requires number { number < 2 * terminals }
     requires size { length moments.old ≡ line_count card.now * (4 * terminals + 2) }
     ensures size { OnOk result (length moments.new ≡ length moments.old) }
+    ensures until { OnOk result (AreUntil latest moments.old → AreUntil latest moments.new) }
     ensures read { OnOk result ((m : Card) → FrameStands S.store card.now m → ArePlacesOf m terminals moments.old → RestsAt terminals line number moments.old
         → IsLinkRead m terminals line number reader.old reader.new moments.old moments.new) }
     ensures passes { OnOk result ((m : Card) → FrameStands S.store card.now m → m.config.terminals ≡ terminals
-        → Passes (link_part m line number) IsInTime reader.old reader.new) }
-    ensures none { OnErr result ((m : Card) → FrameStands S.store card.now m → m.config.terminals ≡ terminals → HasNone (link_part m line number) IsInTime reader.old) }
+        → Passes (link_part m line number) (FallsUntil latest) reader.old reader.new) }
+    ensures none { OnErr result ((m : Card) → FrameStands S.store card.now m → m.config.terminals ≡ terminals
+        → HasNone (link_part m line number) (FallsUntil latest) reader.old) }
 {
     match card.timer(line, number) {
         None => Ok(()),
         Some(timer) => {
             let place = slot(terminals, line, number, kind_of(timer));
-            moments.restore(place, timer, reader)
+            moments.restore(place, timer, latest, reader)
         }
     }
 }
@@ -240,23 +262,26 @@ fn restore_own<S: Shelf>(
     terminals: usize,
     card: &FrameCard<S>,
     line: usize,
+    latest: u64,
     reader: &mut Reader<'_>,
 ) -> Result<(), BadImage>
+    requires some_time { latest < never }
     requires terminals { terminals ≤ 8 }
     requires few { line_count card.now ≤ 64 }
     requires line { line < line_count card.now }
     requires size { length moments.old ≡ line_count card.now * (4 * terminals + 2) }
     ensures size { OnOk result (length moments.new ≡ length moments.old) }
+    ensures until { OnOk result (AreUntil latest moments.old → AreUntil latest moments.new) }
     ensures read { OnOk result ((m : Card) → FrameStands S.store card.now m → ArePlacesOf m terminals moments.old → OwnRest terminals line moments.old
         → IsOwnRead m terminals line reader.old reader.new moments.old moments.new) }
-    ensures passes { OnOk result ((m : Card) → FrameStands S.store card.now m → Passes (own_part m line) IsInTime reader.old reader.new) }
-    ensures none { OnErr result ((m : Card) → FrameStands S.store card.now m → HasNone (own_part m line) IsInTime reader.old) }
+    ensures passes { OnOk result ((m : Card) → FrameStands S.store card.now m → Passes (own_part m line) (FallsUntil latest) reader.old reader.new) }
+    ensures none { OnErr result ((m : Card) → FrameStands S.store card.now m → HasNone (own_part m line) (FallsUntil latest) reader.old) }
 {
     match card.own_timer(line) {
         None => Ok(()),
         Some(timer) => {
             let place = slot(terminals, line, 0, own_kind_of(timer));
-            moments.restore(place, timer, reader)
+            moments.restore(place, timer, latest, reader)
         }
     }
 }

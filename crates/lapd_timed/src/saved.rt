@@ -5,7 +5,7 @@ ghost use Rattle.lapd_card.specs.Image.{IsSavedConfig};
 ghost use Rattle.lapd_card.specs.Kinds.{line_count};
 ghost use Rattle.lapd_image.specs.Puts.{Puts};
 ghost use Rattle.lapd_image.specs.Numbers.{number};
-ghost use Rattle.lapd_timed.specs.Image.{card_part, head_of, is_octets, lines_in, AreAllMarks, CanHold, IsRestoredFrom, IsSavedCard, StandsFor};
+ghost use Rattle.lapd_timed.specs.Image.{card_part, head_of, is_octets, lines_in, AreAllMarks, IsRestoredFrom, IsSavedCard, StandsFor};
 ghost use Rattle.lapd_timed.specs.declared.saved.ImageFault.TheVariants as faults;
 ghost use Rattle.model_image.specs.Configs.{config as image_of_config};
 ghost use Rattle.model_image.specs.Images.{image_of, Saved};
@@ -108,7 +108,7 @@ pub fn save(
     ensures within { result ≤ length out.new }
     ensures puts { (s : Saved) → StandsFor card.now waits.now timers.now s → Puts (image_of s) 0 out.old result out.new }
     // And what stands there may be saved, if links wait only where there is a TEI: so a restore takes it.
-    ensures saved { (s : Saved) → StandsFor card.now waits.now timers.now s → AreAllMarks s → IsSaved s × CanHold s.clock }
+    ensures saved { (s : Saved) → StandsFor card.now waits.now timers.now s → AreAllMarks s → IsSaved s }
 {
     match timers {
         Some(timers) => {
@@ -120,6 +120,8 @@ pub fn save(
 }
 
 /// Writes what an image has before the timers.
+// (Apart, it stands once in what a program and the library in C have in common.)
+#[inline(never)]
 pub(crate) fn save_card(
     card: &AnyCard,
     waits: &[u16; MOST_LINES],
@@ -181,10 +183,12 @@ fn save_waits(lines: usize, waits: &[u16; MOST_LINES], out: &mut [u8], at: usize
 ///
 /// [`ImageFault::BadImage`] if these octets are the image of no card that may be saved; and [`ImageFault::OutOfMemory`] if
 /// memory is refused.
+// (Apart, as `save_card`.)
+#[inline(never)]
 pub fn restore(alloc: Global, octets: &[u8]) -> Result<Restored, ImageFault>
     ensures read { IfOk result (λ restored. IsRestoredFrom octets.now restored.card restored.waits restored.timers) }
     ensures lines { IfOk result (λ restored. IfSome restored.timers (λ timers. timers.lines ≡ line_count restored.card)) }
-    ensures none { IfErr result (λ fault. fault ≡ faults.BadImage → (s : Saved) → IsSaved s → CanHold s.clock → image_of s ≡ octets.now → ⊥) }
+    ensures none { IfErr result (λ fault. fault ≡ faults.BadImage → (s : Saved) → IsSaved s → image_of s ≡ octets.now → ⊥) }
 {
     let mut reader = Reader::new(octets);
     let (kind, timed) = restore_head(&mut reader)?;

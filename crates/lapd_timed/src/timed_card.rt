@@ -16,7 +16,7 @@ ghost use Rattle.model_timed.specs.Changes.{Marks};
 ghost use Rattle.model_timed.specs.Clock.{Clock, due, next_moment, with_lengths};
 ghost use Rattle.model_timed.specs.Timed.{falls_due};
 ghost use Rattle.lapd_image.specs.Puts.{Puts};
-ghost use Rattle.lapd_timed.specs.Image.{AreAllMarks, CanHold, StandsFor};
+ghost use Rattle.lapd_timed.specs.Image.{AreAllMarks, StandsFor};
 ghost use Rattle.lapd_timed.specs.Marked.{moment_in};
 ghost use Rattle.model_image.specs.Images.{image_of, Saved};
 ghost use Rattle.model_image.specs.Sound.{IsSaved};
@@ -79,7 +79,7 @@ impl TimedCard {
         ensures within { result ≤ length out.new }
         ensures puts { (s : Saved) → StandsFor self.now.card waits.now (Some self.now.timers) s → Puts (image_of s) 0 out.old result out.new }
         // And what stands there may be saved, if links wait only where there is a TEI: so a restore takes it.
-        ensures saved { (s : Saved) → StandsFor self.now.card waits.now (Some self.now.timers) s → AreAllMarks s → IsSaved s × CanHold s.clock }
+        ensures saved { (s : Saved) → StandsFor self.now.card waits.now (Some self.now.timers) s → AreAllMarks s → IsSaved s }
     {
         let at = save_card(&self.card, waits, true, out);
         self.timers.save(out, at)

@@ -1,5 +1,5 @@
 -- A card as it begins is saved.
-use Rattle.std.proofs.Common.{◌≡◌, arith, lit<, ℕ, zero, suc, ◌^◌, ◌<◌, ◌≤◌, Bool, false, replicate, Option, Some, None, sym, ◌∙◌, cond, ◌%◌, true, refl}
+use Rattle.std.proofs.Common.{◌≡◌, arith, lit<, ℕ, zero, suc, ◌<◌, ◌≤◌, Bool, false, replicate, Option, Some, None, sym, ◌∙◌, cond, ◌%◌, true, refl}
 use Rattle.std.specs.Option.{unwrap_or}
 use Rattle.std.specs.List.{AllZip}
 use Rattle.std.specs.Prelude.{IfSome}
@@ -35,7 +35,7 @@ line-saved c = record {
   messages = All-nil (λ message. AreOctets (information_of message));
   own = All-nil (λ message. AreOctets (terminals.information_of message));
   unused = unused (is_terminal c) (unwrap_or c.seed 0 % 65536);
-  links = All-replicate IsSavedLink (link_count c) fresh (record { again = omega arith; counts = All-replicate (λ (n : ℕ). n ≤ 65535) 5 0 (omega arith); octets = All-nil AreOctets });
+  links = All-replicate IsSavedLink (link_count c) fresh (record { counts = All-replicate (λ (n : ℕ). n ≤ 65535) 5 0 (omega arith); octets = All-nil AreOctets });
   units = All-nil (λ u. AreOctets u.contents);
 }
 
@@ -56,8 +56,8 @@ none-are-changes : (c : Config) (o : Option Clock) → AreChanges c o (none_chan
 none-are-changes c None = refl
 none-are-changes c (Some clock) = (
   length-replicate c.lines (replicate {A = ℕ} (link_count c) 0),
-  All-replicate (AreMoments c) c.lines (replicate (link_count c) 0)
-      (record { each = length-replicate {A = ℕ} (link_count c) 0; few = All-replicate (λ (n : ℕ). n < 2 ^ 64) (link_count c) 0 (lit< tt) }),
+  All-replicate (AreMoments c clock.now) c.lines (replicate (link_count c) 0)
+      (record { each = length-replicate {A = ℕ} (link_count c) 0; past = All-replicate (λ (n : ℕ). n ≤ clock.now) (link_count c) 0 (omega arith) }),
 )
 
 saved : (of_octets : Bool) (c : Config) (clock : Option Clock) → IsInRange c → IfSome c.seed (λ n. n < 65536) → IfSome clock (IsClockOf (begun of_octets c clock).card)
@@ -80,7 +80,7 @@ cards_begin_saved = record {
   timed = λ of_octets c lengths range seed lengths_fit. saved of_octets c (Some (stopped lengths)) range seed (record {
     lengths = lengths_fit;
     now = lit< tt;
-    moments = All-nil (λ e. e.moment < 2 ^ 64);
+    moments = All-nil (λ e. e.moment ≤ 3600000);
     in_order = tt;
     one_each = tt;
     on_lines = tt;

@@ -144,6 +144,10 @@ small-moment line timer (e ∷ es) all = go (is_of line timer e) (small-moment l
     go true rest = All-head (λ (e : Expiry). e.moment < 2 ^ 64) e es all
     go false rest = rest
 
+-- So has each moment of a clock that may be saved.
+pub soon : (card : Card) (c : Clock) → IsClockOf card c → All (λ (e : Expiry). e.moment < 2 ^ 64) c.running
+soon card c sound = λ i d within. omega (arith, sound.moments i d within, sound.now)
+
 -- Two options are one if both are there, or neither is, and what is there is the same.
 same-option : (o p : Option ℕ) → is_some o ≡ is_some p → (is_some o ≡ true → unwrap_or o 0 ≡ unwrap_or p 0) → o ≡ p
 same-option None None there same = refl
@@ -203,7 +207,7 @@ module _ (a b : Card) (config : a.config ≡ b.config) (same : (number : ℕ) �
   pub timers-at : (n : ℕ) → n < a.config.lines → timers a.config (line_at n a) ≡ timers b.config (line_at n b)
   timers-at n h = timers-same a.config (line_at n a) (line_at n b) (places n h) (same n h) ∙ ap (λ (c : Config). timers c (line_at n b)) config
 
-  moment-same : (c d : Clock) (sound : IsClockOf a c) (also : IsClockOf b d) → AllRead c d sound.moments also.moments a (range_with_len 0 a.config.lines)
+  moment-same : (c d : Clock) (sound : IsClockOf a c) (also : IsClockOf b d) → AllRead c d (soon a c sound) (soon b d also) a (range_with_len 0 a.config.lines)
       → (line : ℕ) (timer : Timer) → line < a.config.lines → moment_of line timer c.running ≡ moment_of line timer d.running
   moment-same c d sound also read line timer h =
       let lines : ℕ = a.config.lines in
@@ -211,8 +215,8 @@ module _ (a b : Card) (config : a.config ≡ b.config) (same : (number : ℕ) �
       let held_too : is_some (moment_of line timer d.running) ≡ is_running timer (line_at line b) =
       sym (held-is line timer d.running) ∙ also.running line timer (subst (λ (x : Config). line < x.lines) config h) in
       let runs_same : is_running timer (line_at line a) ≡ is_running timer (line_at line b) = running-same a.config (line_at line a) (line_at line b) (places line h) (same line h) timer in
-      let here : AreRead c d sound.moments also.moments line (timers a.config (line_at line a)) =
-      subst (λ (n : ℕ). AreRead c d sound.moments also.moments n (timers a.config (line_at n a))) (at lines line h) (read line (within-range lines line h)) in
+      let here : AreRead c d (soon a c sound) (soon b d also) line (timers a.config (line_at line a)) =
+      subst (λ (n : ℕ). AreRead c d (soon a c sound) (soon b d also) n (timers a.config (line_at n a))) (at lines line h) (read line (within-range lines line h)) in
       same-option (moment_of line timer c.running) (moment_of line timer d.running) (held ∙ runs_same ∙ sym held_too)
       (λ there. here timer (timer-in a.config (line_at line a) (places line h) timer (sym held ∙ there)))
 
@@ -220,8 +224,8 @@ module _ (a b : Card) (config : a.config ≡ b.config) (same : (number : ℕ) �
   clock-read c d r s sound also e =
       let lines : ℕ = a.config.lines in
       let of_lengths : (c.lengths ≡ d.lengths) × _ = lengths-read c.lengths d.lengths _ _ sound.lengths also.lengths (split (lengths c.lengths) _ (lengths d.lengths) _ r s e) in
-      let now : (c.now ≡ d.now) × (moments a c ++ r ≡ moments b d ++ s) = number-read 8 c.now d.now _ _ sound.now also.now (split (number 8 c.now) (moments a c) (number 8 d.now) (moments b d) r s of_lengths.1) in
+      let now : (c.now ≡ d.now) × (moments a c ++ r ≡ moments b d ++ s) = number-read 8 c.now d.now _ _ (omega (arith, sound.now)) (omega (arith, also.now)) (split (number 8 c.now) (moments a c) (number 8 d.now) (moments b d) r s of_lengths.1) in
       let whole : flat_map (moments_at a c) (range_with_len 0 lines) ++ r ≡ flat_map (moments_at b d) (range_with_len 0 lines) ++ s =
       now.1 ∙ ap (λ (x : Config). flat_map (moments_at b d) (range_with_len 0 x.lines) ++ s) (sym config) in
-      let read = all-lines c d sound.moments also.moments a b (range_with_len 0 lines) r s (λ k h. timers-at _ (below lines k h)) whole in
+      let read = all-lines c d (soon a c sound) (soon b d also) a b (range_with_len 0 lines) r s (λ k h. timers-at _ (below lines k h)) whole in
       (record { lengths = of_lengths.0; now = now.0; running = moment-same c d sound also read.0 }, read.1)

@@ -1,5 +1,5 @@
 -- How many octets the parts of an image have: the configuration, links, TEI management and lines.
-use Rattle.std.proofs.Common.{arith, lit<, ◌≡◌, ℕ, suc, ◌+◌, ◌*◌, ◌%◌, ◌^◌, ◌<◌, ◌≤◌, Bool, true, false, cond, List, [], ◌∷◌, ◌++◌, length, Option, Some, None, refl, sym, subst}
+use Rattle.std.proofs.Common.{arith, lit<, ◌≡◌, ℕ, suc, ◌+◌, ◌*◌, ◌%◌, ◌^◌, ◌<◌, ◌≤◌, Bool, true, false, cond, List, [], ◌∷◌, ◌++◌, length, Option, Some, None, refl, sym, subst, length-drop}
 use Rattle.std.specs.List.{range_with_len}
 use Rattle.std.specs.Prelude.{All, IfSome, flat_map, map, sum_by}
 use Rattle.std.proofs.lemmas.List.Elements.{All-drop, All-from_get_or}
@@ -122,7 +122,7 @@ module _ (c : Config) (range : IsInRange c) where
       (fits-cons (l.a % 128) _ _ (omega arith)
       (fits-cons (outstanding l) _ _ (omega (arith, within, k))
       (fits-cons (l.r % 128) _ _ (omega arith)
-      (fits-cons l.again _ _ (omega (arith, saved.again))
+      (fits-cons l.again _ _ (omega (arith, sound.again, sound.ordered, many, r.queue.most, length-drop l.a l.contents))
       (fits-append 10 _ (counts l.counts) _ counted
       (fits-append (1 + length (queue_of l) * (2 + c.n201)) (1 + length l.waiting * 3) (list_of contents (queue_of l)) (list_of control_frame l.waiting) queue frames)))))))) in
       fits-less _ (most_link c + length (queue_of l) * (2 + c.n201)) (link l) (omega (arith, ring)) all

@@ -1,5 +1,5 @@
 -- How many octets a whole image has.
-use Rattle.std.proofs.Common.{arith, lit<, ◌≡◌, ℕ, ◌+◌, ◌*◌, ◌<◌, ◌≤◌, ◌^◌, Bool, true, false, cond, List, [], ◌∷◌, ◌++◌, length, Option, Some, None, is_some, refl, sym, ap, ◌∙◌, subst, length-append}
+use Rattle.std.proofs.Common.{arith, lit<, ◌≡◌, ℕ, ◌+◌, ◌*◌, ◌<◌, ◌≤◌, Bool, true, false, cond, List, [], ◌∷◌, ◌++◌, length, Option, Some, None, is_some, refl, sym, ap, ◌∙◌, subst, length-append}
 use Rattle.std.specs.List.{AllZip, range_with_len}
 use Rattle.std.specs.Prelude.{All, flat_map, sum_by}
 use Rattle.std.proofs.lemmas.List.Elements.{All-from_get_or}
@@ -91,12 +91,12 @@ lengths-fit l =
     (fits-append 4 4 (number 4 l.t201) (number 4 l.t202) (fits-number 4 l.t201) (fits-number 4 l.t202)))
 
 -- when the states of links changed
-changes-fit : (c : Config) (changed : List (List ℕ)) → length changed ≡ c.lines → All (AreMoments c) changed → Fits (c.lines * (8 * link_count c)) (flat_map changes changed)
-changes-fit c changed count all =
-    let one : (moments : List ℕ) → AreMoments c moments → Fits (8 * link_count c) (changes moments) =
+changes-fit : (c : Config) (now : ℕ) (changed : List (List ℕ)) → length changed ≡ c.lines → All (AreMoments c now) changed → Fits (c.lines * (8 * link_count c)) (flat_map changes changed)
+changes-fit c now changed count all =
+    let one : (moments : List ℕ) → AreMoments c now moments → Fits (8 * link_count c) (changes moments) =
     λ moments are. fits-less (length moments * 8) (8 * link_count c) (changes moments) (omega (arith, are.each))
-    (fits-all (λ (n : ℕ). n < 2 ^ 64) (number 8) 8 (λ n h. fits-number 8 n) moments are.few) in
-    subst (λ (n : ℕ). Fits (n * (8 * link_count c)) (flat_map changes changed)) count (fits-all (AreMoments c) changes (8 * link_count c) one changed all)
+    (fits-all (λ (n : ℕ). n ≤ now) (number 8) 8 (λ n h. fits-number 8 n) moments are.past) in
+    subst (λ (n : ℕ). Fits (n * (8 * link_count c)) (flat_map changes changed)) count (fits-all (AreMoments c now) changes (8 * link_count c) one changed all)
 
 clock-fits : (card : Card) (o : Option Clock) (changed : List (List ℕ)) → IsSound card → AreChanges card.config o changed
     → Fits (cond (is_some o) (most_clock card.config) 0) (clock card o ++ flat_map changes changed)
@@ -106,7 +106,7 @@ clock-fits card (Some c) changed sound are =
     fits-less ((16 + (8 + timers)) + card.config.lines * (8 * link_count card.config)) (most_clock card.config) (clock card (Some c) ++ flat_map changes changed) (omega arith)
     (fits-append (16 + (8 + timers)) _ (clock card (Some c)) (flat_map changes changed)
     (fits-append 16 _ (lengths c.lengths) _ (lengths-fit c.lengths) (fits-append 8 _ (number 8 c.now) _ (fits-number 8 c.now) (moments-fit card c sound)))
-    (changes-fit card.config changed are.0 are.1))
+    (changes-fit card.config c.now changed are.0 are.1))
 
 -- a kind
 head-fits : (s : Saved) → Fits 6 (head s)

@@ -49,18 +49,19 @@ module _ {C E A : Type 0} (k : Kind C E) (answer : E → C → A) (late : ℕ) (
   one-step falls_due a b c same good prompt = fell a b c same good (due c) refl
 
   abbrev GoOn : List (Step E) → Timed C → Timed C → Type 0
-  GoOn steps t u = (shown k answer steps t ≡ shown k answer steps u) × ((after_all k steps t).clock ≡ (after_all k steps u).clock)
+  GoOn steps t u =
+      (shown k answer steps t ≡ shown k answer steps u) × ((after_all k steps t).clock ≡ (after_all k steps u).clock) × Same (after_all k steps t).card (after_all k steps u).card
 
   pub all-steps : (steps : List (Step E)) (a b : C) (c : Clock) → Same a b → Good a c → ArePrompt k late steps (beside a c) → GoOn steps (beside a c) (beside b c)
   unfolding shown after_all ArePrompt
-  all-steps [] a b c same good prompt = (refl, refl)
+  all-steps [] a b c same good prompt = (refl, refl, same)
   all-steps (s ∷ steps) a b c same good prompt =
       let t = after k s (beside a c) in
       let u = after k s (beside b c) in
       let one = one-step s a b c same good prompt.0 in
       let rest : GoOn steps t u =
       subst (λ clock. GoOn steps t (beside u.card clock)) one.1 (all-steps steps t.card u.card t.clock one.2 (goes-on s a c good prompt.0) prompt.1) in
-      ((λ i. one.0 i ∷ rest.0 i), rest.1)
+      ((λ i. one.0 i ∷ rest.0 i), rest.1, rest.2)
 
   -- what is noted of a link
   module _ (of : Seen C) (line number : ℕ) (standing-same : (a b : C) → Same a b → standing_in (of a) line number ≡ standing_in (of b) line number) where

@@ -1,13 +1,16 @@
 -- A card that is restored goes on.
-use Rattle.std.proofs.Common.{◌≡◌, ℕ, ◌<◌, Bool, true, false, List, [], ◌∷◌, get_or, replicate, Option, Some, None, refl, sym, ap, ◌∙◌, subst, nat_le, cond, arith}
+use Rattle.std.proofs.Common.{◌≡◌, ℕ, ◌<◌, Bool, true, false, List, [], ◌∷◌, ◌++◌, append-nil, append_assoc, get_or, replicate, Option, Some, None, refl, sym, ap, ◌∙◌, subst, nat_le, cond, arith}
 use Rattle.std.specs.List.{AllByRecursion}
-use Rattle.std.specs.Prelude.{IfSome}
+use Rattle.std.specs.Prelude.{fold, IfSome}
+use Rattle.std.proofs.lemmas.List.Sums.{fold-append}
 use Rattle.lapd_clock.specs.Timers.{Expiry}
+use Rattle.model_line.specs.Event.{Answer}
 use Rattle.model_line.specs.Laws.{orders_in}
 use Rattle.model_line.specs.declared.config.Config.{Config}
 use Rattle.model_card.specs.Card.{Card}
 use Rattle.model_card.specs.Event.{Event}
-use Rattle.model_card.specs.Machine.{answer}
+use Rattle.model_card.specs.Machine.{answer, after as card_after}
+use Rattle.model_card.specs.Run.{one_more, run, Run}
 use Rattle.model_card.specs.Reached.{MayBegin}
 use Rattle.model_card.specs.Sound.{IsSound}
 use Rattle.model_card.specs.ports.Card as octets
@@ -88,14 +91,17 @@ falls-here x a c good is = first-line a.config.lines x c.running c.now good.on_l
 
 -- what they show
 timed-goes : (late : ℕ) (steps : List (Step Event)) (a b : Card) (c : Clock) → SameFrames a b → Stands a c → ArePrompt frames late steps (beside a c) → TimedGoesOn (beside a c) (beside b c) steps
-timed-goes late =
-    all-steps frames answer late SameFrames Stands (λ e a. e.line < a.config.lines) frames-step (λ e a happens. happens.0) falls-here (λ s a c good prompt. stepped late s (beside a c) good prompt)
+timed-goes late steps a b c same good prompt =
+    let all = all-steps frames answer late SameFrames Stands (λ e a. e.line < a.config.lines) frames-step (λ e a happens. happens.0) falls-here
+    (λ s a c good prompt. stepped late s (beside a c) good prompt) steps a b c same good prompt in
+    (all.0, all.1, all.2.cards)
 
 timed-octets-go : (late : ℕ) (steps : List (Step OctetEvent)) (m n : OctetCard) (c : Clock) → SameOctets m n → Stands m.card c → ArePrompt timed_octets.octets late steps (beside m c)
     → TimedOctetsGoOn (beside m c) (beside n c) steps
-timed-octets-go late =
-    all-steps timed_octets.octets octets.answer late SameOctets (λ m c. Stands m.card c) (λ e m. e.line < m.card.config.lines) octets-step (λ e m happens. happens.0)
-    (λ x m c good is. falls-here x m.card c good is) (λ s m c good prompt. octet-stepped late s (beside m c) good prompt)
+timed-octets-go late steps m n c same good prompt =
+    let all = all-steps timed_octets.octets octets.answer late SameOctets (λ m c. Stands m.card c) (λ e m. e.line < m.card.config.lines) octets-step (λ e m happens. happens.0)
+    (λ x m c good is. falls-here x m.card c good is) (λ s m c good prompt. octet-stepped late s (beside m c) good prompt) steps m n c same good prompt in
+    (all.0, all.1, all.2.cards)
 
 -- and what is noted of a link
 noted-goes : (line number late : ℕ) (steps : List (Step Event)) (a b : Card) (c : Clock) (m n : Marks) → SameFrames a b → Stands a c → ArePrompt frames late steps (beside a c)
@@ -122,6 +128,18 @@ clocks-same a b config (Some c) (Some d) one also same =
     ap Some (sym (same-clocks a.config.lines c d one.in_order also.in_order one.one_each also.one_each one.on_lines
     (subst (λ (x : Config). AllByRecursion (λ (e : Expiry). e.line < x.lines) d.running) (sym config) also.on_lines) same))
 
+-- A run from any card on is the run before, and then that of the card where it leads.
+replies-then : (events : List Event) (card : Card) (rs : List (ℕ × Answer)) → (fold one_more (record { card = card; replies = rs }) events).replies ≡ rs ++ (run card events).replies
+replies-then [] card rs = sym (append-nil rs)
+replies-then (e ∷ events) card rs =
+    let next : Card = card_after e card in
+    let one : List (ℕ × Answer) = (e.line, answer e card) ∷ [] in
+    replies-then events next (rs ++ one) ∙ append_assoc rs one (run next events).replies ∙ ap (λ qs. rs ++ qs) (sym (replies-then events next one))
+
+runs-on : (first : Card) (before events : List Event) → (run first (before ++ events)).replies ≡ (run first before).replies ++ (run (run first before).card events).replies
+runs-on first before events =
+    ap (λ (r : Run). r.replies) (fold-append one_more (record { card = first; replies = [] }) before events) ∙ replies-then events (run first before).card (run first before).replies
+
 pub a_restored_card_goes_on : ARestoredCardGoesOn
 a_restored_card_goes_on s t saved h =
     let same = images_are_read s t saved h.saved (sym h.same) in
@@ -134,6 +152,10 @@ a_restored_card_goes_on s t saved h =
     record {
       frames = λ events at. cards_go_on s.card t.card events saved.card h.saved.card cards at;
       octets = λ events at. octets_go_on (with_fresh_ports s.card) (with_fresh_ports t.card) events saved.card h.saved.card anew at;
+      observed = λ first before events there at.
+          runs-on first before events
+          ∙ ap (λ (qs : List (ℕ × Answer)). (run first before).replies ++ qs)
+          (ap (λ (card : Card). (run card events).replies) there ∙ (cards_go_on s.card t.card events saved.card h.saved.card cards at).replies);
       clock = clocks-same s.card t.card same.config s.clock t.clock saved.clock h.saved.clock same.clock;
       timed = λ c late steps stands prompt.
           timed-goes late steps s.card t.card c (record { sound = saved.card; also = h.saved.card; cards = cards }) stands prompt;

@@ -76,16 +76,24 @@ clocks-read a b config same places None (Some d) r s there sound also e = absurd
 clocks-read a b config same places (Some c) None r s there sound also e = absurd (cc)
 clocks-read a b config same places (Some c) (Some d) r s there sound also e = clock-read a b config same places c d r s sound also e
 
--- when the states of links changed
-moments-read : (c : Config) → Reads (AreMoments c) (λ (xs ys : List ℕ). xs ≡ ys) changes
+-- when the states of links changed: at moments of 64 bits
+record AreFew (c : Config) (moments : List ℕ) : Type 0 where
+  each : length moments ≡ link_count c
+  few : All (λ (n : ℕ). n < 256 ^ 8) moments
+
+few-rows : (c : Config) (now : ℕ) (rows : List (List ℕ)) → now < 2 ^ 63 → All (AreMoments c now) rows → All (AreFew c) rows
+few-rows c now rows small all = λ k d h. record { each = (all k d h).each; few = λ i m within. omega (arith, (all k d h).past i m within, small) }
+
+moments-read : (c : Config) → Reads (AreFew c) (λ (xs ys : List ℕ). xs ≡ ys) changes
 moments-read c xs ys r s few also e = equal-read (λ (n : ℕ). n < 256 ^ 8) (number 8) (number-read 8) xs ys r s (few.each ∙ sym also.each) few.few also.few e
 
-changes-read : (c : Config) (o p : Option Clock) (xs ys : List (List ℕ)) → is_some o ≡ is_some p → AreChanges c o xs → AreChanges c p ys → flat_map changes xs ≡ flat_map changes ys → xs ≡ ys
-changes-read c None None xs ys there few also e = few ∙ sym also
-changes-read c None (Some d) xs ys there few also e = absurd (cc)
-changes-read c (Some clock) None xs ys there few also e = absurd (cc)
-changes-read c (Some clock) (Some d) xs ys there few also e =
-    (equal-read (AreMoments c) changes (moments-read c) xs ys [] [] (few.0 ∙ sym also.0) few.1 also.1 (append-nil (flat_map changes xs) ∙ e ∙ sym (append-nil (flat_map changes ys)))).0
+changes-read : (a b : Card) (c : Config) (o p : Option Clock) (xs ys : List (List ℕ)) → is_some o ≡ is_some p → IfSome o (IsClockOf a) → IfSome p (IsClockOf b) → AreChanges c o xs → AreChanges c p ys
+    → flat_map changes xs ≡ flat_map changes ys → xs ≡ ys
+changes-read a b c None None xs ys there one too few also e = few ∙ sym also
+changes-read a b c None (Some d) xs ys there one too few also e = absurd (cc)
+changes-read a b c (Some clock) None xs ys there one too few also e = absurd (cc)
+changes-read a b c (Some clock) (Some d) xs ys there one too few also e =
+    (equal-read (AreFew c) changes (moments-read c) xs ys [] [] (few.0 ∙ sym also.0) (few-rows c clock.now xs one.now few.1) (few-rows c d.now ys too.now also.1) (append-nil (flat_map changes xs) ∙ e ∙ sym (append-nil (flat_map changes ys)))).0
 
 pub images_are_read : ImagesAreRead
 images_are_read s t sound also e =
@@ -123,6 +131,6 @@ images_are_read s t sound also e =
       counted = counted.0;
       waits = waits.0;
       clock = clocks.0;
-      changed = changes-read c s.clock t.clock s.changed t.changed (heads (tails bits)) sound.changed
+      changed = changes-read s.card t.card c s.clock t.clock s.changed t.changed (heads (tails bits)) sound.clock also.clock sound.changed
           (subst (λ (x : Config). AreChanges x t.clock t.changed) (sym same_config) also.changed) clocks.1;
     }

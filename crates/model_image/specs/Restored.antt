@@ -1,10 +1,10 @@
 -- What becomes of a card that is restored.
-use Rattle.std.specs.Prelude.{◌≡◌, ℕ, List, [], ◌∷◌, IfSome, Option, option_map, get_or}
+use Rattle.std.specs.Prelude.{◌≡◌, ℕ, List, [], ◌∷◌, ◌++◌, IfSome, Option, option_map, get_or}
 use Rattle.model_card.specs.Card.{Card, line_at}
 use Rattle.model_card.specs.Event.{Event}
 use Rattle.model_card.specs.Machine.{answer}
 use Rattle.model_card.specs.Reached.{IsReached}
-use Rattle.model_card.specs.Run.{AreAtLines}
+use Rattle.model_card.specs.Run.{run, AreAtLines}
 use Rattle.model_card.specs.ports.Card as octets
 use Rattle.model_card.specs.ports.Card.{OctetCard, with_fresh_ports}
 use Rattle.model_card.specs.ports.Event.{Event as OctetEvent}
@@ -50,13 +50,16 @@ unfoldable pub shown : {C E A : Type 0} → Kind C E → (E → C → A) → Lis
 shown k answer [] t = []
 shown k answer (s ∷ steps) t = option_map (λ e. (e, answer e t.card)) (event_of k s t) ∷ shown k answer steps (after k s t)
 
--- Two timed cards show the same at each step, and then their clocks are the same.
+-- Two timed cards show the same at each step, and then their clocks and their cards are the same.
 abbrev pub TimedGoesOn : TimedCard → TimedCard → List (Step Event) → Type 0
-TimedGoesOn t u steps = (shown frames_kind answer steps t ≡ shown frames_kind answer steps u) × ((after_all frames_kind steps t).clock ≡ (after_all frames_kind steps u).clock)
+TimedGoesOn t u steps =
+    (shown frames_kind answer steps t ≡ shown frames_kind answer steps u) × ((after_all frames_kind steps t).clock ≡ (after_all frames_kind steps u).clock)
+    × AreSameCards (after_all frames_kind steps t).card (after_all frames_kind steps u).card
 
 abbrev pub TimedOctetsGoOn : TimedOctetCard → TimedOctetCard → List (Step OctetEvent) → Type 0
 TimedOctetsGoOn t u steps =
     (shown octets_kind octets.answer steps t ≡ shown octets_kind octets.answer steps u) × ((after_all octets_kind steps t).clock ≡ (after_all octets_kind steps u).clock)
+    × AreSameOctetCards (after_all octets_kind steps t).card (after_all octets_kind steps u).card
 
 -- What is noted of each link of a card that is saved: its state, and the moment at which this became so.
 abbrev pub noted_in : Saved → Marks
@@ -69,10 +72,12 @@ beside card clock = record { card = card; clock = clock }
 -- A card that is restored from the image of another answers as that one would: a card of frames to every list of events; one of
 -- octets as one whose ports begin anew. Where they keep their own timers, the same fall due at the same steps, if these
 -- are prompt to however many milliseconds. And if what is noted of a link is what was saved of it, then after these steps
--- the restored card notes the same.
+-- the restored card notes the same. An observer sees one run: from any card on, over the save and the restore (`observed`).
 pub record GoesOnAs (s t : Saved) : Type 0 where
   pub frames : (events : List Event) → AreAtLines s.card events → CardGoesOn s.card t.card events
   pub octets : (events : List OctetEvent) → octets_run.AreAtLines (with_fresh_ports s.card) events → OctetCardGoesOn (with_fresh_ports s.card) (with_fresh_ports t.card) events
+  pub observed : (first : Card) (before events : List Event) → (run first before).card ≡ s.card → AreAtLines s.card events
+      → (run first (before ++ events)).replies ≡ (run first before).replies ++ (run t.card events).replies
   pub clock : t.clock ≡ s.clock
   pub timed : (c : Clock) (late : ℕ) (steps : List (Step Event)) → Stands s.card c → ArePrompt frames_kind late steps (beside s.card c)
       → TimedGoesOn (beside s.card c) (beside t.card c) steps

@@ -1,7 +1,7 @@
 -- Which cards are saved: sound ones, whose timers are those of their states, and whose numbers have the sizes that they have on
 -- a line and in the code.
 use Rattle.std.specs.List.{AllByRecursion, AllZip}
-use Rattle.std.specs.Prelude.{Bool, false, true, IsSome, get_or, ◌≡◌, ℕ, ◌≤◌, ◌<◌, ◌^◌, List, [], length, All, Option, None, Some, IfSome}
+use Rattle.std.specs.Prelude.{Bool, false, true, IsSome, get_or, ◌≡◌, ℕ, ◌+◌, ◌≤◌, ◌<◌, ◌^◌, List, [], length, All, Option, None, Some, IfSome}
 use Rattle.lapd_clock.specs.InOrder.{IsInOrder}
 use Rattle.lapd_clock.specs.Sound.{IsOneEach}
 use Rattle.lapd_clock.specs.Timer.{AreInRange}
@@ -23,9 +23,8 @@ use Rattle.model_timed.specs.RunTheSame.{RunAs, as_they_are}
 use Rattle.model_image.specs.Links.{counted_of}
 use Rattle.model_image.specs.Images.{Saved}
 
--- Of a link: at most 255 contents go again, its counts have 16 bits, and contents are octets.
+-- Of a link: its counts have 16 bits, and contents are octets.
 pub record IsSavedLink (l : Link) : Type 0 where
-  pub again : l.again ≤ 255
   pub counts : All (λ n. n ≤ 65535) (counted_of l.counts)
   pub octets : All AreOctets (queue_of l)
 
@@ -50,25 +49,25 @@ pub record AreMarks (c : Config) (l : Line) (waits : List Bool) : Type 0 where
   pub each : length waits ≡ link_count c
   pub there : (number : ℕ) → get_or waits number false ≡ true → IsSome (tei_at (place_at number) l)
 
--- A clock: the timers of the card run there, each once, and no others; they stand in the order in which they fall due. Moments
--- have 64 bits.
+-- A clock: the timers of the card run there, each once, and no others; they stand in the order in which they fall due. The moment is
+-- before 2^63, and none falls due later than the greatest length, an hour, after it.
 pub record IsClockOf (card : Card) (c : Clock) : Type 0 where
   pub lengths : AreInRange c.lengths
-  pub now : c.now < 2 ^ 64
-  pub moments : All (λ e. e.moment < 2 ^ 64) c.running
+  pub now : c.now < 2 ^ 63
+  pub moments : All (λ e. e.moment ≤ c.now + 3600000) c.running
   pub in_order : IsInOrder is_before c.running
   pub one_each : IsOneEach c.running
   pub on_lines : AllByRecursion (λ e. e.line < card.config.lines) c.running
   pub running : RunAs as_they_are card c
 
--- A card that keeps its own timers has a moment for each link of each line, of 64 bits; another card has none.
-pub record AreMoments (c : Config) (moments : List ℕ) : Type 0 where
+-- A card that keeps its own timers has a moment for each link of each line, which is not after now; another card has none.
+pub record AreMoments (c : Config) (now : ℕ) (moments : List ℕ) : Type 0 where
   pub each : length moments ≡ link_count c
-  pub few : All (λ moment. moment < 2 ^ 64) moments
+  pub past : All (λ moment. moment ≤ now) moments
 
 abbrev pub AreChanges : Config → Option Clock → List (List ℕ) → Type 0
 AreChanges c None changed = changed ≡ []
-AreChanges c (Some clock) changed = (length changed ≡ c.lines) × All (AreMoments c) changed
+AreChanges c (Some clock) changed = (length changed ≡ c.lines) × All (AreMoments c clock.now) changed
 
 pub record IsSaved (s : Saved) : Type 0 where
   pub card : IsSound s.card

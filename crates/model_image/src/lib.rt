@@ -3,8 +3,8 @@
 //!
 //! An image has what can't be worked out: the configuration, the lines, what was counted of them, and which links wait for
 //! room. A timed card's also has the moments of its timers, and of the last changes of states. It is the same on every processor.
-//! `specs/` has it, part by part (`Numbers` to `Images`), when two cards are the same (`Same`), which cards are saved (`Sound`),
-//! and what is proved of images (`Laws`) and of cards that are restored (`Restored`).
+//! `specs/` has it, part by part (`Configs` to `Images`; numbers and lists are those of `lapd_image`), when two cards are the same
+//! (`Same`), which cards are saved (`Sound`), and what is proved of images (`Laws`) and of cards that are restored (`Restored`).
 //!
 //! What stands half received or half sent in a port of octets is not in it.
 //!

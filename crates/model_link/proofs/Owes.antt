@@ -11,12 +11,12 @@ use Rattle.model_link.proofs.SoundRows.{is_in, Standing, CourseStands, stand}
 abbrev pub owed : Terms → Course → ℕ
 owed t c = cond {A = ℕ} (is_some c.sent) 1 0 + may_send t c.link
 
-pub record Owing (t : Terms) (total extra : ℕ) (p : Purse) (sent : Option Sent) (contents : List (List ℕ)) (a s : ℕ) (state : State) (asked : Bool) (ws : List ControlFrame) (own pending : Bool) : Type 0 where
-  pub stands : Standing t t.queue contents a s state asked ws own pending
+pub record Owing (t : Terms) (total extra : ℕ) (p : Purse) (sent : Option Sent) (contents : List (List ℕ)) (a s g : ℕ) (state : State) (asked : Bool) (ws : List ControlFrame) (own pending : Bool) : Type 0 where
+  pub stands : Standing t t.queue contents a s g state asked ws own pending
   pub within : cond {A = ℕ} (is_some sent) 1 0 + (length ws + (length contents - s) + cond {A = ℕ} pending 1 0 + window_back state t.k) + how_many p + extra ≤ total
 
 abbrev pub Owes : Terms → ℕ → ℕ → Purse → Course → Type 0
-Owes t total extra p c = Owing t total extra p c.sent c.link.contents c.link.a c.link.s c.link.state c.link.asked c.link.waiting c.link.own_busy c.link.pending
+Owes t total extra p c = Owing t total extra p c.sent c.link.contents c.link.a c.link.s c.link.again c.link.state c.link.asked c.link.waiting c.link.own_busy c.link.pending
 
 -- What is wanted in the end.
 pub record Within (t : Terms) (total : ℕ) (c : Course) : Type 0 where

@@ -43,9 +43,10 @@ pub record IsWaitingFrame (t : Terms) (f : ControlFrame) : Type 0 where
   pub without_contents : is_information f.control ≡ false
 
 pub record IsSound (t : Terms) (l : Link) : Type 0 where
-  -- V(A) is not beyond V(S), nor V(S) beyond what was accepted; at most k are outstanding (clause 5.6.1)
+  -- V(A) is not beyond V(S), nor V(S) and what goes again beyond what was accepted; at most k are outstanding (clause 5.6.1)
   pub ordered : l.a ≤ l.s
   pub accepted : l.s ≤ length l.contents
+  pub again : l.s + l.again ≤ length l.contents
   pub within : l.s ≤ l.a + t.k
   pub settled : IsSettledIn l.state l
   -- the queue and the control frames keep within their capacities

@@ -2,7 +2,7 @@
 use Rattle.std.proofs.Common.{arith, ◌≡◌, ℕ, ◌+◌, ◌-◌, ◌≤◌, List, ◌++◌, length, take, min, sym, ap, ◌∙◌, length-append, length-drop, length-take, length-take-le}
 use Rattle.std.proofs.Math.Seq.{take-append-add}
 use Rattle.std.proofs.lemmas.List.{take_min}
-use Rattle.std.proofs.lemmas.Slice.{take-put_mid}
+use Rattle.std.proofs.lemmas.Slice.{take-put_mid, drop-put_mid}
 use borrow.Rule.Slice.PartMut.{put_mid}
 use Rattle.lapd_image.specs.Puts.{Puts}
 use Rattle.lapd_image.proofs.writing.put_octets.Goals as goal
@@ -27,6 +27,7 @@ put octets old copied at count within as_many is =
       room = room;
       within = omega (arith, room, as_many, within);
       front = take-put_mid at (at + count - at) old copied (at + count) (omega (arith, many)) within ∙ ap (λ l. take at old ++ l) is ∙ cut octets old at count within as_many;
+      after = drop-put_mid at (at + count - at) old copied (at + count) (omega (arith)) within (omega (arith, many));
     }
 
 pub returns : goal.returns

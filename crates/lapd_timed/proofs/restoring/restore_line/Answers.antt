@@ -15,6 +15,9 @@ returns-in_err-restore_links-clause-none g c = on_err c.from_residual.result (λ
 pub returns-clause-size : goal.returns-clause-size
 returns-clause-size g c = on_ok_weaker c.restore_own.result (λ size. size ∙ c.in_ok-restore_links.ensures.size) c.restore_own.ensures.size
 
+pub returns-clause-until : goal.returns-clause-until
+returns-clause-until g c = on_ok_weaker c.restore_own.result (λ own all. own (c.in_ok-restore_links.ensures.until all)) c.restore_own.ensures.until
+
 pub returns-clause-read : goal.returns-clause-read
 returns-clause-read g c = on_ok_weaker c.restore_own.result (λ own m s places rests.
     let there = subst (λ d. c.args.line < d.lines) (sym s.config) c.requires.line in

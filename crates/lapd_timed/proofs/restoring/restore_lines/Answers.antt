@@ -1,7 +1,7 @@
 -- Line by line.
 use Rattle.std.proofs.Common.{arith, ◌<◌, ap, subst, ◌∙◌}
 use Rattle.lapd_image.proofs.Reading.{on_err}
-use Rattle.lapd_moments.specs.Restored.{lines_part, AreLinesRead, IsInTime, Passes}
+use Rattle.lapd_moments.specs.Restored.{lines_part, AreLinesRead, FallsUntil, Passes}
 use Rattle.lapd_moments.proofs.Passing.{none-number, passes-number}
 use Rattle.lapd_moments.proofs.Restoring.{one-more-line}
 use Rattle.model_image.specs.Clocks.{moments_at}
@@ -15,6 +15,7 @@ returns-in_err-restore_line-clause-none g c = on_err c.from_residual.result (λ 
 pub loop-line-preserved : goal.loop-line-preserved
 loop-line-preserved g c = record {
   size = c.in_ok-restore_line.ensures.size ∙ c.loop-line.invariant.size;
+  until = λ all. c.in_ok-restore_line.ensures.until (c.loop-line.invariant.until all);
   read = λ m s start.
       let within : c.loop-line.line < m.config.lines = omega (arith, c.loop-line-test.true, c.loop-line.auto.line-end, c.lines-line-end.ensures, ap (λ d. d.lines) s.config) in
       let read = c.loop-line.invariant.read m s start in
@@ -28,4 +29,4 @@ returns-clause-read g c = λ m s start.
 
 pub returns-clause-passes : goal.returns-clause-passes
 returns-clause-passes g c = λ m s terminals.
-    subst (λ n. Passes (lines_part m n) IsInTime c.args.reader.now c.loop-line.reader) (omega (arith, c.loop-line-test.false, c.loop-line.auto.line-end, c.lines-line-end.ensures, ap (λ d. d.lines) s.config)) (c.loop-line.invariant.passes m s terminals)
+    subst (λ n. Passes (lines_part m n) (FallsUntil c.args.latest) c.args.reader.now c.loop-line.reader) (omega (arith, c.loop-line-test.false, c.loop-line.auto.line-end, c.lines-line-end.ensures, ap (λ d. d.lines) s.config)) (c.loop-line.invariant.passes m s terminals)

@@ -28,7 +28,7 @@ returns-in-Some-clause-read g c = on_ok_weaker c.restore.result (λ started m s 
 
 pub returns-in-Some-clause-passes : goal.returns-in-Some-clause-passes
 returns-in-Some-clause-passes g c = on_ok_weaker c.restore.result (λ started m s terminals.
-    passes-one c.args.line c.slot-place.result c.in-Some.timer (timer_numbered (line_at c.args.line m) c.args.number) c.args.reader.now _ c.args.moments.now _
+    passes-one c.requires.some_time c.args.line c.slot-place.result c.in-Some.timer (timer_numbered (line_at c.args.line m) c.args.number) c.args.reader.now _ c.args.moments.now _
     (c.in-Some.ensures m s (subst (λ t. c.args.number < 2 * t) (sym terminals) c.requires.number)) started) c.restore.ensures.read
 
 pub returns-in-Some-clause-none : goal.returns-in-Some-clause-none

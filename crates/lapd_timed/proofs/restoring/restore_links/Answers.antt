@@ -1,7 +1,7 @@
 -- Link by link.
 use Rattle.std.proofs.Common.{arith, ◌*◌, ◌<◌, sym, subst, ◌∙◌}
 use Rattle.lapd_image.proofs.Reading.{on_err}
-use Rattle.lapd_moments.specs.Restored.{links_part, part_of_link, AreLinksRead, IsInTime, Passes}
+use Rattle.lapd_moments.specs.Restored.{links_part, part_of_link, AreLinksRead, FallsUntil, Passes}
 use Rattle.lapd_moments.proofs.Passing.{none-number, passes-number}
 use Rattle.lapd_moments.proofs.Restoring.{next-rests, one-more-link}
 use Rattle.lapd_timed.proofs.restoring.restore_links.Goals as goal
@@ -14,6 +14,7 @@ returns-in_err-restore_link-clause-none g c = on_err c.from_residual.result (λ 
 pub loop-number-preserved : goal.loop-number-preserved
 loop-number-preserved g c = record {
   size = c.in_ok-restore_link.ensures.size ∙ c.loop-number.invariant.size;
+  until = λ all. c.in_ok-restore_link.ensures.until (c.loop-number.invariant.until all);
   read = λ m s places rests.
       let there = subst (λ d. c.args.line < d.lines) (sym s.config) c.requires.line in
       let read = c.loop-number.invariant.read m s places rests in
@@ -29,4 +30,4 @@ returns-clause-read g c = λ m s places rests.
 
 pub returns-clause-passes : goal.returns-clause-passes
 returns-clause-passes g c = λ m s terminals.
-    subst (λ n. Passes (links_part m c.args.line n) IsInTime c.args.reader.now c.loop-number.reader) (omega (arith, c.loop-number-test.false, c.loop-number.auto.number-end)) (c.loop-number.invariant.passes m s terminals)
+    subst (λ n. Passes (links_part m c.args.line n) (FallsUntil c.args.latest) c.args.reader.now c.loop-number.reader) (omega (arith, c.loop-number-test.false, c.loop-number.auto.number-end)) (c.loop-number.invariant.passes m s terminals)

@@ -14,7 +14,7 @@ slot-place-requires-clause-line g c = omega (arith, c.requires.line, c.requires.
 
 pub restore-requires : goal.restore-requires
 restore-requires g c =
-    record { place = omega (arith, c.slot-place.ensures, c.requires.size, place-within c.args.line _ (4 * c.args.terminals + 2) c.own_kind_of.result c.requires.line (omega (arith, c.own_kind_of.ensures.few))) }
+    record { some_time = c.requires.some_time; place = omega (arith, c.slot-place.ensures, c.requires.size, place-within c.args.line _ (4 * c.args.terminals + 2) c.own_kind_of.result c.requires.line (omega (arith, c.own_kind_of.ensures.few))) }
 
 pub returns-in-None-clause-read : goal.returns-in-None-clause-read
 returns-in-None-clause-read g c = λ m s places rests.
@@ -30,7 +30,7 @@ returns-in-Some-clause-read g c = on_ok_weaker c.restore.result (λ started m s 
 
 pub returns-in-Some-clause-passes : goal.returns-in-Some-clause-passes
 returns-in-Some-clause-passes g c = on_ok_weaker c.restore.result (λ started m s.
-    passes-one c.args.line c.slot-place.result c.in-Some.timer (own_timers (line_at c.args.line m)) c.args.reader.now _ c.args.moments.now _ (c.in-Some.ensures m s) started) c.restore.ensures.read
+    passes-one c.requires.some_time c.args.line c.slot-place.result c.in-Some.timer (own_timers (line_at c.args.line m)) c.args.reader.now _ c.args.moments.now _ (c.in-Some.ensures m s) started) c.restore.ensures.read
 
 pub returns-in-Some-clause-none : goal.returns-in-Some-clause-none
 returns-in-Some-clause-none g c = on_err_weaker c.restore.result (λ none m s.

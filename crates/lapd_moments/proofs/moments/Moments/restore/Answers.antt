@@ -1,10 +1,10 @@
--- No moment was read.
+-- A moment that was read is not too late; or none was read.
 use Rattle.lapd_image.proofs.Reading.{on_err}
-use Rattle.lapd_moments.proofs.Image.{none-never, none-short}
+use Rattle.lapd_moments.proofs.Image.{none-late, none-short}
 use Rattle.lapd_moments.proofs.moments.Moments.restore.Goals as goal
 
 pub returns-in_err-moment-clause-none : goal.returns-in_err-moment-clause-none
 returns-in_err-moment-clause-none c = on_err c.from_residual.result (none-short c.args.reader.now c.in_err-moment.ensures.short)
 
-pub returns-then-moment-clause-none : goal.returns-then-moment-clause-none
-returns-then-moment-clause-none c = none-never _ _ c.in_ok-moment.moment c.if-moment.true c.in_ok-moment.ensures.read
+pub returns-then-moment-latest-clause-none : goal.returns-then-moment-latest-clause-none
+returns-then-moment-latest-clause-none c = none-late _ _ c.in_ok-moment.moment c.requires.some_time c.in_ok-moment.ensures.small c.if-moment-latest.true c.in_ok-moment.ensures.read

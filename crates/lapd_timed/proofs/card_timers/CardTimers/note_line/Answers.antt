@@ -10,4 +10,4 @@ note_all-requires-clause-there g c = λ number less.
 pub returns-clause-noted : goal.returns-clause-noted
 returns-clause-noted g c = λ old new marks stands but stood.
     line-noted c.args.self.now.lines (2 * c.args.self.now.terminals) c.args.line c.args.self.now.moment c.args.self.now.changes c.note_all.new.self old new marks c.states_of-states.result (omega (arith, c.args.self.now.few_terminals))
-    (c.states_of-states.ensures new stands) c.note_all.ensures but stood c.requires.line
+    (c.states_of-states.ensures new stands) c.note_all.ensures.noted but stood c.requires.line

@@ -1,11 +1,11 @@
 -- The two links of the TEI are noted, where it is on the line.
-use Rattle.std.proofs.Common.{arith, ◌+◌, ◌*◌, ◌∙◌, ap, sym, subst}
-use Rattle.std.specs.Prelude.{length}
+use Rattle.std.proofs.Common.{arith, ◌+◌, ◌*◌, ◌≤◌, ◌∙◌, ap, sym, subst}
+use Rattle.std.specs.Prelude.{All, length}
 use Rattle.std.specs.Option.{unwrap_or}
 use Rattle.model_line.specs.declared.config.Config.{Config}
 use Rattle.lapd_timed.specs.Marked.{slot_in, marked_at, AreMarks}
 use Rattle.model_timed.specs.Changes.{noted}
-use Rattle.lapd_timed.proofs.Marked.{slot-of, links-stay, states-stay}
+use Rattle.lapd_timed.proofs.Marked.{slot-of, links-stay, past-stay, states-stay}
 use Rattle.lapd_timed.proofs.TeisMarked.{both-noted, none-noted, call-is, packet-is, within}
 use Rattle.lapd_timed.proofs.card_timers.CardTimers.note_tei.Goals as goal
 
@@ -43,3 +43,22 @@ pub returns-else-place-self-clause-noted : goal.returns-else-place-self-clause-n
 returns-else-place-self-clause-noted g c = λ old new marks stands but stood.
     let few = c.in-Some.ensures.few in
     absurd (omega (arith, few, c.if-place-self.false, ap (λ (d : Config). d.terminals) stands.config, ap (λ (d : Config). d.terminals) but.config, stood.terminals_are))
+
+pub invariant_of-self : goal.invariant_of-self
+invariant_of-self g c =
+    let t = c.args.self.now in
+    let i = slot_in t.changes c.args.line (2 * c.in-Some.place) in
+    let j = slot_in c.note.new.self c.args.line (2 * c.in-Some.place + 1) in
+    let call = c.unwrap_or-call.result in
+    let packet = c.unwrap_or-packet.result in
+    let once = subst (λ h. All (λ changed. changed ≤ t.moment) h.moments) (sym c.note.ensures) (past-stay i call t.moment t.changes t.moment (omega arith) t.past) in
+    record {
+      few_lines = t.few_lines;
+      few_terminals = t.few_terminals;
+      in_time = t.in_time;
+      size = t.size;
+      of_lines = t.of_lines;
+      links = ap (λ h. h.links) c.note-then-place-self.ensures ∙ links-stay j packet t.moment c.note.new.self ∙ ap (λ h. h.links) c.note.ensures ∙ links-stay i call t.moment t.changes ∙ t.links;
+      marks = ap (λ h. length h.states) c.note-then-place-self.ensures ∙ states-stay j packet t.moment c.note.new.self ∙ ap (λ h. length h.states) c.note.ensures ∙ states-stay i call t.moment t.changes ∙ t.marks;
+      past = subst (λ h. All (λ changed. changed ≤ t.moment) h.moments) (sym c.note-then-place-self.ensures) (past-stay j packet t.moment c.note.new.self t.moment (omega arith) once);
+    }

@@ -1,9 +1,10 @@
 -- The links of a line are noted, one after the other.
-use Rattle.std.proofs.Common.{arith, ◌≡◌, ◌+◌, ◌*◌, ◌<◌, ◌∙◌, inl, inr, get_or, length, ap, sym, subst}
+use Rattle.std.proofs.Common.{arith, ◌≡◌, ◌+◌, ◌*◌, ◌<◌, ◌≤◌, ◌∙◌, inl, inr, get_or, length, ap, sym, subst}
+use Rattle.std.specs.Prelude.{All}
 use Rattle.std.proofs.lemmas.Bool.{cases_eq}
 use Rattle.model_timed.specs.Changes.{seen}
 use Rattle.lapd_timed.specs.Marked.{slot_in, marked_at, mark_in}
-use Rattle.lapd_timed.proofs.Marked.{links-stay, states-stay, moments-stay, at-slot, off-slot}
+use Rattle.lapd_timed.proofs.Marked.{links-stay, states-stay, moments-stay, past-stay, at-slot, off-slot}
 use Rattle.lapd_timed.proofs.changes.Changes.note_all.Goals as goal
 
 pub loop-number-preserved : goal.loop-number-preserved
@@ -21,6 +22,8 @@ loop-number-preserved c =
       links = ap (λ k. k.links) c.note.ensures ∙ links-stay (slot_in h line number) state c.args.now h ∙ links;
       count = ap (λ k. length k.states) c.note.ensures ∙ states-stay (slot_in h line number) state c.args.now h ∙ c.loop-number.invariant.count;
       moments = ap (λ k. length k.moments) c.note.ensures ∙ moments-stay (slot_in h line number) state c.args.now h ∙ c.loop-number.invariant.moments;
+      past = λ past. subst (λ k. All (λ moment. moment ≤ c.args.now) k.moments) (sym c.note.ensures)
+          (past-stay (slot_in h line number) state c.args.now h c.args.now (omega arith) (c.loop-number.invariant.past past));
       so_far = λ more before less. ap (λ k. mark_in k line more) c.note.ensures ∙ elim (cases_eq more number) [
         | inl same ↦ ap (mark_in (marked_at (slot_in h line number) state c.args.now h) line) same ∙ at-slot line number state c.args.now h there as_many
             ∙ ap (seen c.args.now state) (c.loop-number.invariant.others line number (omega (arith, few, links)) (λ _ below. omega (arith, below)))

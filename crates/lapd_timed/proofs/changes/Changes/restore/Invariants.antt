@@ -1,5 +1,5 @@
 -- The invariant of the loop of `Changes::restore`.
-use Rattle.std.proofs.Common.{◌≡◌, ◌<◌, ◌^◌, ◌++◌, length, take}
+use Rattle.std.proofs.Common.{◌≡◌, ◌≤◌, ◌++◌, length, take}
 use Rattle.std.specs.Prelude.{All}
 use Rattle.model_image.specs.Images.{changes}
 use Rattle.lapd_timed.proofs.changes.Changes.restore.Given as goal
@@ -11,5 +11,5 @@ invariant-loop-slot l = record {
   states : l.self.states ≡ l.fn.self.states;
   count : length l.self.moments ≡ length l.fn.self.moments;
   read : l.initial.reader ≡ changes (take l.slot l.self.moments) ++ l.reader;
-  few : All (λ moment. moment < 2 ^ 64) (take l.slot l.self.moments);
+  past : All (λ moment. moment ≤ l.now) (take l.slot l.self.moments);
 }

@@ -11,6 +11,8 @@ use Rattle.lapd_line.proofs.Vocabulary.{true, false, sym, subst, IsInRange, IsOf
 use Rattle.lapd_line.specs.declared.managing.Managing.TheVariants as kind
 use Rattle.model_link.specs.Link as machine
 use Rattle.lapd_line.proofs.LayerSteps.{beside_links, links_part}
+use Rattle.lapd_line.proofs.LinkSteps.{part}
+use Rattle.lapd_line.proofs.Vocabulary.{LinkStands, get_or, option_map, slice_get-map, slice_get-get_or}
 
 -- a sum of so many, each of them small
 sum_few : {X : Type 0} (f : X → ℕ) (P : X → Type 0) (most : ℕ) → ((x : X) → P x → f x ≤ most) → (xs : List X) → All P xs → sum_by f xs ≤ most * length xs
@@ -25,6 +27,9 @@ pub link_few : (x : Link) (m : machine.Link) → Fits x m → held (terms_of x) 
 link_few x m fits =
     let most = sum_few (λ f. length (spelling Network (frame_of (terms_of x) f))) (IsWaitingFrame (terms_of x)) 4 (λ f w. w.octets) m.waiting fits.sound.frames in
     omega (arith, most, fits.sound.ring, fits.range.control_high)
+
+pub few_at : {x : Link} {store : Store} {others : List Owned} {m : machine.Link} {result : ℕ} → LinkStands x store others m → result ≡ held (terms_of x) m → result ≤ 64
+few_at {x} {m = m} st is = omega (arith, is, link_few x m st.fits)
 
 -- the sum over one more
 pub sum_next : (f : ℕ → ℕ) (a n : ℕ) → sum_by f (range_with_len a (n + 1)) ≡ sum_by f (range_with_len a n) + f (a + n)
@@ -44,22 +49,19 @@ held_at : (c : Config) (number : ℕ) (ts : Terms) (l : machine.Link) (o : Optio
     → held ts l ≡ held (terms c (service_at number) (unwrap_or o 0)) l
 held_at c number ts l o same is = grind arith
 
-pub held_there : (e : LinkLayer) (store : Store) (others : List Owned) (m : Line) (number : ℕ) (ts : Terms) → LayerStands e store others m → number < link_count e.config → HasTerms e.links number ts
+pub held_there : (e : LinkLayer) (store : Store) (others : List Owned) (m : Line) (number : ℕ) (ts : Terms) → LayerStands e store others m → number < link_count e.config → HasTerms e.links.items number ts
     → held ts (machine_at m.links number) ≡ held_by_link e.config m number
 held_there e store others m number ts st within has = grind (arith, held_at, same_Some)
 
-terms_there : (links : List Link) (number : ℕ) → number < length links → (ts : Terms) × HasTerms links number ts
-terms_there [] number within = absurd (omega (arith, within))
-terms_there (x ∷ links) zero within = (terms_of x, refl)
-terms_there (x ∷ links) (suc n) within = terms_there links n (omega (arith, within))
-
 -- so what is held for the link at a place is what the machine says
-pub held_place : (e : LinkLayer) (store : Store) (others : List Owned) (m : Line) (number result : ℕ) → LayerStands e store others m → number < link_count e.config
-    → ((c : Config) (ts : Terms) (store : Store) (others : List Owned) (ms : List machine.Link) → HasTerms e.links number ts → LinksStand c e.links store others ms → result ≡ held ts (machine_at ms number))
+pub held_place : (e : LinkLayer) (store : Store) (others : List Owned) (m : Line) (number : ℕ) (x : Link) (result : ℕ) → LayerStands e store others m → number < link_count e.config → x ≡ get_or e.links.items number x
+    → ((others : List Owned) (l : machine.Link) → LinkStands x store others l → result ≡ held (terms_of x) l)
     → result ≡ held_by_link e.config m number
-held_place e store others m number result st within h =
-    let (ts, has) = terms_there e.links number (omega (arith, st.count, within)) in
-    h e.config ts store (beside_links e m others) m.links has (links_part e store others m st) ∙ held_there e store others m number ts st within has
+held_place e store others m number x result st few is h =
+    let within : number < length e.links.items = omega (arith, st.count, few) in
+    let f = part within is e.config (beside_links e m others) m.links (links_part e store others m st) in
+    let has : HasTerms e.links.items number (terms_of x) = slice_get-map terms_of e.links.items number ∙ ap (option_map terms_of) (slice_get-get_or e.links.items number x within ∙ ap Some (sym is)) in
+    h f.rest (machine_at m.links number) f.stands ∙ held_there e store others m number (terms_of x) st few has
 
 pub held_more : (f : ℕ → ℕ) (number octets result : ℕ) → octets ≡ sum_by f (range_with_len 0 number) → result ≡ f number → octets + result ≡ sum_by f (range_with_len 0 (number + 1))
 held_more f number octets result so_far here = grind (arith, sum_next)

@@ -15,8 +15,10 @@ use Rattle.lapd_terminal.specs.Events as terminals
 use Rattle.lapd_line.specs.declared.managing.Managing.TheVariants as kind
 use Rattle.lapd_line.specs.Requests.{is_bad, may_ask, refusal_at, request_asked}
 use Rattle.lapd_line.specs.declared.requests.TeiRequest.{TeiRequest}
-use Rattle.lapd_line.specs.Links as all
 use Rattle.lapd_line.proofs.LayerSteps.{beside_links, links_part, named, numbered, at_link_serves}
+use Rattle.lapd_line.proofs.LinkSteps.{Did, IsLooked}
+use Rattle.std.specs.Vec.{with_item}
+use Rattle.lapd_line.proofs.Vocabulary.{get_or}
 use Rattle.lapd_line.specs.declared.requests.TeiRequest.TheVariants as tei_request
 
 -- a test that refuses, and its opposite
@@ -150,7 +152,7 @@ module _ (e : LinkLayer) (s : Store) (others : List Owned) (m : Line) (st : Laye
       ∙ ap (λ b. cond (not b) (Some NoLink) (links.refusal (terms e.config service tei) (link_of service tei m) full request)) (ap (λ t. is_on tei t.places) st.management ∙ off_line (places_of e.teis) tei none)
 
   pub asked : (place number : ℕ) (why : Option Refusal) → nat_lt 126 tei ≡ false → place_of tei (places_of e.teis) ≡ Some place → (place ≤ 8 → number ≡ link_number place service)
-      → Refuses number full request e.links s why → link_refusal e.config full service tei request m ≡ why
+      → Refuses number full request e.links.items s why → link_refusal e.config full service tei request m ≡ why
   asked place number why low here exact refuses =
       let at = (place_of-is (places_of e.teis) tei place here).1 in
       let n = named e s others m service tei place st at in
@@ -160,7 +162,7 @@ module _ (e : LinkLayer) (s : Store) (others : List Owned) (m : Line) (st : Laye
       ap (λ b. cond b (Some BadTei) (cond (not (has_tei tei m)) (Some NoLink) (links.refusal (terms e.config service tei) (link_of service tei m) full request))) low
       ∙ ap (λ b. cond (not b) (Some NoLink) (links.refusal (terms e.config service tei) (link_of service tei m) full request)) on
       ∙ ap (λ x. links.refusal (terms e.config service tei) x full request) (this ∙ ap (machine_at m.links) (sym same))
-      ∙ refuses e.config (terms e.config service tei) (beside_links e m others) m.links (subst (λ x. HasTerms e.links x (terms e.config service tei)) (sym same) n.has_terms) (links_part e s others m st)
+      ∙ refuses e.config (terms e.config service tei) (beside_links e m others) m.links (subst (λ x. HasTerms e.links.items x (terms e.config service tei)) (sym same) n.has_terms) (links_part e s others m st)
 
 -- a deactivation is refused where there is no link, and granted where there is one
 module _ (e : LinkLayer) (s : Store) (others : List Owned) (m : Line) (st : LayerStands e s others m) (service : Service) (tei : ℕ) where
@@ -179,20 +181,20 @@ module _ (e : LinkLayer) (s : Store) (others : List Owned) (m : Line) (st : Laye
 same_step : (t : Terms) (l : machine.Link) (full : Bool) (request : link.Request) → links.refusal t l full request ≡ None → answers.course t (link.requested request full) l ≡ answers.course t (link.requested request false) l
 same_step t l full request granted = grind (arith, granted_same)
 
-pub asked_serves : (e : LinkLayer) (s t : Store) (new : List Link) (has_frame : Marks) (service : Service) (tei place number : ℕ) (full : Bool) (request : link.Request) (answer : BareReport) (outcome : BareReport) {looked : Bool}
-    → Standing e s → place_of tei (places_of e.teis) ≡ Some place → (place ≤ 8 → number ≡ link_number place service)
-    → TellsOf number new looked → Sets number looked e.has_frame has_frame → Refuses number full request e.links s None
-    → all.Serves number (link.requested request full) [] e.links s new t answer
-    → told_in [] outcome ≡ told_of_link (told_with [] answer)
-    → Serves (λ m. at_requested service tei request (place_in m tei)) [] e s (record e { links = new; has_frame = has_frame }) t outcome
-asked_serves e s t new has_frame service tei place number full request answer outcome standing here exact looks sets refuses served told =
+pub asked_serves : {e : LinkLayer} {s t : Store} {x y : Link} {has_frame : Marks} (service : Service) (tei : ℕ) {place number : ℕ} {full : Bool} {request : link.Request} {answer outcome : BareReport} {looked : Bool}
+    → Standing e s → place_of tei (places_of e.teis) ≡ Some place → (place ≤ 8 → number ≡ link_number place service) → x ≡ get_or e.links.items number x
+    → IsLooked y looked → Sets number looked e.has_frame has_frame → Refuses number full request e.links.items s None
+    → Did (link.requested request full) [] x s y t answer
+    → (answer.cause ≡ None → told_in [] outcome ≡ told_of_link (told_with [] answer))
+    → Serves (λ m. at_requested service tei request (place_in m tei)) [] e s (record e { links = with_item e.links number y; has_frame = has_frame }) t outcome
+asked_serves {e} {s} {t} {y = y} {has_frame} service tei {place} {number} {full} {request} {outcome = outcome} standing here exact is looks sets refuses did told =
     let at = (place_of-is (places_of e.teis) tei place here).1 in
     let same : number ≡ link_number place service = numbered e s tei place standing at exact in
-    let whole = at_link_serves {octets = []} {outcome = outcome} standing at exact looks sets served told in
+    let whole = at_link_serves {octets = []} {outcome = outcome} standing at exact is did looks sets told in
     record {
       config = refl;
       limits = whole.limits;
-      stands = λ others m st. subst (λ o. LayerStands (record e { links = new; has_frame = has_frame }) t others o.line) (one others m st at same) (whole.stands others m st);
+      stands = λ others m st. subst (λ o. LayerStands (record e { links = with_item e.links number y; has_frame = has_frame }) t others o.line) (one others m st at same) (whole.stands others m st);
       told = λ others m st. whole.told others m st ∙ ap (λ o. o.told) (one others m st at same);
     }
   where
@@ -200,7 +202,7 @@ asked_serves e s t new has_frame service tei place number full request answer ou
         → of_aim e.config (at_link service tei place (link.requested request full)) m ≡ of_aim e.config (at_requested service tei request (place_in m tei)) m
     one others m st at same =
         let n = named e s others m service tei place st at in
-        let granted = refuses e.config (terms e.config service tei) (beside_links e m others) m.links (subst (λ x. HasTerms e.links x (terms e.config service tei)) (sym same) n.has_terms) (links_part e s others m st) in
+        let granted = refuses e.config (terms e.config service tei) (beside_links e m others) m.links (subst (λ x. HasTerms e.links.items x (terms e.config service tei)) (sym same) n.has_terms) (links_part e s others m st) in
         let l = link_in m service place in
         let course = same_step (terms e.config service tei) l full request (ap (λ x. links.refusal (terms e.config service tei) (machine_at m.links x) full request) (sym same) ∙ granted) in
         ap (λ k. record { line = with_link (link_number place service) k.link m; told = told_of_link (answers.told_of (terms e.config service tei) l k) }) course

@@ -1,6 +1,7 @@
 -- Lemmas: steps of a line, of its links and of its TEI management; what is next; ports; rooms.
 pub mod Vocabulary
 mod ManagingSteps
+pub mod LinkEvents
 pub mod LinkSteps
 pub mod Quiet
 mod Silent

@@ -39,17 +39,17 @@ some_among c m from (suc n) number low high some =
 module _ (e : LinkLayer) (s : Store) (others : List Owned) (m : Line) (st : LayerStands e s others m) where
   -- a link that has a frame is there,
   pub there : (number : ℕ) → number < 64 → IsMark e.has_frame number true → number < link_count e.config
-  there number few has_frame = go (slice_get (terms_in e.links) number) refl (marked (gives_at e.links m.links number) (sym has_frame ∙ st.has_frame number few))
+  there number few has_frame = go (slice_get (terms_in e.links.items) number) refl (marked (gives_at e.links.items m.links number) (sym has_frame ∙ st.has_frame number few))
     where
-      go : (o : Option Terms) → slice_get (terms_in e.links) number ≡ o → option_map_or (gives (machine_at m.links number)) (slice_get (terms_in e.links) number) false ≡ true → number < link_count e.config
+      go : (o : Option Terms) → slice_get (terms_in e.links.items) number ≡ o → option_map_or (gives (machine_at m.links number)) (slice_get (terms_in e.links.items) number) false ≡ true → number < link_count e.config
       go None is some = absurd (false≢true (sym (ap (λ o. option_map_or (gives (machine_at m.links number)) o false) is) ∙ some))
-      go (Some t) is some = omega (arith, slice_get_within (terms_in e.links) number t is, length-map e.links terms_of, st.count)
+      go (Some t) is some = omega (arith, slice_get_within (terms_in e.links.items) number t is, length-map e.links.items terms_of, st.count)
 
   -- and is one from which a frame is taken
   link_gives : (number : ℕ) → number < link_count e.config → IsMark e.has_frame number true → is_some (link_taken e.config m number) ≡ true
   link_gives number few has_frame =
       let k = known e s others m number few st in
-      let some : is_some (given k.t (link_at number m)) ≡ true = awake_gives e.has_frame e.links m.links number k.t true (low_link e s number (others, m, st) few) st.has_frame k.has has_frame in
+      let some : is_some (given k.t (link_at number m)) ≡ true = awake_gives e.has_frame e.links.items m.links number k.t true (low_link e s number (others, m, st) few) st.has_frame k.has has_frame in
       some_map (with_given_frame e.config m number (terms_at e.config number m)) (given (terms_at e.config number m) (link_at number m)) ∙ go k (given k.t (link_at number m)) refl some
     where
       go : (k : Known e m number) (o : Option Given) → given k.t (link_at number m) ≡ o → is_some (given k.t (link_at number m)) ≡ true → is_some (given (terms_at e.config number m) (link_at number m)) ≡ true

@@ -2,6 +2,7 @@
 use Rattle.lapd_line.proofs.Vocabulary.{◌≡◌, ◌⊎◌, inl, inr, Bool, true, false, ℕ, zero, suc, ◌+◌, ◌-◌, ◌≤◌, ◌<◌, List, [], ◌∷◌, ◌++◌, length, take, drop, get_or, slice_get, Option, Some, None, option_map, IfSome, refl, ap, sym, ◌∙◌, subst, arith, none-some, slice_get_cases, slice_get-map, range_with_len, option_or, unwrap_or, Order, IsFrame, spelling, listed, Owned, Store, IsUsed, Link, Offer}
 use Rattle.lapd_line.proofs.Vocabulary.{contents_in, HasMessage, terms_of, Terms, frame_of, given, Given, Config, Line, link_at, link_count, place_at, service_at, tei_at, terms, terms_at, Taken, with_given_frame, link_taken, first_taken, round, IsSoundAt, fresh_gives_nothing, TakesSoundly, link_sound, ranges_of, is_some, false≢true, ShortList, orders_taken, IsMark, Sets, TellsOf, given_by}
 use Rattle.lapd_line.proofs.Vocabulary.{LinkLayer, LayerStands, Standing, HasTerms, IsGiven, Offers, terms_in, Loading, Loads, room_in, reference_in, IsFree, HasTaken, Took, Takes, contents_of, own_side}
+use Rattle.std.proofs.Common.{Vec, Global}
 use Rattle.model_link.specs.Machine.{after}
 use Rattle.lapd_line.proofs.AwakeSteps.{awake_set, awake_gives}
 use Rattle.lapd_line.proofs.LayerSteps.{beside_links, links_part, links_turned}
@@ -11,26 +12,26 @@ use Rattle.lapd_line.proofs.PullTakes.{takes_or, takes_first, takes_as}
 -- those of its TEI.
 pub record Known (e : LinkLayer) (m : Line) (number : ℕ) : Type 0 where
   pub t : Terms
-  pub has : HasTerms e.links number t
+  pub has : HasTerms e.links.items number t
   pub none : given t (link_at number m) ≡ None → given (terms_at e.config number m) (link_at number m) ≡ None
-  pub some : (g : Given) → given t (link_at number m) ≡ Some g → HasTerms e.links number (terms_at e.config number m)
+  pub some : (g : Given) → given t (link_at number m) ≡ Some g → HasTerms e.links.items number (terms_at e.config number m)
 
 pub known : (e : LinkLayer) (s : Store) (others : List Owned) (m : Line) (number : ℕ) → number < link_count e.config → LayerStands e s others m → Known e m number
-known e s others m number few st = go (tei_at (place_at number) m) refl (st.sound.links number few) (slice_get_cases e.links number).1
+known e s others m number few st = go (tei_at (place_at number) m) refl (st.sound.links number few) (slice_get_cases e.links.items number).1
   where
     go : (o : Option ℕ) → tei_at (place_at number) m ≡ o → IsSoundAt e.config number (link_at number m) o
-        → ((x : Link) × (number < length e.links) × (slice_get e.links number ≡ Some x) × (get_or e.links number x ≡ x)) ⊎ ((length e.links ≤ number) × (slice_get e.links number ≡ None)) → Known e m number
+        → ((x : Link) × (number < length e.links.items) × (slice_get e.links.items number ≡ Some x) × (get_or e.links.items number x ≡ x)) ⊎ ((length e.links.items ≤ number) × (slice_get e.links.items number ≡ None)) → Known e m number
     go (Some tei) at here there =
         let same : terms_at e.config number m ≡ terms e.config (service_at number) tei = ap (λ o. terms e.config (service_at number) (unwrap_or o 0)) at in
         record {
           t = terms e.config (service_at number) tei;
           has = st.terms number tei few at;
           none = λ h. ap (λ t. given t (link_at number m)) same ∙ h;
-          some = λ g h. subst (HasTerms e.links number) (sym same) (st.terms number tei few at);
+          some = λ g h. subst (HasTerms e.links.items number) (sym same) (st.terms number tei few at);
         }
     go None at fresh (inl (x, within, is, more)) = record {
       t = terms_of x;
-      has = slice_get-map terms_of e.links number ∙ ap (option_map terms_of) is;
+      has = slice_get-map terms_of e.links.items number ∙ ap (option_map terms_of) is;
       none = λ h. ap (given (terms_at e.config number m)) fresh ∙ fresh_gives_nothing (terms_at e.config number m);
       some = λ g h. absurd (none-some g (sym (ap (given (terms_of x)) fresh ∙ fresh_gives_nothing (terms_of x)) ∙ h));
     }
@@ -44,7 +45,7 @@ low_link e s number (others, m, st) few = omega (arith, few, (ranges_of e.config
 none_given : (store : Store) (o : Option Offer) → o ≡ None → given_by store o ≡ None
 none_given store o is = ap (given_by store) is
 
-pub awake_offers : (e : LinkLayer) (s : Store) (number : ℕ) (new : List Link) (o : Option Offer) → number < link_count e.config → Standing e s → IsMark e.has_frame number true → Offers number e.links new o
+pub awake_offers : (e : LinkLayer) (s : Store) (number : ℕ) (new : List Link) (o : Option Offer) → number < link_count e.config → Standing e s → IsMark e.has_frame number true → Offers number e.links.items new o
     → is_some o ≡ true
 awake_offers e s number new o few (others, m, st) has_frame offers = go o refl
   where
@@ -55,15 +56,15 @@ awake_offers e s number new o few (others, m, st) has_frame offers = go o refl
     go (Some x) is = refl
     go None is =
         let given_none : None ≡ given k.t (link_at number m) = sym (none_given s o is) ∙ (offers.given e.config k.t s (beside_links e m others) m.links k.has (links_part e s others m st)).given in
-        ap is_some given_none ∙ awake_gives e.has_frame e.links m.links number k.t true (low_link e s number (others, m, st) few) st.has_frame k.has has_frame
+        ap is_some given_none ∙ awake_gives e.has_frame e.links.items m.links number k.t true (low_link e s number (others, m, st) few) st.has_frame k.has has_frame
 
 -- what a link gives, for a line that the entities stand for
 record Gives (e : LinkLayer) (s : Store) (m : Line) (number : ℕ) (o : Offer) : Type 0 where
-  pub has : HasTerms e.links number (terms_at e.config number m)
+  pub has : HasTerms e.links.items number (terms_at e.config number m)
   pub is : IsGiven s (terms_at e.config number m) (link_at number m) (Some o)
 
 gives : (e : LinkLayer) (s : Store) (others : List Owned) (m : Line) (number : ℕ) (new : List Link) (o : Offer) → number < link_count e.config → LayerStands e s others m
-    → Offers number e.links new (Some o) → Gives e s m number o
+    → Offers number e.links.items new (Some o) → Gives e s m number o
 gives e s others m number new o few st offers =
     let k = known e s others m number few st in
     let part = links_part e s others m st in
@@ -78,12 +79,12 @@ pub record CanSend (e : LinkLayer) (number : ℕ) (new : List Link) (o : Offer) 
 size_of : (s : Store) (most : ℕ) (slot : Option ℕ) (info : List ℕ) → info ≡ unwrap_or (contents_in s slot) [] → IfSome slot (HasMessage s most) → length info ≤ most
 size_of s most slot info is h = grind arith
 
-pub given_used : (e : LinkLayer) (s : Store) (number : ℕ) (new : List Link) (o : Offer) → number < link_count e.config → Standing e s → Offers number e.links new (Some o)
+pub given_used : (e : LinkLayer) (s : Store) (number : ℕ) (new : List Link) (o : Offer) → number < link_count e.config → Standing e s → Offers number e.links.items new (Some o)
     → IfSome o.contents (λ slot. IsUsed s slot)
 given_used e s number new o few (others, m, st) offers = (gives e s others m number new o few st offers).is.used
 
 -- its new parameters are its old ones
-still : (e : LinkLayer) (number : ℕ) (new : List Link) (t : Terms) → terms_in new ≡ terms_in e.links → HasTerms e.links number t → HasTerms new number t
+still : (e : LinkLayer) (number : ℕ) (new : List Link) (t : Terms) → terms_in new ≡ terms_in e.links.items → HasTerms e.links.items number t → HasTerms new number t
 still e number new t same has = subst (λ l. slice_get l number ≡ Some t) (sym same) has
 
 -- the information that goes with it
@@ -94,7 +95,7 @@ pub its_contents : (s : Store) (slot : Option ℕ) (at : ℕ) (octets : List ℕ
 its_contents s slot at octets is there = sym (ap (λ x. unwrap_or (contents_in s x) []) is ∙ ap (λ o. unwrap_or o []) there)
 
 pub can_send : (e : LinkLayer) (s : Store) (number : ℕ) (new : List Link) (o : Offer) (info : List ℕ) → number < link_count e.config → Standing e s
-    → Offers number e.links new (Some o) → info ≡ unwrap_or (contents_in s o.contents) [] → CanSend e number new o info
+    → Offers number e.links.items new (Some o) → info ≡ unwrap_or (contents_in s o.contents) [] → CanSend e number new o info
 can_send e s number new o info few (others, m, st) offers is =
     let g = gives e s others m number new o few st offers in
     let t = terms_at e.config number m in
@@ -104,10 +105,10 @@ can_send e s number new o info few (others, m, st) offers is =
     }
 
 -- what a link gives is sent
-pub link_sent : (e : LinkLayer) (s : Store) (f g : Loading) (number : ℕ) (new : List Link) (o : Offer) (info : List ℕ) (after : LinkLayer) → number < link_count e.config
-    → (looked : Bool) × TellsOf number new looked × Sets number looked e.has_frame after.has_frame → after ≡ record e { links = new; has_frame = after.has_frame; turn = number + 1 }
-    → Offers number e.links new (Some o) → info ≡ unwrap_or (contents_in s o.contents) [] → room_in g ≡ room_in f → reference_in g ≡ reference_in f
-    → ((t : Terms) → HasTerms new number t → Loads (spelling (own_side e.config) (record (frame_of t o.frame) { info = info })) f g)
+pub link_sent : (e : LinkLayer) (s : Store) (f g : Loading) (number : ℕ) (new : Vec Link Global) (o : Offer) (info : List ℕ) (after : LinkLayer) → number < link_count e.config
+    → (looked : Bool) × TellsOf number new.items looked × Sets number looked e.has_frame after.has_frame → after ≡ record e { links = new; has_frame = after.has_frame; turn = number + 1 }
+    → Offers number e.links.items new.items (Some o) → info ≡ unwrap_or (contents_in s o.contents) [] → room_in g ≡ room_in f → reference_in g ≡ reference_in f
+    → ((t : Terms) → HasTerms new.items number t → Loads (spelling (own_side e.config) (record (frame_of t o.frame) { info = info })) f g)
     → Takes (λ c m. link_taken c m number) e s f after s g (Some (listed o.orders))
 link_sent e s f g number new o info after few (looked, looks, sets) rest offers is room reference loaded =
     subst (λ l. Takes (λ c m. link_taken c m number) e s f l s g (Some (listed o.orders))) (sym rest) (record {
@@ -116,15 +117,15 @@ link_sent e s f g number new o info after few (looked, looks, sets) rest offers 
       room = room;
       reference = reference;
       took = λ others m st.
-          let gave = gives e s others m number new o few st offers in
+          let gave = gives e s others m number new.items o few st offers in
           let t = terms_at e.config number m in
           let what : Given = record { frame = o.frame; contents = contents_in s o.contents; orders = listed o.orders } in
           let same : link_taken e.config m number ≡ Some (with_given_frame e.config m number t what) = ap (λ x. option_map (with_given_frame e.config m number t) x) (sym gave.is.given) in
           let sound : TakesSoundly e.config m (with_given_frame e.config m number t what) =
           subst (λ x. IfSome x (TakesSoundly e.config m)) same (link_sound e.config st.range m st.sound number few) in
           let stand = offers.goes_on s e.config t (beside_links e m others) m.links gave.has (links_part e s others m st) in
-          let has_t = still e number new t offers.terms gave.has in
-          let are_awake = awake_set e.has_frame after.has_frame e.links new m.links number _ looked t sets offers.terms has_t (looks e.config t s (beside_links e m others) _ has_t stand) st.has_frame in
+          let has_t = still e number new.items t offers.terms gave.has in
+          let are_awake = awake_set e.has_frame after.has_frame e.links.items new.items m.links number _ looked t sets offers.terms has_t (looks e.config t s (beside_links e m others) _ has_t stand) st.has_frame in
           let has : HasTaken (with_given_frame e.config m number t what) (listed o.orders) (record e { links = new; has_frame = after.has_frame; turn = number + 1 }) s others f g = record {
             orders = refl;
             stands = links_turned e s s others m new _ after.has_frame (number + 1) (number + 1) st offers.terms (record { slots = refl; width = refl }) sound.line stand are_awake refl;
@@ -181,7 +182,7 @@ asleep_gives_nothing e s others m number few st asleep =
     let k = known e s others m number few st in
     let low = low_link e s number (others, m, st) few in
     ap (λ g. option_map (with_given_frame e.config m number (terms_at e.config number m)) g)
-    (k.none (no_value (given k.t (link_at number m)) (awake_gives e.has_frame e.links m.links number k.t false low st.has_frame k.has asleep)))
+    (k.none (no_value (given k.t (link_at number m)) (awake_gives e.has_frame e.links.items m.links number k.t false low st.has_frame k.has asleep)))
 
 pub none_of : (c : Config) (m : Line) (from n : ℕ) → ((number : ℕ) → from ≤ number → number < from + n → link_taken c m number ≡ None) → among from n c m ≡ None
 none_of c m from zero none = refl
@@ -242,7 +243,7 @@ still_ready h r =
     record { stands = stays; free = subst IsFree (sym same) r.free; room = omega (arith, r.room, h.room, ap (λ x. x.n201) h.config) }
 
 -- the turn is among the links
-pub turn_within : {e : LinkLayer} {s : Store} → Standing e s → (e.turn ≤ link_count e.config) × (length e.links ≡ link_count e.config)
+pub turn_within : {e : LinkLayer} {s : Store} → Standing e s → (e.turn ≤ link_count e.config) × (length e.links.items ≡ link_count e.config)
 turn_within (others, m, st) = (omega (arith, st.turn, st.sound.turn), st.count)
 
 -- the whole round: from the turn on, and then up to it
@@ -275,14 +276,14 @@ round_is e s others m st =
     ∙ ap (λ l. first_taken e.config m (l ++ range_with_len 0 m.turn)) (ap (λ b. range_with_len b (n - m.turn)) first ∙ sym (drop_range 0 n m.turn few))
     ∙ ap (λ l. first_taken e.config m (drop m.turn (range_with_len 0 n) ++ l)) (sym (take_range 0 n m.turn few))
 
-pub round_found : (e : LinkLayer) (count : ℕ) {b : LinkLayer} {s t : Store} {f g : Loading} {orders : List Order} → count ≡ length e.links
+pub round_found : (e : LinkLayer) (count : ℕ) {b : LinkLayer} {s t : Store} {f g : Loading} {orders : List Order} → count ≡ length e.links.items
     → Takes (among e.turn (count - e.turn)) e s f b t g (Some orders) → Takes (λ c m. first_taken c m (round c m)) e s f b t g (Some orders)
 round_found e count {b} {s} {t} {f} {g} {orders} is h =
     takes_as {first = λ c m. option_or (among e.turn (count - e.turn) c m) (among 0 (e.turn - 0) c m)} {second = λ c m. first_taken c m (round c m)}
     (λ others m st. ap (λ n. option_or (among e.turn (n - e.turn) e.config m) (among 0 (e.turn - 0) e.config m)) (is ∙ st.count) ∙ round_is e s others m st)
     (takes_first (among 0 (e.turn - 0)) {first = among e.turn (count - e.turn)} h)
 
-pub round_ends : (e : LinkLayer) (count : ℕ) {b c : LinkLayer} {s t u : Store} {f g h : Loading} {orders : Option (List Order)} → count ≡ length e.links
+pub round_ends : (e : LinkLayer) (count : ℕ) {b c : LinkLayer} {s t u : Store} {f g h : Loading} {orders : Option (List Order)} → count ≡ length e.links.items
     → Takes (among e.turn (count - e.turn)) e s f b t g None → Takes (among 0 (e.turn - 0)) b t g c u h orders
     → Takes (λ c m. first_taken c m (round c m)) e s f c u h orders
 round_ends e count {b} {c} {s} {t} {u} {f} {g} {h} {orders} is before now =

@@ -44,8 +44,8 @@ oldest_of c s (x ∷ us) (d ∷ ds) rest u is (service, tei, same) all held =
 
 -- the units of a line stand beside its links and what others own
 abbrev pub beside_units : (e : LinkLayer) (s : Store) (others : List Owned) (m : Line) → LayerStands e s others m
-    → Part s (unit_pairs e.units.waiting m.units) (λ new. (links_pairs e.links m.links ++ new) ++ others)
-beside_units e s others m st = second_part s (links_pairs e.links m.links) (unit_pairs e.units.waiting m.units) others st.held
+    → Part s (unit_pairs e.units.waiting m.units) (λ new. (links_pairs e.links.items m.links ++ new) ++ others)
+beside_units e s others m st = second_part s (links_pairs e.links.items m.links) (unit_pairs e.units.waiting m.units) others st.held
 
 pub oldest : (e : LinkLayer) (s : Store) (others : List Owned) (m : Line) (u : QueuedUnit) (st : LayerStands e s others m) → slice_get e.units.waiting 0 ≡ Some u
     → Oldest e.config s e.units.waiting m.units (beside_units e s others m st).rest u

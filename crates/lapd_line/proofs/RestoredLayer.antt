@@ -48,7 +48,7 @@ links_saved c m whole = record {
   where
     go : (number : ℕ) (o : Option ℕ) → IsSoundAt c number (link_at number m) o → IsSavedLink (link_at number m) → IsSavedAt c number o (link_at number m)
     go number None sound saved = sound
-    go number (Some tei) sound saved = record { sound = sound; timed = whole.timed number; again = saved.again; counts = saved.counts; octets = saved.octets }
+    go number (Some tei) sound saved = record { sound = sound; timed = whole.timed number; counts = saved.counts; octets = saved.octets }
 
 -- as many slots are in use
 units_used : {s t : Store} {waiting : List QueuedUnit} (units : List UnitData) → ((others : List Owned) → Holds s others → UnitsStand waiting t others units) → used_slots t ≡ used_slots s + length units

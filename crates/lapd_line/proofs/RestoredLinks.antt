@@ -1,6 +1,7 @@
 -- Links are read.
 use Rattle.lapd_line.proofs.Vocabulary.{◌≡◌, ◌≢◌, ℕ, ◌+◌, ◌<◌, List, ◌++◌, length, get_or, set, slice_get, Option, Some, None, refl, sym, ap, subst, ◌∙◌, arith, Owned, Store, SameLimits, used_slots, Link, terms_of, Terms, Config, LinksStand, HasTerms, machine_at, terms_in, LinkStands, Bool, none-some, same_Some, slice_get-set_same, slice_get-set_other, length-map, LinkLayer, Marks, Sets, TellsOf}
 use Rattle.lapd_line.proofs.Vocabulary.{AreAwake, terms, service_at, link_count, Service, length-append, length-pairs_of, pairs_of}
+use Rattle.std.proofs.Common.{Vec, Global}
 use Rattle.lapd_link.specs.Stands.{slots_of}
 use Rattle.lapd_store.proofs.Ownership.{used_slots-held}
 use Rattle.std.proofs.lemmas.List.{set-get_or}
@@ -9,8 +10,9 @@ use Rattle.lapd_line.specs.ImageParts.{HasNoLinkAt, HasNoLinkIn, LinksAwake, Res
 use Rattle.lapd_link.specs.Image as link
 use Rattle.model_image.specs.Links.{link as image}
 use Rattle.model_link.specs.Link as machine
-use Rattle.lapd_line.proofs.AwakeSteps.{awake_begun, awake_set}
-use Rattle.lapd_line.proofs.LinkSteps.{part, terms_at, terms_stay}
+use Rattle.lapd_line.proofs.AwakeSteps.{awake_begun, awake_set, begins_at}
+use Rattle.lapd_line.proofs.LinkSteps.{opened_stands, opened_terms, part, terms_at, terms_stay}
+use Rattle.lapd_line.proofs.Vocabulary.{length-set, ◌≤◌}
 
 -- one that begins may begin again
 as_it_is : (ms : List machine.Link) (number : ℕ) → machine_at ms number ≡ machine.fresh → set ms number machine.fresh ≡ ms
@@ -25,34 +27,34 @@ used_by {x} {s} {others} {m} st =
 used_as : {x y : Link} {s t : Store} {others : List Owned} {m : machine.Link} → LinkStands x s others machine.fresh → LinkStands y t others m → used_slots t ≡ used_slots s + length (machine.queue_of m)
 used_as first now = omega (arith, used_by first, used_by now)
 
--- The link at a place was read: the list is known by another name, under which it is the same.
-module _ {items links : List Link} {number : ℕ} {x : Link} (view : items ≡ links) (within : number < length links) (at : x ≡ get_or items number x) where
+-- The link at a place was read.
+module _ (links : List Link) {number : ℕ} {x : Link} (within : number < length links) (at : x ≡ get_or links number x) where
   pub begun_part : {s : Store} → (c : Config) × (others : List Owned) × (ms : List machine.Link) × LinksStand c links s others ms × (machine_at ms number ≡ machine.fresh)
       → (others : List Owned) × LinkStands x s others machine.fresh
-  begun_part {s} (c, others, ms, st, fresh) = let f = part view within at c others ms st in (f.rest, subst (LinkStands x s f.rest) fresh f.stands)
+  begun_part {s} (c, others, ms, st, fresh) = let f = part within at c others ms st in (f.rest, subst (LinkStands x s f.rest) fresh f.stands)
 
   of_terms : (terms : Terms) → HasTerms links number terms → terms_of x ≡ terms
-  of_terms terms = terms_at links number x terms within (subst (λ l. x ≡ get_or l number x) view at)
+  of_terms terms = terms_at links number x terms within at
 
   pub restored_in : {front rest : List ℕ} {y : Link} {s t : Store}
       → (c : Config) × (others : List Owned) × (ms : List machine.Link) × LinksStand c links s others ms × (machine_at ms number ≡ machine.fresh)
-      → terms_of y ≡ terms_of x → SameLimits s t → link.Restores front rest x s y t → RestoresIn number front rest links s (set items number y) t
+      → terms_of y ≡ terms_of x → SameLimits s t → link.Restores front rest x s y t → RestoresIn number front rest links s (set links number y) t
   restored_in {front} {rest} {y} {s} {t} begun same limits (m, read, becomes) =
       let (others, first) = begun_part begun in
-      subst (λ l. RestoresIn number front rest links s (set l number y) t) (sym view) (λ terms has. (
+      λ terms has. (
         m,
         subst (λ u. IsReadAs image (link.IsSaved u) m front rest) (of_terms terms has) read,
         used_as first (becomes.stands others first),
         λ c others ms fresh st.
-            let f = part view within at c others ms st in
+            let f = part within at c others ms st in
             f.back t y m limits same (becomes.stands f.rest (subst (LinkStands x s f.rest) fresh f.stands)),
-      ))
+      )
 
   pub none_in : {slots : ℕ} {front : List ℕ} (s : Store) → link.HasNoLink slots front x s → HasNoLinkIn number slots front links s
   none_in s none = λ terms l rest has saved. none l rest (subst (λ u. link.IsSaved u l) (sym (of_terms terms has)) saved)
 
-  pub terms_kept : (y : Link) → terms_of y ≡ terms_of x → terms_in (set items number y) ≡ terms_in links
-  terms_kept y same = terms_stay items number x y at same ∙ ap terms_in view
+  pub terms_kept : (y : Link) → terms_of y ≡ terms_of x → terms_in (set links number y) ≡ terms_in links
+  terms_kept y same = terms_stay links number x y at same
 
 -- There is no TEI at the place: the link stays as it begins.
 pub no_tei : (e : LinkLayer) (s : Store) (number : ℕ) (o : Option ℕ) (front : List ℕ) → o ≡ None → RestoresLink number o front front e s e s
@@ -82,6 +84,28 @@ opened {old} {new} {number} {tei} c (others, ms, st, many, fresh) few same is =
       others = λ other apart. ap (λ l. slice_get l other) anew ∙ slice_get-set_other (terms_in old) number other (terms c (service_at number) tei) apart;
     }
 
+-- So the links stand where one was opened, and it is as one that begins.
+pub record OpensAt (e : LinkLayer) (s : Store) (number tei : ℕ) (links : List Link) : Type 0 where
+  pub within : number < length links
+  pub stands : (others : List Owned) (ms : List machine.Link) → LinksStand e.config e.links.items s others ms → LinksStand e.config links s others (set ms number machine.fresh)
+  pub is : IsOpened number (terms e.config (service_at number) tei) e.links.items links
+  pub begun : (c : Config) × (others : List Owned) × (ms : List machine.Link) × LinksStand c links s others ms × (machine_at ms number ≡ machine.fresh)
+
+pub opens_at : {e : LinkLayer} {s : Store} {number : ℕ} (tei : ℕ) {service : Service} {x y : Link} {t : Terms}
+    → (others : List Owned) × (ms : List machine.Link) × LinksStand e.config e.links.items s others ms × (length ms ≡ link_count e.config) × (machine_at ms number ≡ machine.fresh) → number < link_count e.config
+    → x ≡ get_or e.links.items number x → service ≡ service_at number → t ≡ terms e.config service tei → terms_of y ≡ t
+    → ((s : Store) (others : List Owned) (m : machine.Link) → t.n201 ≤ s.width → LinkStands x s others m → LinkStands y s others machine.fresh)
+    → OpensAt e s number tei (set e.links.items number y)
+opens_at {e} {s} {number} tei {service} {y = y} (others, ms, st, many, fresh) few at same is has begins =
+    let within : number < length e.links.items = omega (arith, st.same, many, few) in
+    let stands = opened_stands within at e.config service tei is has begins s in
+    record {
+      within = omega (arith, within, length-set e.links.items number y);
+      stands = stands;
+      is = opened e.config (others, ms, st, many, fresh) few same (opened_terms e.links.items number y (has ∙ is));
+      begun = (e.config, others, set ms number machine.fresh, stands others ms st, begins_at ms number);
+    }
+
 -- There is one: no link that may be there is at the front.
 pub none_at : {slots tei : ℕ} {o : Option ℕ} {front : List ℕ} (e : LinkLayer) (links : List Link) (s : Store) (number : ℕ) → o ≡ Some tei → HasTerms links number (terms e.config (service_at number) tei)
     → HasNoLinkIn number slots front links s → HasNoLinkAt slots number o front e s
@@ -89,15 +113,15 @@ none_at {slots} {tei} {o} {front} e links s number some has none =
     subst (λ x. HasNoLinkAt slots number x front e s) (sym some) (λ l rest saved. none (terms e.config (service_at number) tei) l rest has saved)
 
 -- Or one is read.
-pub one_at : {number tei : ℕ} {o : Option ℕ} {front rest : List ℕ} {looked : Bool} (e : LinkLayer) (links restored : List Link) (marks : Marks) (s t : Store) → o ≡ Some tei
-    → IsOpened number (terms e.config (service_at number) tei) e.links links
-    → ((others : List Owned) (ms : List machine.Link) → LinksStand e.config e.links s others ms → LinksStand e.config links s others (set ms number machine.fresh))
-    → RestoresIn number front rest links s restored t → terms_in restored ≡ terms_in links → TellsOf number restored looked → Sets number looked e.has_frame marks
+pub one_at : {number tei : ℕ} {o : Option ℕ} {front rest : List ℕ} {looked : Bool} (e : LinkLayer) (links : List Link) (restored : Vec Link Global) (marks : Marks) (s t : Store) → o ≡ Some tei
+    → IsOpened number (terms e.config (service_at number) tei) e.links.items links
+    → ((others : List Owned) (ms : List machine.Link) → LinksStand e.config e.links.items s others ms → LinksStand e.config links s others (set ms number machine.fresh))
+    → RestoresIn number front rest links s restored.items t → terms_in restored.items ≡ terms_in links → TellsOf number restored.items looked → Sets number looked e.has_frame marks
     → RestoresLink number o front rest e s (record e { links = restored; has_frame = marks }) t
 one_at {number} {tei} {o} {front} {rest} {looked} e links restored marks s t some opened stands read same tells sets =
     let mine = terms e.config (service_at number) tei in
     let (l, is, used, becomes) = read mine opened.has in
-    let has : HasTerms restored number mine = ap (λ x. slice_get x number) same ∙ opened.has in
+    let has : HasTerms restored.items number mine = ap (λ x. slice_get x number) same ∙ opened.has in
     subst (λ x. RestoresLink number x front rest e s (record e { links = restored; has_frame = marks }) t) (sym some) (
       l,
       record { saved = is.saved; octets = is.octets },
@@ -106,12 +130,12 @@ one_at {number} {tei} {o} {front} {rest} {looked} e links restored marks s t som
             let again = as_it_is ms number fresh in
             let begun = subst (LinksStand e.config links s others) again (stands others ms la.stand) in
             let stand = becomes e.config others ms fresh begun in
-            let asleep = subst (AreAwake e.has_frame links) again (awake_begun e.has_frame e.links links ms number opened.others fresh la.awake) in
+            let asleep = subst (AreAwake e.has_frame links) again (awake_begun e.has_frame e.links.items links ms number opened.others fresh la.awake) in
             record {
               stand = stand;
-              awake = awake_set e.has_frame marks links restored ms number l looked mine sets same has (tells e.config mine t others (set ms number l) has stand) asleep;
+              awake = awake_set e.has_frame marks links restored.items ms number l looked mine sets same has (tells e.config mine t others (set ms number l) has stand) asleep;
             };
-        here = λ other is_that. subst (λ x. HasTerms restored number (terms e.config (service_at number) x)) (same_Some tei other is_that) has;
+        here = λ other is_that. subst (λ x. HasTerms restored.items number (terms e.config (service_at number) x)) (same_Some tei other is_that) has;
         there = λ other apart. ap (λ x. slice_get x other) same ∙ opened.others other apart;
         used = used;
       },

@@ -40,7 +40,7 @@ pub record LinksSoFar (slots : ℕ) (front rest : List ℕ) (old : LinkLayer) (s
   pub saved : (other : ℕ) → other < number → IsSavedAt old.config other (tei_in (places_of old.teis) other) (machine_at ms other)
   pub octets : front ≡ images_from (places_of old.teis) ms 0 number ++ rest
   pub stand : (others : List Owned) → LinksAwake old s others (replicate (link_count old.config) machine.fresh) → LinksAwake new t others ms
-  pub terms : (other tei : ℕ) → other < number → tei_in (places_of old.teis) other ≡ Some tei → HasTerms new.links other (terms old.config (service_at other) tei)
+  pub terms : (other tei : ℕ) → other < number → tei_in (places_of old.teis) other ≡ Some tei → HasTerms new.links.items other (terms old.config (service_at other) tei)
   -- and whatever links stand at the front, of those the others follow, and there is room for their contents
   pub meant : (ls : List machine.Link) (more : List ℕ) (left : ℕ) → AreSavedLinks old.config (places_of old.teis) ls → used_slots s + slots_from ls 0 (link_count old.config) ≤ slots
       → front ≡ images_from (places_of old.teis) ls 0 (link_count old.config) ++ more → number + left ≡ link_count old.config
@@ -93,7 +93,7 @@ one_more {slots} {number} {front} {mid} {rest} {old} {e} {new} {s} {t} {u} short
           ∙ (λ i. (sym first i ++ sym next i) ++ rest) ∙ ap (λ x. x ++ rest) (sym (images_next (image_at places ms) 0 number number (omega arith)));
       stand = λ others awake. becomes.stand others before.ms (before.begin number (omega arith)) (subst (λ x. LinksAwake x t others before.ms) is (before.stand others awake));
       terms = λ other tei h at. ⊎_elim
-          (λ same. subst (λ k. HasTerms new.links k (terms old.config (service_at k) tei)) (sym same) (becomes.here tei (ap (tei_in places) (sym same) ∙ at)))
+          (λ same. subst (λ k. HasTerms new.links.items k (terms old.config (service_at k) tei)) (sym same) (becomes.here tei (ap (tei_in places) (sym same) ∙ at)))
           (λ apart. becomes.there other apart ∙ before.terms other tei (omega (arith, h, apart)) at)
           (cases_eq other number);
       meant = λ ls more left saved room at all.

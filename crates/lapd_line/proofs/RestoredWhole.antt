@@ -1,6 +1,7 @@
 -- A line was read: it is whole, and the entities stand for it.
 use Rattle.lapd_line.proofs.Vocabulary.{◌≡◌, ℕ, ◌<◌, ◌≤◌, List, [], ◌∷◌, ◌++◌, replicate, Option, None, Some, refl, sym, ap, subst, ◌∙◌, arith, append_assoc, ⊎_elim, cases_lt, Config, Line, UnitData, LinkLayer, Managing, Marks, LayerStands, IsSound, IsSoundAt, IsOfSide, fresh_line, is_terminal, link_count, management_of, own_of, places_of, is_terminals, Owned, Holds, Store, SameLimits}
 use Rattle.lapd_line.proofs.Vocabulary.{links_pairs, unit_pairs, machine_at, AreFor, UnitRing, All-nil, QueuedUnit, Link, HasTerms, terms, service_at}
+use Rattle.std.proofs.Common.{Vec, Global}
 use Rattle.std.proofs.Common.{append-nil}
 use Rattle.std.proofs.lemmas.List.{get_or_past, length-replicate}
 use Rattle.std.proofs.lemmas.List.Elements.{All-from_get_or, All-replicate}
@@ -27,9 +28,9 @@ pub none_wait : (e : LinkLayer) (s : Store) (others : List Owned) → LayerStand
 none_wait e s others st = no_units e.units.waiting st.addressed
 
 -- what the links own, beside others
-links_own : (e : LinkLayer) (s : Store) (others : List Owned) → LayerStands e s others (fresh_line e.config) → Holds s (links_pairs e.links (fresh_line e.config).links ++ others)
+links_own : (e : LinkLayer) (s : Store) (others : List Owned) → LayerStands e s others (fresh_line e.config) → Holds s (links_pairs e.links.items (fresh_line e.config).links ++ others)
 links_own e s others st =
-    let pairs = links_pairs e.links (fresh_line e.config).links in
+    let pairs = links_pairs e.links.items (fresh_line e.config).links in
     subst (λ l. Holds s (l ++ others)) (append-nil pairs) (subst (λ us. Holds s ((pairs ++ unit_pairs us []) ++ others)) (none_wait e s others st) st.held)
 
 -- The links begin, where unit data was read.
@@ -37,7 +38,7 @@ pub links_begun : {t : Store} {units : List UnitData} (e : LinkLayer) (s : Store
     → ((others : List Owned) → Holds s others → UnitsStand ring.waiting t others units)
     → LinksAwake (record e { teis = x; units = ring; turn = turn }) t (unit_pairs ring.waiting units ++ others) (replicate (link_count e.config) machine.fresh)
 links_begun {t} {units} e s others st x ring turn limits stand =
-    let pairs = links_pairs e.links (fresh_line e.config).links in
+    let pairs = links_pairs e.links.items (fresh_line e.config).links in
     record {
       stand = record {
         wide = subst (λ w. e.config.n201 ≤ w) (sym limits.width) st.wide;
@@ -62,8 +63,8 @@ timed_at c number (Some tei) l saved = saved.timed
 
 pub saved_at : (c : Config) (number : ℕ) (o : Option ℕ) (l : machine.Link) → IsSavedAt c number o l → IsSavedLink l
 saved_at c number None l saved =
-    subst IsSavedLink (sym saved) (record { again = omega arith; counts = All-replicate (λ n. n ≤ 65535) 5 0 (omega arith); octets = All-nil AreOctets })
-saved_at c number (Some tei) l saved = record { again = saved.again; counts = saved.counts; octets = saved.octets }
+    subst IsSavedLink (sym saved) (record { counts = All-replicate (λ n. n ≤ 65535) 5 0 (omega arith); octets = All-nil AreOctets })
+saved_at c number (Some tei) l saved = record { counts = saved.counts; octets = saved.octets }
 
 -- A line of parts that may be saved.
 abbrev line_of : Config → Managing → List machine.Link → List UnitData → ℕ → Line
@@ -102,9 +103,9 @@ module _ (e : LinkLayer) (s : Store) (others : List Owned) (begun : LayerStands 
   before = record e { teis = x; units = ring; turn = turn }
 
   -- The entities stand for it.
-  layer_stands : {u : Store} {units : List UnitData} {ms : List machine.Link} {rest : List Owned} (links : List Link) (marks : Marks) → IsSound e.config (line_of e.config x ms units turn) → is_terminals x ≡ is_terminal e.config
+  layer_stands : {u : Store} {units : List UnitData} {ms : List machine.Link} {rest : List Owned} (links : Vec Link Global) (marks : Marks) → IsSound e.config (line_of e.config x ms units turn) → is_terminals x ≡ is_terminal e.config
       → AreFor ring.waiting units → ring.capacity ≡ e.units.capacity
-      → ((number tei : ℕ) → number < link_count e.config → tei_in (places_of x) number ≡ Some tei → HasTerms links number (terms e.config (service_at number) tei))
+      → ((number tei : ℕ) → number < link_count e.config → tei_in (places_of x) number ≡ Some tei → HasTerms links.items number (terms e.config (service_at number) tei))
       → LinksAwake (record before { links = links; has_frame = marks }) u (unit_pairs ring.waiting units ++ rest) ms
       → LayerStands (record before { links = links; has_frame = marks }) u rest (line_of e.config x ms units turn)
   layer_stands {u = u} {units} {ms} {rest} links marks sound kind addressed capacity has awake = record {
@@ -121,7 +122,7 @@ module _ (e : LinkLayer) (s : Store) (others : List Owned) (begun : LayerStands 
     capacity = capacity ∙ begun.capacity;
     turn = refl;
     has_frame = awake.awake;
-    held = subst (Holds u) (sym (append_assoc (links_pairs links ms) (unit_pairs ring.waiting units) rest)) awake.stand.held;
+    held = subst (Holds u) (sym (append_assoc (links_pairs links.items ms) (unit_pairs ring.waiting units) rest)) awake.stand.held;
   }
 
   pub restored : {front first second third rest : List ℕ} {t u : Store} (now : LinkLayer) → IsReadAs teis_image (AreSavedTeis e.teis) x front first → RestoresUnits e.config.n201 e.units.capacity first second s ring.waiting t

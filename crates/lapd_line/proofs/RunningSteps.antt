@@ -8,6 +8,8 @@ use Rattle.lapd_line.specs.declared.managing.Managing.TheVariants as kind
 use Rattle.model_image.specs.Clocks.{timer_at, timer_numbered, timer_of}
 use Rattle.model_link.specs.Link as machine
 use Rattle.lapd_line.proofs.LayerSteps.{beside_links, links_part}
+use Rattle.lapd_line.proofs.LinkSteps.{of_part}
+use Rattle.lapd_line.proofs.Vocabulary.{Link, LinkStands, get_or, terms_of}
 
 -- a TEI on the line is at most 126
 pub small_tei : (c : Config) (m : Line) (place : ℕ) → IsSound c m → IfSome (tei_at place m) (λ tei. tei < 127)
@@ -18,12 +20,12 @@ small_tei c m place sound = go (tei_at place m) refl
     go (Some tei) is = omega (arith, sound.management.table.range place tei is)
 
 -- the timer of a link of a TEI
-pub timer_there : (e : LinkLayer) (s : Store) (others : List Owned) (m : Line) (number : ℕ) (result : Option Timer) → LayerStands e s others m → number < link_count e.config → (tei : ℕ) → tei_at (place_at number) m ≡ Some tei
-    → ((c : Config) (ts : Terms) (store : Store) (others : List Owned) (ms : List machine.Link) → number < length e.links → HasTerms e.links number ts → LinksStand c e.links store others ms
-    → option_to_list result ≡ timer_of ts.service ts.tei (machine_at ms number).running)
+pub timer_there : (e : LinkLayer) (s : Store) (others : List Owned) (m : Line) (number : ℕ) (x : Link) (result : Option Timer) → LayerStands e s others m → number < link_count e.config → (tei : ℕ) → tei_at (place_at number) m ≡ Some tei
+    → x ≡ get_or e.links.items number x → ((others : List Owned) (l : machine.Link) → LinkStands x s others l → option_to_list result ≡ timer_of (terms_of x).service (terms_of x).tei l.running)
     → option_to_list result ≡ timer_numbered m number
-timer_there e s others m number result st few tei at h =
-    h e.config (terms e.config (service_at number) tei) s (beside_links e m others) m.links (omega (arith, few, st.count)) (st.terms number tei few at) (links_part e s others m st)
+timer_there e s others m number x result st few tei at there h =
+    of_part (omega (arith, few, st.count)) there (λ t l. option_to_list result ≡ timer_of t.service t.tei l.running) h
+    e.config (terms e.config (service_at number) tei) (beside_links e m others) m.links (st.terms number tei few at) (links_part e s others m st)
     ∙ sym (ap (λ o. timer_at (service_at number) o (link_at number m).running) at)
 
 -- there is none

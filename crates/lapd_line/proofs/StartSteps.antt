@@ -1,6 +1,7 @@
 -- A line begins: what its parts are, and that they stand for an empty past.
 use Rattle.lapd_line.proofs.Vocabulary.{◌≡◌, ℕ, ◌≤◌, List, [], ◌∷◌, ◌++◌, length, replicate, Some, None, refl, sym, ap, subst, ◌∙◌, arith, get_or-replicate, All-nil, All-cons, All-head, All-tail, All, zip, Owned, Holds, pairs_of, Store, empty_store, Holds-empty, Managing, Link, terms_of, fresh, queue_of, Config, place_at, link_count, fresh_line, IsInRange, fresh_sound, place_within}
 use Rattle.lapd_line.proofs.Vocabulary.{ranges_of, Marks, AreMarked, false, LayerStands, LinkFits, links_pairs, IsBegun, AreBegun, UnitRing, AreFor, empty_ring, unit_pairs}
+use Rattle.std.proofs.Common.{Vec, Global}
 use Rattle.lapd_line.specs.Managing.{IsBegunBy}
 use Rattle.lapd_link.specs.Stands as link
 use Rattle.lapd_link.specs.Stands.{slots_of}
@@ -35,7 +36,7 @@ absurd_none : {A : Type 0} {x : ℕ} → None ≡ Some x → A
 absurd_none h = cc
 
 -- the entities, of parts that were just started
-pub layer_fresh : (c : Config) (teis : Managing) (links : List Link) (units : UnitRing) (has_frame : Marks) → IsInRange c → IsBegunBy c teis → AreBegun c links → units ≡ empty_ring c.unit_queue → AreMarked has_frame (λ number. false)
+pub layer_fresh : (c : Config) (teis : Managing) (links : Vec Link Global) (units : UnitRing) (has_frame : Marks) → IsInRange c → IsBegunBy c teis → AreBegun c links.items → units ≡ empty_ring c.unit_queue → AreMarked has_frame (λ number. false)
     → (store : Store) (others : List Owned) → c.n201 ≤ store.width → Holds store others
     → LayerStands (record { config = c; teis = teis; links = links; units = units; turn = 0; has_frame = has_frame }) store others (fresh_line c)
 layer_fresh c teis links units has_frame ranged is_teis b is_units none store others wide held = record {
@@ -46,14 +47,14 @@ layer_fresh c teis links units has_frame ranged is_teis b is_units none store ot
   own = sym is_teis.own;
   kind = is_teis.kind;
   count = b.count;
-  links = subst (λ n. All (LinkFits c) (zip links (replicate n fresh))) b.count (links_fit c links b.begun);
+  links = subst (λ n. All (LinkFits c) (zip links.items (replicate n fresh))) b.count (links_fit c links.items b.begun);
   terms = λ number tei within at.
       let free = get_or-replicate c.terminals (place_at number) None None (place_within number c.terminals within) in
       absurd_none (sym free ∙ at);
   addressed = subst (λ u. AreFor u.waiting []) (sym is_units) tt;
   capacity = ap (λ u. u.capacity) is_units;
   turn = refl;
-  has_frame = awake_first has_frame links (link_count c) none;
-  held = subst (λ ps. Holds store ((ps ++ unit_pairs units.waiting []) ++ others)) (sym (subst (λ n. links_pairs links (replicate n fresh) ≡ []) b.count (no_pairs c links b.begun)))
+  has_frame = awake_first has_frame links.items (link_count c) none;
+  held = subst (λ ps. Holds store ((ps ++ unit_pairs units.waiting []) ++ others)) (sym (subst (λ n. links_pairs links.items (replicate n fresh) ≡ []) b.count (no_pairs c links.items b.begun)))
       (subst (λ u. Holds store (unit_pairs u.waiting [] ++ others)) (sym is_units) held);
 }

@@ -16,7 +16,7 @@ held_of x s others m st = st.layer.held
 
 -- and where another shelf holds it, the entities stand there too,
 pub on_shelf : {e : LinkLayer} {s t : Store} {others rest : List Owned} {m : machine_line.Line} → LayerStands e s others m → e.config.n201 ≤ t.width
-    → Holds t ((links_pairs e.links m.links ++ unit_pairs e.units.waiting m.units) ++ rest) → LayerStands e t rest m
+    → Holds t ((links_pairs e.links.items m.links ++ unit_pairs e.units.waiting m.units) ++ rest) → LayerStands e t rest m
 on_shelf {e} {t = t} {rest = rest} {m} st wide held = stands_as st e.teis e.units t rest m (refl, refl, refl, refl) wide st.sound (st.management, st.own, st.kind) st.addressed held
 
 -- and so does the line
@@ -48,14 +48,14 @@ octets_fit : (c : Config) (p : Link × machine.Link) → LinkFits c p → owned_
 octets_fit c p fit = owned_octets-pairs_of (link.slots_of p.0) (queue_of p.1) fit.lengths
 
 -- and all links
-pub slots_of_links : (e : LinkLayer) (s : Store) (others : List Owned) (m : machine_line.Line) → LayerStands e s others m → length (links_pairs e.links m.links) ≡ sum_of_links e.config (slots_by_link m)
+pub slots_of_links : (e : LinkLayer) (s : Store) (others : List Owned) (m : machine_line.Line) → LayerStands e s others m → length (links_pairs e.links.items m.links) ≡ sum_of_links e.config (slots_by_link m)
 slots_of_links e s others m st =
-    slots-machines link_pairs (λ l. length (queue_of l)) e.links m.links (st.count ∙ sym st.sound.count) (λ k d within. slots_fit e.config _ (st.links k d within))
+    slots-machines link_pairs (λ l. length (queue_of l)) e.links.items m.links (st.count ∙ sym st.sound.count) (λ k d within. slots_fit e.config _ (st.links k d within))
     ∙ sym (sum_places (λ l. length (queue_of l)) m.links machine.fresh (machine_line.link_count e.config) st.sound.count)
 
-pub octets_of_links : (e : LinkLayer) (s : Store) (others : List Owned) (m : machine_line.Line) → LayerStands e s others m → owned_octets (links_pairs e.links m.links) ≡ sum_of_links e.config (octets_by_link m)
+pub octets_of_links : (e : LinkLayer) (s : Store) (others : List Owned) (m : machine_line.Line) → LayerStands e s others m → owned_octets (links_pairs e.links.items m.links) ≡ sum_of_links e.config (octets_by_link m)
 octets_of_links e s others m st =
-    octets-machines link_pairs (λ l. total_length (queue_of l)) e.links m.links (st.count ∙ sym st.sound.count) (λ k d within. octets_fit e.config _ (st.links k d within))
+    octets-machines link_pairs (λ l. total_length (queue_of l)) e.links.items m.links (st.count ∙ sym st.sound.count) (λ k d within. octets_fit e.config _ (st.links k d within))
     ∙ sym (sum_places (λ l. total_length (queue_of l)) m.links machine.fresh (machine_line.link_count e.config) st.sound.count)
 
 -- and the unit data that waits
@@ -67,14 +67,14 @@ octets_of_units us ds same = owned_octets-pairs_of (units.slots_of us) (messages
 
 -- the entities own as many slots as the machine keeps contents, and as many octets as are in them
 pub slots_owned : {e : LinkLayer} {s : Store} {others : List Owned} {m : machine_line.Line} → LayerStands e s others m
-    → length (links_pairs e.links m.links ++ unit_pairs e.units.waiting m.units) ≡ slots_of e.config m
+    → length (links_pairs e.links.items m.links ++ unit_pairs e.units.waiting m.units) ≡ slots_of e.config m
 slots_owned {e} {s} {others} {m} st =
-    omega (arith, slots_of_links e s others m st, slots_of_units e.units.waiting m.units st.addressed, length-append (links_pairs e.links m.links) (unit_pairs e.units.waiting m.units))
+    omega (arith, slots_of_links e s others m st, slots_of_units e.units.waiting m.units st.addressed, length-append (links_pairs e.links.items m.links) (unit_pairs e.units.waiting m.units))
 
 pub octets_owned : {e : LinkLayer} {s : Store} {others : List Owned} {m : machine_line.Line} → LayerStands e s others m
-    → owned_octets (links_pairs e.links m.links ++ unit_pairs e.units.waiting m.units) ≡ octets_of e.config m
+    → owned_octets (links_pairs e.links.items m.links ++ unit_pairs e.units.waiting m.units) ≡ octets_of e.config m
 octets_owned {e} {s} {others} {m} st =
-    omega (arith, octets_of_links e s others m st, octets_of_units e.units.waiting m.units st.addressed, owned_octets-append (links_pairs e.links m.links) (unit_pairs e.units.waiting m.units))
+    omega (arith, octets_of_links e s others m st, octets_of_units e.units.waiting m.units st.addressed, owned_octets-append (links_pairs e.links.items m.links) (unit_pairs e.units.waiting m.units))
 
 -- and so does a line
 pub slots-pairs : (x : FrameLine) (s : Store) (others : List Owned) (m : machine_line.Line) → LineStands x s others m → length (line_pairs x m) ≡ slots_of (config_of x) m

@@ -48,7 +48,8 @@ pub use Rattle.lapd_line.specs.Addressing.{addressee, aim_at, group_service, is_
 pub use Rattle.lapd_line.specs.Awake.{AreAwake, TellsOf, gives, gives_at}
 pub use Rattle.lapd_line.specs.Counted.{bare_shown, with_counted}
 pub use Rattle.lapd_line.specs.LinkLayer.{Serves, Standing, LayerStands, aim_of_event, always}
-pub use Rattle.lapd_line.specs.Links.{GoesOn, HasTerms, IsGiven, LinkFits, LinksStand, Offers, Refuses, link_pairs, links_pairs, machine_at, terms_in}
+pub use Rattle.lapd_line.proofs.LinkEvents.{GoesOn, IsGiven, Offers, Refuses}
+pub use Rattle.lapd_line.specs.Links.{HasTerms, LinkFits, LinksStand, link_pairs, links_pairs, machine_at, terms_in}
 pub use Rattle.lapd_line.specs.Loading.{IsFree, IsNext, Loading, Loads, in_bits, in_octets, room_in, reference_in}
 pub use Rattle.lapd_line.specs.Marks.{AreMarked, IsLowestFrom, IsMark, NoneFrom, Sets, digit}
 pub use Rattle.lapd_line.specs.Octets.{OctetsLead, OctetsStand, octets_config}

@@ -119,8 +119,8 @@ HasNoLinkIn number slots front old s =
 
 -- The links stand, and those are marked that have a frame to give.
 pub record LinksAwake (e : LinkLayer) (store : Store) (others : List Owned) (ms : List Link) : Type 0 where
-  pub stand : LinksStand e.config e.links store others ms
-  pub awake : AreAwake e.has_frame e.links ms
+  pub stand : LinksStand e.config e.links.items store others ms
+  pub awake : AreAwake e.has_frame e.links.items ms
 
 -- Nothing has changed but the links and their marks.
 pub record SameButLinks (old new : LinkLayer) : Type 0 where
@@ -132,8 +132,8 @@ pub record SameButLinks (old new : LinkLayer) : Type 0 where
 -- A link that began has become this one, and all others are as they were.
 pub record LinkBecomes (number : ℕ) (o : Option ℕ) (l : Link) (old : LinkLayer) (s : Store) (new : LinkLayer) (t : Store) : Type 0 where
   pub stand : (others : List Owned) (ms : List Link) → machine_at ms number ≡ fresh → LinksAwake old s others ms → LinksAwake new t others (set ms number l)
-  pub here : (tei : ℕ) → o ≡ Some tei → HasTerms new.links number (terms old.config (service_at number) tei)
-  pub there : (other : ℕ) → other ≢ number → slice_get (terms_in new.links) other ≡ slice_get (terms_in old.links) other
+  pub here : (tei : ℕ) → o ≡ Some tei → HasTerms new.links.items number (terms old.config (service_at number) tei)
+  pub there : (other : ℕ) → other ≢ number → slice_get (terms_in new.links.items) other ≡ slice_get (terms_in old.links.items) other
   pub used : used_slots t ≡ used_slots s + length (queue_of l)
 
 abbrev pub RestoresLink : ℕ → Option ℕ → List ℕ → List ℕ → LinkLayer → Store → LinkLayer → Store → Type 0
@@ -148,7 +148,7 @@ HasNoLinkAt slots number o front e s =
 pub record LinksBecome (ms : List Link) (old : LinkLayer) (s : Store) (new : LinkLayer) (t : Store) : Type 0 where
   pub stand : (others : List Owned) → LinksAwake old s others (replicate (link_count old.config) fresh) → LinksAwake new t others ms
   pub terms : (number tei : ℕ) → number < link_count old.config → tei_in (places_of old.teis) number ≡ Some tei
-      → HasTerms new.links number (terms old.config (service_at number) tei)
+      → HasTerms new.links.items number (terms old.config (service_at number) tei)
 
 abbrev pub RestoresLinks : List ℕ → List ℕ → LinkLayer → Store → LinkLayer → Store → Type 0
 RestoresLinks front rest old s new t =

@@ -77,7 +77,7 @@ pub use Rattle.lapd_line.specs.Addressing.{IsAtPlace, addressee, group_service, 
 pub use Rattle.lapd_line.specs.Awake.{TellsOf}
 pub use Rattle.lapd_line.specs.Counted.{bare_shown, with_counted}
 pub use Rattle.lapd_line.specs.LinkLayer.{Serves, Standing, aim_of_event, always}
-pub use Rattle.lapd_line.specs.Links.{HasTerms, LinksStand, Offers, Refuses, machine_at, terms_in}
+pub use Rattle.lapd_line.specs.Links.{HasTerms, LinksStand, machine_at, terms_in}
 pub use Rattle.lapd_line.specs.Loading.{IsFree, Loads, in_octets, reference_in, room_in}
 pub use Rattle.lapd_line.specs.Marks.{AreMarked, IsLowestFrom, IsMark, IsMarkedAmong, NoneFrom, Sets}
 pub use Rattle.lapd_line.specs.Octets.{OctetsLead, OctetsStand, octets_config}

@@ -28,17 +28,17 @@ pub record LayerStands (e : LinkLayer) (store : Store) (others : List Owned) (m 
   pub management : m.management ≡ management_of e.config e.teis
   pub own : m.own ≡ own_of e.teis
   pub kind : is_terminals e.teis ≡ is_terminal e.config
-  pub count : length e.links ≡ link_count e.config
-  pub links : All (LinkFits e.config) (zip e.links m.links)
+  pub count : length e.links.items ≡ link_count e.config
+  pub links : All (LinkFits e.config) (zip e.links.items m.links)
   -- the links of a TEI on the line have its parameters
   pub terms : (number tei : ℕ) → number < link_count e.config → tei_at (place_at number) m ≡ Some tei
-      → HasTerms e.links number (terms e.config (service_at number) tei)
+      → HasTerms e.links.items number (terms e.config (service_at number) tei)
   pub addressed : AreFor e.units.waiting m.units
   pub capacity : e.units.capacity ≡ e.config.unit_queue
   pub turn : m.turn ≡ e.turn
   -- the links that have a frame to give
-  pub has_frame : AreAwake e.has_frame e.links m.links
-  pub held : Holds store ((links_pairs e.links m.links ++ unit_pairs e.units.waiting m.units) ++ others)
+  pub has_frame : AreAwake e.has_frame e.links.items m.links
+  pub held : Holds store ((links_pairs e.links.items m.links ++ unit_pairs e.units.waiting m.units) ++ others)
 
 -- There is a past that they stand for.
 abbrev pub Standing : LinkLayer → Store → Type 0

@@ -25,7 +25,7 @@ config_of line = line.layer.config
 
 -- What a line owns on the shelf: the slots of its links and of the unit data that waits, with their contents.
 abbrev pub pairs_of : FrameLine → machine.Line → List Owned
-pairs_of line m = links_pairs line.layer.links m.links ++ unit_pairs line.layer.units.waiting m.units
+pairs_of line m = links_pairs line.layer.links.items m.links ++ unit_pairs line.layer.units.waiting m.units
 
 -- A line stands for a past beside others on its shelf: its entities do, and the shelf holds exactly what the line and the
 -- others own.

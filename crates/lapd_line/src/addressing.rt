@@ -49,7 +49,7 @@ pub(crate) fn is_network(side: Side) -> bool
 }
 
 impl LinkLayer {
-    /// Serves what is heard.
+    /// Serves what is heard. Mostly it is a frame for a link.
     // A program with both kinds of cards calls it from two places, and would keep it apart.
     #[inline(always)]
     pub(crate) fn serve<S: Shelf>(
@@ -68,16 +68,6 @@ impl LinkLayer {
             Heard::Frame(octets) => octets,
             Heard::Overlong(head) => return self.overlong(&head, report, shelf),
         };
-        self.serve_octets(octets, report, shelf);
-    }
-
-    /// Serves the octets of a frame. Mostly they are a frame for a link.
-    #[inline(always)]
-    fn serve_octets<S: Shelf>(&mut self, octets: &[u8], report: &mut BareReport, shelf: &mut S)
-        requires stands { Standing self.old (S.store shelf.old) }
-        requires clear { IsClear report.old }
-        ensures { Serves (λ m. aim_of_reading self.old.config m (reading (heard_side self.old.config) octets.now)) octets.now self.old (S.store shelf.old) self.new (S.store shelf.new) report.new }
-    {
         if let Ok(frame) = self.config.heard_side().read(octets) {
             if let Addressee::Link(service, tei, place) = self.addressee(frame.address) {
                 let received = Received::Frame(frame);

@@ -47,7 +47,8 @@ impl LinkLayer {
             return;
         };
         let number = link_number(place, service);
-        self.links.expire(number, timer, report, shelf);
-        self.has_frame.set(number, self.links.has_frame(number));
+        let link = &mut self.links[number];
+        link.expire(timer, report, shelf);
+        self.has_frame.set(number, link.has_frame());
     }
 }

@@ -9,8 +9,7 @@ ghost use Rattle.model_line.specs.Line as machine;
 
 use crate::came::{came, cause_of, octets_of};
 use crate::fault::StartFault;
-use crate::link_layer::LinkLayer;
-use crate::links::Links;
+use crate::link_layer::{LinkLayer, start_links};
 use crate::managing::Managing;
 use crate::marks::Marks;
 use crate::reports::tell_drop;
@@ -52,7 +51,7 @@ impl FrameLine {
         ensures counters { IfOk result (λ line. line.counters ≡ none_counted) }
     {
         let teis = Managing::start(alloc, config)?;
-        let links = Links::start(alloc, config)?;
+        let links = start_links(alloc, config)?;
         let units = Units::start(alloc, usize::from(config.unit_queue))?;
         let layer = LinkLayer {
             config: *config,

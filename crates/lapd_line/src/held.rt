@@ -18,7 +18,7 @@ impl LinkLayer {
     {
         let mut octets = 0;
         for number in 0..2 * usize::from(self.config.terminals) {
-            octets += self.links.held(number);
+            octets += self.links[number].held();
         }
         octets
     }

@@ -16,8 +16,7 @@
 //! - `managing`: TEI management, of the network's side or of a terminal.
 //! - `tei_changes`: links that open and are cleared. `requests`: what is requested of a link, of TEI management and as unit data.
 //! - `giving_up`: what waits and is of no link. `pulls`: which frame is next. `held`: what the links store.
-//! - `links`, `units`: the links of all places of the TEI table, and the unit data that waits; `marks`, which links have
-//!   something to give.
+//! - `units`: the unit data that waits; `marks`: which links have something to give.
 //! - `reports`, `pulled`: the answers; `fault`: why a line can't be started.
 //!
 //! # Only tested
@@ -34,7 +33,6 @@ mod giving_up;
 mod held;
 mod line;
 mod link_layer;
-mod links;
 mod managing;
 mod marks;
 mod next_frame;

@@ -1,27 +1,29 @@
 //! The data link layer entities of a line: TEI management, the links, and the unit data that waits.
 
-ghost use Rattle.std.specs.Prelude.{◌≡◌, ℕ, ◌≤◌, List, drop};
-ghost use Rattle.lapd_line.specs.{at_link, received_of, info_of, IsAt, Standing, Serves, always, IsClear, places_of};
+ghost use Rattle.std.specs.Prelude.{◌≡◌, ℕ, ◌≤◌, List, drop, IfOk};
+ghost use Rattle.lapd_line.specs.{at_link, received_of, info_of, AreBegun, IsAt, IsInRange, Standing, Serves, always, IsClear, places_of};
 ghost use Rattle.model_link.specs.Events as event;
 ghost use Rattle.model_line.specs.Line as machine;
 
 mod saved;
 
-use crate::links::Links;
+use crate::fault::StartFault;
 use crate::managing::Managing;
 use crate::marks::Marks;
 use crate::units::Units;
 use lapd_frame::Service;
-use lapd_link::{BareReport, Received};
+use lapd_link::{BareReport, Link, Received};
 use lapd_store::Shelf;
 use model_line::Config;
+use std::alloc::Global;
 
 /// What a line has beside its counters.
 #[derive(Debug, Drop)]
 pub(crate) struct LinkLayer {
     pub(crate) config: Config,
     pub(crate) teis: Managing,
-    pub(crate) links: Links,
+    /// The links of all places of the TEI table, at each place that of call control before that of packet mode.
+    pub(crate) links: Vec<Link>,
     pub(crate) units: Units,
     /// The link at which the next round begins.
     pub(crate) turn: usize,
@@ -38,6 +40,20 @@ pub(crate) fn link_number(place: usize, service: Service) -> usize
         Service::Call => call,
         Service::Packet => call.wrapping_add(1),
     }
+}
+
+/// The links of a line on which no TEI is: two for each place.
+pub(crate) fn start_links(alloc: Global, config: &Config) -> Result<Vec<Link>, StartFault>
+    requires { IsInRange config.now }
+    ensures { IfOk result (λ links. AreBegun config.now links.items) }
+{
+    let count = 2 * usize::from(config.terminals);
+    let mut links = Vec::with_capacity(alloc, count)?;
+    for _ in 0..count {
+        let link = Link::start(alloc, config.queue as u8, config.control as u8)?;
+        links.push_reserved(link);
+    }
+    Ok(links)
 }
 
 impl LinkLayer {
@@ -61,9 +77,10 @@ impl LinkLayer {
             → Serves (always (at_link service tei place (event.received (received_of received.entry)))) octets self.old (S.store shelf.old) self.new (S.store shelf.new) report.new }
     {
         let number = link_number(place, service);
-        self.links.receive(number, received, report, shelf);
+        let link = &mut self.links[number];
+        link.receive(received, report, shelf);
         report.start = start;
-        self.has_frame.set(number, self.links.has_frame(number));
+        self.has_frame.set(number, link.has_frame());
     }
 
     /// The same where it is no frame that [`LinkLayer::serve`] takes to its link at once.

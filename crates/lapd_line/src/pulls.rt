@@ -98,7 +98,7 @@ impl LinkLayer {
         ensures given { IsSome result }
         ensures taken { Takes (λ c m. link_taken c m number) self.old (S.store shelf.now) (O.loading out.old) self.new (S.store shelf.now) (O.loading out.new) (orders_taken result) }
     {
-        let offer = self.links.offer(number)?;
+        let offer = self.links[number].offer()?;
         match offer.contents {
             None => self.send(number, offer.frame, &[], out),
             Some(slot) => self.send(number, offer.frame, shelf.get(&slot), out),
@@ -110,20 +110,21 @@ impl LinkLayer {
     // It is compiled into both places: one that has no information, as mostly, is given without a look at any.
     #[inline(always)]
     fn send<O: Outlet>(&mut self, number: usize, frame: ControlFrame, info: &[u8], out: &mut O)
-        requires within { number < length self.old.links }
+        requires within { number < length self.old.links.items }
         requires low { number < 64 }
         requires free { IsFree (O.loading out.old) }
-        requires frame { (terms : Terms) × HasTerms self.old.links number terms × IsFrame (frame_of terms frame) }
+        requires frame { (terms : Terms) × HasTerms self.old.links.items number terms × IsFrame (frame_of terms frame) }
         requires info { length info.now ≤ room_in (O.loading out.old) }
-        ensures has_frame { (looked : Bool) × TellsOf number self.old.links looked × Sets number looked self.old.has_frame self.new.has_frame }
+        ensures has_frame { (looked : Bool) × TellsOf number self.old.links.items looked × Sets number looked self.old.has_frame self.new.has_frame }
         ensures rest { self.new ≡ record self.old { has_frame = self.new.has_frame; turn = number + 1 } }
         ensures room { room_in (O.loading out.new) ≡ room_in (O.loading out.old) }
         ensures reference { reference_in (O.loading out.new) ≡ reference_in (O.loading out.old) }
-        ensures loaded { (terms : Terms) → HasTerms self.old.links number terms
+        ensures loaded { (terms : Terms) → HasTerms self.old.links.items number terms
             → Loads (spelling (own_side self.old.config) (record (frame_of terms frame) { info = info.now })) (O.loading out.old) (O.loading out.new) }
     {
-        let address = self.links.address(number, frame.command);
-        self.has_frame.set(number, self.links.has_frame(number));
+        let link = &self.links[number];
+        let address = link.address(frame.command);
+        self.has_frame.set(number, link.has_frame());
         // This comes first, so that what was loaded last is at hand where it is counted.
         self.turn = number + 1;
         load(out, self.config.own_side(), address, frame.control, info);

@@ -38,7 +38,7 @@ impl FrameLine {
             → result ≡ machine.state_of service tei m }
     {
         let place = self.layer.teis.place(tei)?;
-        self.layer.links.state(link_number(place, service))
+        Some(self.layer.links.get(link_number(place, service))?.state())
     }
 
     /// What was counted of the link of a service with this TEI. None where the TEI is not on the line.
@@ -47,7 +47,7 @@ impl FrameLine {
             → result ≡ machine.counts_of service tei m }
     {
         let place = self.layer.teis.place(tei)?;
-        self.layer.links.counts(link_number(place, service))
+        Some(self.layer.links.get(link_number(place, service))?.counts())
     }
 
     /// The place of a TEI on the line, in the table of its TEIs. None where the TEI is not on the line.
@@ -80,11 +80,11 @@ impl FrameLine {
         let Some(place) = self.layer.teis.place(tei) else {
             return Err(Refusal::NoLink);
         };
-        // The link is there, as its TEI has a place.
-        self.layer
-            .links
-            .room(link_number(place, service), shelf, slots)
-            .ok_or(Refusal::NoLink)
+        match self.layer.links.get(link_number(place, service)) {
+            Some(link) => Ok(link.room(shelf, slots)),
+            // It is there, as its TEI has a place.
+            None => Err(Refusal::NoLink),
+        }
     }
 
     /// What was counted of the line since its start.

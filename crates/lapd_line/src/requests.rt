@@ -182,9 +182,10 @@ impl LinkLayer {
             return Err(Refusal::NoLink);
         };
         let number = link_number(place, service);
-        match self.links.request(number, request, report, shelf, slots) {
+        let link = &mut self.links[number];
+        match link.request(request, report, shelf, slots) {
             Ok(()) => {
-                self.has_frame.set(number, self.links.has_frame(number));
+                self.has_frame.set(number, link.has_frame());
                 Ok(())
             }
             Err(why) => Err(why),
@@ -217,8 +218,9 @@ impl LinkLayer {
             return Err(Refusal::NoLink);
         };
         let number = link_number(place, service);
-        self.links.clear(number, report, shelf);
-        self.has_frame.set(number, self.links.has_frame(number));
+        let link = &mut self.links[number];
+        link.clear(report, shelf);
+        self.has_frame.set(number, link.has_frame());
         Ok(())
     }
 

@@ -30,7 +30,7 @@ impl FrameLine {
             → number < link_count (config_of self.now) → option_to_list result ≡ timer_numbered m number }
     {
         self.layer.teis.tei_at(number / 2)?;
-        self.layer.links.timer(number)
+        self.layer.links.get(number)?.timer()
     }
 
     /// The timer that the line itself runs, T201 or at a terminal T202, if it runs it.

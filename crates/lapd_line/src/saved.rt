@@ -75,6 +75,7 @@ impl FrameLine {
     pub fn restore_counters(&mut self, reader: &mut Reader<'_>) -> Result<(), BadImage>
         ensures read { OnOk result (IsReadAs counters IsCounted self.new.counters reader.old reader.new) }
         ensures none { OnErr result (HasNone counters IsCounted reader.old) }
+        ensures unchanged { OnErr result (self.new ≡ self.old) }
         ensures layer { self.new.layer ≡ self.old.layer }
     {
         self.counters = lapd_count::Counters::restore(reader)?;

@@ -80,9 +80,9 @@ impl LinkLayer {
             → Serves (always aim) octets (with_management before self.old) (S.store shelf.old) self.new (S.store shelf.new) report.new }
     {
         let call = link_number(place, Service::Call);
-        self.links.open(call, Service::Call, tei, &self.config);
+        self.links[call].with_terms(self.config.terms(Service::Call, tei));
         let packet = link_number(place, Service::Packet);
-        self.links.open(packet, Service::Packet, tei, &self.config);
+        self.links[packet].with_terms(self.config.terms(Service::Packet, tei));
         tell_management(report, told);
     }
 
@@ -108,9 +108,9 @@ impl LinkLayer {
         );
         let mut call = BareReport::nothing();
         let mut packet = BareReport::nothing();
-        self.links.clear(first, &mut call, shelf);
+        self.links[first].clear(&mut call, shelf);
         self.has_frame.set(first, false);
-        self.links.clear(second, &mut packet, shelf);
+        self.links[second].clear(&mut packet, shelf);
         self.has_frame.set(second, false);
         tell_management(report, told);
         tell_cleared(report, &call, &packet);

@@ -51,7 +51,7 @@ DROPS = [
 ]
 IN_RATTLE = "Card::octet"
 COMES = [
-    Call("lapd_octet, take_octet", "lapd_c/src/octets.rt", [
+    Call("lapd_octet", "lapd_c/src/octets.rt", [
         back("fills the caller's struct", "show"), back("lends what was delivered", "contents")]),
     Call("Card::hear", "lapd_card/src/card.rt", [
         Note(f"in Rattle {IN_RATTLE} calls it"), back("begun here, filled below", "BareReport")]),
@@ -63,13 +63,12 @@ COMES = [
         Note("Card::hear goes on with a frame that ended"), back("does a frame wait on the line?", "waiting")], "Card::hear"),
     Call("FrameLine::heard", "lapd_line/src/frame_line.rt", [
         Note("what is heard is counted", code="counters"), back("so is what is told", "count")]),
-    Call("LinkLayer::serve, serve_octets, serve_any", "lapd_line/src/addressing.rt", [
+    Call("LinkLayer::serve, serve_any", "lapd_line/src/addressing.rt", [
         Note("lapd_frame/src/reading.rt", code="read"), Note("SAPI 63, lapd_tei/src/teis.rt", code="message"),
         drop("extension, sapi, tei, unserved")]),
     Call("LinkLayer::receive", "lapd_line/src/link_layer.rt", [
         back("has the link a frame to give?", "has_frame"), back("where contents begin in the frame", "start")],
-        "serve_octets"),
-    Call("Links::receive", "lapd_line/src/links.rt", [Note("the link of that service and TEI")]),
+        "LinkLayer::serve"),
     Call("Link::receive, hear", "lapd_link/src/events.rt", [
         back("contents leave the shelf, and", "settle"), back("timers get their orders")]),
     Call("Entity::frame", "lapd_link_steps/src/frames.rt", [Note("by the state: 4, 5, 6, or 7 and 8")]),
@@ -79,9 +78,9 @@ COMES = [
 ]
 # The way of a frame that a controller brings, as far as it is another, and of the next one.
 FRAMES = [
-    Call("lapd_frame, frame", "lapd_c/src/frames.rt"), Call("FrameCard::frame", "lapd_card/src/frame_card.rt"),
+    Call("lapd_frame", "lapd_c/src/frames.rt"), Call("FrameCard::frame", "lapd_card/src/frame_card.rt"),
     Call("FrameLine::frame", "lapd_line/src/frame_line.rt"),
-    Call("lapd_next_frame, next_frame", "lapd_c/src/frames.rt"), Call("FrameCard::next_frame", "lapd_card/src/frame_card.rt"),
+    Call("lapd_next_frame", "lapd_c/src/frames.rt"), Call("FrameCard::next_frame", "lapd_card/src/frame_card.rt"),
     Call("FrameLine::next_frame", "lapd_line/src/next_frame.rt"),
 ]
 TOLD = [

@@ -74,7 +74,7 @@ impl LinkLayer {
         if self.teis.tei_at(number / 2).is_none() {
             return at;
         }
-        self.links.save(number, shelf, out, at)
+        self.links[number].save(shelf, out, at)
     }
 
     /// Reads what was saved of entities with this configuration. These have to be as those that begin. All users of the shelf
@@ -153,7 +153,7 @@ impl LinkLayer {
         requires range { IsInRange self.old.config }
         requires table { IsSoundTable (places_of self.old.teis) }
         requires few { number < link_count self.old.config }
-        requires begun { (others : List Owned) × (ms : List link.Link) × LinksStand self.old.config self.old.links (S.store shelf.old) others ms
+        requires begun { (others : List Owned) × (ms : List link.Link) × LinksStand self.old.config self.old.links.items (S.store shelf.old) others ms
             × (length ms ≡ link_count self.old.config) × (machine_at ms number ≡ link.fresh) }
         requires slots { slots ≤ (S.store shelf.old).slots }
         requires used { used_slots (S.store shelf.old) ≤ slots }
@@ -166,10 +166,10 @@ impl LinkLayer {
         let Some(tei) = self.teis.tei_at(number / 2) else {
             return Ok(());
         };
-        self.links
-            .open(number, service_at(number), tei, &self.config);
-        self.links.restore(number, reader, shelf, slots)?;
-        self.has_frame.set(number, self.links.has_frame(number));
+        self.links[number].with_terms(self.config.terms(service_at(number), tei));
+        let link = &mut self.links[number];
+        link.restore(reader, shelf, slots)?;
+        self.has_frame.set(number, link.has_frame());
         Ok(())
     }
 }

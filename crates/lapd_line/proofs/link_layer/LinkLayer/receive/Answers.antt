@@ -1,16 +1,20 @@
 -- Hand-written answers for `LinkLayer::receive`.
-use Rattle.lapd_line.proofs.LayerSteps.{links_standing, number_there, number_still, number_low, at_link_serves}
+use Rattle.lapd_line.proofs.LayerSteps.{number_there, number_low, link_stands, at_link_serves}
 use Rattle.lapd_line.proofs.ReportSteps.{link_told}
+use Rattle.lapd_line.proofs.LinkSteps.{in_vec}
 use Rattle.lapd_line.proofs.link_layer.LinkLayer.receive.Goals as goal
 
-pub receive-requires : goal.receive-requires
-receive-requires g c = record { within = number_there c.args.service c.requires.stands c.requires.at c.link_number-number.ensures; clear = c.requires.clear; stands = links_standing c.requires.stands }
+pub index_mut-link-requires : goal.index_mut-link-requires
+index_mut-link-requires g c = in_vec c.args.self.now.links (number_there c.args.service c.requires.stands c.requires.at c.link_number-number.ensures)
 
-pub has_frame-requires : goal.has_frame-requires
-has_frame-requires g c = number_still c.receive.new.self c.args.service c.requires.stands c.requires.at c.link_number-number.ensures c.receive.ensures.terms
+pub receive-requires : goal.receive-requires
+receive-requires g c = record { stands = link_stands c.args.service c.requires.stands c.requires.at c.link_number-number.ensures c.index_mut-link.ensures.value; clear = c.requires.clear }
 
 pub set-requires : goal.set-requires
 set-requires g c = number_low c.args.service c.requires.stands c.requires.at c.link_number-number.ensures
 
 pub returns : goal.returns
-returns g c = λ octets is. at_link_serves c.requires.stands c.requires.at c.link_number-number.ensures c.has_frame.ensures c.set.ensures c.receive.ensures (link_told octets _ c.receive.new.report c.args.start c.receive.ensures.cause is)
+returns g c = λ octets is.
+    at_link_serves {answer = c.receive.new.report} c.requires.stands c.requires.at c.link_number-number.ensures c.index_mut-link.ensures.value
+    (record { stands = c.receive.ensures.stands; told = c.receive.ensures.told; cause = c.receive.ensures.cause; terms = c.receive.ensures.terms; limits = c.receive.ensures.limits })
+    c.has_frame.ensures c.set.ensures (λ none. link_told octets _ c.receive.new.report c.args.start none is)

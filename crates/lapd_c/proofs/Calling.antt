@@ -1,9 +1,11 @@
 -- A call comes to what `Called` says, by what is known of it.
-use Rattle.lapd_c.proofs.Vocabulary.{◌≡◌, ◌<◌, ◌≤◌, ◌+◌, ℕ, Bool, true, false, cond, List, [], Counters, option_map, Option, None, Some, IfSome, Result, Ok, IfOk, refl, sym, ap, ◌∙◌, subst, nat_lt, ltb-false, false≢true}
+use Rattle.lapd_c.proofs.Vocabulary.{◌≡◌, ◌<◌, ◌≤◌, ◌+◌, ℕ, Bool, true, false, cond, List, option_map, Option, None, none-some, Some, IfSome, Result, Ok, IfOk, refl, sym, ap, ◌∙◌, subst, arith, false≢true, counters_in, KeptCard, Store, FrameCardStands}
 use Rattle.std.proofs.Common.{Err, is_none, is_some}
-use Rattle.std.proofs.lemmas.Bool.{ltb-true}
+use Rattle.std.specs.Option.{unwrap_or}
+use Rattle.std.specs.Prelude.{◌≢◌}
+use Rattle.std.proofs.lemmas.Bool.{le-ltb, lt-ltb}
 use Rattle.std.specs.Result.{IfErr}
-use Rattle.lapd_card.specs.Kinds.{AnyStands, Machine, with_ports, counters_of, kind_of}
+use Rattle.lapd_card.specs.Kinds.{AnyStands, Machine, alone, card_in, with_ports, counters_of, kind_of}
 use Rattle.lapd_card.specs.declared.kinds.AnyCard.{AnyCard}
 use Rattle.lapd_card.specs.declared.kinds.AnyCard.TheVariants.{Octets, Frames}
 use Rattle.model_card.specs.declared.kinds.CardKind.TheVariants as kinds
@@ -26,16 +28,22 @@ use Rattle.lapd_timed.specs.declared.card_timers.CardTimers.{CardTimers}
 use Rattle.lapd_c.specs.declared.card.CardHandle.{CardHandle}
 use Rattle.lapd_c.specs.declared.plain.reports.PlainReport.{PlainReport}
 use Rattle.lapd_c.specs.Answers.{ShowsAnswer}
-use Rattle.lapd_c.specs.Asked.{next_with_room, if_ok}
+use Rattle.lapd_c.specs.Asked.{next_with_room}
 use Rattle.lapd_c.specs.CardSlots.{HeldCard}
 use Rattle.lapd_c.specs.Frames.{goes, next_at}
 use Rattle.lapd_c.specs.Reports.{ShowsPull}
-use Rattle.lapd_c.specs.CalledBy.{Happening, inside, ShowsGiven, Unchanged, why_in}
+use Rattle.lapd_c.specs.CalledBy.{Asked, Called, Happening, inside, IsCallOf, Served, ShowsGiven, Unchanged, why_in, why_refused}
 use Rattle.lapd_c.specs.Calls.{refusal_at}
-use Rattle.lapd_c.specs.Cards.{StandsIn, HandleStands, card_of, marks_held, served_card, without_marks}
+use Rattle.lapd_c.specs.Cards.{FramesStand, StandsIn, HandleStands, card_of, marks_at, marks_held, served_card, without_marks}
 use Rattle.lapd_c.specs.Counted.{counters_at, counters_held}
-use Rattle.lapd_c.specs.Kept.{CarryOut, orders_by, seen_by, timers_held}
+use Rattle.lapd_c.specs.Kept.{CarryOut, orders_by, seen_by, timers_held, timers_of}
+use Rattle.lapd_c.specs.Reopened.{refused_place, WaitsFor}
+use Rattle.lapd_c.specs.declared.link_marks.LinkMarks.{LinkMarks}
+use Rattle.lapd_c.proofs.Served.{frames_counted, frames_there, there}
+use Rattle.lapd_card.specs.FrameCard as frames
 use Rattle.lapd_c.specs.Statuses as status
+use Rattle.lapd_c.specs.Statuses.{refusal_status}
+use Rattle.lapd_c.specs.Wanted.{Wanted, of_any, of_octets, of_frames, of_untimed, WithLine}
 
 -- of which kind the card is
 pub octets_held : (held : HeldCard) (m : OctetCard) → StandsIn held (with_ports m) → option_map kind_of (option_map without_marks held) ≡ Some kinds.Octets
@@ -76,69 +84,81 @@ why_told (Some why) outcome = refl
 pub refused_request : (line : ℕ) (asked : Request) (m : Card) → why_in (answer (at line (request asked)) m) ≡ refusal_at line asked m
 refused_request line asked m = ap why_in (answer_is m line asked) ∙ why_told (refusal_at line asked m) _
 
-pub nothing_refused : (o : Option Refusal) (P : Refusal → Type 0) → o ≡ None → IfSome o P
-nothing_refused o P is = subst (λ o. IfSome o P) (sym is) tt
-
--- What is wrong with what numbers mean, and what they mean.
-pub wrong_of : {A B : Type 0} (f : A → B) (asked : Result A ℕ) (P : ℕ → Type 0) → IfErr asked P → IfErr (if_ok f asked) P
-wrong_of f (Ok a) P w = w
-wrong_of f (Err wrong) P w = w
-
-pub ok_of : {A B : Type 0} (f : A → B) (asked : Result A ℕ) (P : B → Type 0) → IfOk asked (λ a. P (f a)) → IfOk (if_ok f asked) P
-ok_of f (Ok a) P h = h
-ok_of f (Err wrong) P h = h
-
--- Where the card is as it was, nothing changes.
-pub as_it_was : (line : ℕ) (old new : CardHandle) → card_of new ≡ card_of old → Unchanged line None old new
-as_it_was line old new is = record {
-  stands = λ m s. subst (λ held. StandsIn held m) (sym is) s;
-  counters = λ m s. ap counters_held is;
-  timers = ap timers_held is;
-  marks = ap marks_held is;
-}
-
 -- What a card stands for, and what it has counted, is of that card alone.
-abbrev stands_for : Option AnyCard → Machine → Type 0
-stands_for None m = ⊥
-stands_for (Some card) m = AnyStands card m
+same_held : (a b : HeldCard) → option_map without_marks b ≡ option_map without_marks a → ((m : Machine) → StandsIn a m → StandsIn b m) × (counters_held b ≡ counters_held a)
+same_held None None is = (λ m s. s, refl)
+same_held None (Some b) is = absurd (none-some b.card (sym is))
+same_held (Some a) None is = absurd (none-some a.card is)
+same_held (Some a) (Some b) is = let same : b.card ≡ a.card = ap (λ o. unwrap_or o a.card) is in (λ m s. subst (λ card. AnyStands card m) (sym same) s, ap counters_of same)
 
-for_held : (held : HeldCard) (m : Machine) → StandsIn held m → stands_for (option_map without_marks held) m
-for_held None m s = s
-for_held (Some kept) m s = s
+-- Nothing changes where this is the same, with the timers and the links that wait; so where all is as it was, or where a card of frames
+-- stands for the same machine.
+pub same_card : (line : ℕ) (waits : Option ℕ) (old new : CardHandle) → served_card new ≡ served_card old → timers_of new ≡ timers_of old → WaitsFor waits line (marks_at old) (marks_at new)
+    → Unchanged line waits old new
+same_card line waits old new is timers marks = let same = same_held (card_of old) (card_of new) is in record { stands = same.0; counters = λ m s. same.1; timers = timers; marks = marks }
 
-held_for : (held : HeldCard) (m : Machine) → stands_for (option_map without_marks held) m → StandsIn held m
-held_for None m s = s
-held_for (Some kept) m s = s
+pub as_it_was : (line : ℕ) (old new : CardHandle) → card_of new ≡ card_of old → Unchanged line None old new
+as_it_was line old new is = same_card line None old new (ap (option_map without_marks) is) (ap timers_held is) (ap marks_held is)
 
-pub stands_as : (old new : CardHandle) → served_card new ≡ served_card old → (m : Machine) → HandleStands old m → HandleStands new m
-stands_as old new is m s = held_for (card_of new) m (subst (λ card. stands_for card m) (sym is) (for_held (card_of old) m s))
+pub same_frames : (line : ℕ) (old new : CardHandle) {kept : KeptCard} {c : frames.Held Store} → card_of old ≡ Some kept → kept.card ≡ Frames c → ((m : Card) → FrameCardStands c m → FramesStand new m)
+    → ((m : Card) → FrameCardStands c m → counters_at new ≡ counters_in c.lines) → timers_of new ≡ timers_of old → marks_at new ≡ marks_at old → Unchanged line None old new
+same_frames line old new is kind stays counted timers marks = record { stands = stand; counters = count; timers = timers; marks = marks }
+  where
+    none : (m : OctetCard) → HandleStands old (with_ports m) → ⊥
+    none m s = subst (λ card. AnyStands card (with_ports m)) kind (there is (with_ports m) s)
 
-abbrev counted_for : Option AnyCard → List Counters
-counted_for None = []
-counted_for (Some card) = counters_of card
+    stand : (m : Machine) → HandleStands old m → HandleStands new m
+    stand (alone m) s = stays m (frames_there is kind m s)
+    stand (with_ports m) s = absurd (none m s)
 
-held_counted : (held : HeldCard) → counters_held held ≡ counted_for (option_map without_marks held)
-held_counted None = refl
-held_counted (Some kept) = refl
+    count : (m : Machine) → HandleStands old m → counters_at new ≡ counters_at old
+    count (alone m) s = counted m (frames_there is kind m s) ∙ frames_counted is kind
+    count (with_ports m) s = absurd (none m s)
 
-pub counted_as : (old new : CardHandle) → served_card new ≡ served_card old → counters_at new ≡ counters_at old
-counted_as old new is = held_counted (card_of new) ∙ ap counted_for is ∙ sym (held_counted (card_of old))
+-- What holds of each machine with a line, by what else does.
+each : (cards : Wanted) (line : ℕ) (h : CardHandle) (P Q : Machine → Type 0) → ((m : Machine) → P m → Q m) → WithLine cards line h P → WithLine cards line h Q
+each of_any line h P Q so p = λ m s w. so m (p m s w)
+each of_octets line h P Q so p = λ m s w. so (with_ports m) (p m s w)
+each of_frames line h P Q so p = λ m s w. so (alone m) (p m s w)
+each of_untimed line h P Q so p = λ m s w. so m (p m s w)
 
--- What is known of each part that was asked.
-pub any_ok : {A : Type 0} (asked : Result A ℕ) {P : A → Type 0} → ((a : A) → P a) → IfOk asked P
-any_ok (Ok a) all = all a
-any_ok (Err wrong) all = tt
+-- A call is one event, by what is asked of each machine: something is wrong, the machine refuses it, or it happens.
+module _ (asked : Asked) (old new : CardHandle) (result : ℕ) (r : PlainReport) where
+  abbrev pub Fits : Machine → Result Happening ℕ → Type 0
+  Fits m o = IfErr o (λ wrong. result ≡ wrong) × IfErr o (λ wrong. wrong ≢ status.ok) × IfOk o (λ e. IfSome (why_refused e m) (λ why. result ≡ refusal_status why))
+      × IfOk o (λ e. why_refused e m ≡ None → Served e m old new result r)
 
-pub at_some : {A : Type 0} {o : Option A} {a : A} (P : A → Type 0) → o ≡ Some a → IfSome o P → P a
-at_some P is h = subst (λ o. IfSome o P) is h
+  abbrev pub FitsAt : Machine → Type 0
+  FitsAt m = Fits m (asked.event (card_in m))
 
-pub any_some : {A : Type 0} (o : Option A) {P Q : A → Type 0} → IfSome o P → ((a : A) → P a → Q a) → IfSome o Q
-any_some None p so = tt
-any_some (Some a) p so = so a p
+  pub is_called : (before : PlainReport) → IsCallOf asked.cards asked.line old new result before r → WithLine asked.cards asked.line old FitsAt → (result ≢ status.ok → Unchanged asked.line (asked.waits result) old new)
+      → Called asked old new result before r
+  is_called before call fits unchanged = let of = each asked.cards asked.line old FitsAt in record {
+    call = call;
+    wrong = of _ (λ m f. f.0) fits;
+    not_ok = of _ (λ m f. f.1) fits;
+    refused = of _ (λ m f. f.2) fits;
+    unchanged = unchanged;
+    served = of _ (λ m f. f.3) fits;
+  }
 
-pub one_ok : {A : Type 0} (asked : Result A ℕ) {P Q : A → Type 0} → IfOk asked P → ((a : A) → P a → Q a) → IfOk asked Q
-one_ok (Ok a) p so = so a p
-one_ok (Err wrong) p so = tt
+  pub wrong_at : (m : Machine) → asked.event (card_in m) ≡ Err result → result ≢ status.ok → FitsAt m
+  wrong_at m is not_ok = subst (Fits m) (sym is) (refl, not_ok, tt, tt)
+
+  pub refused_at : (m : Machine) (e : Happening) (why : Refusal) → asked.event (card_in m) ≡ Ok e → why_refused e m ≡ Some why → result ≡ refusal_status why → FitsAt m
+  refused_at m e why is refuses says =
+      subst (Fits m) (sym is) (tt, tt, subst (λ o. IfSome o (λ why. result ≡ refusal_status why)) (sym refuses) says, λ none. absurd (none-some why (sym none ∙ refuses)))
+
+  pub served_at : (m : Machine) (e : Happening) → asked.event (card_in m) ≡ Ok e → why_refused e m ≡ None → Served e m old new result r → FitsAt m
+  served_at m e is granted served =
+      subst (Fits m) (sym is) (tt, tt, subst (λ o. IfSome o (λ why. result ≡ refusal_status why)) (sym granted) tt, λ _. served)
+
+-- What is wrong with a request itself has no link wait.
+none_marked : (status number service tei : ℕ) → 10 < status → refused_place status number service tei ≡ None
+none_marked status number service tei far = grind arith
+
+pub none_waits : (status number service tei line : ℕ) {old new : List LinkMarks} → 10 < status → new ≡ old → WaitsFor (refused_place status number service tei) line old new
+none_waits status number service tei line {old = old} {new = new} far is = subst (λ o. WaitsFor o line old new) (sym (none_marked status number service tei far)) is
 
 -- A card whose timers are the caller's has none after the call either.
 pub none_there : {A : Type 0} (o : Option A) → is_some o ≡ false → o ≡ None
@@ -148,30 +168,19 @@ none_there (Some a) is = absurd (false≢true (sym is))
 pub carried_untimed : (line : ℕ) (orders : List Order) (m m' : Card) (old new : Option CardTimers) → old ≡ None → new ≡ None → CarryOut line orders m m' old new
 carried_untimed line orders m m' old new none is = subst (λ o. CarryOut line orders m m' o new) (sym none) is
 
--- The next frame, with room for the longest or not.
+-- The next frame: there is no room for the longest, none waits, or it is given.
 module _ (line room : ℕ) (m : Card) where
-  pub next_wrong : (result : ℕ) → (room < m.config.n201 + 4 → result ≡ status.wrong_length)
-      → (m.config.n201 + 4 ≤ room → next_at line m ≡ None → result ≡ status.no_frame)
-      → IfErr (next_with_room line room m) (λ wrong. result ≡ wrong)
-  next_wrong result short none =
-      (elim (nat_lt room (m.config.n201 + 4)) as (λ b. nat_lt room (m.config.n201 + 4) ≡ b → IfErr (cond b (Err status.wrong_length) (cond (is_none (next_at line m)) (Err status.no_frame) (Ok (inside (goes line))))) (λ wrong. result ≡ wrong)) [
-        | true ↦ λ is. short (ltb-true _ _ is)
-        | false ↦ λ is. (elim (next_at line m) as (λ o. next_at line m ≡ o → IfErr (cond (is_none o) (Err status.no_frame) (Ok (inside (goes line)))) (λ wrong. result ≡ wrong)) [
-          | None ↦ λ absent. none (ltb-false _ _ is) absent
-          | Some given ↦ λ there. tt
-        ]) refl
-      ]) refl
+  pub next_short : room < m.config.n201 + 4 → next_with_room line room m ≡ Err status.wrong_length
+  next_short few = ap (λ b. cond b (Err status.wrong_length) (cond (is_none (next_at line m)) (Err status.no_frame) (Ok (inside (goes line))))) (lt-ltb _ _ few)
 
-  pub next_served : (P : Happening → Type 0) → (m.config.n201 + 4 ≤ room → (given : NextFrame) → next_at line m ≡ Some given → P (inside (goes line)))
-      → IfOk (next_with_room line room m) P
-  next_served P served =
-      (elim (nat_lt room (m.config.n201 + 4)) as (λ b. nat_lt room (m.config.n201 + 4) ≡ b → IfOk (cond b (Err status.wrong_length) (cond (is_none (next_at line m)) (Err status.no_frame) (Ok (inside (goes line))))) P) [
-        | true ↦ λ is. tt
-        | false ↦ λ is. (elim (next_at line m) as (λ o. next_at line m ≡ o → IfOk (cond (is_none o) (Err status.no_frame) (Ok (inside (goes line)))) P) [
-          | None ↦ λ absent. tt
-          | Some given ↦ λ there. served (ltb-false _ _ is) given there
-        ]) refl
-      ]) refl
+  next_fits : m.config.n201 + 4 ≤ room → next_with_room line room m ≡ cond (is_none (next_at line m)) (Err status.no_frame) (Ok (inside (goes line)))
+  next_fits fits = ap (λ b. cond b (Err status.wrong_length) (cond (is_none (next_at line m)) (Err status.no_frame) (Ok (inside (goes line))))) (le-ltb _ _ fits)
+
+  pub next_none : m.config.n201 + 4 ≤ room → next_at line m ≡ None → next_with_room line room m ≡ Err status.no_frame
+  next_none fits none = next_fits fits ∙ ap (λ (o : Option NextFrame). cond (is_none o) (Err status.no_frame) (Ok (inside (goes line)))) none
+
+  pub next_given : m.config.n201 + 4 ≤ room → (given : NextFrame) → next_at line m ≡ Some given → next_with_room line room m ≡ Ok (inside (goes line))
+  next_given fits given some = next_fits fits ∙ ap (λ (o : Option NextFrame). cond (is_none o) (Err status.no_frame) (Ok (inside (goes line)))) some
 
 is_given : (line : ℕ) (m : Card) → answer (goes line) m ≡ gave (next_at line m)
 unfolding lines.answer lines.takes_slot

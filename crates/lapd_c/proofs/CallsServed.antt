@@ -45,7 +45,6 @@ use Rattle.lapd_c.proofs.CallsWrite.{calls_write_by}
 use Rattle.lapd_c.proofs.CallEvents.{calls_are_events_by}
 use Rattle.lapd_c.proofs.Calling.{octets_held}
 use Rattle.lapd_c.proofs.HandlesLeft.{handles_are_left_by}
-use Rattle.lapd_c.proofs.SavesServed.{saves_are_served_by}
 use Rattle.lapd_c.proofs.Served.{still_within}
 use Rattle.lapd_c.proofs.WrongStatuses.{refused_not_ok}
 
@@ -264,7 +263,6 @@ calls_are_served_by = record {
   both_kinds = both_kinds_are_served_by;
   writes = calls_write_by;
   handles = handles_are_left_by;
-  saves = saves_are_served_by;
   calls = λ asked old new result before r c. call_is_served asked old new result before r c;
   falls_due = fall_is_served;
   none_due = λ now m c old new result none. (none.none, none.stands, none.timers, none.marks, none.counters, none.noted);

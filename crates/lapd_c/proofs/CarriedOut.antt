@@ -1,8 +1,8 @@
 -- What orders do to a clock.
-use Rattle.std.specs.Prelude.{◌^◌, IfSome, option_map, take, map, fold, get_or, not, nat_lt, Result, Err, if◌then◌else◌}
-use Rattle.std.specs.Option.{option_map_or, option_or, unwrap_or}
-use Rattle.lapd_c.proofs.Vocabulary.{◌≡◌, ◌≤◌, ◌<◌, ◌&&◌, ◌∷◌, ◌++◌, ℕ, Bool, true, false, Option, None, Some, List, [], Ok, refl, sym, ap, subst, ◌∙◌, drop, false≢true, Timers, Service, after_orders, first_fault_in}
-use Rattle.std.proofs.lemmas.Bool.{le-ltb, lt-ltb}
+use Rattle.std.specs.Prelude.{◌^◌, IfSome, option_map, take, map, fold, get_or, nat_lt, Result, Err, if◌then◌else◌}
+use Rattle.std.specs.Option.{option_or}
+use Rattle.lapd_c.proofs.Vocabulary.{arith, ◌≡◌, ◌≤◌, ◌<◌, ◌&&◌, ◌∷◌, ◌++◌, ℕ, Bool, true, false, Option, None, Some, List, [], Ok, refl, sym, ap, subst, ◌∙◌, drop, false≢true, Timers, Service, after_orders, first_fault_in}
+use Rattle.std.proofs.lemmas.Bool.{le-ltb}
 use Rattle.lapd_frame.specs.declared.services.Service.TheVariants.{Call, Packet}
 use Rattle.lapd_frame.specs.declared.timers.Order.{Order}
 use Rattle.lapd_frame.specs.declared.timers.Order.TheVariants.{Start, Stop}
@@ -14,21 +14,17 @@ use Rattle.lapd_c.specs.CarriedOut.{AreLeft, IsLeft, IsNamed, IsOfTerminal, Name
 use Rattle.lapd_c.specs.Clocks.{after_apply, apply_status, latest, order_status}
 use Rattle.lapd_c.specs.Clocks as one
 use Rattle.lapd_c.specs.Orders.{after_all, after_order, after_report, all_placed, fault_before, is_placed, orders_status, report_status, wrong_among}
-use Rattle.lapd_c.specs.Statuses.{ok, no_place, wrong_line, wrong_order, wrong_tei, wrong_time}
+use Rattle.lapd_c.specs.Statuses.{wrong_line, wrong_order, wrong_tei, wrong_time}
 use Rattle.lapd_c.specs.Timers.{order_in, plain_order, plain_timer, timer_in, link_in, order_of_timer, timer_of_link}
 use Rattle.lapd_c.specs.declared.plain.reports.PlainReport.{PlainReport}
 use Rattle.lapd_c.specs.declared.plain.timers.PlainOrder.{PlainOrder}
 
 -- one order
 one_is : (c : Timers) (line now : ℕ) (order : Order) → line < c.lines → now ≤ 2 ^ 63 → after_apply c line (Ok order) now ≡ with_order c line order now
-one_is c line now order within early =
-    ap (λ (b : Bool). if b then one.after_order c line (Ok order) now else c) (lt-ltb line c.lines within)
-    ∙ ap (λ (b : Bool). if b then c else with_order c line order now) (le-ltb latest now early)
+one_is c line now order within early = grind arith
 
 answered_is : (c : Timers) (line now : ℕ) (order : Order) → line < c.lines → now ≤ 2 ^ 63 → apply_status c line (Ok order) now ≡ (if finds_place c line order then 0 else 24)
-answered_is c line now order within early =
-    ap (λ (b : Bool). if b then order_status c line (Ok order) now else wrong_line) (lt-ltb line c.lines within)
-    ∙ ap (λ (b : Bool). if b then wrong_time else (if finds_place c line order then 0 else 24)) (le-ltb latest now early)
+answered_is c line now order within early = grind arith
 
 -- several
 abbrev some_in : List (Result Order ℕ) → Bool
@@ -55,17 +51,11 @@ module _ (line now : ℕ) where
       ∙ in_turn (with_order c line o now) ps orders (ap (λ (xs : List (Result Order ℕ)). drop 1 xs) is)
 
   none_wrong : (ps : List PlainOrder) (orders : List Order) → map order_in ps ≡ map Ok orders → now ≤ 2 ^ 63 → wrong_among ps now ≡ None
-  none_wrong ps orders is early =
-      ap (λ (o : Option ℕ). option_or o (if nat_lt latest now then Some wrong_time else None)) (no_fault ps orders is)
-      ∙ ap (λ (b : Bool). if b then Some wrong_time else None) (le-ltb latest now early)
+  none_wrong ps orders is early = grind (arith, no_fault)
 
 all_is : (c : Timers) (line now : ℕ) (r : PlainReport) (orders : List Order) → Names r orders → r.order_count ≤ 4 → line < c.lines → now ≤ 2 ^ 63
     → after_report c line r now ≡ fold (next_order line now) c orders
-all_is c line now r orders names few within early =
-    ap (λ (b : Bool). if b && not (nat_lt 4 r.order_count) then after_all c line (take r.order_count r.orders) now else c) (lt-ltb line c.lines within)
-    ∙ ap (λ (b : Bool). if true && not b then after_all c line (take r.order_count r.orders) now else c) (le-ltb 4 r.order_count few)
-    ∙ ap (λ (o : Option ℕ). option_map_or (λ wrong. c) o (after_orders c line (take r.order_count r.orders) now)) (none_wrong line now (take r.order_count r.orders) orders names early)
-    ∙ in_turn line now c (take r.order_count r.orders) orders names
+all_is c line now r orders names few within early = grind (arith, none_wrong, in_turn)
 
 -- whether each finds its place
 module _ (line now : ℕ) where
@@ -79,29 +69,18 @@ module _ (line now : ℕ) where
 
   -- what is answered for a line that the clock has, and what becomes of it
   answered_all : (c : Timers) (r : PlainReport) → line < c.lines → r.order_count ≤ 4 → report_status c line r now ≡ orders_status c line (take r.order_count r.orders) now
-  answered_all c r within few =
-      ap (λ (b : Bool). if not b then wrong_line else (if nat_lt 4 r.order_count then wrong_order else orders_status c line (take r.order_count r.orders) now)) (lt-ltb line c.lines within)
-      ∙ ap (λ (b : Bool). if b then wrong_order else orders_status c line (take r.order_count r.orders) now) (le-ltb 4 r.order_count few)
+  answered_all c r within few = grind arith
 
   done_all : (c : Timers) (r : PlainReport) → line < c.lines → r.order_count ≤ 4 → after_report c line r now ≡ after_all c line (take r.order_count r.orders) now
-  done_all c r within few =
-      ap (λ (b : Bool). if b && not (nat_lt 4 r.order_count) then after_all c line (take r.order_count r.orders) now else c) (lt-ltb line c.lines within)
-      ∙ ap (λ (b : Bool). if true && not b then after_all c line (take r.order_count r.orders) now else c) (le-ltb 4 r.order_count few)
+  done_all c r within few = grind arith
 
   all_answered_is : (c : Timers) (r : PlainReport) (orders : List Order) → Names r orders → r.order_count ≤ 4 → line < c.lines → now ≤ 2 ^ 63
       → report_status c line r now ≡ (if find_places c line now orders then 0 else 24)
-  all_answered_is c r orders names few within early =
-      let ps = take r.order_count r.orders in
-      answered_all c r within few ∙ ap (λ (o : Option ℕ). unwrap_or o (if all_placed c line ps now then ok else no_place)) (none_wrong line now ps orders names early)
-      ∙ ap (λ (b : Bool). if b then 0 else 24) (placed_in_turn c ps orders names)
+  all_answered_is c r orders names few within early = grind (arith, answered_all, none_wrong, placed_in_turn)
 
   -- where something is wrong, none is carried out
   all_left : (c : Timers) (r : PlainReport) (wrong : ℕ) → line < c.lines → r.order_count ≤ 4 → wrong_among (take r.order_count r.orders) now ≡ Some wrong → AreLeft c line r now wrong
-  all_left c r wrong within few is =
-      let ps = take r.order_count r.orders in (
-        answered_all c r within few ∙ ap (λ (o : Option ℕ). unwrap_or o (if all_placed c line ps now then ok else no_place)) is,
-        done_all c r within few ∙ ap (λ (o : Option ℕ). option_map_or (λ wrong. c) o (after_orders c line ps now)) is,
-      )
+  all_left c r wrong within few is = grind (arith, answered_all, done_all)
 
   first_wrong : (before : List PlainOrder) (orders : List Order) (none : PlainOrder) (rest : List PlainOrder) (wrong : ℕ) → map order_in before ≡ map Ok orders → order_in none ≡ Err wrong
       → first_fault_in (before ++ none ∷ rest) ≡ Some wrong
@@ -117,41 +96,22 @@ module _ (line now : ℕ) where
       (ap first_fault_in n.all ∙ first_wrong n.before n.orders n.none n.rest wrong n.read n.is_none))
 
   all_late_is : (c : Timers) (r : PlainReport) (orders : List Order) → line < c.lines → r.order_count ≤ 4 → Names r orders → 2 ^ 63 < now → AreLeft c line r now wrong_time
-  all_late_is c r orders within few names past =
-      let ps = take r.order_count r.orders in
-      all_left c r wrong_time within few (ap (λ (o : Option ℕ). option_or o (if nat_lt latest now then Some wrong_time else None)) (no_fault line now ps orders names)
-      ∙ ap (λ (b : Bool). if b then Some wrong_time else None) (lt-ltb latest now past))
+  all_late_is c r orders within few names past = grind (arith, all_left, no_fault)
 
   no_line_is : (c : Timers) (order : Result Order ℕ) → c.lines ≤ line → IsLeft c line order now wrong_line
-  no_line_is c order past = (
-    ap (λ (b : Bool). if b then order_status c line order now else wrong_line) (le-ltb line c.lines past),
-    ap (λ (b : Bool). if b then one.after_order c line order now else c) (le-ltb line c.lines past),
-  )
+  no_line_is c order past = grind arith
 
   within_is : (c : Timers) (order : Result Order ℕ) (wrong : ℕ) → line < c.lines → order_status c line order now ≡ wrong → one.after_order c line order now ≡ c → IsLeft c line order now wrong
-  within_is c order wrong within is same = (
-    ap (λ (b : Bool). if b then order_status c line order now else wrong_line) (lt-ltb line c.lines within) ∙ is,
-    ap (λ (b : Bool). if b then one.after_order c line order now else c) (lt-ltb line c.lines within) ∙ same,
-  )
+  within_is c order wrong within is same = grind arith
 
   late_is : (c : Timers) (order : Order) → line < c.lines → 2 ^ 63 < now → IsLeft c line (Ok order) now wrong_time
-  late_is c order within past = within_is c (Ok order) wrong_time within
-      (ap (λ (b : Bool). if b then wrong_time else (if finds_place c line order then ok else no_place)) (lt-ltb latest now past))
-      (ap (λ (b : Bool). if b then c else with_order c line order now) (lt-ltb latest now past))
+  late_is c order within past = grind arith
 
   no_line_all : (c : Timers) (r : PlainReport) → c.lines ≤ line → AreLeft c line r now wrong_line
-  no_line_all c r past = (
-    ap (λ (b : Bool). if not b then wrong_line else (if nat_lt 4 r.order_count then wrong_order else orders_status c line (take r.order_count r.orders) now)) (le-ltb line c.lines past),
-    ap (λ (b : Bool). if b && not (nat_lt 4 r.order_count) then after_all c line (take r.order_count r.orders) now else c) (le-ltb line c.lines past),
-  )
+  no_line_all c r past = grind arith
 
   too_many_is : (c : Timers) (r : PlainReport) → line < c.lines → 4 < r.order_count → AreLeft c line r now wrong_order
-  too_many_is c r within many = (
-    ap (λ (b : Bool). if not b then wrong_line else (if nat_lt 4 r.order_count then wrong_order else orders_status c line (take r.order_count r.orders) now)) (lt-ltb line c.lines within)
-        ∙ ap (λ (b : Bool). if b then wrong_order else orders_status c line (take r.order_count r.orders) now) (lt-ltb 4 r.order_count many),
-    ap (λ (b : Bool). if b && not (nat_lt 4 r.order_count) then after_all c line (take r.order_count r.orders) now else c) (lt-ltb line c.lines within)
-        ∙ ap (λ (b : Bool). if true && not b then after_all c line (take r.order_count r.orders) now else c) (lt-ltb 4 r.order_count many),
-  )
+  too_many_is c r within many = grind arith
 
 -- an order as numbers
 link_read : (service : Service) (tei : ℕ) → tei ≤ 126 → link_in (sapi_of service) tei ≡ Ok (service, tei)

@@ -1,5 +1,5 @@
 -- The image of a clock that may be saved has no more octets than its lines and places give.
-use Rattle.std.proofs.Common.{arith, ◌≡◌, ℕ, ◌+◌, ◌*◌, ◌/◌, ◌<◌, ◌≤◌, ◌==◌, true, cond, List, [], ◌∷◌, ◌++◌, length, refl, sym, ap, ◌∙◌, length-append}
+use Rattle.std.proofs.Common.{arith, ◌≡◌, ℕ, ◌+◌, ◌*◌, ◌≤◌, ◌==◌, true, cond, List, [], ◌∷◌, ◌++◌, length, refl, sym, ap, ◌∙◌, length-append}
 use Rattle.std.specs.Prelude.{flat_map}
 use Rattle.std.proofs.lemmas.Bool.Decides.{nat_tests}
 use Rattle.std.proofs.lemmas.List.Sums.{sum_by-append}
@@ -58,7 +58,7 @@ image_fits c lists saved its =
 
 -- So all of it stands in front of a room with so many.
 pub clock_written : (c : Timers) (lists : List (List Held)) (old new : List ℕ) (end : ℕ) → IsSaved c → AreItsTimers c lists → most_octets c ≤ length old
-    → Puts (image c lists) 0 old end new → IsSavedAs c (new, end)
+    → Puts (image c lists) 0 old end new → IsSavedAs c old (new, end)
 clock_written c lists old new end saved its room puts =
     let is = written (image c lists) old new end puts (omega (arith, image_fits c lists saved its, room)) in
     (lists, its, is)

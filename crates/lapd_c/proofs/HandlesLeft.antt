@@ -4,7 +4,7 @@ use Rattle.lapd_c.specs.HandlesLeft.{ClockIsLeft, HandlesAreLeft}
 use Rattle.lapd_c.specs.declared.clock.ClockHandle.{ClockHandle}
 
 -- of a clock
-clock_left : (h : ClockHandle) → clocks.IsHandle h → ClockIsLeft h
+pub clock_left : (h : ClockHandle) → clocks.IsHandle h → ClockIsLeft h
 clock_left h is = record { started = is.said; lines = is.lines }
 
 pub handles_are_left_by : HandlesAreLeft
@@ -21,8 +21,4 @@ handles_are_left_by = record {
   clock = λ tells leaves old new result called. clock_left new called.handle;
   clock_start = λ config old new result s. clock_left new s.handle;
   clock_end = λ old new result freed. clock_left new freed.handle;
-  save = λ old new result before after s. s.question.handle;
-  restore = λ image old new result r. r.handle;
-  clock_save = λ old new result before after s. clock_left new s.call.handle;
-  clock_restore = λ image old new result r. clock_left new r.handle;
 }

@@ -28,6 +28,7 @@ pub mod MostOctets
 pub mod Saving
 pub mod ClockSaving
 pub mod ClockAgain
+pub mod ClockStays
 pub mod SavesServed
 pub mod Waits
 pub mod Blocks

@@ -1,7 +1,6 @@
 -- Which links a line is told to have.
-use Rattle.std.specs.Prelude.{◌/◌, ◌%◌, ◌==◌}
-use Rattle.lapd_c.proofs.Vocabulary.{◌≡◌, ◌≤◌, ◌<◌, ◌+◌, ℕ, true, false, None, refl, sym, ap, subst, ◌∙◌, cond, arith, Service, service_at, tei_at, state_at}
-use Rattle.std.proofs.lemmas.Bool.{eqb-false, eqb-true}
+use Rattle.std.specs.Prelude.{◌==◌}
+use Rattle.lapd_c.proofs.Vocabulary.{◌≡◌, ◌≤◌, ◌<◌, ◌+◌, ℕ, None, refl, sym, ap, subst, ◌∙◌, cond, arith, Service, service_at, tei_at, state_at}
 use Rattle.lapd_frame.specs.declared.services.Service.TheVariants.{Call, Packet}
 use Rattle.model_card.specs.Card.{Card, state}
 use Rattle.lapd_c.specs.LinkPlaces.{plain_link}
@@ -20,11 +19,7 @@ tei_turn Call tei = (even tei).1
 tei_turn Packet tei = (odd tei).1
 
 place_turn : (place : ℕ) → turn (service_at place) (tei_at place) ≡ place
-place_turn place =
-    (elim (place % 2 == 0) as (λ b. (place % 2 == 0) ≡ b → turn (cond b Call Packet) (place / 2) ≡ place) [
-      | true ↦ λ is. evenly place (eqb-true (place % 2) 0 is)
-      | false ↦ λ is. oddly place (eqb-false (place % 2) 0 is)
-    ]) refl
+place_turn place = grind (arith, evenly, oddly)
 
 state_turn : (line tei : ℕ) (m : Card) (service : Service) → state_at line m (turn service tei) ≡ state line service tei m
 state_turn line tei m service =

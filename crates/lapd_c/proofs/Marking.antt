@@ -1,11 +1,10 @@
 -- Which links wait: by their numbers, as an image has them, and by their TEIs, as a card in C does.
-use Rattle.std.proofs.Common.{arith, inl, inr, ◌≡◌, ◌≢◌, ℕ, ◌+◌, ◌-◌, ◌*◌, ◌/◌, ◌%◌, ◌^◌, zero, suc, replicate, ◌<◌, ◌≤◌, ◌==◌, ◌&&◌, Bool, true, false, not, nat_lt, cond, List, [], ◌∷◌, ◌++◌, length, map, take, set, get_or, refl, sym, ap, ◌∙◌, subst}
-use Rattle.std.specs.Int.{bit_at}
+use Rattle.std.proofs.Common.{arith, inl, inr, ◌≡◌, ℕ, ◌+◌, ◌-◌, ◌*◌, ◌/◌, ◌%◌, ◌^◌, zero, suc, replicate, ◌<◌, ◌≤◌, Bool, true, false, List, [], ◌∷◌, ◌++◌, length, map, take, set, get_or, refl, sym, ap, ◌∙◌, subst}
 use Rattle.std.specs.List.{range_with_len}
 use Rattle.std.specs.Prelude.{Option, Some, None}
 use Rattle.std.proofs.Math.Nat.{pow-succ'}
-use Rattle.std.proofs.lemmas.Bool.{cases_lt, false≢true}
-use Rattle.std.proofs.lemmas.List.{get_or_past, get_or-set_other, get_or-set_same, length-set, map-append, take_more, take_more_set}
+use Rattle.std.proofs.lemmas.Bool.{cases_lt}
+use Rattle.std.proofs.lemmas.List.{get_or_past, get_or-set_other, get_or-set_same, map-append, take_more, take_more_set}
 use Rattle.std.proofs.lemmas.List.FromFn.{map-range_with_len_more}
 use Rattle.std.proofs.lemmas.Nat.Bits.{bit_at-zero}
 use Rattle.core.specs.Int.{from_bool}
@@ -21,7 +20,7 @@ use Rattle.model_line.specs.Sound.{IsSound}
 use Rattle.model_line.specs.declared.config.Config.{Config}
 use Rattle.lapd_c.specs.declared.link_marks.LinkMarks.{LinkMarks}
 use Rattle.lapd_c.specs.LinkMarks.{is_marked, marks_of, AreMarked, SetsLink}
-use Rattle.lapd_c.specs.Waiting.{bit_of, is_waiting, line_waits, waits_at, waits_by, waits_of_line}
+use Rattle.lapd_c.specs.Waiting.{is_waiting, line_waits, waits_at, waits_by, waits_of_line}
 use Rattle.lapd_c.proofs.Numbered.{number_of-first, number_of-next, number_of-none}
 
 -- ---- a line's links by their numbers
@@ -73,9 +72,7 @@ unmarked_line c l links none =
     number_of-none (is_waiting l links) 0 (link_count c) (λ k from to. unmarked_waits links (k % 2) (tei_at (place_at k) l) none)
 
 unmarked_behind : (all : List LinkMarks) (line : ℕ) → length all ≤ line → (place : ℕ) → is_marked (marks_of all line) place ≡ false
-unmarked_behind all line behind place =
-    ap (λ (links : LinkMarks). is_marked links place) (get_or_past all line (record { words = [] }) behind)
-    ∙ ap (λ n. n == 1) (bit_at-zero (place % 64))
+unmarked_behind all line behind place = grind (arith, get_or_past, bit_at-zero)
 
 -- ---- line by line
 

@@ -30,10 +30,7 @@ module _ (c : Config) (range : IsInRange c) where
   line = omega (arith, teis, links, (ranges_of c range).terminals.most, (ranges_of c range).unit_queue.most)
 
   clock : most_clock c ≤ 16920
-  clock =
-      let moments = at-most c.lines (8 * (link_count c + 1)) 64 136 (ranges_of c range).lines.most (omega (arith, (ranges_of c range).terminals.most)) in
-      let changes = at-most c.lines (8 * link_count c) 64 128 (ranges_of c range).lines.most (omega (arith, (ranges_of c range).terminals.most)) in
-      omega (arith, moments, changes)
+  clock = grind (arith, at-most, ranges_of)
 
   pub few-octets : most_octets c true < 4000000
   few-octets =

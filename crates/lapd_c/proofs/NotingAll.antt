@@ -1,5 +1,5 @@
 -- What octets in turn leave noted of a card's links.
-use Rattle.lapd_c.proofs.Vocabulary.{◌≡◌, ℕ, suc, ◌+◌, ◌<◌, List, [], ◌++◌, ◌∷◌, Option, Some, None, refl, sym, ◌∙◌, subst, OctetCard, AllQuiet, card_after, step_event, steps_made}
+use Rattle.lapd_c.proofs.Vocabulary.{◌≡◌, ℕ, suc, ◌+◌, ◌<◌, List, [], ◌++◌, ◌∷◌, Option, Some, None, refl, sym, ap, ◌∙◌, subst, OctetCard, AllQuiet, card_after, step_event, steps_made}
 use Rattle.std.specs.Prelude.{◌*◌}
 use Rattle.lapd_card.specs.FrameStands.{FrameStands}
 use Rattle.lapd_card.specs.Kinds.{shelf_of}
@@ -27,15 +27,16 @@ use Rattle.model_timed.specs.Timed.{happens}
 unfoldable use Rattle.model_timed.specs.Timed.{after_all}
 use Rattle.model_timed.proofs.OctetsRun.{OctetsMean, octets-mean}
 use Rattle.lapd_c.proofs.Vocabulary.{◌-◌, inl, inr, arith, AnyCard, FrameCardStands, answer_after}
-use Rattle.std.specs.Prelude.{◌⊎◌}
+use Rattle.std.specs.Prelude.{◌⊎◌, is_some}
 use Rattle.lapd_card.specs.Kinds.{frames_of}
 use Rattle.lapd_c.specs.Exchange.{OrdersLast}
 use Rattle.lapd_card.specs.Card as octets_card
 use Rattle.lapd_card.specs.Kinds.{CardStands}
 use Rattle.model_line.specs.declared.config.Config.{Config}
-use Rattle.lapd_c.specs.Kept.{AllNoted, AreSameMarks, CarryOutAll, ChangesStandIn, NoteAll, Touches, happen, held_in}
+use Rattle.lapd_c.specs.Kept.{AllNoted, AreObeyed, AreSameMarks, CarryOutAll, ChangesStandIn, NoteAll, Touches, happen, held_in}
+use Rattle.lapd_c.proofs.Calling.{none_there}
 use Rattle.lapd_c.proofs.Noting.{LeavesOthers, pull-leaves, same-card, still-marks}
-use Rattle.lapd_c.proofs.Timing.{Settles, Stand, at-last, at-rest, one-more, rested}
+use Rattle.lapd_c.proofs.Timing.{Stand, at-last, at-rest, one-more, rested}
 
 -- orders do not change the moment
 pub obeyed-now : (line : ℕ) (orders : List Order) (c : Clock) → (obeyed line orders c).now ≡ c.now
@@ -157,11 +158,11 @@ still-in t (Some new) m marks same stood = still-marks t new m marks same stood
 
 -- so what several octets of an exchange have ordered, and left noted
 pub exchanged : (card : AnyCard) (line : ℕ) (taken : List ℕ) (from : ℕ) (m : OctetCard) (to : ℕ) (orders : List Order) (old mid new : Option CardTimers) → NoteAll (steps_made line taken from (to - from)) m old mid
-    → Settles card line orders mid new → AreSameMarks mid new → (mid ≡ None → new ≡ None) → (orders ≡ [] → held_in new ≡ held_in mid) → line < m.card.config.lines
+    → AreObeyed card line orders mid new → AreSameMarks mid new → is_some new ≡ is_some mid → (orders ≡ [] → held_in new ≡ held_in mid) → line < m.card.config.lines
     → FrameCardStands (frames_of card) (card_after line taken from (to - from) m).card → OrdersLast line taken from m to orders → CarryOutAll (steps_made line taken from (to - from)) m old new
-exchanged card line taken from m to orders None mid new notes settles same none still within stands last = none notes
-exchanged card line taken from m to orders (Some old) None new notes settles same none still within stands last = absurd notes
-exchanged card line taken from m to orders (Some old) (Some t) new notes settles same none still within stands last = record {
+exchanged card line taken from m to orders None mid new notes settles same there still within stands last = none_there new (there ∙ ap is_some notes)
+exchanged card line taken from m to orders (Some old) None new notes settles same there still within stands last = absurd notes
+exchanged card line taken from m to orders (Some old) (Some t) new notes settles same there still within stands last = record {
   timers = λ c stood. go c (subst (λ h. AreKept as_they_are h m.card c) (sym notes.held) stood) last.ended;
   noted = λ c marks stood stood_marks. still-in t new _ _ same (notes.noted c marks stood stood_marks);
 }

@@ -2,17 +2,16 @@
 use Rattle.std.proofs.Common.{arith, inl, inr, ◌≡◌, ◌≢◌, ◌⊎◌, ℕ, ◌+◌, ◌*◌, ◌<◌, ◌≤◌, Bool, true, false, cond, List, length, take, refl, sym, ap, ◌∙◌, subst}
 use Rattle.std.specs.Prelude.{Option, Some, None, Ok, Err, Result, IfSome, is_some, option_map}
 use Rattle.std.proofs.lemmas.Bool.{false≢true, le-ltb, lt-ltb}
+use Rattle.std.proofs.lemmas.Option.{same_Some}
 use Rattle.lapd_card.specs.Image.{begun_as}
-use Rattle.lapd_card.specs.Kinds.{Machine}
 use Rattle.lapd_clock.specs.Image as clocks
 use Rattle.lapd_clock.specs.Timers.{Timers}
-use Rattle.lapd_count.specs.Counters.{count}
 use Rattle.lapd_frame.specs.declared.refusals.Refusal.{Refusal}
 use Rattle.lapd_frame.specs.declared.services.Service.{Service}
 use Rattle.lapd_timed.specs.Image.{kind_in}
 use Rattle.model_card.specs.Room.{room}
 use Rattle.model_image.specs.Images.{image_of, Saved}
-use Rattle.model_image.specs.Most.{most_clock, most_contents, most_line, most_octets, most_teis}
+use Rattle.model_image.specs.Most.{most_line, most_octets}
 use Rattle.model_image.specs.Sound.{IsSaved}
 use Rattle.model_image.specs.Restored.{IsRestored}
 use Rattle.model_image.proofs.Restored.{a_restored_card_goes_on}
@@ -21,24 +20,23 @@ use Rattle.model_line.specs.declared.config.Config.{Config}
 use Rattle.model_link.specs.declared.rooms.Room.{Room}
 use Rattle.std.proofs.Math.Nat.{mul-le-mul_left}
 use Rattle.lapd_c.specs.declared.card.CardHandle.{CardHandle}
-use Rattle.lapd_c.specs.declared.clock.ClockHandle.{ClockHandle}
-use Rattle.lapd_c.specs.declared.kept.KeptCard.{KeptCard}
 use Rattle.lapd_c.specs.declared.link_marks.LinkMarks.{LinkMarks}
-use Rattle.lapd_c.specs.declared.plain.config.PlainConfig.{PlainConfig}
 use Rattle.lapd_c.specs.CardSlots.{HeldCard}
 use Rattle.lapd_c.specs.Cards.{card_of, marks_held, StandsIn}
 use Rattle.lapd_c.specs.ClockImages as clock_image
 use Rattle.lapd_c.specs.ClockImages.{IsClockRestore, IsSavedAs}
 use Rattle.lapd_c.specs.ClockSlots.{HeldClock}
 use Rattle.lapd_c.specs.Clocks.{clock_of}
-use Rattle.lapd_c.specs.Config.{config_fault, config_in}
+use Rattle.lapd_c.specs.Config.{config_in}
 use Rattle.lapd_c.specs.Kept.{timers_held}
-use Rattle.lapd_c.specs.LinkPlaces.{service_at, tei_at}
-use Rattle.lapd_c.specs.Reopened.{is_room, is_there}
-use Rattle.lapd_c.specs.Saves.{image_octets, save_status, HandleHolds, HandleReads, IsCardRestore}
-use Rattle.lapd_c.specs.SavesServed.{GoesOnFrom, RestoreIsTold, SavesAreServed}
+use Rattle.lapd_c.specs.LinkPlaces.{service_at}
+use Rattle.lapd_c.specs.Reopened.{is_room}
+use Rattle.lapd_c.specs.Saves.{image_octets, save_status, HandleHolds, HandleReads}
+use Rattle.lapd_c.specs.SavesServed.{GoesOnFrom, SavesAreServed}
 use Rattle.lapd_c.specs.Waits.{Waits}
 use Rattle.lapd_c.proofs.ClockAgain.{same_clock}
+use Rattle.lapd_c.proofs.ClockStays.{applied, begun, fallen, lengthened, reported}
+use Rattle.lapd_c.proofs.HandlesLeft.{clock_left}
 use Rattle.lapd_c.proofs.MostOctets.{most_of}
 use Rattle.lapd_c.proofs.Saving.{its, timed_alike}
 
@@ -110,11 +108,20 @@ all_but_bad result (inl ok) good = inl ok
 all_but_bad result (inr (inl bad)) good = absurd (good bad)
 all_but_bad result (inr (inr none)) good = inr none
 
+-- what was read may be saved
+read_saved : (image : List ℕ) (held : HeldClock) (c : Timers) → clock_image.HandleReads image held → held ≡ Some c → clocks.IsSaved c
+read_saved image None c read is = absurd read
+read_saved image (Some d) c read is = subst clocks.IsSaved (same_Some d c is) read.saved
+
 none_left : {X : Type 0} (P : Option X → Type 0) (o : Option X) → (P None → ⊥) → P o → o ≡ None → ⊥
 none_left P o none holds is = none (subst P is holds)
 
 pub saves_are_served_by : SavesAreServed
 saves_are_served_by = record {
+  save_leaves = λ old new result before after s. s.question.handle;
+  restore_leaves = λ image old new result r. r.handle;
+  clock_save_leaves = λ old new result before after s. clock_left new s.call.handle;
+  clock_restore_leaves = λ image old new result r. clock_left new r.handle;
   save = λ old new result before after s. record { unchanged = s.question.unchanged; not_there = s.question.no_card; unwritten = s.question.unwritten };
   clock_save = λ old new result before after s. record { unchanged = s.call.after ∙ itself (clock_of old); not_there = s.call.none; unwritten = s.unwritten };
   restore = λ image old new result r. record {
@@ -141,16 +148,27 @@ saves_are_served_by = record {
       let least = most_clocks (config_in config) in
       let own : c.lines * (1 + 11 * c.places) ≡ config.lines * (1 + 11 * (4 * config.terminals + 1)) = λ i. lines i * (1 + 11 * places i) in
       omega (arith, most_of config fits, least, own);
+  rest = λ old new before after s save held room. (save.saved s held room).1.2;
+  clock_rest = λ old new before after c save saved is room.
+      (its (λ c. clocks.IsSaved c → clocks.most_octets c ≤ length before.0 → IsSavedAs c before.0 after) (clock_of old) c is save.saved saved room).2.2;
   again = λ old same other new before after s save held room r.
       let is = save.saved s held room in
-      goes_on s (take after.1 after.0) new (card_of new) refl is.2.1 is.0 (r.restored refl);
+      goes_on s (take after.1 after.0) new (card_of new) refl is.1.1 is.0 (r.restored refl);
   taken = λ old same other new result before after s save held room r none.
       let is = save.saved s held room in
-      all_but_bad result (r.otherwise none) (λ e. r.bad_image e s is.0 is.1 (sym is.2.1));
+      all_but_bad result (r.otherwise none) (λ e. r.bad_image e s is.0 (sym is.1.1));
   clock_again = λ old same other new before after c save saved is room r.
-      let front = its (λ c. clocks.IsSaved c → clocks.most_octets c ≤ length before.0 → IsSavedAs c after) (clock_of old) c is save.saved saved room in
+      let front = its (λ c. clocks.IsSaved c → clocks.most_octets c ≤ length before.0 → IsSavedAs c before.0 after) (clock_of old) c is save.saved saved room in
       clock_goes_on c (take after.1 after.0) front.0 (clock_of new) front.2.1 saved front.1 (r.restored refl);
   clock_taken = λ old same other new result before after c save saved is room r none.
-      let front = its (λ c. clocks.IsSaved c → clocks.most_octets c ≤ length before.0 → IsSavedAs c after) (clock_of old) c is save.saved saved room in
+      let front = its (λ c. clocks.IsSaved c → clocks.most_octets c ≤ length before.0 → IsSavedAs c before.0 after) (clock_of old) c is save.saved saved room in
       all_but_bad result (r.otherwise none) (λ e. r.bad_image e c front.0 saved front.1 front.2.1);
+  clock_begins = begun;
+  clock_restored = λ image old new c r is. read_saved image (clock_of new) c (r.restored refl) is;
+  clock_stays = λ c saved. record {
+    applied = λ line now order. applied c line now order saved;
+    reported = λ line now r. reported c line now r saved;
+    fallen = λ now. fallen c now saved;
+    lengthened = λ lengths. lengthened lengths c saved;
+  };
 }

@@ -1,9 +1,9 @@
 -- What a save writes in front of a room, and what C holds as it is saved and restored.
-use Rattle.std.proofs.Common.{arith, lit<, ◌≡◌, ℕ, zero, suc, ◌+◌, ◌*◌, ◌<◌, ◌≤◌, ◌==◌, Bool, true, false, cond, List, [], ◌∷◌, ◌++◌, length, map, take, get_or, refl, sym, ap, ◌∙◌, subst, length-append, length-take, length-take-le, take_all}
+use Rattle.std.proofs.Common.{◌≡◌, ℕ, ◌≤◌, true, cond, List, length, map, take, refl, sym, ap, ◌∙◌, subst, length-take-le, take_all}
 use Rattle.std.specs.List.{AllZip}
 use Rattle.std.specs.Prelude.{IfOk, IfSome, Option, Some, None, Ok, Err, Result, is_some}
 use Rattle.std.specs.Result.{result_ok}
-use Rattle.std.proofs.lemmas.Bool.{false≢true, le-ltb}
+use Rattle.std.proofs.lemmas.Bool.{le-ltb}
 use Rattle.lapd_card.specs.Kinds.{config_of, frames_of, card_in, AnyStands, FrameCardStands, Machine}
 use Rattle.lapd_image.specs.Puts.{Puts}
 use Rattle.lapd_timed.specs.Image.{AreAllMarks, IsRestoredFrom, MayBeSaved, StandsFor}
@@ -15,7 +15,6 @@ use Rattle.model_image.specs.Images.{image_of, Saved}
 use Rattle.model_image.specs.Most.{most_octets}
 use Rattle.model_image.specs.Sound.{AreMarks, IsSaved}
 use Rattle.model_image.proofs.FitsWhole.{images_fit}
-use Rattle.model_line.specs.declared.config.Config.{Config}
 use Rattle.model_timed.specs.Clock.{Clock}
 use Rattle.lapd_c.specs.declared.kept.KeptCard.{KeptCard}
 use Rattle.lapd_c.specs.declared.link_marks.LinkMarks.{LinkMarks}
@@ -25,26 +24,19 @@ use Rattle.lapd_c.specs.Waiting.{card_waits, AreAllMarked}
 use Rattle.lapd_c.proofs.Served.{frames_stand}
 use Rattle.lapd_c.proofs.WaitsBack.{held_marks, marked_there, waits_back}
 
--- What holds of what is there, and of what is not.
+-- What holds of what is there.
 pub its : {X : Type 0} (P : X → Type 0) (o : Option X) (x : X) → o ≡ Some x → IfSome o P → P x
 its P o x is holds = subst (λ o. IfSome o P) is holds
-
-pub none_if : {X : Type 0} (o : Option X) → is_some o ≡ false → o ≡ None
-none_if None is = refl
-none_if (Some x) is = absurd (false≢true (sym is))
-
-pub none_held : {X : Type 0} (P : X → Type 0) (o : Option X) → o ≡ None → IfSome o P
-none_held P o none = subst (λ o. IfSome o P) (sym none) tt
 
 -- So much room is enough.
 pub told_enough : (room most : ℕ) → most ≤ room → 0 ≡ save_status room most
 told_enough room most fits = sym (ap (λ b. cond b 19 0) (le-ltb room most fits))
 
 -- Octets that have room stand in front, and are all that is counted.
-pub written : (octets old new : List ℕ) (end : ℕ) → Puts octets 0 old end new → length octets ≤ length old → StandsInFront octets (new, end)
+pub written : (octets old new : List ℕ) (end : ℕ) → Puts octets 0 old end new → length octets ≤ length old → StandsInFront octets old (new, end)
 written octets old new end puts fits =
     let front : take end new ≡ octets = puts.front ∙ take_all (length old) octets fits in
-    (sym (length-take-le end new puts.within) ∙ ap (λ (l : List ℕ). length l) front, front)
+    (sym (length-take-le end new puts.within) ∙ ap (λ (l : List ℕ). length l) front, front, puts.after)
 
 -- A card that keeps its own timers has a clock in its image; another has none.
 pub timed_alike : (timers : Option CardTimers) (clock : Option Clock) (s : Saved) → MayBeSaved timers clock s → is_some clock ≡ is_some timers

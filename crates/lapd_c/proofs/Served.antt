@@ -1,5 +1,5 @@
 -- What a report shows is what the machine answers.
-use Rattle.lapd_c.proofs.Vocabulary.{◌≡◌, ◌≤◌, length, Option, IfSome, Result, Ok, IfOk, sym, ap, ◌∙◌, subst, arith, counters_in, LineTold, told, IsInRange, ranges_of, Card, Event, answer, OctetCard, PlainReport, Shows, contents_or_none, ShowsAnswer, ShowsReply, contents_in, Store, KeptCard, Octets, Frames, HeldCard, Machine, with_ports, alone, AnyStands, CardStands, FrameCardStands}
+use Rattle.lapd_c.proofs.Vocabulary.{◌≡◌, ◌≤◌, length, Option, IfSome, sym, ap, ◌∙◌, subst, arith, counters_in, LineTold, told, IsInRange, ranges_of, Card, Event, answer, OctetCard, PlainReport, Shows, contents_or_none, ShowsAnswer, ShowsReply, contents_in, Store, KeptCard, Octets, Frames, HeldCard, Machine, with_ports, alone, AnyStands, CardStands, FrameCardStands}
 use Rattle.lapd_card.specs.Card as octets
 use Rattle.lapd_card.specs.FrameCard as frames
 use Rattle.lapd_c.specs.declared.card.CardHandle.{CardHandle}
@@ -127,14 +127,6 @@ pub octets_count : {held : HeldCard} {kept : KeptCard} {c : octets.Held Store} �
     → new ≡ Octets led → counters_in led.frames.lines ≡ meaning_counted (counters_in c.frames.lines) m e → counters_of new ≡ meaning_counted (counters_held held) m e
 octets_count is kind e m led new same h =
     ap counters_of same ∙ h ∙ ap (λ all. meaning_counted all m e) (sym (ap counters_held is ∙ ap counters_of kind))
-
--- a result that is known
-pub if_ok : {X E : Type 0} (P : X → Type 0) (o : Result X E) (x : X) → o ≡ Ok x → P x → IfOk o P
-if_ok P o x e p = subst (λ r. IfOk r P) (sym e) p
-
--- and an option that is
-pub if_some : {X : Type 0} (P : X → Type 0) (o : Option X) (x : X) → o ≡ Some x → P x → IfSome o P
-if_some P o x e p = subst (λ r. IfSome r P) (sym e) p
 
 -- contents of an answer have room in a report
 small : (m : Card) (e : Event) (t : LineTold) → IsInRange m.config → told t ≡ answer e m → length (contents_or_none t.contents) ≤ 260

@@ -65,7 +65,7 @@ read-meets P None r a e _ ok is = subst (λ x. IsOkAnd x P) is (ok refl)
 read-meets P (Some w) r a e err _ is = subst (λ x. IfOk x P) (sym err ∙ is) tt
 
 -- of a handle that holds nothing
-holds-none : {X : Type 0} (P : X → Type 0) (o : Option X) → is_some o ≡ false → IfSome o P
+pub holds-none : {X : Type 0} (P : X → Type 0) (o : Option X) → is_some o ≡ false → IfSome o P
 holds-none P None none = tt
 holds-none P (Some x) none = absurd (true≢false none)
 

@@ -1,6 +1,6 @@
 -- What becomes of a card's own timers in a call.
 use Rattle.lapd_c.proofs.Vocabulary.{◌≡◌, ℕ, suc, none-some, ◌+◌, ◌<◌, Bool, true, false, List, [], ◌++◌, ◌∷◌, Option, Some, None, refl, sym, ap, ◌∙◌, subst, arith, and_parts, eqb-true, OctetCard, AnyCard, HeldCard, KeptCard, FrameCardStands, at, tells_nothing, step_event, steps_made, card_after, answer_after, AllQuiet}
-use Rattle.std.proofs.Common.{IfSome, length, cond, nat_le, zero, ◌%◌, ◌/◌, ◌==◌, get_or}
+use Rattle.std.proofs.Common.{IfSome, is_some, length, cond, nat_le, zero, ◌%◌, ◌/◌, ◌==◌, get_or}
 use Rattle.std.proofs.lemmas.Bool.{leb-false}
 use Rattle.lapd_card.specs.Kinds.{frames_of}
 use Rattle.lapd_frame.specs.declared.timers.Order.{Order}
@@ -22,10 +22,11 @@ use Rattle.model_timed.specs.Octets.{TimedOctetCard, octets}
 use Rattle.model_timed.specs.Timed.{happens}
 unfoldable use Rattle.model_timed.specs.Timed.{after_all}
 use Rattle.model_timed.proofs.OctetsRun.{OctetsMean, octets-mean}
+use Rattle.lapd_c.proofs.Calling.{none_there}
 use Rattle.lapd_c.proofs.Exchanging.{card-more}
 use Rattle.std.specs.Prelude.{◌*◌}
 use Rattle.model_card.specs.Reached.{IsReached}
-use Rattle.lapd_c.specs.Kept.{AreLeftIn, CarryOut, CarryOutAll, LedTo, NoteLinks, TimersStandIn, held_in, timed_after, happen, timers_held}
+use Rattle.lapd_c.specs.Kept.{AreLeftIn, AreObeyed, CarryOut, CarryOutAll, LedTo, NoteLinks, TimersStandIn, held_in, timed_after, happen, timers_held}
 use Rattle.lapd_c.proofs.Noting.{LeavesOthers, all-still, held-stand, none-carried}
 
 -- where nothing was ordered, they stand as they did
@@ -44,16 +45,11 @@ left-at line (line_event.expiry timer) t m c may k = absurd may
 left-at line (line_event.request r) t m c may k = record { reached = k.reached; clock_is = k.clock_is; same = λ l timer within. k.same l timer within }
 left-at line line_event.next t m c may k = record { reached = k.reached; clock_is = k.clock_is; same = λ l timer within. k.same l timer within }
 
--- what `settle` ensures, of the timers before and after it
-abbrev pub Settles : AnyCard → ℕ → List Order → Option CardTimers → Option CardTimers → Type 0
-Settles card line orders old new =
-    (e : Event) (m : Card) (c : Clock) → LedTo card line e m → orders ≡ orders_at e m → AreLeftIn e old m c → TimersStandIn new (after e m) (obeyed line (orders_at e m) c)
-
 -- so a call that is an event of a card of frames
-pub obeys : (card : AnyCard) (line : ℕ) (touched : Option ℕ) (orders : List Order) (old new : Option CardTimers) → Settles card line orders old new → NoteLinks card line touched old new → (old ≡ None → new ≡ None)
+pub obeys : (card : AnyCard) (line : ℕ) (touched : Option ℕ) (orders : List Order) (old new : Option CardTimers) → AreObeyed card line orders old new → NoteLinks card line touched old new → is_some new ≡ is_some old
     → (e : Event) (m : Card) → LedTo card line e m → orders ≡ orders_at e m → IsNoExpiry e.what → (IsReached m → LeavesOthers touched line m (after e m)) → CarryOut e.line (orders_at e m) m (after e m) old new
-obeys card line touched orders None new settles notes none e m led is may leaves = none refl
-obeys card line touched orders (Some t) new settles notes none e m led is may leaves = record {
+obeys card line touched orders None new settles notes there e m led is may leaves = none_there new there
+obeys card line touched orders (Some t) new settles notes there e m led is may leaves = record {
   timers = timed;
   noted = λ c marks stood stood_marks. notes m (after e m) (obeyed e.line (orders_at e m) c) marks led.stands led.line_there (leaves stood.reached t.lines (2 * t.terminals)) (timed c stood) stood_marks;
 }
@@ -62,12 +58,12 @@ obeys card line touched orders (Some t) new settles notes none e m led is may le
     timed c stood = subst (λ n. TimersStandIn new (after e m) (obeyed n (orders_at e m) c)) (sym led.line_is) (settles e m c led is (left-at e.line e.what t m c may stood))
 
 -- and one that is an event of a card of octets
-pub obeys-meaning : (card : AnyCard) (line : ℕ) (touched : Option ℕ) (orders : List Order) (old new : Option CardTimers) → Settles card line orders old new → NoteLinks card line touched old new
-    → (old ≡ None → new ≡ None) → (orders ≡ [] → held_in new ≡ held_in old)
+pub obeys-meaning : (card : AnyCard) (line : ℕ) (touched : Option ℕ) (orders : List Order) (old new : Option CardTimers) → AreObeyed card line orders old new → NoteLinks card line touched old new
+    → is_some new ≡ is_some old → (orders ≡ [] → held_in new ≡ held_in old)
     → (e : octet_event.Event) (m : OctetCard) → e.line ≡ line → line < m.card.config.lines → FrameCardStands (frames_of card) (ports.after e m).card → orders ≡ timed_octets.orders_at e m
     → timed_octets.IsNoExpiry e.what → ((f : Event) → ports.meant e m ≡ Some f → f.line ≡ line → IsReached m.card → LeavesOthers touched line m.card (after f m.card))
     → CarryOut e.line (timed_octets.orders_at e m) m.card (ports.after e m).card old new
-obeys-meaning card line touched orders old new settles notes none still e m at_line within stands is may leaves = go (ports.meant e m) refl (octets-mean e m)
+obeys-meaning card line touched orders old new settles notes there still e m at_line within stands is may leaves = go (ports.meant e m) refl (octets-mean e m)
   where
     go : (o : Option Event) → ports.meant e m ≡ o → OctetsMean e m o → CarryOut e.line (timed_octets.orders_at e m) m.card (ports.after e m).card old new
     go None meant h =
@@ -78,11 +74,11 @@ obeys-meaning card line touched orders old new settles notes none still e m at_l
         subst (λ m'. CarryOut e.line (timed_octets.orders_at e m) m.card m' old new) (sym h.2)
         (subst (λ os. CarryOut e.line os m.card (after f m.card) old new) (sym h.1)
         (subst (λ n. CarryOut n (orders_at f m.card) m.card (after f m.card) old new) h.0
-        (obeys card line touched orders old new settles notes none f m.card
+        (obeys card line touched orders old new settles notes there f m.card
         (record { line_is = h.0 ∙ at_line; line_there = within; stands = subst (FrameCardStands (frames_of card)) h.2 stands }) (is ∙ h.1) (h.3 may) (leaves f meant (h.0 ∙ at_line)))))
 
 -- so it is of the clock alone, whatever is noted
-pub timed-meaning : (card : AnyCard) (line : ℕ) (orders : List Order) (t : CardTimers) (new : Option CardTimers) → Settles card line orders (Some t) new → (orders ≡ [] → held_in new ≡ held_in (Some t))
+pub timed-meaning : (card : AnyCard) (line : ℕ) (orders : List Order) (t : CardTimers) (new : Option CardTimers) → AreObeyed card line orders (Some t) new → (orders ≡ [] → held_in new ≡ held_in (Some t))
     → (e : octet_event.Event) (m : OctetCard) → e.line ≡ line → line < m.card.config.lines → FrameCardStands (frames_of card) (ports.after e m).card → orders ≡ timed_octets.orders_at e m
     → timed_octets.IsNoExpiry e.what → (c : Clock) → TimersStand t m.card c → TimersStandIn new (ports.after e m).card (obeyed e.line (timed_octets.orders_at e m) c)
 timed-meaning card line orders t new settles still e m at_line within stands is may c stood = go (ports.meant e m) (octets-mean e m)
@@ -196,7 +192,7 @@ module _ (line : ℕ) (taken : List ℕ) (from : ℕ) (m : OctetCard) (t : CardT
       subst (λ (u : TimedOctetCard). TimersStandIn new u.card.card u.clock) (sym r.same)
       (held-stand (Some t) new (card_after line taken from n m).card c same r.stand)
 
-  pub at-last : (n : ℕ) (card : AnyCard) (orders : List Order) (new : Option CardTimers) → Settles card line orders (Some t) new → (orders ≡ [] → held_in new ≡ held_in (Some t)) → Rested n
+  pub at-last : (n : ℕ) (card : AnyCard) (orders : List Order) (new : Option CardTimers) → AreObeyed card line orders (Some t) new → (orders ≡ [] → held_in new ≡ held_in (Some t)) → Rested n
       → FrameCardStands (frames_of card) (card_after line taken from (suc n) m).card → orders ≡ timed_octets.orders_in (answer_after line taken from n m) → Stand new (suc n)
   at-last n card orders new settles still r stands is =
       let e = step_event line taken (from + n) in

@@ -48,33 +48,18 @@ waits_elsewhere old new line other tei service test h differs w =
 itself : (place : ℕ) (b : Bool) → ((place == place) || b) ≡ true
 itself place b = grind (arith, eqb-true)
 
-refused_call : (old new : List LinkMarks) (line tei : ℕ) → WaitsFor (refused_place 5 3 0 tei) line old new → tei ≤ 126 → line < length old → Waits new line Call tei
-refused_call old new line tei h few within =
-    let small : nat_lt tei 127 ≡ true = lt-ltb tei 127 (omega (arith, few)) in
-    let is : WaitsFor (Some (2 * tei)) line old new = subst (λ (b : Bool). WaitsFor (cond b (Some (2 * tei)) None) line old new) small h in
-    record {
-      place = 2 * tei;
-      within = omega (arith, few);
-      of_service = ap (λ (n : ℕ). cond (n == 0) Call Packet) ((even tei).0);
-      of_tei = (even tei).1;
-      marked = now_marked old new line _ is (2 * tei) within (omega (arith, few)) ∙ itself (2 * tei) _;
-    }
-
-refused_packet : (old new : List LinkMarks) (line tei : ℕ) → WaitsFor (refused_place 5 3 16 tei) line old new → tei ≤ 126 → line < length old → Waits new line Packet tei
-refused_packet old new line tei h few within =
-    let small : nat_lt tei 127 ≡ true = lt-ltb tei 127 (omega (arith, few)) in
-    let is : WaitsFor (Some (2 * tei + 1)) line old new = subst (λ (b : Bool). WaitsFor (cond b (Some (2 * tei + 1)) None) line old new) small h in
-    record {
-      place = 2 * tei + 1;
-      within = omega (arith, few);
-      of_service = ap (λ (n : ℕ). cond (n == 0) Call Packet) ((odd tei).0);
-      of_tei = (odd tei).1;
-      marked = now_marked old new line _ is (2 * tei + 1) within (omega (arith, few)) ∙ itself (2 * tei + 1) _;
-    }
+refused_link : (old new : List LinkMarks) (line sapi tei : ℕ) (its : Service) → service_at (place_of sapi tei) ≡ its → tei_at (place_of sapi tei) ≡ tei → place_of sapi tei < 254 → WaitsFor (refused_place 5 3 sapi tei) line old new
+    → tei ≤ 126 → line < length old → Waits new line its tei
+refused_link old new line sapi tei its service is_tei less h few within =
+    let place = place_of sapi tei in
+    let is : WaitsFor (Some place) line old new = subst (λ (b : Bool). WaitsFor (cond b (Some place) None) line old new) (lt-ltb tei 127 (omega (arith, few))) h in
+    record { place = place; within = less; of_service = service; of_tei = is_tei; marked = now_marked old new line _ is place within less ∙ itself place _ }
 
 refused_waits : (old new : List LinkMarks) (line tei : ℕ) (service : Service) → WaitsFor (refused_place 5 3 (sapi_of service) tei) line old new → tei ≤ 126 → line < length old → Waits new line service tei
-refused_waits old new line tei Call h few within = refused_call old new line tei h few within
-refused_waits old new line tei Packet h few within = refused_packet old new line tei h few within
+refused_waits old new line tei Call h few within =
+    refused_link old new line 0 tei Call (ap (λ (n : ℕ). cond (n == 0) Call Packet) ((even tei).0)) (even tei).1 (omega (arith, few)) h few within
+refused_waits old new line tei Packet h few within =
+    refused_link old new line 16 tei Packet (ap (λ (n : ℕ). cond (n == 0) Call Packet) ((odd tei).0)) (odd tei).1 (omega (arith, few)) h few within
 
 -- and each that waited goes on
 either : (b c : Bool) → c ≡ true → (b || c) ≡ true
@@ -143,10 +128,7 @@ not_before place line tei its m left all w shut is more = elim (cases_lt w.place
 
 -- of two places of one TEI the first is that of call control
 call_before : (a b : ℕ) → a ≤ b → a / 2 ≡ b / 2 → (service_at a ≡ Call) ⊎ (service_at b ≡ Packet)
-call_before a b less same = (elim (a % 2 == 0) as (λ x. (a % 2 == 0) ≡ x → (cond x Call Packet ≡ Call) ⊎ (service_at b ≡ Packet)) [
-  | true ↦ λ is. inl refl
-  | false ↦ λ is. inr (odd_there (b % 2 == 0) refl (eqb-false (a % 2) 0 is))
-]) refl
+call_before a b less same = grind (arith, odd_there, eqb-false)
   where
     odd_there : (x : Bool) → (b % 2 == 0) ≡ x → a % 2 ≢ 0 → cond x Call Packet ≡ Packet
     odd_there true is odd = absurd (odd (omega (arith, less, same, eqb-true (b % 2) 0 is)))
@@ -174,11 +156,7 @@ told_has_room (Some place) old line m r first shown is =
 
 -- a place is that of its link, and no other
 place_is : (place : ℕ) → place_of (sapi_of (service_at place)) (tei_at place) ≡ place
-place_is place =
-    (elim (place % 2 == 0) as (λ b. (place % 2 == 0) ≡ b → place_of (sapi_of (cond b Call Packet)) (place / 2) ≡ place) [
-      | true ↦ λ is. evenly place (eqb-true (place % 2) 0 is)
-      | false ↦ λ is. oddly place (eqb-false (place % 2) 0 is)
-    ]) refl
+place_is place = grind (arith, evenly, oddly)
 
 of_its_service : (sapi tei : ℕ) → service_at (place_of sapi tei) ≡ (if sapi == 0 then Call else Packet)
 of_its_service sapi tei = for (sapi == 0)

@@ -1,15 +1,10 @@
 -- Whole frames: one that comes, and one that is given.
-use Rattle.lapd_c.proofs.Vocabulary.{arith, ◌≡◌, ℕ, Bool, true, List, drop, Option, sym, ap, subst, None, option_map, Config, NextFrame, gave_in, next_in, Card, at, moment_counted, moment_of, Counters, Store, AnyCard, alone, AnyStands, FrameCardStands, frame_comes, goes, next_at}
+use Rattle.lapd_c.proofs.Vocabulary.{arith, ◌≡◌, ℕ, List, drop, Option, sym, ap, subst, None, option_map, Config, NextFrame, gave_in, next_in, Card, at, moment_counted, moment_of, Counters, Store, FrameCardStands, frame_comes, goes, next_at}
 use Rattle.std.proofs.Common.{Some, IfSome, length, ◌≤◌}
 use Rattle.std.proofs.Math.Nat.{min-eq_left}
 use Rattle.std.proofs.lemmas.List.{length-take}
 use Rattle.lapd_frame.specs.ShortLists.{listed}
-use Rattle.lapd_frame.specs.declared.timers.Order.{Order}
-use Rattle.lapd_card.specs.Waiting.{has_next}
-use Rattle.lapd_c.specs.declared.plain.reports.PlainReport.{PlainReport}
 use Rattle.lapd_c.specs.Frames.{IsGiven}
-use Rattle.lapd_c.specs.Reports.{ShowsPull}
-use Rattle.lapd_c.specs.Statuses.{ok}
 use Rattle.model_line.specs.Came.{came}
 use Rattle.model_line.specs.Event as line
 use Rattle.model_line.specs.Laws.{orders_in}
@@ -32,12 +27,10 @@ none_goes i m c none s = subst (FrameCardStands c) (none_leaves m i none) s
 pub none_counted : (i : ℕ) (m : Card) (all : List Counters) → next_at i m ≡ None → moment_counted all (moment_of m (goes i)) ≡ all
 none_counted i m all none = none_counts m i all none
 
--- what is written is given, where it fits, and shown with whether another waits
-pub given_shown : (i : ℕ) (m : Card) (new : AnyCard) (out out' : List ℕ) (count status : ℕ) (r : PlainReport) (next : NextFrame) (more : Bool) (kept : List Order → List Order)
-    → next_at i m ≡ Some (next_in out' next) → status ≡ ok → AnyStands new (alone (machine.after (goes i) m)) → more ≡ has_next i (machine.after (goes i) m)
-    → count ≡ next.length → next.length ≤ length out' → drop next.length out' ≡ drop next.length out → ShowsPull r true more (kept (listed next.orders))
-    → IfSome (next_at i m) (λ n. (status ≡ ok) × AnyStands new (alone (machine.after (goes i) m)) × IsGiven n out out' count × ShowsPull r true (has_next i (machine.after (goes i) m)) (kept n.orders))
-given_shown i m new out out' count status r next more kept is fine stands waits same o rest shows = grind (arith, IfSome, length-take, min-eq_left)
+-- what is written is given, where it fits
+pub given_written : (i : ℕ) (m : Card) (out out' : List ℕ) (count : ℕ) (next : NextFrame) → next_at i m ≡ Some (next_in out' next) → count ≡ next.length → next.length ≤ length out'
+    → drop next.length out' ≡ drop next.length out → IfSome (next_at i m) (λ n. IsGiven n out out' count)
+given_written i m out out' count next is o rest same = grind (arith, IfSome, length-take, min-eq_left)
 
 -- where there is none, nothing is said
 pub none_said : {X : Type 0} (P : X → Type 0) (o : Option X) → o ≡ None → IfSome o P

@@ -1,14 +1,12 @@
 -- What is wrong is told by another status than OK.
-use Rattle.lapd_c.proofs.Vocabulary.{◌+◌, ℕ, Bool, true, false, cond, List, [], ◌∷◌, Option, None, Some, Ok, Result, Card, Refusal, Service, arith, nat_lt, goes, next_at}
-use Rattle.std.specs.Prelude.{◌≢◌, ◌==◌, Err, is_none}
+use Rattle.lapd_c.proofs.Vocabulary.{ℕ, Bool, true, false, cond, List, [], ◌∷◌, Option, None, Some, Ok, Result, Refusal, Service, arith, nat_lt}
+use Rattle.std.specs.Prelude.{◌≢◌, ◌==◌, Err}
 use Rattle.std.specs.Result.{IfErr}
 use Rattle.lapd_frame.specs.Services.{service_of}
 use Rattle.lapd_frame.specs.declared.refusals.Refusal.TheVariants.{BadTei, NoLink, WrongState, TooLong, QueueFull, PoolFull, TeiTaken, TableFull, CheckRunning, ControlFull, WrongSide}
 use Rattle.lapd_frame.specs.declared.timers.Timer.{Timer}
 use Rattle.lapd_frame.specs.declared.timers.Timer.TheVariants.{T200, T203}
 use Rattle.model_line.specs.Request.{Request, Establish, Release, Assign, Remove, Check, Disown, AskTei, VerifyTei, SetBusy, ClearBusy, Deactivate, Down}
-use Rattle.lapd_c.specs.Asked.{next_with_room}
-use Rattle.lapd_c.specs.CalledBy.{inside}
 use Rattle.lapd_c.specs.Faults.{fault_in}
 use Rattle.lapd_c.specs.Requests.{is_request, of_service, request_in, with_service, without_contents}
 use Rattle.lapd_c.specs.Services.{or_wrong_service, service_in}
@@ -82,8 +80,3 @@ of_sapi number tei contents (Ok service) is = asks number tei contents service
 pub request_not_ok : (number service tei : ℕ) (contents : List ℕ) → NotOk (request_in number service tei contents)
 request_not_ok number service tei contents =
     either (is_request number) _ _ (of_sapi number tei contents (service_in service) (service_not_ok (service_of service))) (λ e. omega (arith, e))
-
--- the next frame
-pub next_not_ok : (line room : ℕ) (m : Card) → NotOk (next_with_room line room m)
-next_not_ok line room m =
-    either (nat_lt room (m.config.n201 + 4)) _ _ (λ e. omega (arith, e)) (either (is_none (next_at line m)) _ (Ok (inside (goes line))) (λ e. omega (arith, e)) tt)

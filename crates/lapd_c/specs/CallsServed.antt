@@ -38,7 +38,6 @@ use Rattle.lapd_c.specs.Kept.{ChangesStandIn, TimersStandIn, is_timed, orders_by
 use Rattle.lapd_c.specs.Notes.{cause_number, plain_note}
 use Rattle.lapd_c.specs.Reopened.{TellsReopened, WaitsFor}
 use Rattle.lapd_c.specs.Reports.{Shows, ShowsPull}
-use Rattle.lapd_c.specs.SavesServed.{SavesAreServed}
 use Rattle.lapd_c.specs.Statuses.{refusal_status}
 use Rattle.lapd_c.specs.Timers.{lengths_in, plain_order, plain_timer}
 use Rattle.lapd_c.specs.Wanted.{Wanted, of_any, of_octets, of_frames, of_untimed}
@@ -141,7 +140,7 @@ pub record FallIsServed (now number : ℕ) (timer : Timer) (m : Machine) (c : Cl
   pub reopened : TellsReopened number (card_in (after (at number (line.expiry timer)) m)) (marks_at old) (marks_at new) r
 
 -- Each call is the event that `lapd.h` says, and is served so, at a machine of either kind. So is what falls due at a card with
--- its own timers. Each leaves a handle for the next call. So do saves and restores. A start begins the machine of its configuration; if the card keeps
+-- its own timers. Each leaves a handle for the next call. A start begins the machine of its configuration; if the card keeps
 -- its own timers, none runs, and no link has changed. What a report shows it tells, without orders if the card keeps its own
 -- timers.
 pub record CallsAreServed : Type 0 where
@@ -149,7 +148,6 @@ pub record CallsAreServed : Type 0 where
   pub both_kinds : BothKindsAreServed
   pub writes : CallsWrite
   pub handles : HandlesAreLeft
-  pub saves : SavesAreServed
   pub calls : (asked : Asked) (old new : CardHandle) (result : ℕ) (before r : PlainReport) → Called asked old new result before r → CallIsServed asked old new result before r
   pub falls_due : (now number : ℕ) (timer : Timer) (m : Machine) (c : Clock) (old new : CardHandle) (result : ℕ) (r : PlainReport) → FellDue now number timer m c old new result r
       → FallIsServed now number timer m c old new result r

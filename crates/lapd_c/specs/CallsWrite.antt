@@ -38,13 +38,13 @@ use Rattle.lapd_c.specs.Clocks.{IsClockCall, IsClockStart, after_lengths, clock_
 use Rattle.lapd_c.specs.Config.{config_fault}
 use Rattle.lapd_c.specs.Counted.{counters_at}
 use Rattle.lapd_c.specs.Counters.{plain_counters}
-use Rattle.lapd_c.specs.FallsDue.{AtMoment, FellDue, IsMomentCall, IsTimersCall, NoneDue, TellsMoment, WithClock}
+use Rattle.lapd_c.specs.FallsDue.{FellDue, FindsNoneDue, IsMomentCall, IsTimersCall, LetsFallDue, NoneDue, RefusesMoment, TellsMoment}
 use Rattle.lapd_c.specs.Frames.{IsGiven, next_at}
 use Rattle.lapd_c.specs.Kept.{TimersStandIn, is_timed, timers_of}
 use Rattle.lapd_c.specs.Starts.{IsFreed}
 use Rattle.lapd_c.specs.Timers.{lengths_in}
 use Rattle.lapd_c.specs.Waits.{Waits}
-use Rattle.lapd_c.specs.Wanted.{FramesWithLine, OctetsWithLine, Wanted}
+use Rattle.lapd_c.specs.Wanted.{FramesWithRoom, OctetsWithLine, Wanted}
 
 -- A moment is not before the clock's, and before 2^63.
 pub record IsOnTime (now : ℕ) (h : CardHandle) (m : Machine) (c : Clock) : Type 0 where
@@ -71,7 +71,7 @@ pub record CallsWrite : Type 0 where
       → OctetsWithLine line h (λ m. written ≡ octet_of (octets.answer (octet.at line port.pull) m))
       → HandleStands h (with_ports m) → line < m.card.config.lines → octets.answer (octet.at line port.pull) m ≡ port.pulled value begun orders → written ≡ value
   pub frame : (line count : ℕ) (out out' : List ℕ) (given : NextFrame) (h : CardHandle) (m : Card)
-      → FramesWithLine line h (λ m. m.config.n201 + 4 ≤ length out → IfSome (next_at line m) (λ next. IsGiven next out out' count))
+      → FramesWithRoom line (length out) h (λ m. IfSome (next_at line m) (λ next. IsGiven next out out' count))
       → HandleStands h (alone m) → line < m.config.lines → m.config.n201 + 4 ≤ length out → answer (at line event.next) m ≡ event.gave (Some given)
       → (count ≡ length given.octets) × (out' ≡ given.octets ++ drop (length given.octets) out)
   -- The report of a call names its line, and no timer; nor does that of a block of octets.
@@ -84,13 +84,13 @@ pub record CallsWrite : Type 0 where
   -- A moment before the clock's is refused, and one from 2^63 on. Else the first timer that is due falls due, or none is. A card
   -- whose timers are the caller's is another.
   pub refused : (now result : ℕ) (old new : CardHandle) (m : Machine) (c : Clock)
-      → WithClock old (λ m c. (now < c.now) ⊎ (2 ^ 63 ≤ now) → (result ≡ 21) × (card_of new ≡ card_of old))
+      → RefusesMoment now old new result
       → HandleStands old m → TimersStandIn (timers_of old) (card_in m) c → (now < c.now) ⊎ (2 ^ 63 ≤ now) → (result ≡ 21) × (card_of new ≡ card_of old)
   pub fell_due : (now result : ℕ) (x : Expiry) (old new : CardHandle) (m : Machine) (c : Clock) (r : PlainReport)
-      → AtMoment now old (λ m c. IfSome (due (at_moment now c)) (λ x. FellDue now x.line x.timer m c old new result r))
+      → LetsFallDue now old new result r
       → IsOnTime now old m c → due (at_moment now c) ≡ Some x → FellDue now x.line x.timer m c old new result r
   pub none_due : (now result : ℕ) (old new : CardHandle) (m : Machine) (c : Clock)
-      → AtMoment now old (λ m c. due (at_moment now c) ≡ None → NoneDue now m c old new result)
+      → FindsNoneDue now old new result
       → IsOnTime now old m c → due (at_moment now c) ≡ None → NoneDue now m c old new result
   pub untimed : (old new : CardHandle) (result : ℕ) (before r : PlainReport) → IsMomentCall old new result before r → card_of old ≢ None → is_timed old ≡ false → result ≡ 26
   pub no_moment_card : (old new : CardHandle) (result : ℕ) (before r : PlainReport) → IsMomentCall old new result before r → card_of old ≡ None → (result ≡ 11) × (new ≡ old)

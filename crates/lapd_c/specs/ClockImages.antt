@@ -1,5 +1,5 @@
 -- A clock in C that is saved into an image, and one that is restored from it.
-use Rattle.std.specs.Prelude.{◌≡◌, ◌≢◌, ◌≤◌, ◌⊎◌, ℕ, List, length, Option, None, Some, IfSome}
+use Rattle.std.specs.Prelude.{◌≡◌, ◌≢◌, ◌≤◌, ◌⊎◌, ℕ, List, length, None, Some, IfSome}
 use Rattle.lapd_clock.specs.Image.{image, most_octets, AreItsTimers, IsNoImage, IsRead, IsSaved}
 use Rattle.lapd_clock.specs.Timers.{Timers}
 use Rattle.lapd_clock.specs.declared.line.Held.{Held}
@@ -10,14 +10,14 @@ use Rattle.lapd_c.specs.Saves.{save_status, IsFault, StandsInFront}
 use Rattle.lapd_c.specs.Statuses as status
 
 -- Its image stands in front: the timers of a line there in whichever order.
-abbrev pub IsSavedAs : Timers → List ℕ × ℕ → Type 0
-IsSavedAs c after = (lines : List (List Held)) × AreItsTimers c lines × StandsInFront (image c lines) after
+abbrev pub IsSavedAs : Timers → List ℕ → List ℕ × ℕ → Type 0
+IsSavedAs c room after = (lines : List (List Held)) × AreItsTimers c lines × StandsInFront (image c lines) room after
 
 -- A save changes nothing of the clock. If there is room for all that an image of it may have, the image is written.
 pub record IsClockSave (old new : ClockHandle) (result : ℕ) (before after : List ℕ × ℕ) : Type 0 where
   pub call : IsClockCall (λ c. save_status (length before.0) (most_octets c)) (λ c. c) old new result
   pub unwritten : result ≢ status.ok → after ≡ before
-  pub saved : IfSome (clock_of old) (λ c. IsSaved c → most_octets c ≤ length before.0 → IsSavedAs c after)
+  pub saved : IfSome (clock_of old) (λ c. IsSaved c → most_octets c ≤ length before.0 → IsSavedAs c before.0 after)
 
 abbrev pub HandleReads : List ℕ → HeldClock → Type 0
 HandleReads image None = ⊥

@@ -1,12 +1,14 @@
 -- Octets taken and given in turn.
-use Rattle.std.specs.Prelude.{◌≡◌, ◌≤◌, ◌⊎◌, ℕ, zero, suc, ◌+◌, ◌-◌, ◌*◌, ◌/◌, ◌%◌, ◌==◌, nat_le, Bool, true, false, not, ◌&&◌, List, [], ◌∷◌, ◌++◌, length, get_or, set, is_none, None, Some, if◌then◌else◌}
-use Rattle.model_line.specs.Event.{nothing}
+use Rattle.std.specs.Prelude.{◌≡◌, ◌≤◌, ◌⊎◌, ℕ, zero, suc, ◌+◌, ◌-◌, ◌*◌, ◌/◌, ◌%◌, ◌==◌, nat_le, Bool, true, false, not, ◌&&◌, List, [], ◌∷◌, ◌++◌, length, get_or, set, is_none, is_some, Option, None, Some, IfSome, if◌then◌else◌}
+use Rattle.model_line.specs.Event.{LineTold, nothing}
 use Rattle.model_card.specs.ports.Card.{OctetCard, answer}
 use Rattle.model_card.specs.ports.Event.{Event, at}
 use Rattle.model_card.specs.ports.Port.{Answer, octet, pull, told, refused, pulled}
 use Rattle.model_card.specs.ports.Run.{run}
 use Rattle.model_timed.specs.Octets.{orders_in}
+use Rattle.lapd_frame.specs.declared.short_lists.ShortList.{ShortList}
 use Rattle.lapd_frame.specs.declared.timers.Order.{Order}
+use Rattle.lapd_frame.specs.ShortLists.{listed}
 use Rattle.lapd_store.specs.Store.{Store}
 use Rattle.lapd_card.specs.Card.{Held}
 use Rattle.lapd_c.specs.declared.plain.reports.PlainReport.{PlainReport}
@@ -20,9 +22,13 @@ use Rattle.lapd_c.specs.Answers.{ShowsReply, octet_of}
 use Rattle.lapd_c.specs.Cards.{card_of}
 use Rattle.lapd_c.specs.CardSlots.{HeldCard}
 use Rattle.lapd_c.specs.Counted.{counters_at}
-use Rattle.lapd_c.specs.Kept.{ObeysAll, is_timed, reply_seen_by}
+use Rattle.lapd_c.specs.Kept.{NoteAll, ObeysAll, is_timed, reply_seen_by}
+use Rattle.lapd_c.specs.Reports.{Shows, contents_or_none}
 use Rattle.lapd_c.specs.Statuses as status
-use Rattle.lapd_card.specs.Kinds.{CardStands}
+use Rattle.lapd_card.specs.Counted.{counters_in}
+use Rattle.lapd_card.specs.Kinds.{CardStands, shelf_of}
+use Rattle.lapd_card.specs.Stands.{Leads}
+use Rattle.lapd_timed.specs.declared.card_timers.CardTimers.{CardTimers}
 
 -- An answer has nothing to tell.
 abbrev pub tells_nothing : Answer → Bool
@@ -33,6 +39,23 @@ tells_nothing (pulled value begun orders) = not begun && (length orders == 0)
 -- As many octets are given as are taken, and the step from which to go on is within them.
 abbrev pub is_exchange : List ℕ → List ℕ → ℕ → Bool
 is_exchange taken given from = (length taken == length given) && nat_le from (2 * length taken)
+
+-- An event leads a card of octets on. If the answer has something to tell, these are its orders, and the report tells it; else none is
+-- written. And the states of links are noted that it has left otherwise.
+pub record IsStep (e : Event) (old new : Held Store) (timers timers' : Option CardTimers) (orders : Option (ShortList Order)) (before r : PlainReport) : Type 0 where
+  pub leads : Leads shelf_of e old new
+  pub tells : (m : OctetCard) → CardStands old m → is_some orders ≡ not (tells_nothing (answer e m))
+  pub shown : (m : OctetCard) → CardStands old m → is_some orders ≡ true → ShowsReply r (answer e m)
+  pub ordered : IfSome orders (λ orders. (m : OctetCard) → CardStands old m → listed orders ≡ orders_in (answer e m))
+  pub unchanged : is_some orders ≡ false → r ≡ before
+  pub there : is_some timers' ≡ is_some timers
+  pub noted : (m : OctetCard) → CardStands old m → NoteAll (e ∷ []) m timers timers'
+
+-- What an octet has ended is shown, if that is anything to tell.
+pub record ShowsEnded (ended : LineTold) (tells : Bool) (before r : PlainReport) : Type 0 where
+  pub is : tells ≡ not (tells_nothing (told ended))
+  pub shown : length (contents_or_none ended.contents) ≤ 260 → tells ≡ true → Shows r ended
+  pub unchanged : tells ≡ false → r ≡ before
 
 -- Step 2i takes octet i, step 2i + 1 gives one.
 abbrev pub step_event : ℕ → List ℕ → ℕ → Event
@@ -94,6 +117,14 @@ pub record Exchanged (timed : Bool) (line : ℕ) (taken : List ℕ) (from : ℕ)
   pub stands : CardStands card (card_after line taken from n m)
   pub octets : given' ≡ given_after line taken from n m given
   pub ended : IsThrough line taken from n m to r ⊎ TellsAtLast timed line taken from n m to r
+
+-- The orders of the last are these; all are counted; and what they leave of the links is noted.
+pub record AreMade (line : ℕ) (taken : List ℕ) (from : ℕ) (m : OctetCard) (old new : Held Store) (given given' : List ℕ) (timers timers' : Option CardTimers) (to : ℕ)
+    (orders : List Order) (r : PlainReport) : Type 0 where
+  pub made : Exchanged false line taken from m new given given' to r
+  pub ordered : OrdersLast line taken from m to orders
+  pub counted : counters_in new.frames.lines ≡ all_counted (counters_in old.frames.lines) (moments m.card (meant_all m (steps_made line taken from (to - from))))
+  pub noted : NoteAll (steps_made line taken from (to - from)) m timers timers'
 
 abbrev pub ExchangedBy : Bool → ℕ → List ℕ → ℕ → OctetCard → AnyCard → List ℕ → List ℕ → ℕ → PlainReport → Type 0
 ExchangedBy timed line taken from m (Octets card) given given' to r = Exchanged timed line taken from m card given given' to r

@@ -6,7 +6,7 @@ use Rattle.model_card.specs.Card.{Card}
 use Rattle.model_card.specs.Event.{Event, at}
 use Rattle.model_line.specs.Event.{expiry}
 use Rattle.model_timed.specs.Changes.{Marks, noted}
-use Rattle.model_timed.specs.Clock.{Clock, at_moment, next_moment, obeyed, without_first}
+use Rattle.model_timed.specs.Clock.{Clock, at_moment, due, next_moment, obeyed, without_first}
 use Rattle.model_timed.specs.Frames.{orders_at}
 use Rattle.lapd_c.specs.declared.card.CardHandle.{CardHandle}
 use Rattle.lapd_c.specs.declared.plain.reports.PlainReport.{PlainReport}
@@ -80,3 +80,14 @@ pub record FellDue (now line : ℕ) (timer : Timer) (m : Machine) (c : Clock) (o
       (gone (obeyed line (orders_at (expires line timer) (card_in m)) (without_first (at_moment now c))).now (after (expires line timer) m) (gone now m marks))
   pub counted : Counts (expires line timer) (card_in m) (counters_at old) (counters_at new)
   pub reopened : TellsReopened line (card_in (after (expires line timer) m)) (marks_at old) (marks_at new) r
+
+-- A call with a moment: one before the last, or from 2^63 on, is refused, and nothing changes; else nothing is due, or the first that
+-- is falls due.
+abbrev pub RefusesMoment : ℕ → CardHandle → CardHandle → ℕ → Type 0
+RefusesMoment now old new result = WithClock old (λ m c. (now < c.now) ⊎ (2 ^ 63 ≤ now) → (result ≡ status.wrong_time) × (card_of new ≡ card_of old))
+
+abbrev pub FindsNoneDue : ℕ → CardHandle → CardHandle → ℕ → Type 0
+FindsNoneDue now old new result = AtMoment now old (λ m c. due (at_moment now c) ≡ None → NoneDue now m c old new result)
+
+abbrev pub LetsFallDue : ℕ → CardHandle → CardHandle → ℕ → PlainReport → Type 0
+LetsFallDue now old new result r = AtMoment now old (λ m c. IfSome (due (at_moment now c)) (λ x. FellDue now x.line x.timer m c old new result r))

@@ -1,5 +1,5 @@
 -- Which handle a call leaves behind, whatever its status: one that may be given to the next call.
-use Rattle.std.specs.Prelude.{◌≡◌, ◌≤◌, ℕ, List, is_some, IfSome}
+use Rattle.std.specs.Prelude.{◌≡◌, ◌≤◌, ℕ, is_some, IfSome}
 use Rattle.lapd_clock.specs.Timers.{Timers}
 use Rattle.model_card.specs.declared.kinds.CardKind.{CardKind}
 use Rattle.lapd_c.specs.declared.card.CardHandle.{CardHandle}
@@ -12,9 +12,7 @@ use Rattle.lapd_c.specs.Calls.{IsCardStart, IsTimedStart}
 use Rattle.lapd_c.specs.Cards.{card_of, IsHandle}
 use Rattle.lapd_c.specs.Clocks as clocks
 use Rattle.lapd_c.specs.Clocks.{IsClockCall, IsClockStart, clock_of}
-use Rattle.lapd_c.specs.ClockImages.{IsClockRestore, IsClockSave}
 use Rattle.lapd_c.specs.FallsDue.{IsMomentCall, IsTimersCall}
-use Rattle.lapd_c.specs.Saves.{IsCardRestore, IsCardSave}
 use Rattle.lapd_c.specs.Starts.{IsFreed}
 use Rattle.lapd_c.specs.Wanted.{Wanted}
 
@@ -42,8 +40,3 @@ pub record HandlesAreLeft : Type 0 where
   pub clock : (tells : Timers → ℕ) (leaves : Timers → Timers) (old new : ClockHandle) (result : ℕ) → IsClockCall tells leaves old new result → ClockIsLeft new
   pub clock_start : (config : PlainConfig) (old new : ClockHandle) (result : ℕ) → IsClockStart config old new result → ClockIsLeft new
   pub clock_end : (old new : ClockHandle) (result : ℕ) → IsFreed clocks.IsHandle clock_of 12 old new result → ClockIsLeft new
-  -- So does a save, and a restore, of both.
-  pub save : (old new : CardHandle) (result : ℕ) (before after : List ℕ × ℕ) → IsCardSave old new result before after → IsLeft new
-  pub restore : (image : List ℕ) (old new : CardHandle) (result : ℕ) → IsCardRestore image old new result → IsLeft new
-  pub clock_save : (old new : ClockHandle) (result : ℕ) (before after : List ℕ × ℕ) → IsClockSave old new result before after → ClockIsLeft new
-  pub clock_restore : (image : List ℕ) (old new : ClockHandle) (result : ℕ) → IsClockRestore image old new result → ClockIsLeft new

@@ -15,16 +15,19 @@ use Rattle.model_timed.specs.Frames.{orders_at}
 use Rattle.model_timed.specs.Octets as timed_octets
 use Rattle.model_timed.specs.Octets.{TimedOctetCard}
 use Rattle.model_timed.specs.Timed.{Step, happens}
-use Rattle.lapd_card.specs.Kinds.{frames_of, shelf_of, FrameCardStands}
+use Rattle.lapd_card.specs.Kinds.{card_in, frames_of, shelf_of, AnyStands, FrameCardStands, Machine}
 use Rattle.lapd_card.specs.declared.kinds.AnyCard.{AnyCard}
 use Rattle.lapd_timed.specs.Marked.{IsSameBut, IsTouched}
 use Rattle.lapd_timed.specs.Stands.{AreLeft, ChangesStand, HasLedTo, HeldTimers, TimersStand, held}
 use Rattle.lapd_timed.specs.declared.card_timers.CardTimers.{CardTimers}
 use Rattle.lapd_c.specs.declared.card.CardHandle.{CardHandle}
+use Rattle.lapd_c.specs.declared.kept.KeptCard.{KeptCard}
 use Rattle.lapd_c.specs.declared.plain.reports.PlainReport.{PlainReport}
 use Rattle.lapd_c.specs.CardSlots.{HeldCard}
 use Rattle.lapd_c.specs.Cards.{card_of}
-use Rattle.lapd_c.specs.Reopened.{with_reopened}
+use Rattle.lapd_c.specs.LinkMarks.{MarksBecome, marks_of}
+use Rattle.lapd_c.specs.Reopened.{IsFirstOpen, TellsReopened, waits_on, with_reopened}
+use Rattle.lapd_c.specs.Timers.{no_timer}
 
 -- Its timers; none where it keeps none, or no card is there. And whether it keeps them.
 abbrev pub timers_held : HeldCard → Option CardTimers
@@ -54,6 +57,12 @@ ChangesStandIn (Some timers) m marks = ChangesStand timers m marks
 -- An event at a line of a card has led it to where it is.
 abbrev pub LedTo : AnyCard → ℕ → Event → Card → Type 0
 LedTo card line e m = HasLedTo shelf_of (frames_of card) line e m
+
+-- Orders are carried out on them at a line: so of each event there of which these are the orders, and that led the card to where it
+-- is.
+abbrev pub AreObeyed : AnyCard → ℕ → List Order → Option CardTimers → Option CardTimers → Type 0
+AreObeyed card line orders old new =
+    (e : Event) (m : Card) (c : Clock) → LedTo card line e m → orders ≡ orders_at e m → AreLeftIn e old m c → TimersStandIn new (after e m) (obeyed line (orders_at e m) c)
 
 -- What an event at a line makes of them. Those that stood for a clock beside the card stand for that which has carried out the
 -- orders of the answer, beside the card after the event. And the states in which this has left the links are noted.
@@ -161,3 +170,39 @@ count_by true count = 0
 
 abbrev pub settled : Option CardTimers → PlainReport → PlainReport → PlainReport
 settled timers from r = with_reopened from (record r { order_count = count_by (is_some timers) r.order_count })
+
+-- The card of a call stays, with its timers or without; or of all that C holds nothing but the timers is another.
+pub record IsSameCard (old new : KeptCard) : Type 0 where
+  pub card : new.card ≡ old.card
+  pub there : is_some new.timers ≡ is_some old.timers
+
+pub record IsSameButTimers (old new : KeptCard) : Type 0 where
+  pub card : new.card ≡ old.card
+  pub refused : new.refused ≡ old.refused
+  pub there : is_some new.timers ≡ is_some old.timers
+
+-- The report of a call at a line tells which link has room again, by each machine for which the card stands.
+abbrev pub TellsRoom : ℕ → KeptCard → KeptCard → PlainReport → Type 0
+TellsRoom line old new r = (m : Machine) → AnyStands old.card m → line < (card_in m).config.lines → TellsReopened line (card_in m) old.refused new.refused r
+
+-- Orders at a line are carried out, if the card keeps its own timers, and of what C holds nothing but these is another.
+pub record CarriesOrders (line : ℕ) (orders : List Order) (old new : KeptCard) : Type 0 where
+  pub same : IsSameButTimers old new
+  pub changes : AreSameMarks old.timers new.timers
+  pub timed : AreObeyed old.card line orders old.timers new.timers
+
+-- The first link of a line that waits and has room is told, and waits no more, nor do those that are gone.
+pub record TakesFirst (line : ℕ) (told : Option ℕ) (old new : KeptCard) : Type 0 where
+  pub card : new.card ≡ old.card
+  pub timers : new.timers ≡ old.timers
+  pub first : (m : Machine) → AnyStands old.card m → line < (card_in m).config.lines → IsFirstOpen told line (card_in m) (marks_of old.refused line)
+  pub marks : (m : Machine) → AnyStands old.card m → line < (card_in m).config.lines
+      → MarksBecome line (waits_on told line (card_in m) (marks_of old.refused line)) old.refused new.refused
+
+-- A call of a line ends: the orders are carried out, what the event has left of the links is noted, and which link has room is told.
+pub record Settles (line : ℕ) (touched : Option ℕ) (orders : List Order) (old new : KeptCard) (r : PlainReport) : Type 0 where
+  pub same : IsSameCard old new
+  pub expired : r.expired ≡ no_timer
+  pub tells : TellsRoom line old new r
+  pub noted : NoteLinks old.card line touched old.timers new.timers
+  pub timed : AreObeyed old.card line orders old.timers new.timers

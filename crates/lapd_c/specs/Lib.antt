@@ -78,13 +78,13 @@ pub use Rattle.model_card.specs.ports.Stored.{limit}
 pub use Rattle.model_line.specs.Config.{first_fault}
 pub use Rattle.model_line.specs.Event.{nothing}
 pub use Rattle.lapd_c.specs.Answers.{octet_of, ShowsReply}
-pub use Rattle.lapd_c.specs.Wanted.{FramesWithLine, of_any, of_frames, of_octets, of_untimed, OctetsWithLine, OfEach, WithLine}
+pub use Rattle.lapd_c.specs.Wanted.{FramesWithLine, FramesWithRoom, of_any, of_frames, of_octets, of_untimed, OctetsWithLine, OfEach, WithLine}
 pub use Rattle.lapd_c.specs.Calls.{Begins, fresh, IsCardStart, IsTimedStart, refusal_at}
 pub use Rattle.lapd_c.specs.Asked.{expire_asked, expiry_at, failed_asked, frame_asked, next_frame_asked, octet_asked, pull_asked, request_asked, request_at}
 pub use Rattle.lapd_c.specs.CalledBy.{at_port, Called, inside, IsCallOf, Served}
 pub use Rattle.lapd_c.specs.Questions.{begun_frame_of, begun_of, heard_frame_of, heard_of, in_front, IsQuestion, limit_of, lines_of, link_counters_of, Questioned, room_of, state_of, stored_of, waiting_from}
 pub use Rattle.lapd_c.specs.Changed.{TellsWord, WithMarks, changed_of}
-pub use Rattle.lapd_c.specs.FallsDue.{AtMoment, FellDue, IsMomentCall, IsTimersCall, NoneDue, TellsMoment, WithClock}
+pub use Rattle.lapd_c.specs.FallsDue.{FellDue, FindsNoneDue, IsMomentCall, IsTimersCall, LetsFallDue, NoneDue, RefusesMoment, TellsMoment}
 pub use Rattle.lapd_c.specs.Starts.{IsFreed}
 pub use Rattle.lapd_c.specs.Cards.{card_of, FramesStand, IsHandle, kind_in, marks_at, served_card}
 pub use Rattle.lapd_c.specs.Config.{config_fault, config_in, reading_in, sapi_in, seed_in, side_in}

@@ -1,8 +1,8 @@
 -- A card in C that is saved into an image, and one that is restored from it.
-use Rattle.std.specs.Prelude.{◌≡◌, ◌≢◌, ◌≤◌, ◌<◌, ◌⊎◌, ℕ, nat_lt, true, List, length, take, Option, None, Some, IfSome, is_some, if◌then◌else◌}
+use Rattle.std.specs.Prelude.{◌≡◌, ◌≢◌, ◌≤◌, ◌<◌, ◌⊎◌, ℕ, nat_lt, true, List, length, take, drop, None, Some, IfSome, is_some, if◌then◌else◌}
 use Rattle.lapd_card.specs.Image.{begun_as}
 use Rattle.lapd_card.specs.Kinds.{counters_of, card_in, frames_of, kind_of, AnyStands, FrameCardStands, Machine}
-use Rattle.lapd_timed.specs.Image.{kind_in, CanHold, MayBeSaved}
+use Rattle.lapd_timed.specs.Image.{kind_in, MayBeSaved}
 use Rattle.model_image.specs.Images.{image_of, Saved}
 use Rattle.model_image.specs.Most.{most_octets}
 use Rattle.model_image.specs.Restored.{IsRestored}
@@ -41,9 +41,9 @@ HandleHolds (Some kept) s = IsHeldAs kept s
 abbrev pub save_status : ℕ → ℕ → ℕ
 save_status room most = if nat_lt room most then status.wrong_length else status.ok
 
--- An image stands in front of a room, and so many octets it has.
-abbrev pub StandsInFront : List ℕ → List ℕ × ℕ → Type 0
-StandsInFront image after = (after.1 ≡ length image) × (take after.1 after.0 ≡ image)
+-- An image stands in front of a room, and so many octets it has. What stood in the room after it stands there still.
+abbrev pub StandsInFront : List ℕ → List ℕ → List ℕ × ℕ → Type 0
+StandsInFront image room after = (after.1 ≡ length image) × (take after.1 after.0 ≡ image) × (drop after.1 after.0 ≡ drop after.1 room)
 
 -- A save changes nothing of the card. If there is room for all that an image of it may have, the image stands in front; and it is one
 -- that a restore takes.
@@ -51,7 +51,7 @@ pub record IsCardSave (old new : CardHandle) (result : ℕ) (before after : List
   pub question : IsQuestion of_any old new result before after
   pub told : (m : Machine) → HandleStands old m → result ≡ save_status (length before.0) (most_octets (card_in m).config (is_timed old))
   pub saved : (s : Saved) → HandleHolds (card_of old) s → most_octets s.card.config (is_timed old) ≤ length before.0
-      → IsSaved s × CanHold s.clock × StandsInFront (image_of s) after
+      → IsSaved s × StandsInFront (image_of s) before.0 after
 
 -- What an image says is held: its ports begin anew, and no link waits whose TEI is not on the line.
 pub record IsRead (image : List ℕ) (kept : KeptCard) : Type 0 where
@@ -65,9 +65,9 @@ abbrev pub HandleReads : List ℕ → HeldCard → Type 0
 HandleReads image None = ⊥
 HandleReads image (Some kept) = IsRead image kept
 
--- These octets are the image of no card that may be saved, and that can be held.
+-- These octets are the image of no card that may be saved.
 abbrev pub IsNoImage : List ℕ → Type 0
-IsNoImage image = (s : Saved) → IsSaved s → CanHold s.clock → image_of s ≡ image → ⊥
+IsNoImage image = (s : Saved) → IsSaved s → image_of s ≡ image → ⊥
 
 -- A restore is a start: of the card of an image, or there is none but the one that was there.
 abbrev pub IsFault : ℕ → Type 0

@@ -1,9 +1,10 @@
 -- What a save and a restore come to, in words of their own: those of `lapd.h`.
-use Rattle.std.specs.Prelude.{◌≡◌, ◌≢◌, ◌⊎◌, ◌≤◌, ◌<◌, ℕ, ◌+◌, ◌*◌, Bool, List, length, take, Option, None, Some, Ok, is_some}
+use Rattle.std.specs.Prelude.{◌≡◌, ◌≢◌, ◌⊎◌, ◌≤◌, ◌<◌, ℕ, ◌+◌, ◌*◌, Bool, List, length, take, drop, Option, None, Some, Ok, is_some}
 use Rattle.lapd_card.specs.Image.{begun_as}
 use Rattle.lapd_card.specs.Kinds.{card_in, Machine}
 use Rattle.lapd_clock.specs.Image as clocks
-use Rattle.lapd_clock.specs.Timers.{Timers}
+use Rattle.lapd_clock.specs.Timer.{Lengths}
+use Rattle.lapd_clock.specs.Timers.{after_due, idle, Timers}
 use Rattle.lapd_frame.specs.declared.services.Service.{Service}
 use Rattle.lapd_timed.specs.Image.{kind_in}
 use Rattle.model_card.specs.Room.{room}
@@ -14,12 +15,17 @@ use Rattle.model_link.specs.declared.rooms.Room.{Room}
 use Rattle.lapd_c.specs.declared.card.CardHandle.{CardHandle}
 use Rattle.lapd_c.specs.declared.clock.ClockHandle.{ClockHandle}
 use Rattle.lapd_c.specs.declared.plain.config.PlainConfig.{PlainConfig}
+use Rattle.lapd_c.specs.declared.plain.reports.PlainReport.{PlainReport}
+use Rattle.lapd_c.specs.declared.plain.timers.PlainOrder.{PlainOrder}
 use Rattle.lapd_c.specs.Cards.{card_of, marks_at, HandleStands}
 use Rattle.lapd_c.specs.ClockImages.{IsClockRestore, IsClockSave}
-use Rattle.lapd_c.specs.Clocks.{clock_of}
+use Rattle.lapd_c.specs.Clocks.{after_apply, after_lengths, clock_of}
 use Rattle.lapd_c.specs.Config.{config_fault, config_in}
+use Rattle.lapd_c.specs.HandlesLeft.{ClockIsLeft, IsLeft}
 use Rattle.lapd_c.specs.Kept.{is_timed}
+use Rattle.lapd_c.specs.Orders.{after_report}
 use Rattle.lapd_c.specs.Saves.{image_octets, HandleHolds, IsCardRestore, IsCardSave}
+use Rattle.lapd_c.specs.Timers.{order_in}
 use Rattle.lapd_c.specs.Waits.{Waits}
 
 -- Whatever is saved, it stays as it is. If none is there, the status says so. Unless it is OK nothing is written.
@@ -49,7 +55,20 @@ pub record GoesOnFrom (s : Saved) (new : CardHandle) : Type 0 where
   pub waits : (line tei : ℕ) (service : Service) → line < restored.card.config.lines → Waits (marks_at new) line service tei
       → (left : Room) × (room line service tei restored.card ≡ Ok left)
 
+-- A clock that may be saved still may be after each call.
+pub record ClockStays (c : Timers) : Type 0 where
+  pub applied : (line now : ℕ) (order : PlainOrder) → clocks.IsSaved (after_apply c line (order_in order) now)
+  pub reported : (line now : ℕ) (r : PlainReport) → clocks.IsSaved (after_report c line r now)
+  pub fallen : (now : ℕ) → clocks.IsSaved (after_due c now)
+  pub lengthened : (lengths : Lengths) → clocks.IsSaved (after_lengths lengths c)
+
 pub record SavesAreServed : Type 0 where
+  -- Each leaves a handle that may be given to the next call.
+  pub save_leaves : (old new : CardHandle) (result : ℕ) (before after : List ℕ × ℕ) → IsCardSave old new result before after → IsLeft new
+  pub restore_leaves : (image : List ℕ) (old new : CardHandle) (result : ℕ) → IsCardRestore image old new result → IsLeft new
+  pub clock_save_leaves : (old new : ClockHandle) (result : ℕ) (before after : List ℕ × ℕ) → IsClockSave old new result before after → ClockIsLeft new
+  pub clock_restore_leaves : (image : List ℕ) (old new : ClockHandle) (result : ℕ) → IsClockRestore image old new result → ClockIsLeft new
+  -- What each comes to.
   pub save : (old new : CardHandle) (result : ℕ) (before after : List ℕ × ℕ) → IsCardSave old new result before after → SaveIsTold card_of 11 old new result before after
   pub clock_save : (old new : ClockHandle) (result : ℕ) (before after : List ℕ × ℕ) → IsClockSave old new result before after → SaveIsTold clock_of 12 old new result before after
   pub restore : (image : List ℕ) (old new : CardHandle) (result : ℕ) → IsCardRestore image old new result → RestoreIsTold card_of old new result
@@ -68,6 +87,11 @@ pub record SavesAreServed : Type 0 where
       → most_octets (card_in m).config timed ≤ image_octets config
   pub most_of_clock : (config : PlainConfig) (c : Timers) → config_fault config ≡ None → c.lines ≡ config.lines → c.places ≡ 4 * config.terminals + 1
       → clocks.most_octets c ≤ image_octets config
+  -- Octets after the image stay as they were.
+  pub rest : (old new : CardHandle) (before after : List ℕ × ℕ) (s : Saved) → IsCardSave old new 0 before after → HandleHolds (card_of old) s
+      → most_octets s.card.config (is_timed old) ≤ length before.0 → drop after.1 after.0 ≡ drop after.1 before.0
+  pub clock_rest : (old new : ClockHandle) (before after : List ℕ × ℕ) (c : Timers) → IsClockSave old new 0 before after → clocks.IsSaved c → clock_of old ≡ Some c
+      → clocks.most_octets c ≤ length before.0 → drop after.1 after.0 ≡ drop after.1 before.0
   -- A card that is saved and then restored elsewhere goes on as it is; and a restore takes it, if there is memory.
   pub again : (old same other new : CardHandle) (before after : List ℕ × ℕ) (s : Saved) → IsCardSave old same 0 before after → HandleHolds (card_of old) s
       → most_octets s.card.config (is_timed old) ≤ length before.0 → IsCardRestore (take after.1 after.0) other new 0 → GoesOnFrom s new
@@ -80,3 +104,7 @@ pub record SavesAreServed : Type 0 where
   pub clock_taken : (old same other new : ClockHandle) (result : ℕ) (before after : List ℕ × ℕ) (c : Timers) → IsClockSave old same 0 before after → clocks.IsSaved c
       → clock_of old ≡ Some c → clocks.most_octets c ≤ length before.0 → IsClockRestore (take after.1 after.0) other new result → clock_of other ≡ None
       → (result ≡ 0) ⊎ (result ≡ 22)
+  -- Each clock in C may be saved: one that a start begins, or a restore, and so on after each call.
+  pub clock_begins : (config : PlainConfig) → config_fault config ≡ None → clocks.IsSaved (idle config.lines config.terminals)
+  pub clock_restored : (image : List ℕ) (old new : ClockHandle) (c : Timers) → IsClockRestore image old new 0 → clock_of new ≡ Some c → clocks.IsSaved c
+  pub clock_stays : (c : Timers) → clocks.IsSaved c → ClockStays c

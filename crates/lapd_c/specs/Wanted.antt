@@ -1,5 +1,5 @@
 -- Of which cards a call is.
-use Rattle.std.specs.Prelude.{◌≡◌, ◌<◌, ℕ, true, false, Some}
+use Rattle.std.specs.Prelude.{◌≡◌, ◌<◌, ◌≤◌, ◌+◌, ℕ, true, false, Some}
 use Rattle.model_card.specs.Card.{Card}
 use Rattle.model_card.specs.ports.Card.{OctetCard}
 use Rattle.model_card.specs.declared.kinds.CardKind.TheVariants as kinds
@@ -41,3 +41,7 @@ OctetsWithLine line h holds = (m : OctetCard) → OctetsStand h m → line < m.c
 
 abbrev pub FramesWithLine : ℕ → CardHandle → (Card → Type 0) → Type 0
 FramesWithLine line h holds = (m : Card) → FramesStand h m → line < m.config.lines → holds m
+
+-- And where a room is long enough for the longest frame.
+abbrev pub FramesWithRoom : ℕ → ℕ → CardHandle → (Card → Type 0) → Type 0
+FramesWithRoom line room h holds = FramesWithLine line h (λ m. m.config.n201 + 4 ≤ room → holds m)

@@ -1,8 +1,7 @@
 //! What happens at a card of either kind: a timer that expires, a request.
 
-ghost use Rattle.std.specs.Prelude.{◌≡◌, ◌≢◌, None, IfSome, IfOk, IfErr};
-ghost use Rattle.lapd_c.specs.{Called, expire_asked, expiry_at, IsCallOf, IsHandle, of_any, of_untimed, refusal_at, refused_place, request_asked, request_at, Served, WaitsFor, WithLine};
-ghost use Rattle.lapd_c.specs.{card_in, card_of, marks_at, refusal_status, request_in, served_card, timer_in, timers_of};
+ghost use Rattle.std.specs.Prelude.{◌≡◌, ◌≢◌, None};
+ghost use Rattle.lapd_c.specs.{Called, card_of, expire_asked, IsHandle, refused_place, request_asked, served_card};
 ghost use Rattle.lapd_c.specs.Statuses as status;
 
 use crate::card::CardHandle;
@@ -26,21 +25,8 @@ pub extern "C" fn lapd_expire(
     ensures called { Called (expire_asked line timer.now) handle.old handle.new result report.old report.new }
     ensures unchanged { result ≢ status.ok → card_of handle.new ≡ card_of handle.old }
 {
-    expire(handle, line, timer, report)
-}
-
-// What `lapd_expire` does.
-#[inline(always)]
-fn expire(handle: &mut CardHandle, line: u32, timer: &PlainTimer, report: &mut PlainReport) -> u32
-    requires { IsHandle handle.old }
-    // The expiries of a card that keeps its own timers are its own.
-    ensures call { IsCallOf of_untimed line handle.old handle.new result report.old report.new }
-    ensures unchanged { result ≢ status.ok → card_of handle.new ≡ card_of handle.old }
-    ensures wrong_timer { WithLine of_untimed line handle.old (λ m. IfErr (timer_in timer.now) (λ wrong. result ≡ wrong)) }
-    ensures served { WithLine of_untimed line handle.old (λ m. IfOk (timer_in timer.now) (λ expired.
-        Served (expiry_at line expired) m handle.old handle.new result report.new)) }
-{
     lend!(kept of handle);
+    // The expiries of a card that keeps its own timers are its own.
     if kept.timers.is_some() {
         return WRONG_CARD;
     }
@@ -67,33 +53,6 @@ pub extern "C" fn lapd_request(
     requires { IsHandle handle.old }
     ensures called { Called (request_asked line request service tei contents.now) handle.old handle.new result report.old report.new }
     ensures unchanged { result ≢ status.ok → served_card handle.new ≡ served_card handle.old }
-{
-    ask(handle, line, request, service, tei, contents, report)
-}
-
-// What `lapd_request` does.
-#[inline(always)]
-fn ask(
-    handle: &mut CardHandle,
-    line: u32,
-    request: u8,
-    service: u8,
-    tei: u8,
-    contents: &[u8],
-    report: &mut PlainReport,
-) -> u32
-    requires { IsHandle handle.old }
-    ensures call { IsCallOf of_any line handle.old handle.new result report.old report.new }
-    ensures unchanged { result ≢ status.ok → served_card handle.new ≡ served_card handle.old }
-    ensures timers { result ≢ status.ok → timers_of handle.new ≡ timers_of handle.old }
-    ensures waits { result ≢ status.ok
-        → WaitsFor (refused_place result request service tei) line (marks_at handle.old) (marks_at handle.new) }
-    ensures wrong_request { WithLine of_any line handle.old (λ m.
-        IfErr (request_in request service tei contents.now) (λ wrong. result ≡ wrong)) }
-    ensures refused { WithLine of_any line handle.old (λ m. IfOk (request_in request service tei contents.now) (λ asked.
-        IfSome (refusal_at line asked (card_in m)) (λ why. result ≡ refusal_status why))) }
-    ensures served { WithLine of_any line handle.old (λ m. IfOk (request_in request service tei contents.now) (λ asked.
-        refusal_at line asked (card_in m) ≡ None → Served (request_at line asked) m handle.old handle.new result report.new)) }
 {
     lend!(kept of handle, line);
     let asked = or_answer!(request_in(request, service, tei, contents));

@@ -1,12 +1,12 @@
 //! Octets taken and given in turn.
 
-ghost use Rattle.std.specs.Prelude.{ℕ, Option, ◌≡◌, ◌≢◌, ◌≤◌, ◌<◌, ◌*◌, ◌-◌, ◌∷◌, [], true, false, not, length, is_some, IfSome};
+ghost use Rattle.std.specs.Prelude.{ℕ, Option, ◌≡◌, ◌≢◌, ◌≤◌, ◌<◌, ◌*◌, ◌∷◌, [], true, false, length, is_some};
 ghost use Rattle.std.specs.Option.{option_copied};
 ghost use Rattle.lapd_c.specs.{card_of, Exchanges, is_exchange, IsCallOf, IsHandle, OctetsWithLine, of_octets};
-ghost use Rattle.lapd_c.specs.{all_counted, CardStands, contents_or_none, counters_in, Exchanged, Leads, listed, meant_all, moments, octet_of, OrdersLast, shelf_of, Shows, ShowsReply, step_event, steps_made, tells_nothing, told_at, told_beside, with_step};
+ghost use Rattle.lapd_c.specs.{CardStands, listed, octet_of, step_event, tells_nothing, told_at, told_beside, with_step};
+ghost use Rattle.lapd_c.specs.Exchange.{AreMade, IsStep, ShowsEnded};
 ghost use Rattle.lapd_c.specs.Kept.{NoteAll};
 ghost use Rattle.lapd_timed.specs.declared.card_timers.CardTimers.{CardTimers as Timers};
-ghost use Rattle.model_timed.specs.Octets.{orders_in};
 ghost use Rattle.model_card.specs.ports.Card as machine;
 ghost use Rattle.model_card.specs.ports.Card.{answer};
 ghost use Rattle.model_card.specs.ports.Event.{at};
@@ -35,10 +35,8 @@ pub extern "C" fn lapd_exchange(
 ) -> u32
     requires { IsHandle handle.old }
     ensures call { IsCallOf of_octets line handle.old handle.new result report.old report.new }
-    ensures unchanged { result ≢ status.ok
-        → (card_of handle.new ≡ card_of handle.old) × (given.new ≡ given.old) × (steps.new ≡ steps.old) }
-    ensures wrong_length { OctetsWithLine line handle.old (λ m. is_exchange taken.now given.old steps.old ≡ false
-        → result ≡ status.wrong_length) }
+    ensures unchanged { result ≢ status.ok → (card_of handle.new ≡ card_of handle.old) × (given.new ≡ given.old) × (steps.new ≡ steps.old) }
+    ensures wrong_length { OctetsWithLine line handle.old (λ m. is_exchange taken.now given.old steps.old ≡ false → result ≡ status.wrong_length) }
     ensures exchanged { OctetsWithLine line handle.old (λ m. is_exchange taken.now given.old steps.old ≡ true
         → Exchanges line taken.now steps.old m handle.old handle.new result given.old given.new steps.new report.new) }
 {
@@ -65,13 +63,9 @@ fn exchange(
 ) -> ShortList<Order>
     requires line { line < line_count card.old }
     requires lengths { is_exchange taken.now given.old steps.old ≡ true }
-    ensures made { (m : machine.OctetCard) → CardStands card.old m
-        → Exchanged false line taken.now steps.old m card.new given.old given.new steps.new report.new }
-    ensures ordered { (m : machine.OctetCard) → CardStands card.old m → OrdersLast line taken.now steps.old m steps.new (listed result) }
-    ensures counted { (m : machine.OctetCard) → CardStands card.old m
-        → counters_in card.new.frames.lines ≡ all_counted (counters_in card.old.frames.lines) (moments m.card (meant_all m (steps_made line taken.now steps.old (steps.new - steps.old)))) }
     ensures there { is_some timers.new ≡ is_some timers.old }
-    ensures noted { (m : machine.OctetCard) → CardStands card.old m → NoteAll (steps_made line taken.now steps.old (steps.new - steps.old)) m timers.old timers.new }
+    ensures steps { (m : machine.OctetCard) → CardStands card.old m
+        → AreMade line taken.now steps.old m card.old card.new given.old given.new timers.old timers.new steps.new (listed result) report.new }
 {
     let end = 2 * taken.len();
     for step in *steps..end {
@@ -98,18 +92,9 @@ fn make_step(
     requires line { line < line_count card.old }
     requires within { step < 2 * length taken.now }
     requires lengths { length given.old ≡ length taken.now }
-    ensures leads { Leads shelf_of (step_event line taken.now step) card.old card.new }
-    ensures given { (m : machine.OctetCard) → CardStands card.old m
-        → given.new ≡ with_step step (answer (step_event line taken.now step) m) given.old }
+    ensures step { IsStep (step_event line taken.now step) card.old card.new timers.old timers.new result report.old report.new }
+    ensures given { (m : machine.OctetCard) → CardStands card.old m → given.new ≡ with_step step (answer (step_event line taken.now step) m) given.old }
     ensures length { length given.new ≡ length given.old }
-    ensures tells { (m : machine.OctetCard) → CardStands card.old m
-        → is_some result ≡ not (tells_nothing (answer (step_event line taken.now step) m)) }
-    ensures shown { (m : machine.OctetCard) → CardStands card.old m → is_some result ≡ true
-        → ShowsReply report.new (answer (step_event line taken.now step) m) }
-    ensures ordered { IfSome result (λ orders. (m : machine.OctetCard) → CardStands card.old m
-        → listed orders ≡ orders_in (answer (step_event line taken.now step) m)) }
-    ensures there { is_some timers.new ≡ is_some timers.old }
-    ensures noted { (m : machine.OctetCard) → CardStands card.old m → NoteAll (step_event line taken.now step ∷ []) m timers.old timers.new }
 {
     if step % 2 == 0 {
         return tells_taken(card, timers, line, taken[step / 2], report);
@@ -126,15 +111,7 @@ fn tells_taken(
     report: &mut PlainReport,
 ) -> Option<ShortList<Order>>
     requires { line < line_count card.old }
-    ensures leads { Leads shelf_of (at line (port.octet octet)) card.old card.new }
-    ensures tells { (m : machine.OctetCard) → CardStands card.old m
-        → is_some result ≡ not (tells_nothing (answer (at line (port.octet octet)) m)) }
-    ensures shown { (m : machine.OctetCard) → CardStands card.old m → is_some result ≡ true
-        → ShowsReply report.new (answer (at line (port.octet octet)) m) }
-    ensures ordered { IfSome result (λ orders. (m : machine.OctetCard) → CardStands card.old m → listed orders ≡ orders_in (answer (at line (port.octet octet)) m)) }
-    ensures unchanged { is_some result ≡ false → report.new ≡ report.old }
-    ensures there { is_some timers.new ≡ is_some timers.old }
-    ensures noted { (m : machine.OctetCard) → CardStands card.old m → NoteAll (at line (port.octet octet) ∷ []) m timers.old timers.new }
+    ensures { IsStep (at line (port.octet octet)) card.old card.new timers.old timers.new result report.old report.new }
 {
     let told = card.hear(line, octet)?;
     note_ended(card, timers, line);
@@ -167,11 +144,8 @@ fn tells_ended(
     report: &mut PlainReport,
 ) -> bool
     requires { line < line_count card.now }
-    ensures tells { result ≡ not (tells_nothing (port.told (told_at card.now.ports line told.now))) }
     ensures ordered { listed told.now.orders ≡ (told_at card.now.ports line told.now).orders }
-    ensures shown { length (contents_or_none (told_at card.now.ports line told.now).contents) ≤ 260 → result ≡ true
-        → Shows report.new (told_at card.now.ports line told.now) }
-    ensures unchanged { result ≡ false → report.new ≡ report.old }
+    ensures shows { ShowsEnded (told_at card.now.ports line told.now) result report.old report.new }
 {
     let contents = card.contents(line, told);
     if tells_nothing(told, contents) {
@@ -191,16 +165,8 @@ fn tells_given(
     report: &mut PlainReport,
 ) -> Option<ShortList<Order>>
     requires { line < line_count card.old }
-    ensures leads { Leads shelf_of (at line port.pull) card.old card.new }
-    ensures octet { (m : machine.OctetCard) → CardStands card.old m
-        → octet.new ≡ octet_of (answer (at line port.pull) m) }
-    ensures tells { (m : machine.OctetCard) → CardStands card.old m
-        → is_some result ≡ not (tells_nothing (answer (at line port.pull) m)) }
-    ensures shown { (m : machine.OctetCard) → CardStands card.old m → is_some result ≡ true
-        → ShowsReply report.new (answer (at line port.pull) m) }
-    ensures ordered { IfSome result (λ orders. (m : machine.OctetCard) → CardStands card.old m → listed orders ≡ orders_in (answer (at line port.pull) m)) }
-    ensures unchanged { is_some result ≡ false → report.new ≡ report.old }
-    ensures noted { (timers : Option Timers) (m : machine.OctetCard) → CardStands card.old m → NoteAll (at line port.pull ∷ []) m timers timers }
+    ensures step { (timers : Option Timers) → IsStep (at line port.pull) card.old card.new timers timers result report.old report.new }
+    ensures octet { (m : machine.OctetCard) → CardStands card.old m → octet.new ≡ octet_of (answer (at line port.pull) m) }
 {
     let pulled = card.pull(line);
     *octet = pulled.octet;

@@ -1,12 +1,10 @@
 //! What happens at a card of frames: a frame that comes, a fault in place of one, and the frame that goes next; and on which
 //! lines one waits.
 
-ghost use Rattle.std.specs.Prelude.{◌≡◌, ◌≢◌, ◌==◌, if◌then◌else◌, ◌+◌, ◌≤◌, ◌<◌, true, length, Some, None, IfSome, IfOk, IfErr};
-ghost use Rattle.lapd_c.specs.{alone, Called, failed_asked, frame_asked, frame_comes, fails, FramesStand, FramesWithLine, goes, inside, IsCallOf, IsFirstWaiting, IsGiven, IsHandle, next_at, next_frame_asked, of_frames, Questioned, Served, waiting_from};
-ghost use Rattle.lapd_c.specs.{card_of, counters_at, Counts, has_next, kind_in, marks_at, Obeys, orders_seen, ShowsPull, timers_of};
+ghost use Rattle.std.specs.Prelude.{◌≡◌, ◌≢◌, ◌==◌, if◌then◌else◌, ◌≤◌, ◌<◌, length, Some, None, IfSome};
+ghost use Rattle.lapd_c.specs.{Called, failed_asked, frame_asked, FramesStand, FramesWithRoom, IsFirstWaiting, IsGiven, IsHandle, next_at, next_frame_asked, of_frames, Questioned, waiting_from};
+ghost use Rattle.lapd_c.specs.{card_of, kind_in};
 ghost use Rattle.model_card.specs.Card as machine;
-ghost use Rattle.model_card.specs.Machine.{after};
-ghost use Rattle.lapd_c.specs.Faults.{fault_in};
 ghost use Rattle.model_card.specs.declared.kinds.CardKind.TheVariants as kinds;
 ghost use Rattle.lapd_c.specs.Statuses as status;
 ghost use Rattle.lapd_c.specs.{Shows, contents_or_none, told_beside};
@@ -31,18 +29,6 @@ pub extern "C" fn lapd_frame(
     requires { IsHandle handle.old }
     ensures called { Called (frame_asked line octets.now) handle.old handle.new result report.old report.new }
     ensures unchanged { result ≢ status.ok → card_of handle.new ≡ card_of handle.old }
-{
-    frame(handle, line, octets, report)
-}
-
-// What `lapd_frame` does.
-#[inline(always)]
-fn frame(handle: &mut CardHandle, line: u32, octets: &[u8], report: &mut PlainReport) -> u32
-    requires { IsHandle handle.old }
-    ensures call { IsCallOf of_frames line handle.old handle.new result report.old report.new }
-    ensures unchanged { result ≢ status.ok → card_of handle.new ≡ card_of handle.old }
-    ensures served { FramesWithLine line handle.old (λ m.
-        Served (inside (frame_comes line octets.now m)) (alone m) handle.old handle.new result report.new) }
 {
     // It stands before all else, so that it is cleared once.
     let mut told = BareReport::nothing();
@@ -87,19 +73,6 @@ pub extern "C" fn lapd_frame_failed(
     ensures called { Called (failed_asked line cause) handle.old handle.new result report.old report.new }
     ensures unchanged { result ≢ status.ok → card_of handle.new ≡ card_of handle.old }
 {
-    frame_failed(handle, line, cause, report)
-}
-
-// What `lapd_frame_failed` does.
-#[inline(always)]
-fn frame_failed(handle: &mut CardHandle, line: u32, cause: u8, report: &mut PlainReport) -> u32
-    requires { IsHandle handle.old }
-    ensures call { IsCallOf of_frames line handle.old handle.new result report.old report.new }
-    ensures unchanged { result ≢ status.ok → card_of handle.new ≡ card_of handle.old }
-    ensures wrong_cause { FramesWithLine line handle.old (λ m. IfErr (fault_in cause) (λ wrong. result ≡ wrong)) }
-    ensures served { FramesWithLine line handle.old (λ m. IfOk (fault_in cause) (λ fault.
-        Served (inside (fails line fault)) (alone m) handle.old handle.new result report.new)) }
-{
     lend!(kept of handle, Frames(card), line);
     let fault = or_answer!(fault_in(cause));
     let mut told = BareReport::nothing();
@@ -123,40 +96,7 @@ pub extern "C" fn lapd_next_frame(
     ensures called { Called (next_frame_asked line (length out.old)) handle.old handle.new result report.old report.new }
     ensures other_card { kind_in handle.old ≡ Some kinds.Octets → card_of handle.new ≡ card_of handle.old }
     ensures unwritten { result ≢ status.ok → (out.new ≡ out.old) × (count.new ≡ count.old) }
-    ensures written { FramesWithLine line handle.old (λ m. m.config.n201 + 4 ≤ length out.old
-        → IfSome (next_at line m) (λ next. IsGiven next out.old out.new count.new)) }
-{
-    next_frame(handle, line, out, count, report)
-}
-
-// What `lapd_next_frame` does.
-#[inline(always)]
-fn next_frame(
-    handle: &mut CardHandle,
-    line: u32,
-    out: &mut [u8],
-    count: &mut usize,
-    report: &mut PlainReport,
-) -> u32
-    requires { IsHandle handle.old }
-    ensures call { IsCallOf of_frames line handle.old handle.new result report.old report.new }
-    ensures unwritten { result ≢ status.ok → (out.new ≡ out.old) × (count.new ≡ count.old) }
-    ensures stays { (m : machine.Card) → FramesStand handle.old m → result ≢ status.ok → FramesStand handle.new m }
-    ensures uncounted { (m : machine.Card) → FramesStand handle.old m → result ≢ status.ok
-        → counters_at handle.new ≡ counters_at handle.old }
-    ensures other_card { kind_in handle.old ≡ Some kinds.Octets → card_of handle.new ≡ card_of handle.old }
-    ensures wrong_length { FramesWithLine line handle.old (λ m. length out.old < m.config.n201 + 4
-        → result ≡ status.wrong_length) }
-    ensures none { FramesWithLine line handle.old (λ m. m.config.n201 + 4 ≤ length out.old → next_at line m ≡ None
-        → result ≡ status.no_frame) }
-    ensures given { FramesWithLine line handle.old (λ m. m.config.n201 + 4 ≤ length out.old
-        → IfSome (next_at line m) (λ next. (result ≡ status.ok) × FramesStand handle.new (after (goes line) m)
-        × IsGiven next out.old out.new count.new
-        × ShowsPull report.new true (has_next line (after (goes line) m)) (orders_seen handle.old next.orders))) }
-    ensures timed { result ≡ status.ok → FramesWithLine line handle.old (λ m. Obeys (goes line) m handle.old handle.new) }
-    ensures counted { FramesWithLine line handle.old (λ m. m.config.n201 + 4 ≤ length out.old
-        → Counts (goes line) m (counters_at handle.old) (counters_at handle.new)) }
-    ensures still { result ≢ status.ok → (marks_at handle.new ≡ marks_at handle.old) × (timers_of handle.new ≡ timers_of handle.old) }
+    ensures written { FramesWithRoom line (length out.old) handle.old (λ m. IfSome (next_at line m) (λ next. IsGiven next out.old out.new count.new)) }
 {
     lend!(kept of handle, Frames(card), line);
     match card.next_frame(line, out) {

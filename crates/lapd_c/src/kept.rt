@@ -2,16 +2,11 @@
 //! when it has room again; and with its timers, where it keeps its own.
 
 ghost use Rattle.std.specs.Prelude.{◌≡◌, ◌<◌, Bool, [], true, None, IfSome, is_some};
-ghost use Rattle.model_card.specs.Card.{Card};
-ghost use Rattle.model_card.specs.Event.{Event};
-ghost use Rattle.model_card.specs.Machine.{after};
-ghost use Rattle.model_timed.specs.Clock.{Clock, obeyed};
-ghost use Rattle.model_timed.specs.Frames.{orders_at};
-ghost use Rattle.lapd_c.specs.Kept.{AreLeftIn, AreSameMarks, LedTo, NoteLinks, TimersStandIn, held_in, orders_by, settled};
-ghost use Rattle.lapd_c.specs.{listed, no_timer, nothing, Shows, ShowsPull, first_fault, AreMarked, AreUnmarked, MarksBecome, marks_of, IsFirstOpen, TellsReopened, WaitsFor, is_open, is_there, waits_on, waits_there, with_reopened};
+ghost use Rattle.lapd_c.specs.Kept.{AreSameMarks, CarriesOrders, IsSameButTimers, NoteLinks, Settles, TakesFirst, TellsRoom, held_in, orders_by, settled};
+ghost use Rattle.lapd_c.specs.{listed, no_timer, nothing, Shows, ShowsPull, first_fault, AreMarked, AreUnmarked, IsFirstOpen, WaitsFor, is_open, is_there, waits_there, with_reopened};
 ghost use Rattle.model_card.specs.Card as machine;
 ghost use Rattle.lapd_card.specs.FrameCard.{line_count};
-ghost use Rattle.lapd_card.specs.Kinds.{Machine, card_in, AnyStands, FrameCardStands};
+ghost use Rattle.lapd_card.specs.Kinds.{FrameCardStands};
 
 use crate::link_marks::LinkMarks;
 use crate::plain::{PlainReport, service_at};
@@ -64,19 +59,10 @@ impl KeptCard {
         orders: &[Order],
         report: &mut PlainReport,
     )
-        ensures card { self.new.card ≡ self.old.card }
+        ensures settles { Settles line touched orders.now self.old self.new report.new }
         ensures rest { report.new ≡ settled self.old.timers report.new report.old }
-        ensures expired { report.new.expired ≡ no_timer }
-        ensures tells { (m : Machine) → AnyStands self.old.card m → line < (card_in m).config.lines
-            → TellsReopened line (card_in m) self.old.refused self.new.refused report.new }
-        ensures untimed { self.old.timers ≡ None → self.new.timers ≡ None }
-        ensures there { is_some self.new.timers ≡ is_some self.old.timers }
         ensures none { orders.now ≡ [] → held_in self.new.timers ≡ held_in self.old.timers }
-        ensures noted { NoteLinks self.old.card line touched self.old.timers self.new.timers }
         ensures unnoted { touched ≡ None → AreSameMarks self.old.timers self.new.timers }
-        // So of each event at that line of which these are the orders, and that led the card to where it is.
-        ensures timed { (e : Event) (m : Card) (c : Clock) → LedTo self.old.card line e m → orders.now ≡ orders_at e m
-            → AreLeftIn e self.old.timers m c → TimersStandIn self.new.timers (after e m) (obeyed line (orders_at e m) c) }
     {
         if self.timers.is_some() {
             self.carry_out(line, orders);
@@ -96,17 +82,8 @@ impl KeptCard {
         orders: &ShortList<Order>,
         report: &mut PlainReport,
     )
-        ensures card { self.new.card ≡ self.old.card }
+        ensures settles { Settles line touched (listed orders.now) self.old self.new report.new }
         ensures shown { Shows report.new (record nothing { orders = orders_by (is_some self.old.timers) (listed orders.now) }) }
-        ensures expired { report.new.expired ≡ no_timer }
-        ensures tells { (m : Machine) → AnyStands self.old.card m → line < (card_in m).config.lines
-            → TellsReopened line (card_in m) self.old.refused self.new.refused report.new }
-        ensures untimed { self.old.timers ≡ None → self.new.timers ≡ None }
-        ensures there { is_some self.new.timers ≡ is_some self.old.timers }
-        ensures noted { NoteLinks self.old.card line touched self.old.timers self.new.timers }
-        // So of each event at that line of which these are the orders, and that led the card to where it is.
-        ensures timed { (e : Event) (m : Card) (c : Clock) → LedTo self.old.card line e m → listed orders.now ≡ orders_at e m
-            → AreLeftIn e self.old.timers m c → TimersStandIn self.new.timers (after e m) (obeyed line (orders_at e m) c) }
     {
         if self.timers.is_some() {
             self.carry_out_list(line, orders);
@@ -128,17 +105,8 @@ impl KeptCard {
         more: bool,
         report: &mut PlainReport,
     )
-        ensures card { self.new.card ≡ self.old.card }
+        ensures settles { Settles line None (listed orders.now) self.old self.new report.new }
         ensures shown { ShowsPull report.new true more (orders_by (is_some self.old.timers) (listed orders.now)) }
-        ensures expired { report.new.expired ≡ no_timer }
-        ensures tells { (m : Machine) → AnyStands self.old.card m → line < (card_in m).config.lines
-            → TellsReopened line (card_in m) self.old.refused self.new.refused report.new }
-        ensures untimed { self.old.timers ≡ None → self.new.timers ≡ None }
-        ensures there { is_some self.new.timers ≡ is_some self.old.timers }
-        ensures noted { NoteLinks self.old.card line None self.old.timers self.new.timers }
-        // So of each event at that line of which these are the orders, and that led the card to where it is.
-        ensures timed { (e : Event) (m : Card) (c : Clock) → LedTo self.old.card line e m → listed orders.now ≡ orders_at e m
-            → AreLeftIn e self.old.timers m c → TimersStandIn self.new.timers (after e m) (obeyed line (orders_at e m) c) }
     {
         report.show_begun(more);
         self.add_orders(line, orders, report);
@@ -148,33 +116,15 @@ impl KeptCard {
     // Carries out the orders of an answer of which all else is shown, or shows them, too. Mostly there is none.
     #[inline(always)]
     fn add_orders(&mut self, line: usize, orders: &ShortList<Order>, report: &mut PlainReport)
-        ensures card { self.new.card ≡ self.old.card }
-        ensures refused { self.new.refused ≡ self.old.refused }
+        ensures carries { CarriesOrders line (listed orders.now) self.old self.new }
         ensures shown { (begun more : Bool) → ShowsPull report.old begun more []
             → ShowsPull report.new begun more (orders_by (is_some self.old.timers) (listed orders.now)) }
-        ensures changes { AreSameMarks self.old.timers self.new.timers }
-        ensures there { is_some self.new.timers ≡ is_some self.old.timers }
-        ensures timed { (e : Event) (m : Card) (c : Clock) → LedTo self.old.card line e m → listed orders.now ≡ orders_at e m
-            → AreLeftIn e self.old.timers m c → TimersStandIn self.new.timers (after e m) (obeyed line (orders_at e m) c) }
     {
-        if !matches!(orders, ShortList::None) {
-            self.add_some_orders(line, *orders, report);
+        if matches!(orders, ShortList::None) {
+            return;
         }
-    }
-
-    // The same where there may be some.
-    // They are handed over by value, and it is compiled into its caller: so they lie in memory only if there are some.
-    #[inline(always)]
-    fn add_some_orders(&mut self, line: usize, orders: ShortList<Order>, report: &mut PlainReport)
-        ensures card { self.new.card ≡ self.old.card }
-        ensures refused { self.new.refused ≡ self.old.refused }
-        ensures shown { (begun more : Bool) → ShowsPull report.old begun more []
-            → ShowsPull report.new begun more (orders_by (is_some self.old.timers) (listed orders)) }
-        ensures changes { AreSameMarks self.old.timers self.new.timers }
-        ensures there { is_some self.new.timers ≡ is_some self.old.timers }
-        ensures timed { (e : Event) (m : Card) (c : Clock) → LedTo self.old.card line e m → listed orders ≡ orders_at e m
-            → AreLeftIn e self.old.timers m c → TimersStandIn self.new.timers (after e m) (obeyed line (orders_at e m) c) }
-    {
+        // They are copied here, so they lie in memory only if there are some.
+        let orders = *orders;
         if self.timers.is_some() {
             self.carry_out_list(line, &orders);
         } else {
@@ -185,12 +135,7 @@ impl KeptCard {
     // Carries out the orders of a report, if the card keeps its own timers.
     #[inline(always)]
     fn carry_out_list(&mut self, line: usize, orders: &ShortList<Order>)
-        ensures card { self.new.card ≡ self.old.card }
-        ensures refused { self.new.refused ≡ self.old.refused }
-        ensures changes { AreSameMarks self.old.timers self.new.timers }
-        ensures there { is_some self.new.timers ≡ is_some self.old.timers }
-        ensures timed { (e : Event) (m : Card) (c : Clock) → LedTo self.old.card line e m → listed orders.now ≡ orders_at e m
-            → AreLeftIn e self.old.timers m c → TimersStandIn self.new.timers (after e m) (obeyed line (orders_at e m) c) }
+        ensures { CarriesOrders line (listed orders.now) self.old self.new }
     {
         let frames = self.card.frames();
         if let Some(timers) = &mut self.timers {
@@ -201,13 +146,8 @@ impl KeptCard {
     // Carries out the orders of an answer, if the card keeps its own timers. Mostly there is none.
     #[inline(always)]
     fn carry_out(&mut self, line: usize, orders: &[Order])
-        ensures card { self.new.card ≡ self.old.card }
-        ensures refused { self.new.refused ≡ self.old.refused }
-        ensures changes { AreSameMarks self.old.timers self.new.timers }
-        ensures there { is_some self.new.timers ≡ is_some self.old.timers }
+        ensures carries { CarriesOrders line orders.now self.old self.new }
         ensures none { orders.now ≡ [] → self.new.timers ≡ self.old.timers }
-        ensures timed { (e : Event) (m : Card) (c : Clock) → LedTo self.old.card line e m → orders.now ≡ orders_at e m
-            → AreLeftIn e self.old.timers m c → TimersStandIn self.new.timers (after e m) (obeyed line (orders_at e m) c) }
     {
         if orders.is_empty() {
             return;
@@ -222,9 +162,7 @@ impl KeptCard {
     // own timers.
     #[inline(always)]
     fn note(&mut self, line: usize, touched: Option<u8>)
-        ensures card { self.new.card ≡ self.old.card }
-        ensures refused { self.new.refused ≡ self.old.refused }
-        ensures there { is_some self.new.timers ≡ is_some self.old.timers }
+        ensures same { IsSameButTimers self.old self.new }
         ensures held { held_in self.new.timers ≡ held_in self.old.timers }
         ensures unnoted { touched ≡ None → self.new.timers ≡ self.old.timers }
         ensures noted { NoteLinks self.old.card line touched self.old.timers self.new.timers }
@@ -260,8 +198,7 @@ impl KeptCard {
         ensures rest { report.new ≡ with_reopened report.new report.old }
         ensures expired { report.new.expired ≡ no_timer }
         ensures timers { self.new.timers ≡ self.old.timers }
-        ensures tells { (m : Machine) → AnyStands self.old.card m → line < (card_in m).config.lines
-            → TellsReopened line (card_in m) self.old.refused self.new.refused report.new }
+        ensures tells { TellsRoom line self.old self.new report.new }
     {
         if !self.refused.any() {
             return report.show_reopened(line, None);
@@ -273,12 +210,7 @@ impl KeptCard {
     // It stands apart, since mostly no link waits.
     #[cold]
     fn take_first(&mut self, line: usize) -> Option<u8>
-        ensures card { self.new.card ≡ self.old.card }
-        ensures timers { self.new.timers ≡ self.old.timers }
-        ensures first { (m : Machine) → AnyStands self.old.card m → line < (card_in m).config.lines
-            → IsFirstOpen result line (card_in m) (marks_of self.old.refused line) }
-        ensures marks { (m : Machine) → AnyStands self.old.card m → line < (card_in m).config.lines
-            → MarksBecome line (waits_on result line (card_in m) (marks_of self.old.refused line)) self.old.refused self.new.refused }
+        ensures { TakesFirst line result self.old self.new }
     {
         if line >= self.card.lines() {
             return None;

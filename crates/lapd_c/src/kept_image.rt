@@ -3,7 +3,7 @@
 ghost use Rattle.std.specs.Prelude.{◌≡◌, ℕ, List, is_some, IfOk, IfErr, IfSome};
 ghost use Rattle.lapd_card.specs.Kinds.{config_of};
 ghost use Rattle.lapd_image.specs.Puts.{Puts};
-ghost use Rattle.lapd_timed.specs.Image.{CanHold, IsRestoredFrom};
+ghost use Rattle.lapd_timed.specs.Image.{IsRestoredFrom};
 ghost use Rattle.model_image.specs.Images.{image_of, Saved};
 ghost use Rattle.model_image.specs.Most.{most_octets};
 ghost use Rattle.model_image.specs.Sound.{IsSaved};
@@ -28,7 +28,7 @@ impl KeptCard {
     /// Writes its image in front of a room, and answers how many octets it has. What does not fit is left out.
     pub(crate) fn save(&self, out: &mut [u8]) -> usize
         ensures puts { (s : Saved) → IsHeldAs self.now s → Puts (image_of s) 0 out.old result out.new }
-        ensures saved { (s : Saved) → IsHeldAs self.now s → IsSaved s × CanHold s.clock }
+        ensures saved { (s : Saved) → IsHeldAs self.now s → IsSaved s }
     {
         let waits = waits_of(self.card.frames(), &self.refused);
         save(&self.card, &waits, &self.timers, out)

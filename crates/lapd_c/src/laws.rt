@@ -7,6 +7,7 @@ ghost use Rattle.lapd_c.specs.Blocks.{BlocksAreCalls};
 ghost use Rattle.lapd_c.specs.CarriedOut.{OrdersAreCarriedOut};
 ghost use Rattle.lapd_c.specs.Numbers.{NumbersAreGiven};
 ghost use Rattle.lapd_c.specs.QuestionsAnswered.{QuestionsAreAnswered};
+ghost use Rattle.lapd_c.specs.SavesServed.{SavesAreServed};
 ghost use Rattle.lapd_c.specs.Waits.{LinksReopen};
 
 /// The contents that an answer delivers have at most N201 octets, whatever happens to whichever card: an I-frame with
@@ -74,4 +75,13 @@ pub fn calls_are_served()
 #[tactic(auto, using(crate::proofs::QuestionsAnswered::questions_are_answered_by))]
 pub fn questions_are_answered()
     ensures { QuestionsAreAnswered }
+{}
+
+/// A card and a clock in C are saved and restored as `include/lapd.h` says. A save changes nothing but the octets of its image, and
+/// so much room as `lapd_image_octets` tells is enough for it. A restore begins one if none is there, or finds no memory, or no
+/// image; if it is not OK, nothing changes. It takes the image of each card that is there. The restored card then goes on as the
+/// saved one would, as one whose ports begin anew, and a clock is as it was. Each clock in C may be saved, from its start on.
+#[tactic(auto, using(crate::proofs::SavesServed::saves_are_served_by))]
+pub fn saves_are_served()
+    ensures { SavesAreServed }
 {}

@@ -26,10 +26,11 @@
 //! # Only tested
 //!
 //! `tests/c/run` and `tests/c/declared`: starts; that all memory is given back; that structs, prototypes and
-//! statuses are as `lapd.h` has them, and its inline functions. Every stored script is played, call by call and by
-//! `lapd_exchange`. A card of frames and one of octets, to which the same happens at random, tell the same. A gateway
-//! of 64 lines runs a day with terminals that nobody here wrote. On demand these also beside a card of octets, at a
-//! trunk, and as the network of terminals (`tests/interop`).
+//! statuses are as `lapd.h` has them, and its inline functions. Stored scripts are played, call by call and by
+//! `lapd_exchange`. A card of frames and one of octets, to which the same happens at random, tell the same. Images
+//! have the same octets by every build and processor; a changed one is refused, or is that of what it gives. A gateway
+//! of 64 lines runs a day with terminals that nobody here wrote; on demand (`tests/interop`) these also beside a card of
+//! octets, at a trunk, and as its terminals.
 //!
 //! # Open
 //!

@@ -2,7 +2,7 @@
 //! or how it begins.
 
 ghost use Rattle.std.specs.Prelude.{◌≡◌, ◌≢◌, Some, IfOk, IfErr};
-ghost use Rattle.lapd_c.specs.{at_port, begun_frame_of, begun_of, card_of, heard_frame_of, heard_of, in_front, IsCallOf, IsHandle, octet_asked, octet_of, OctetsWithLine, of_octets, pull_asked, Called, Questioned, Served, with_ports};
+ghost use Rattle.lapd_c.specs.{begun_frame_of, begun_of, card_of, heard_frame_of, heard_of, in_front, IsHandle, octet_asked, octet_of, OctetsWithLine, of_octets, pull_asked, Called, Questioned};
 ghost use Rattle.model_card.specs.ports.Card.{answer};
 ghost use Rattle.model_card.specs.ports.Event.{at};
 ghost use Rattle.model_card.specs.ports.Port as port;
@@ -26,18 +26,7 @@ pub extern "C" fn lapd_octet(
     ensures called { Called (octet_asked line octet) handle.old handle.new result report.old report.new }
     ensures unchanged { result ≢ status.ok → card_of handle.new ≡ card_of handle.old }
 {
-    take_octet(handle, line, octet, report)
-}
-
-// What `lapd_octet` does.
-#[inline(always)]
-fn take_octet(handle: &mut CardHandle, line: u32, octet: u8, report: &mut PlainReport) -> u32
-    requires { IsHandle handle.old }
-    ensures call { IsCallOf of_octets line handle.old handle.new result report.old report.new }
-    ensures unchanged { result ≢ status.ok → card_of handle.new ≡ card_of handle.old }
-    ensures served { OctetsWithLine line handle.old (λ m.
-        Served (at_port (at line (port.octet octet))) (with_ports m) handle.old handle.new result report.new) }
-{
+    // Mostly it ends nothing.
     lend!(kept of handle, Octets(card), line);
     match card.hear(line, octet) {
         None => {
@@ -65,19 +54,6 @@ pub extern "C" fn lapd_pull(
     requires { IsHandle handle.old }
     ensures called { Called (pull_asked line) handle.old handle.new result report.old report.new }
     ensures unchanged { result ≢ status.ok → (card_of handle.new ≡ card_of handle.old) × (octet.new ≡ octet.old) }
-    ensures written { OctetsWithLine line handle.old (λ m. octet.new ≡ octet_of (answer (at line port.pull) m)) }
-{
-    pull(handle, line, octet, report)
-}
-
-// What `lapd_pull` does.
-#[inline(always)]
-fn pull(handle: &mut CardHandle, line: u32, octet: &mut u8, report: &mut PlainReport) -> u32
-    requires { IsHandle handle.old }
-    ensures call { IsCallOf of_octets line handle.old handle.new result report.old report.new }
-    ensures unchanged { result ≢ status.ok → (card_of handle.new ≡ card_of handle.old) × (octet.new ≡ octet.old) }
-    ensures served { OctetsWithLine line handle.old (λ m.
-        Served (at_port (at line port.pull)) (with_ports m) handle.old handle.new result report.new) }
     ensures written { OctetsWithLine line handle.old (λ m. octet.new ≡ octet_of (answer (at line port.pull) m)) }
 {
     lend!(kept of handle, Octets(card), line);

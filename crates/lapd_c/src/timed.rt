@@ -1,10 +1,10 @@
 //! A card of either kind that keeps its own timers: what falls due, and when.
 
-ghost use Rattle.std.specs.Prelude.{◌≡◌, ◌≤◌, ◌<◌, ◌^◌, ◌⊎◌, false, true, None, IfSome};
+ghost use Rattle.std.specs.Prelude.{◌≡◌, ◌≤◌, ◌<◌, ◌⊎◌, false, true, None, IfSome};
 ghost use Rattle.model_card.specs.Card as machine;
 ghost use Rattle.lapd_clock.specs.Timer.{first_out_of_range};
-ghost use Rattle.model_timed.specs.Clock.{Clock, at_moment, due, next_moment, with_lengths};
-ghost use Rattle.lapd_c.specs.{AtMoment, FellDue, IsHandle, IsMomentCall, IsQuestion, IsTimersCall, NoneDue, TellsMoment, TellsWord, TimersStandIn, WithClock, WithMarks, card_of, changed_of, is_timed, of_any, timers_of};
+ghost use Rattle.model_timed.specs.Clock.{Clock, next_moment, with_lengths};
+ghost use Rattle.lapd_c.specs.{FindsNoneDue, IsHandle, IsMomentCall, IsQuestion, IsTimersCall, LetsFallDue, RefusesMoment, TellsMoment, TellsWord, TimersStandIn, WithMarks, card_of, changed_of, is_timed, of_any, timers_of};
 ghost use Rattle.lapd_c.specs.Timers.{lengths_in};
 ghost use Rattle.lapd_c.specs.Statuses as status;
 
@@ -22,12 +22,9 @@ use lapd_timed::tei_of_timer;
 pub extern "C" fn lapd_fall_due(handle: &mut CardHandle, now: u64, report: &mut PlainReport) -> u32
     requires { IsHandle handle.old }
     ensures call { IsMomentCall handle.old handle.new result report.old report.new }
-    // A moment before the last one, or from 2^63 on, is refused, and nothing changes.
-    ensures wrong_time { WithClock handle.old (λ m c. (now < c.now) ⊎ (2 ^ 63 ≤ now)
-        → (result ≡ status.wrong_time) × (card_of handle.new ≡ card_of handle.old)) }
-    ensures none { AtMoment now handle.old (λ m c. due (at_moment now c) ≡ None → NoneDue now m c handle.old handle.new result) }
-    ensures due { AtMoment now handle.old (λ m c. IfSome (due (at_moment now c)) (λ x.
-        FellDue now x.line x.timer m c handle.old handle.new result report.new)) }
+    ensures wrong_time { RefusesMoment now handle.old handle.new result }
+    ensures none { FindsNoneDue now handle.old handle.new result }
+    ensures due { LetsFallDue now handle.old handle.new result report.new }
 {
     lend!(kept of handle);
     if let Some(timers) = &mut kept.timers {
@@ -44,12 +41,9 @@ pub extern "C" fn lapd_fall_due(handle: &mut CardHandle, now: u64, report: &mut 
 fn fall_due(handle: &mut CardHandle, now: u64, report: &mut PlainReport) -> u32
     requires { IsHandle handle.old }
     ensures call { IsMomentCall handle.old handle.new result report.old report.new }
-    // A moment before the last one, or from 2^63 on, is refused, and nothing changes.
-    ensures wrong_time { WithClock handle.old (λ m c. (now < c.now) ⊎ (2 ^ 63 ≤ now)
-        → (result ≡ status.wrong_time) × (card_of handle.new ≡ card_of handle.old)) }
-    ensures none { AtMoment now handle.old (λ m c. due (at_moment now c) ≡ None → NoneDue now m c handle.old handle.new result) }
-    ensures due { AtMoment now handle.old (λ m c. IfSome (due (at_moment now c)) (λ x.
-        FellDue now x.line x.timer m c handle.old handle.new result report.new)) }
+    ensures wrong_time { RefusesMoment now handle.old handle.new result }
+    ensures none { FindsNoneDue now handle.old handle.new result }
+    ensures due { LetsFallDue now handle.old handle.new result report.new }
 {
     lend!(kept of handle);
     let Some(timers) = &mut kept.timers else {

@@ -24,6 +24,6 @@ returns c =
         after = sym (ap (option_map (λ t. t)) is);
       };
       unwritten = λ e. absurd (e refl);
-      saved = subst (λ o. IfSome o (λ t. IsSaved t → most_octets t ≤ length c.args.image.now → IsSavedAs t (c.save.new.out, c.save.result))) (sym is)
+      saved = subst (λ o. IfSome o (λ t. IsSaved t → most_octets t ≤ length c.args.image.now → IsSavedAs t c.args.image.now (c.save.new.out, c.save.result))) (sym is)
           (λ saved room. clock_written clock c.save.ensures.0 c.args.image.now c.save.new.out c.save.result saved c.save.ensures.1 room c.save.ensures.2);
     }

@@ -32,6 +32,6 @@ returns c =
           let held : IsHeldAs kept s = subst (λ held. HandleHolds held s) is holds in
           let may = c.save.ensures.saved s held in
           let most : most_octets s.card.config (is_timed c.args.handle.now) ≡ most_octets s.card.config (is_some kept.timers) = ap (most_octets s.card.config) timed in
-          let fits : length (image_of s) ≤ length c.args.image.now = omega (arith, room, most, held_fits kept s may.0 held) in
-          (may.0, may.1, written (image_of s) c.args.image.now c.save.new.out c.save.result (c.save.ensures.puts s held) fits);
+          let fits : length (image_of s) ≤ length c.args.image.now = omega (arith, room, most, held_fits kept s may held) in
+          (may, written (image_of s) c.args.image.now c.save.new.out c.save.result (c.save.ensures.puts s held) fits);
     }

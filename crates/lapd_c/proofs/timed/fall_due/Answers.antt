@@ -71,7 +71,7 @@ returns-clause-due c = λ m clock s stood later before.
     let within : line < (card_in m).config.lines = subst (λ n. line < n) (sym gone.clock_is.lines) c.in-Some-due.ensures.line in
     let stands = there c.in-Some.ensures.card m s in
     let led = c.expire.ensures.called.leads.stands m stands in
-    let tells = c.settle.ensures.tells (after e m) led (still_within line e m within) in
+    let tells = c.settle.ensures.settles.tells (after e m) led (still_within line e m within) in
     if_fell _ (due (at_moment c.args.now clock)) c.in-Some-due.value (sym c.in-Some-due.is ∙ c.due.ensures.due (card_in m) (at_moment c.args.now clock) gone) _ _ _ _ _ _ (record {
       ok = refl;
       of_line = ap (λ (r : PlainReport). r.line) c.show_expired.ensures ∙ tells.of_line;
@@ -80,9 +80,9 @@ returns-clause-due c = λ m clock s stood later before.
           (answered_still c.settle.new.report (plain_timer timer) (without_orders (answer e m))
           (settled_answered (Some c.due.new.self) c.settle.new.report c.show.new.self (answer e m) c.settle.ensures.rest
           (subst (ShowsAnswer c.show.new.self) (c.expire.ensures.called.answers m stands) (c.show.ensures (omega arith)))));
-      stands = still_stands (after e m) c.settle.ensures.card led;
+      stands = still_stands (after e m) c.settle.ensures.settles.same.card led;
       timers = timed_any line (expiry timer) m c.settle.new.self.timers (obeyed line (orders_at e (card_in m)) (without_first (at_moment c.args.now clock)))
-          (c.settle.ensures.timed e (card_in m) (without_first (at_moment c.args.now clock))
+          (c.settle.ensures.settles.timed e (card_in m) (without_first (at_moment c.args.now clock))
           (led_any line (expiry timer) m c.expire.new.self within led)
           (c.orders.ensures ∙ ap orders_in (c.expire.ensures.called.answers m stands))
           (c.in-Some-due.ensures.left (card_in m) (at_moment c.args.now clock) gone));
@@ -92,15 +92,15 @@ returns-clause-due c = λ m clock s stood later before.
           (record { lines = c.if-not-go_to.ensures.lines; terminals = c.if-not-go_to.ensures.terminals; changes = c.if-not-go_to.ensures.changes }) left
           (marks_there c.in-Some.ensures.card (card_in m) marks stood_marks) in
           noted_any line (expiry timer) m c.settle.new.self.timers _ (noted c.args.now (card_in m) marks)
-          (c.settle.ensures.noted (card_in m) (machine.after e (card_in m)) (obeyed line (orders_at e (card_in m)) (without_first (at_moment c.args.now clock))) (noted c.args.now (card_in m) marks)
+          (c.settle.ensures.settles.noted (card_in m) (machine.after e (card_in m)) (obeyed line (orders_at e (card_in m)) (without_first (at_moment c.args.now clock))) (noted c.args.now (card_in m) marks)
           (led_any line (expiry timer) m c.expire.new.self within led).stands within
           (leaves-others (card_in m) gone.reached e within c.tei_of_timer.result
           (subst (λ n. n ≢ 127 → KeepsOthers n (line_at line (card_in m)) (lines.after (card_in m).config (expiry timer) (line_at line (card_in m)))) (sym c.tei_of_timer.ensures) (expiry-keeps timer (card_in m).config (line_at line (card_in m)))) c.due.new.self.lines (2 * c.due.new.self.terminals))
-          (c.settle.ensures.timed e (card_in m) (without_first (at_moment c.args.now clock))
+          (c.settle.ensures.settles.timed e (card_in m) (without_first (at_moment c.args.now clock))
           (led_any line (expiry timer) m c.expire.new.self within led)
           (c.orders.ensures ∙ ap orders_in (c.expire.ensures.called.answers m stands))
           (c.in-Some-due.ensures.left (card_in m) (at_moment c.args.now clock) gone)) kept);
-      counted = counts c.in-Some.ensures.card e (card_in m) c.expire.new.self c.settle.new.self.card c.settle.ensures.card (c.expire.ensures.called.leads.counted m stands);
+      counted = counts c.in-Some.ensures.card e (card_in m) c.expire.new.self c.settle.new.self.card c.settle.ensures.settles.same.card (c.expire.ensures.called.leads.counted m stands);
       reopened = subst (TellsReopened line (card_in (after e m)) (marks_held c.args.handle.now.slot.card) c.settle.new.self.refused) (sym c.show_expired.ensures)
           (reopened_still line (card_in (after e m)) (marks_held c.args.handle.now.slot.card) c.settle.new.self.refused c.settle.new.report (plain_timer timer)
           (subst (λ marks. TellsReopened line (card_in (after e m)) marks c.settle.new.self.refused c.settle.new.report) (sym (ap marks_held c.in-Some.ensures.card)) tells));

@@ -1,5 +1,5 @@
 -- Hand-written answers for `is_among`.
-use Rattle.std.proofs.Common.{◌≡◌, ◌+◌, ◌*◌, ◌%◌, ◌<◌, ◌==◌, arith, ap, sym, ◌∙◌}
+use Rattle.std.proofs.Common.{◌+◌, ◌*◌, ◌%◌, ◌<◌, ◌==◌, arith, ap, sym, ◌∙◌}
 use Rattle.std.specs.Int.{bit_at}
 use Rattle.model_line.specs.declared.config.Config.{Config}
 use Rattle.lapd_c.specs.Waiting.{bit_of}

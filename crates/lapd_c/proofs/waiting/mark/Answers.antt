@@ -1,5 +1,5 @@
 -- Hand-written answers for `mark`.
-use Rattle.std.proofs.Common.{◌≡◌, ◌+◌, ◌<◌, List, arith, ap, get_or, length, refl, subst, sym, ◌∙◌}
+use Rattle.std.proofs.Common.{◌+◌, ◌<◌, List, arith, ap, get_or, length, refl, subst, sym, ◌∙◌}
 use Rattle.std.proofs.lemmas.List.{length-set}
 use Rattle.model_card.proofs.Reaching.{reached-sound}
 use Rattle.model_line.specs.declared.config.Config.{Config}

@@ -1,6 +1,7 @@
-/* ---- What the program asks of its system: POSIX's read and write, and the words of its command line ----------------- */
+/* ---- What the program asks of its system: POSIX's read, write, open and close, and the words of its command line --- */
 
 #include <errno.h>
+#include <fcntl.h>
 #include <signal.h>
 #include <stdio.h>
 #include <unistd.h>
@@ -26,6 +27,19 @@ static inline u64 host_read(machine *instance, u32 from, u64 at, u64 count) {
 static inline u64 host_write(machine *instance, u32 to, u64 at, u64 count) {
     TEST_BLOCK(at, count);
     return (u64)(s64)write((int)to, instance->data + at, (size_t)count);
+}
+
+/* Opens the file of a path, which ends with a 0, to be read: the program asks for nothing else. */
+static inline u32 host_open(machine *instance, u64 path, u32 how, u64 more) {
+    TEST_BLOCK(path, 1);
+    (void)how;
+    (void)more;
+    return (u32)open((const char *)(instance->data + path), O_RDONLY);
+}
+
+static inline u32 host_close(machine *instance, u32 of) {
+    (void)instance;
+    return (u32)close((int)of);
 }
 
 /* Puts a word of the command line, and answers its length: -1 where there is none, and -2 where it does not fit. */

@@ -17,6 +17,7 @@
 #ifndef MOST
 #define MOST 2048
 #define MOST_OF_START 6144
+#define MOST_OF_RESTORE 8192
 #define MOST_OF_TEXT MOST
 #endif
 
@@ -143,7 +144,7 @@ static void hear(hdlc_sender *sender, const uint8_t *frame, size_t length, size_
 /* A card is saved, and another restored from its image. */
 static void saves(const char *save, const char *restore) {
     show(save, most(0, card_save));
-    show(restore, within(MOST_OF_START, card_restore));
+    show(restore, within(MOST_OF_RESTORE, card_restore));
     most(0, other_free);
 }
 

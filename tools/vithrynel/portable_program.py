@@ -12,8 +12,8 @@ from .static_library import NotBuilt
 from .united import United
 
 COMMENT = """\
-lapdsim.c: the simulator, lapdsim, for each processor, over POSIX's read and write. lapdsim(1) and lapdsim(5) describe it. What it
-has in common with the library stands in lapd.c, which it includes. Written by tools/release of Vithrynel; not to be edited.
+lapdsim.c: the simulator, lapdsim, for each processor, over POSIX's read, write, open and close. lapdsim(1) and lapdsim(5) describe
+it. What it has in common with the library stands in lapd.c, which it includes. Written by tools/release of Vithrynel; not to be edited.
 
     cc -O2 -o lapdsim lapdsim.c
 

@@ -16,7 +16,7 @@ from .static_library import NotBuilt, built, module
 from .wasm import for_wasm, linked, lowered, memory_for_wasm, need
 
 LIBRARY, PROGRAM = "lapd_c", "lapdsim"
-# Octets of stack in the memory of a card, where C's own has the rest: calls were seen to take less than half. And in that of the
+# Octets of stack in the memory of a card, where C's own has the rest: by their frames calls take 6,368 at most. And in that of the
 # simulator: a script is played with pages of 4,096 octets on it. What takes more ends the program, as the stack lies at the
 # memory's beginning.
 STACK, PROGRAM_STACK = 9216, 1 << 18

@@ -10,7 +10,6 @@ use Rattle.lapd_transcript.specs.declared.streams.WriteFailed.{WriteFailed}
 use Rattle.lapd_transcript.specs.Streams.{Output, IsPut, IsStuck}
 use Rattle.lapd_sim.specs.machine.Images.{image, saved}
 use Rattle.lapd_sim.specs.machine.Setup.{Setup, begun, happened}
-use Rattle.lapd_timed.specs.Image.{CanHold}
 use Rattle.model_image.specs.Sound.{IsSaved}
 use Rattle.lapd_sim.specs.machine.Steps.{Scene, at_expiry, begun_with, due_by, with_card, without_card}
 use Rattle.lapd_sim.specs.machine.Board.{at, expiry, reply, told}
@@ -134,4 +133,3 @@ Does (Err OutOfMemory) old new line before has said = (new ≡ old) × IsStart l
 pub record IsImageOf (m : Setup) (octets : List ℕ) : Type 0 where
   pub octets_are : octets ≡ image m
   pub is_saved : IsSaved (saved m)
-  pub holds : CanHold (Some m.clock)

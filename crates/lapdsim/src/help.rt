@@ -17,6 +17,10 @@ the network's side of its lines or the user's.
   lapdsim limits LINES TERMINALS CONTROL SLOTS N201
                                   says how many octets a card with these numbers
                                   stores at most
+  lapdsim image FILE              says what a card tells of itself that starts
+                                  from this image, or from that on standard
+                                  input if FILE is -; the repository's
+                                  tools/image says what else is in an image
   lapdsim --help                  writes this
   lapdsim --version               writes what program this is
 

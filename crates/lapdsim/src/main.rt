@@ -1,28 +1,36 @@
 //! `lapdsim run` plays the script on its standard input, and writes the transcript to its standard output.
-//! `lapdsim frame` shows one frame, and `lapdsim limits` how many octets a card stores at most; `docs/FORMAT.md` has
-//! the words and what they answer. `lapdsim --help` and `lapdsim --version` say what the program is. `tests` tries the
-//! simulator over sources and targets that give and take in pieces, or fail.
+//! `lapdsim frame` shows one frame, and `lapdsim limits` how many octets a card stores at most; `lapdsim image` puts the image
+//! of a card into words. `docs/FORMAT.md` has the words and what they answer. `lapdsim --help` and `lapdsim --version` say what
+//! the program is.
+//!
+//! - `help`: what it says of itself. `image`: reads an image. `restored`: what the card of an image tells,
+//!   in lines of `words`.
+//! - `tests` tries the simulator over sources and targets that give and take in pieces, or fail.
 //!
 //! # Only tested
 //!
 //! A stored run, and the program on real streams (`tests/program`): scripts for every word, every kind of fault
 //! but `time over`, and every row of the tables that a script can show; devices that fail (`tests/devices`);
-//! hostile streams (`tests/hostile`).
+//! hostile streams (`tests/hostile`); what `image` tells (`tests/image/run`).
 #![tactic(auto)]
 
 ghost use Rattle.std.specs.Prelude.{◌≡◌};
 ghost use Rattle.lapd_sim.specs.Plays.{Shows};
 
 mod help;
+mod image;
+mod restored;
 #[cfg(test)]
 mod tests;
+mod words;
 
 use crate::help::help;
-use lapd_sim::{PlayFault, ReadFrom, Target, WriteTo, refuse, serve};
+use lapd_sim::{PlayFault, ReadFrom, Source, Target, WriteTo, refuse, serve};
 use std::alloc::AllocError;
 use std::env;
 use std::io::ErrorKind;
 use std::process::ExitCode;
+use std::rt::Files;
 
 fn main(rt: HostRuntime) -> ExitCode {
     let mut source = ReadFrom::new(rt.stdin());
@@ -42,19 +50,27 @@ fn main(rt: HostRuntime) -> ExitCode {
         Err(_) => Err(AllocError),
     };
     let status = match words {
-        Ok(words) => match help(words.as_slice()) {
-            Some(text) => tell(text, &mut target, &mut faults),
-            None => serve(
-                rt.alloc(),
-                words.as_slice(),
-                &mut source,
-                &mut target,
-                &mut faults,
-            ),
-        },
+        Ok(words) => obey(&rt, words.as_slice(), &mut source, &mut target, &mut faults),
         Err(_) => refuse(PlayFault::OutOfMemory, &mut faults),
     };
     ExitCode::from(status)
+}
+
+/// Does what the words ask for, and answers the exit status.
+fn obey<R: Files + AllocGlobal, S: Source, T: Target, F: Target>(
+    rt: &R,
+    words: &[&str],
+    source: &mut S,
+    target: &mut T,
+    faults: &mut F,
+) -> u8 {
+    if let Some(text) = help(words) {
+        return tell(text, target, faults);
+    }
+    if let Some(file) = image::asked(words) {
+        return image::show(rt, file, source, target, faults);
+    }
+    serve(rt.alloc(), words, source, target, faults)
 }
 
 /// Writes `text`, and answers the exit status: 0, or 1 where the write failed, as for a transcript.

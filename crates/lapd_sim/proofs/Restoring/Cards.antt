@@ -103,6 +103,7 @@ module _ (m : Setup) (octets : List ℕ) (card : AnyCard) (waits : List ℕ) (ti
           lengths = its.stand.clock_is.lengths;
           running = its.stand.clock_is.running;
           places = subst (λ P. Holds new.lines (2 * new.terminals) (slot_of new.terminals) (line_slot_of new.terminals) P new.moments) on-is its.stand.clock_is.places;
+          within_hour = its.stand.clock_is.within_hour;
         };
         same = old.timed.same;
       };

@@ -48,13 +48,13 @@ module _ (e : LinkLayer) (store : Store) (others : List Owned) (l u : Line) (sam
   tei-same : (number : ℕ) → tei_at number l ≡ tei_at number u
   tei-same number = sym (ap (λ (x : Line). tei_at number x) same.rest)
 
-  sound-links : AreSoundToo e.links l.links u.links
+  sound-links : AreSoundToo e.links.items l.links u.links
   sound-links n link is before = go (nat_lt n (link_count e.config)) refl
     where
       terms-are : n < link_count e.config → (tei : ℕ) → tei_at (place_at n) l ≡ Some tei → terms_of link ≡ terms e.config (service_at n) tei
       terms-are within tei on =
           same_Some (terms_of link) (terms e.config (service_at n) tei)
-          (sym (ap (option_map terms_of) is) ∙ sym (slice_get-map terms_of e.links n) ∙ h.terms n tei within (sym (tei-same (place_at n)) ∙ on))
+          (sym (ap (option_map terms_of) is) ∙ sym (slice_get-map terms_of e.links.items n) ∙ h.terms n tei within (sym (tei-same (place_at n)) ∙ on))
 
       go : (b : Bool) → nat_lt n (link_count e.config) ≡ b → links.IsSound (terms_of link) (get_or l.links n machine.fresh)
       go true b =
@@ -62,8 +62,8 @@ module _ (e : LinkLayer) (store : Store) (others : List Owned) (l u : Line) (sam
           sound-too e.config n (tei_at (place_at n) l) (terms_of link) (link_at n l) (link_at n u) (terms-are within) (sound.links n within)
           (subst (λ o. IsSoundAt e.config n (link_at n u) o) (sym (tei-same (place_at n))) (h.sound.links n within)) before
       go false b =
-          let past : length e.links ≤ n = omega (arith, h.count, ltb-false n (link_count e.config) b) in
-          absurd (none-some link (sym (slice_get_past e.links n past) ∙ is))
+          let past : length e.links.items ≤ n = omega (arith, h.count, ltb-false n (link_count e.config) b) in
+          absurd (none-some link (sym (slice_get_past e.links.items n past) ∙ is))
 
   pub layer-same : LayerStands e store others l
   layer-same = record {
@@ -74,19 +74,19 @@ module _ (e : LinkLayer) (store : Store) (others : List Owned) (l u : Line) (sam
     own = sym (ap (λ (x : Line). x.own) same.rest) ∙ h.own;
     kind = h.kind;
     count = h.count;
-    links = all-fit e.config e.links l.links u.links same.links sound-links h.links;
+    links = all-fit e.config e.links.items l.links u.links same.links sound-links h.links;
     terms = λ number tei within on. h.terms number tei within (sym (tei-same (place_at number)) ∙ on);
     addressed = subst (AreFor e.units.waiting) (ap (λ (x : Line). x.units) same.rest) h.addressed;
     capacity = h.capacity;
     turn = sym (ap (λ (x : Line). x.turn) same.rest) ∙ h.turn;
-    has_frame = awake-same e.has_frame e.links l.links u.links same.links h.has_frame;
+    has_frame = awake-same e.has_frame e.links.items l.links u.links same.links h.has_frame;
     held = subst (λ owned. Holds store (owned ++ others)) owned-same h.held;
   }
     where
-      owned-same : links_pairs e.links u.links ++ unit_pairs e.units.waiting u.units ≡ links_pairs e.links l.links ++ unit_pairs e.units.waiting l.units
+      owned-same : links_pairs e.links.items u.links ++ unit_pairs e.units.waiting u.units ≡ links_pairs e.links.items l.links ++ unit_pairs e.units.waiting l.units
       owned-same =
           let units = ap (λ (x : Line). x.units) same.rest in
-          let pairs = pairs-same e.links l.links u.links same.links in
+          let pairs = pairs-same e.links.items l.links u.links same.links in
           λ i. pairs i ++ unit_pairs e.units.waiting (units i)
 
 -- ---- the lines of a card
@@ -98,7 +98,7 @@ lines-owned c (x ∷ xs) [] (u ∷ us) same = absurd same
 lines-owned c (x ∷ xs) (l ∷ ls) [] same = absurd same
 lines-owned c (x ∷ xs) (l ∷ ls) (u ∷ us) same =
     let units = ap (λ (y : Line). y.units) same.0.rest in
-    let pairs = pairs-same x.layer.links l.links u.links same.0.links in
+    let pairs = pairs-same x.layer.links.items l.links u.links same.0.links in
     let rest = lines-owned c xs ls us same.1 in
     λ i. (pairs i ++ unit_pairs x.layer.units.waiting (units i)) ++ rest i
 

@@ -4,7 +4,7 @@ use Rattle.std.specs.List.{AllZip}
 use Rattle.std.proofs.lemmas.List.{length-replicate}
 use Rattle.lapd_image.specs.Puts.{Puts}
 use Rattle.lapd_image.proofs.Puts.{puts-whole}
-use Rattle.lapd_timed.specs.Image.{AreAllMarks, CanHold, StandsFor}
+use Rattle.lapd_timed.specs.Image.{AreAllMarks, StandsFor}
 use Rattle.model_card.proofs.Reaching.{reached-sound}
 use Rattle.model_image.proofs.FitsWhole.{images_fit}
 use Rattle.model_image.specs.Images.{Saved, image_of}
@@ -57,10 +57,10 @@ module _ (s : rust.Setup) (m : Setup) (h : SetupStands s m) where
 
   pub is-image : (waits old new : List ℕ) (end : ℕ) → waits ≡ replicate 64 0 → most_octets s.config true < length old
       → ((t : Saved) → StandsFor s.timed.card waits (Some s.timed.timers) t → Puts (image_of t) 0 old end new)
-      → ((t : Saved) → StandsFor s.timed.card waits (Some s.timed.timers) t → AreAllMarks t → IsSaved t × CanHold t.clock) → IsImageOf m (take end new)
+      → ((t : Saved) → StandsFor s.timed.card waits (Some s.timed.timers) t → AreAllMarks t → IsSaved t) → IsImageOf m (take end new)
   is-image waits old new end none room puts may =
       let its = subst (λ ws. StandsFor s.timed.card ws (Some s.timed.timers) (saved m)) (sym none) stands in
       let sound = may (saved m) its marks in
       let most : most_octets m.board.card.card.config true ≡ most_octets s.config true = ap (λ c. most_octets c true) config-is in
-      let whole = puts-whole (omega (arith, images_fit (saved m) sound.0, most, room)) (puts (saved m) its) in
-      record { octets_are = image-at m (take end new) whole.front; is_saved = sound.0; holds = sound.1 }
+      let whole = puts-whole (omega (arith, images_fit (saved m) sound, most, room)) (puts (saved m) its) in
+      record { octets_are = image-at m (take end new) whole.front; is_saved = sound }

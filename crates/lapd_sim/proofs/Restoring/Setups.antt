@@ -2,7 +2,7 @@
 use Rattle.std.proofs.Common.{◌≡◌, ℕ, ◌^◌, ◌<◌, length, List, Option, Some, None, Ok, refl, sym, ap, ◌∙◌, subst}
 use Rattle.lapd_card.specs.Kinds.{config_of, counters_of, kind_of}
 use Rattle.lapd_card.specs.declared.kinds.AnyCard.{AnyCard}
-use Rattle.lapd_timed.specs.Image.{CanHold, IsRestoredFrom}
+use Rattle.lapd_timed.specs.Image.{IsRestoredFrom}
 use Rattle.lapd_timed.specs.declared.card_timers.CardTimers.{CardTimers}
 use Rattle.model_bits.proofs.BitLemmas.{number_of-low_bits}
 use Rattle.model_bits.specs.Bits.{bits, low_bits, number_of}
@@ -28,8 +28,8 @@ unfolding image
 image-is m octets is = sym is
 
 -- Its image is refused by nobody.
-pub not-refused : (m : Setup) (octets : List ℕ) → IsImageOf m octets → ((s : Saved) → IsSaved s → CanHold s.clock → image_of s ≡ octets → ⊥) → ⊥
-not-refused m octets h refused = refused (saved m) h.is_saved h.holds (image-is m octets h.octets_are)
+pub not-refused : (m : Setup) (octets : List ℕ) → IsImageOf m octets → ((s : Saved) → IsSaved s → image_of s ≡ octets → ⊥) → ⊥
+not-refused m octets h refused = refused (saved m) h.is_saved (image-is m octets h.octets_are)
 
 module _ (s : rust.Setup) (octets : List ℕ) (card : AnyCard) (waits : List ℕ) (timers : Option CardTimers) (m : Setup) (h : SetupStands s m) (kind : kind_of s.timed.card ≡ Frames)
     (image_is : IsImageOf m octets) (from : IsRestoredFrom octets card waits timers) where
